@@ -1,0 +1,4 @@
+pub mod Octets
+pub mod Unique
+pub mod Canonical
+pub mod Bounds

@@ -1,0 +1,20 @@
+//! What holds of the format, whoever reads or writes it.
+ghost use Rattle.ndef_value.specs.Wire.{OneMeaning, StrictIsRead, CanonicalIsFlat, MessagesAreBounded};
+
+/// Bytes that begin with the spelling of a message are the spelling of no other message, with other
+/// bytes after it: a byte string spells at most one message, and no spelling begins another. What a
+/// strict reader takes, each reader takes.
+pub fn one_meaning()
+    ensures once { OneMeaning }
+    ensures strict { StrictIsRead }
+{}
+
+/// The canonical spelling of some records spells them.
+pub fn canonical_is_a_spelling()
+    ensures { CanonicalIsFlat }
+{}
+
+/// A message within the limits has at most so many bytes.
+pub fn messages_are_bounded()
+    ensures { MessagesAreBounded }
+{}

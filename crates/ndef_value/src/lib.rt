@@ -1,0 +1,29 @@
+//! The values of an NDEF message: names, records, messages, limits, and the reasons for a refusal.
+#![tactic(auto)]
+
+mod bytes;
+mod laws;
+mod limits;
+mod message;
+mod name;
+mod no_memory;
+mod profile;
+mod reason;
+mod record;
+mod refusal;
+mod tnf;
+
+pub use bytes::Bytes;
+pub use laws::{canonical_is_a_spelling, messages_are_bounded, one_meaning};
+pub use limits::{Limits, OutOfRange};
+pub use message::{Message, MessageError};
+pub use name::{Name, NameError};
+pub use no_memory::NoMemory;
+pub use profile::Profile;
+pub use reason::Reason;
+pub use record::{Record, RecordError};
+pub use refusal::Refusal;
+pub use tnf::Tnf;
+
+#[cfg(test)]
+mod tests;

@@ -1,0 +1,107 @@
+//! How large a message may be, and who reads it.
+ghost use Rattle.std.specs.Prelude.{◌≡◌, IfOk, IsOk, ◌↔◌};
+ghost use Rattle.ndef_value.specs.declared.profile.Profile.TheVariants.{Strict};
+ghost use Rattle.ndef_value.specs.Wire.{LimitValues, AreInRange};
+
+use crate::Profile;
+use std::marker::Model;
+use thiserror::Error;
+
+/// The payload bytes and the pieces that a record may have, the records that a message may have, and
+/// what is made of reserved values.
+#[derive(Clone, Copy, Debug)]
+pub struct Limits {
+    payload: u32,
+    records: u32,
+    pieces: u32,
+    profile: Profile,
+}
+
+impl Model for Limits {
+    ghost use Rattle.ndef_value.specs.Wire.{LimitValues, AreInRange};
+
+    ghost Value = { LimitValues };
+
+    ghost view = { λ l. record { payload = l.payload; records = l.records; pieces = l.pieces; profile = l.profile } };
+
+    ghost invariant = { λ l. AreInRange (record { payload = l.payload; records = l.records; pieces = l.pieces; profile = l.profile }) };
+
+    ghost inverse = { λ v. record { payload = v.payload; records = v.records; pieces = v.pieces; profile = v.profile } };
+}
+
+/// A limit is out of its range.
+#[derive(Clone, Copy, Debug, Drop, PartialEq, Eq, Error)]
+#[error("a limit out of its range")]
+pub struct OutOfRange;
+
+impl Limits {
+    /// Strict limits: 1 to 4294967295 bytes of a payload, 1 to 65535 records of a message and 1 to
+    /// 65535 pieces of a record; else `OutOfRange`.
+    pub fn new(payload: u32, records: u32, pieces: u32) -> Result<Limits, OutOfRange>
+        ensures ok { IfOk result (λ l. l ≡ record { payload = payload; records = records; pieces = pieces; profile = Strict }) }
+        ensures accepts { IsOk result ↔ AreInRange (record { payload = payload; records = records; pieces = pieces; profile = Strict }) }
+    {
+        let records_fit = 1 <= records && records <= 65535;
+        let pieces_fit = 1 <= pieces && pieces <= 65535;
+        if payload == 0 || !records_fit || !pieces_fit {
+            return Err(OutOfRange);
+        }
+        Ok(Limits {
+            payload,
+            records,
+            pieces,
+            profile: Profile::Strict,
+        })
+    }
+
+    /// Strict limits for usual tags: 1048576 bytes, 1024 records and 4096 pieces.
+    pub fn usual() -> Limits
+        ensures { result ≡ record { payload = 1048576; records = 1024; pieces = 4096; profile = Strict } }
+    {
+        Limits {
+            payload: 1048576,
+            records: 1024,
+            pieces: 4096,
+            profile: Profile::Strict,
+        }
+    }
+
+    /// The same limits under another profile.
+    pub fn with(self, profile: Profile) -> Limits
+        ensures { result ≡ record { payload = self.payload; records = self.records; pieces = self.pieces; profile = profile } }
+    {
+        Limits { profile, ..self }
+    }
+
+    /// The greatest number of bytes of a payload.
+    pub fn payload(&self) -> u32
+        ensures value { result ≡ self.now.payload }
+        ensures range { AreInRange self.now }
+    {
+        self.payload
+    }
+
+    /// The greatest number of records of a message, a nested one too.
+    pub fn records(&self) -> u32
+        ensures value { result ≡ self.now.records }
+        ensures range { AreInRange self.now }
+    {
+        self.records
+    }
+
+    /// The greatest number of pieces of a record.
+    pub fn pieces(&self) -> u32
+        ensures value { result ≡ self.now.pieces }
+        ensures range { AreInRange self.now }
+    {
+        self.pieces
+    }
+
+    /// What is made of reserved values.
+    pub fn profile(&self) -> Profile
+        ensures value { result ≡ self.now.profile }
+        ensures range { AreInRange self.now }
+    {
+        self.profile
+    }
+}

@@ -1,0 +1,144 @@
+//! Why bytes are refused.
+ghost use Rattle.std.specs.Prelude.{◌≡◌, ◌≤◌, length};
+ghost use Rattle.ndef_value.specs.Reason.{number_of, rank_of, name_of};
+
+/// Why the byte at a place can't stand there, or why the input can't end there.
+///
+/// Of the reasons that hold of a byte the one with the lowest rank is told.
+#[derive(Clone, Copy, Debug, PartialEq, Eq)]
+pub enum Reason {
+    /// The type name format is the reserved 7.
+    ReservedTnf,
+    /// The first piece of a message doesn't say that it is.
+    BeginMissing,
+    /// A later piece says that it is the first.
+    BeginAgain,
+    /// An unchanged type where no run is open.
+    UnchangedOutside,
+    /// A type where a run is open.
+    ChangedInside,
+    /// An id where a run is open.
+    IdInside,
+    /// The last piece of a message says that its run goes on.
+    ChunkAtEnd,
+    /// A run of an empty record.
+    ChunkOfEmpty,
+    /// The run goes on past the pieces that a record may have.
+    TooManyPieces,
+    /// The message goes on past the records that it may have.
+    TooManyRecords,
+    /// A type where the type name format allows none.
+    TypeNotEmpty,
+    /// No type where the type name format demands one.
+    TypeEmpty,
+    /// An empty record with a type, an id or a payload.
+    EmptyNotEmpty,
+    /// The payload is longer than a payload may be.
+    PayloadTooLarge,
+    /// The status octet of a text has its reserved bit set.
+    TextBit,
+    /// An octet of a language code isn't ASCII.
+    Language,
+    /// The octets so far begin no UTF-8 text.
+    Utf8,
+    /// The octets so far begin no UTF-16 text.
+    Utf16,
+    /// The code of a URI is reserved.
+    UriCode,
+    /// A smart poster ends without a URI.
+    UriMissing,
+    /// A second URI in a smart poster.
+    UriAgain,
+    /// A handover of another major version than 1.
+    Version,
+    /// A handover request that doesn't begin with a collision record.
+    CollisionMissing,
+    /// No other reason holds, but nothing that may follow fits.
+    DoesNotFit,
+    /// The input ended.
+    EndOfInput,
+}
+
+impl Reason {
+    /// The number that names the reason where it is printed: 1 to 22, 25 for a missing collision
+    /// record, 23 where nothing fits and 24 for the end of the input.
+    pub fn number(self) -> u8
+        ensures value { result ≡ number_of self }
+        ensures bound { result ≤ 25 }
+    {
+        match self {
+            Reason::ReservedTnf => 1,
+            Reason::BeginMissing => 2,
+            Reason::BeginAgain => 3,
+            Reason::UnchangedOutside => 4,
+            Reason::ChangedInside => 5,
+            Reason::IdInside => 6,
+            Reason::ChunkAtEnd => 7,
+            Reason::ChunkOfEmpty => 8,
+            Reason::TooManyPieces => 9,
+            Reason::TooManyRecords => 10,
+            Reason::TypeNotEmpty => 11,
+            Reason::TypeEmpty => 12,
+            Reason::EmptyNotEmpty => 13,
+            Reason::PayloadTooLarge => 14,
+            Reason::TextBit => 15,
+            Reason::Language => 16,
+            Reason::Utf8 => 17,
+            Reason::Utf16 => 18,
+            Reason::UriCode => 19,
+            Reason::UriMissing => 20,
+            Reason::UriAgain => 21,
+            Reason::Version => 22,
+            Reason::CollisionMissing => 25,
+            Reason::DoesNotFit => 23,
+            Reason::EndOfInput => 24,
+        }
+    }
+
+    /// The place in the order in which the reasons are tried, 1 to 25.
+    pub fn rank(self) -> u8
+        ensures value { result ≡ rank_of self }
+        ensures bound { result ≤ 25 }
+    {
+        match self {
+            Reason::CollisionMissing => 23,
+            Reason::DoesNotFit => 24,
+            Reason::EndOfInput => 25,
+            _ => self.number(),
+        }
+    }
+
+    /// The name, as it is printed.
+    pub fn name(self) -> &'static [u8]
+        ensures value { result.now ≡ name_of self }
+        ensures bound { length result.now ≤ 16 }
+    {
+        match self {
+            Reason::ReservedTnf => b"ReservedTnf",
+            Reason::BeginMissing => b"BeginMissing",
+            Reason::BeginAgain => b"BeginAgain",
+            Reason::UnchangedOutside => b"UnchangedOutside",
+            Reason::ChangedInside => b"ChangedInside",
+            Reason::IdInside => b"IdInside",
+            Reason::ChunkAtEnd => b"ChunkAtEnd",
+            Reason::ChunkOfEmpty => b"ChunkOfEmpty",
+            Reason::TooManyPieces => b"TooManyPieces",
+            Reason::TooManyRecords => b"TooManyRecords",
+            Reason::TypeNotEmpty => b"TypeNotEmpty",
+            Reason::TypeEmpty => b"TypeEmpty",
+            Reason::EmptyNotEmpty => b"EmptyNotEmpty",
+            Reason::PayloadTooLarge => b"PayloadTooLarge",
+            Reason::TextBit => b"TextBit",
+            Reason::Language => b"Language",
+            Reason::Utf8 => b"Utf8",
+            Reason::Utf16 => b"Utf16",
+            Reason::UriCode => b"UriCode",
+            Reason::UriMissing => b"UriMissing",
+            Reason::UriAgain => b"UriAgain",
+            Reason::Version => b"Version",
+            Reason::CollisionMissing => b"CollisionMissing",
+            Reason::DoesNotFit => b"DoesNotFit",
+            Reason::EndOfInput => b"EndOfInput",
+        }
+    }
+}

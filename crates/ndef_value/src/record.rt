@@ -1,0 +1,142 @@
+//! A record.
+ghost use Rattle.std.specs.Prelude.{◌≡◌, ◌≢◌, ◌↔◌, IfOk, IsErrOf, IsTrue, length};
+ghost use Rattle.ndef_value.specs.Wire.{IsShaped, HasLengths, IsItem};
+
+use crate::{Bytes, Name, Tnf};
+use std::alloc::Global;
+use std::marker::Model;
+use thiserror::Error;
+
+/// What a run of pieces means: a type name format, a type, an id and a payload that go together.
+///
+/// An Empty record has no type, id or payload, an Unknown one no type, every other one a type; none
+/// is Unchanged. A type and an id have at most 255 bytes, a payload at most 4294967295.
+#[derive(Debug, Drop)]
+pub struct Record {
+    tnf: Tnf,
+    kind: Name,
+    id: Name,
+    payload: Bytes,
+}
+
+impl Model for Record {
+    ghost use Rattle.ndef_value.specs.Wire.{Item, IsItem};
+
+    ghost Value = { Item };
+
+    ghost view = { λ r. record { tnf = r.tnf; kind = r.kind; id = r.id; payload = r.payload } };
+
+    ghost invariant = { λ r. IsItem (record { tnf = r.tnf; kind = r.kind; id = r.id; payload = r.payload }) };
+}
+
+/// Why there is no record of some parts, in the order in which it is told.
+#[derive(Clone, Copy, Debug, Drop, PartialEq, Eq, Error)]
+pub enum RecordError {
+    /// The type name format is Unchanged, or the parts don't go with it.
+    #[error("the parts do not go with the type name format")]
+    BadShape,
+    /// A type or an id of more than 255 bytes, or a payload of more than 4294967295.
+    #[error("a part is too long")]
+    TooLong,
+    /// A growth was refused.
+    #[error("no memory")]
+    NoMemory,
+}
+
+fn is_shaped(tnf: Tnf, kind: &[u8], id: &[u8], payload: &[u8]) -> bool
+    ensures { IsTrue result ↔ IsShaped (record { tnf = tnf; kind = kind.now; id = id.now; payload = payload.now }) }
+{
+    match tnf {
+        Tnf::Empty => kind.is_empty() && id.is_empty() && payload.is_empty(),
+        Tnf::WellKnown | Tnf::Media | Tnf::AbsoluteUri | Tnf::External => !kind.is_empty(),
+        Tnf::Unknown => kind.is_empty(),
+        Tnf::Unchanged => false,
+    }
+}
+
+fn has_lengths(tnf: Tnf, kind: &[u8], id: &[u8], payload: &[u8]) -> bool
+    ensures { IsTrue result ↔ HasLengths (record { tnf = tnf; kind = kind.now; id = id.now; payload = payload.now }) }
+{
+    kind.len() <= 255 && id.len() <= 255 && payload.len() <= 4294967295
+}
+
+impl Record {
+    /// A record of copies. `BadShape` comes before `TooLong`, and `TooLong` before `NoMemory`.
+    pub fn new(
+        alloc: Global,
+        tnf: Tnf,
+        kind: &[u8],
+        id: &[u8],
+        payload: &[u8],
+    ) -> Result<Record, RecordError>
+        ensures ok { IfOk result (λ r. r ≡ record { tnf = tnf; kind = kind.now; id = id.now; payload = payload.now }) }
+        ensures bad_shape { IsErrOf result RecordError.BadShape
+            ↔ ¬ IsShaped (record { tnf = tnf; kind = kind.now; id = id.now; payload = payload.now }) }
+        ensures too_long { IsErrOf result RecordError.TooLong
+            ↔ (IsShaped (record { tnf = tnf; kind = kind.now; id = id.now; payload = payload.now })
+            × ¬ HasLengths (record { tnf = tnf; kind = kind.now; id = id.now; payload = payload.now })) }
+    {
+        if !is_shaped(tnf, kind, id, payload) {
+            return Err(RecordError::BadShape);
+        }
+        if !has_lengths(tnf, kind, id, payload) {
+            return Err(RecordError::TooLong);
+        }
+        let Ok(kind) = Name::from_slice(alloc, kind) else {
+            return Err(RecordError::NoMemory);
+        };
+        let Ok(id) = Name::from_slice(alloc, id) else {
+            return Err(RecordError::NoMemory);
+        };
+        let Ok(payload) = Bytes::from_slice(alloc, payload) else {
+            return Err(RecordError::NoMemory);
+        };
+        Ok(Record::from_parts(tnf, kind, id, payload))
+    }
+
+    /// A record of these very parts, which go together. It takes no memory.
+    pub fn from_parts(tnf: Tnf, kind: Name, id: Name, payload: Bytes) -> Record
+        requires shape { IsShaped (record { tnf = tnf; kind = kind; id = id; payload = payload }) }
+        requires lengths { HasLengths (record { tnf = tnf; kind = kind; id = id; payload = payload }) }
+        ensures { result ≡ record { tnf = tnf; kind = kind; id = id; payload = payload } }
+    {
+        Record {
+            tnf,
+            kind,
+            id,
+            payload,
+        }
+    }
+
+    /// The type name format, never Unchanged.
+    pub fn tnf(&self) -> Tnf
+        ensures value { result ≡ self.now.tnf }
+        ensures item { IsItem self.now }
+    {
+        self.tnf
+    }
+
+    /// The type.
+    pub fn kind(&self) -> &[u8]
+        ensures value { result.now ≡ self.now.kind }
+        ensures item { IsItem self.now }
+    {
+        self.kind.as_slice()
+    }
+
+    /// The id; the empty one stands for none too.
+    pub fn id(&self) -> &[u8]
+        ensures value { result.now ≡ self.now.id }
+        ensures item { IsItem self.now }
+    {
+        self.id.as_slice()
+    }
+
+    /// The payload.
+    pub fn payload(&self) -> &[u8]
+        ensures value { result.now ≡ self.now.payload }
+        ensures item { IsItem self.now }
+    {
+        self.payload.as_slice()
+    }
+}

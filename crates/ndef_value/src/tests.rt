@@ -1,0 +1,165 @@
+use crate::{
+    Bytes, Limits, Message, MessageError, Name, NameError, OutOfRange, Profile, Reason, Record,
+    RecordError, Refusal, Tnf,
+};
+use std::alloc::Global;
+use std::test::Fail;
+
+const LETTERS: [u8; 256] = [0x41; 256];
+
+fn item(alloc: Global, payload: &[u8]) -> Result<Record, Fail> {
+    Ok(Record::new(alloc, Tnf::WellKnown, b"T", b"", payload)?)
+}
+
+// Takes all memory that there is, in blocks from the largest to the least. An allocator without an
+// end, as under `rt try`, leaves some.
+fn use_up(alloc: Global, held: &mut Vec<Vec<u8>>) -> bool {
+    let mut size: usize = 1 << 46;
+    for _ in 0..70000 {
+        let mut block: Vec<u8> = Vec::new(alloc);
+        if block.try_reserve(size).is_ok() {
+            let _ = held.push(block);
+        } else if size == 1 {
+            return true;
+        } else {
+            size /= 2;
+        }
+    }
+    false
+}
+
+#[test]
+fn makes_names(rt: HostRuntime) -> Result<(), Fail> {
+    let alloc = rt.alloc();
+    let name = Name::from_slice(alloc, b"T")?;
+    assert!(rt; name.as_slice() == b"T".as_slice());
+    let long = Name::from_slice(alloc, &LETTERS[..33])?;
+    assert!(rt; long.as_slice() == &LETTERS[..33]);
+    assert!(rt; Name::from_slice(alloc, &LETTERS).err() == Some(NameError::TooLong));
+    let mut pushed = Name::new(alloc);
+    for _ in 0..33u8 {
+        assert!(rt; pushed.as_slice().len() < 255);
+        pushed.push(0x41)?;
+    }
+    assert!(rt; pushed.as_slice() == &LETTERS[..33]);
+    Ok(())
+}
+
+#[test]
+fn makes_byte_strings(rt: HostRuntime) -> Result<(), Fail> {
+    let alloc = rt.alloc();
+    assert!(rt; Bytes::new(alloc).as_slice().is_empty());
+    let mut bytes = Bytes::from_slice(alloc, &[0x02, 0x65, 0x6E])?;
+    bytes.extend(&[0x48, 0x65, 0x6C, 0x6C, 0x6F])?;
+    let whole: &[u8] = &[0x02, 0x65, 0x6E, 0x48, 0x65, 0x6C, 0x6C, 0x6F];
+    assert!(rt; bytes.as_slice() == whole);
+    Ok(())
+}
+
+#[test]
+fn makes_records(rt: HostRuntime) -> Result<(), Fail> {
+    let alloc = rt.alloc();
+    let hello = item(alloc, &[0x02, 0x65, 0x6E, 0x48, 0x65, 0x6C, 0x6C, 0x6F])?;
+    assert!(rt; hello.tnf() == Tnf::WellKnown && hello.tnf().code() == 1);
+    assert!(rt; hello.kind() == b"T".as_slice() && hello.id().is_empty());
+    assert!(rt; hello.payload().len() == 8);
+    let bad = Some(RecordError::BadShape);
+    assert!(rt; Record::new(alloc, Tnf::Unknown, b"T", b"", b"").err() == bad);
+    assert!(rt; Record::new(alloc, Tnf::Unknown, &LETTERS, b"", b"").err() == bad);
+    assert!(rt; Record::new(alloc, Tnf::Unchanged, b"", b"", b"").err() == bad);
+    let long = Some(RecordError::TooLong);
+    assert!(rt; Record::new(alloc, Tnf::Media, &LETTERS, b"", b"").err() == long);
+    let parts = Record::from_parts(
+        Tnf::Empty,
+        Name::new(alloc),
+        Name::new(alloc),
+        Bytes::new(alloc),
+    );
+    assert!(rt; parts.tnf() == Tnf::Empty);
+    Ok(())
+}
+
+#[test]
+fn makes_messages(rt: HostRuntime) -> Result<(), Fail> {
+    let alloc = rt.alloc();
+    let none = Message::new(Vec::new(alloc));
+    assert!(rt; matches!(none, Err(MessageError::NoRecords(_))));
+    let mut records = Vec::new(alloc);
+    records.push(item(alloc, b"one")?)?;
+    records.push(item(alloc, b"two")?)?;
+    let message = Message::new(records)?;
+    assert!(rt; message.len() == 2);
+    let second = message.get(1).ok_or("a second record")?;
+    assert!(rt; second.payload() == b"two".as_slice());
+    assert!(rt; message.get(2).is_none());
+    Ok(())
+}
+
+#[test]
+fn makes_limits(rt: HostRuntime) -> Result<(), Fail> {
+    assert!(rt; Limits::new(0, 1, 1).err() == Some(OutOfRange));
+    let widest = Limits::new(4294967295, 65535, 65535)?;
+    assert!(rt; widest.payload() == 4294967295 && widest.records() == 65535);
+    assert!(rt; widest.pieces() == 65535 && widest.profile() == Profile::Strict);
+    let usual = Limits::usual();
+    assert!(rt; usual.payload() == 1048576 && usual.records() == 1024 && usual.pieces() == 4096);
+    assert!(rt; usual.with(Profile::Standard).profile() == Profile::Standard);
+    Ok(())
+}
+
+#[test]
+fn names_reasons(rt: HostRuntime) -> Result<(), Fail> {
+    let table = [
+        (Reason::ReservedTnf, 1, 1, "ReservedTnf"),
+        (Reason::PayloadTooLarge, 14, 14, "PayloadTooLarge"),
+        (Reason::Version, 22, 22, "Version"),
+        (Reason::CollisionMissing, 25, 23, "CollisionMissing"),
+        (Reason::DoesNotFit, 23, 24, "DoesNotFit"),
+        (Reason::EndOfInput, 24, 25, "EndOfInput"),
+    ];
+    for (reason, number, rank, name) in table {
+        assert!(rt; reason.number() == number && reason.rank() == rank);
+        assert!(rt; reason.name() == name.as_bytes());
+    }
+    let refusal = Refusal {
+        at: 11,
+        reason: Reason::EndOfInput,
+    };
+    let text = format!(in rt.alloc(); "{refusal}")?;
+    assert!(rt; text.as_str() == "refused at 11: 24 EndOfInput");
+    Ok(())
+}
+
+// Once memory is used up, as many growths of 200 bytes succeed as blocks of 200 bytes are let go.
+#[test]
+fn refuses_each_growth(rt: HostRuntime) -> Result<(), Fail> {
+    let alloc = rt.alloc();
+    let part = &LETTERS[..200];
+    let mut name = Name::from_slice(alloc, &LETTERS[..32])?;
+    let mut bytes = Bytes::from_slice(alloc, b"kept")?;
+    let mut spare: Vec<Vec<u8>> = Vec::with_capacity(alloc, 3)?;
+    for _ in 0..3u8 {
+        spare.push(Vec::with_capacity(alloc, 200)?)?;
+    }
+    let mut held = Vec::with_capacity(alloc, 65536)?;
+    let used_up = use_up(alloc, &mut held);
+    let inline = Name::from_slice(alloc, &LETTERS[..32]).is_ok();
+    let named = Name::from_slice(alloc, &LETTERS[..33]).err();
+    let pushed = name.push(0x41).is_err();
+    let copied = Bytes::from_slice(alloc, b"T").is_err();
+    let extended = bytes.extend(part).is_err();
+    let mut refused = true;
+    for _ in 0..3u8 {
+        let error = Record::new(alloc, Tnf::Media, part, part, part).err();
+        refused = refused && error == Some(RecordError::NoMemory);
+        let _ = spare.pop();
+    }
+    let made = Record::new(alloc, Tnf::Media, part, part, part).is_ok();
+    drop(held);
+    assert!(rt; used_up, "memory has no end here");
+    assert!(rt; inline && named == Some(NameError::NoMemory));
+    assert!(rt; pushed && name.as_slice() == &LETTERS[..32]);
+    assert!(rt; copied && extended && bytes.as_slice() == b"kept".as_slice());
+    assert!(rt; refused && made);
+    Ok(())
+}
