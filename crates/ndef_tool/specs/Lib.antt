@@ -1,0 +1,9 @@
+pub mod Sources
+pub mod Sinks
+pub mod Sending
+pub mod Reading
+pub mod ReadsBack
+pub mod CommandLine
+pub mod Chosen
+pub mod Output
+pub mod Sessions

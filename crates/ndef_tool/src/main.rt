@@ -1,0 +1,58 @@
+//! The command `ndef`: what stands on standard input is checked, or written again.
+#![tactic(auto)]
+
+mod choice;
+mod command;
+mod encoding;
+mod ending;
+mod line;
+mod printing;
+mod reading;
+mod running;
+mod sending;
+mod sink;
+mod slice_source;
+mod source;
+mod std_sink;
+mod std_source;
+
+use crate::ending::Status;
+use crate::running::run;
+use crate::std_sink::StdSink;
+use crate::std_source::StdSource;
+use std::io::{BufReader, BufWriter, Write};
+use std::process::ExitCode;
+
+fn code(status: Status) -> ExitCode {
+    ExitCode::from(status as u8)
+}
+
+/// Runs the command with standard input and output, flushes standard output and ends with the status.
+/// Where there is no memory for the words or a buffer, or the flush fails, it ends with status 3 and
+/// prints nothing more.
+fn main(rt: HostRuntime) -> ExitCode {
+    let alloc = rt.alloc();
+    let Ok(words) = std::env::args(&rt) else {
+        return code(Status::Fault);
+    };
+    let Ok(words) = words.collect::<Vec<String>>(alloc) else {
+        return code(Status::Fault);
+    };
+    let Ok(reader) = BufReader::new(alloc, rt.reader()) else {
+        return code(Status::Fault);
+    };
+    let Ok(mut writer) = BufWriter::new(alloc, rt.stdout()) else {
+        return code(Status::Fault);
+    };
+    let mut source = StdSource::new(reader);
+    let mut sink = StdSink::new(&mut writer);
+    let status = run(alloc, words.as_slice(), &mut source, &mut sink);
+    drop(sink);
+    match writer.flush() {
+        Ok(()) => code(status),
+        Err(_) => code(Status::Fault),
+    }
+}
+
+#[cfg(test)]
+mod tests;
