@@ -1,0 +1,39 @@
+-- Lists that begin alike.
+use Rattle.std.proofs.Common.{◌≡◌, ℕ, ◌≤◌, ◌⊎◌, inl, inr, refl, sym, arith, List, [], ◌∷◌, ◌++◌, length}
+use Rattle.ndef_value.specs.Wire.{AreOctets}
+
+-- one list ends inside the other, or at its end
+pub split_append : (p q l r : List ℕ) → p ++ q ≡ l ++ r
+    → ((y : ℕ) × (m : List ℕ) × (p ≡ l ++ y ∷ m) × (r ≡ (y ∷ m) ++ q)) ⊎ ((m : List ℕ) × (l ≡ p ++ m) × (q ≡ m ++ r))
+split_append [] q l r e = inr (l, refl, e)
+split_append (x ∷ p) q [] r e = inl (x, p, refl, sym e)
+split_append (x ∷ p) q (y ∷ l) r e =
+    let ex : x ≡ y = cc in
+    let et : p ++ q ≡ l ++ r = cc in
+    elim (split_append p q l r et) [
+      | inl w ↦ inl (w.0, w.1, (let ew = w.2 in cc), w.3)
+      | inr w ↦ inr (w.0, (let ew = w.1 in cc), w.2)
+    ]
+
+-- a front that isn't longer than the first part lies in it
+pub front_in : (p q l r : List ℕ) → p ++ q ≡ l ++ r → length l ≤ length p → (m : List ℕ) × (p ≡ l ++ m)
+front_in p q [] r e n = (p, refl)
+front_in [] q (y ∷ l) r e n = absurd (omega arith)
+front_in (x ∷ p) q (y ∷ l) r e n =
+    let et : p ++ q ≡ l ++ r = cc in
+    let w = front_in p q l r et (omega arith) in
+    (w.0, (let ex : x ≡ y = cc in let ew = w.1 in cc))
+
+-- fronts of one length are alike, and so is what follows them
+pub cut_alike : (xs ys a b : List ℕ) → length xs ≡ length ys → xs ++ a ≡ ys ++ b → (xs ≡ ys) × (a ≡ b)
+cut_alike [] [] a b n e = (refl, e)
+cut_alike [] (y ∷ ys) a b n e = absurd (omega arith)
+cut_alike (x ∷ xs) [] a b n e = absurd (omega arith)
+cut_alike (x ∷ xs) (y ∷ ys) a b n e =
+    let f : xs ++ a ≡ ys ++ b = cc in
+    let w = cut_alike xs ys a b (omega arith) f in
+    ((let g : x ≡ y = cc in let h = w.0 in cc), w.1)
+
+pub octets_front : (xs ys : List ℕ) → AreOctets (xs ++ ys) → AreOctets xs
+octets_front [] ys p = tt
+octets_front (x ∷ xs) ys p = (p.0, octets_front xs ys p.1)

@@ -1,0 +1,49 @@
+-- Where the next octet of a head stands.
+use Rattle.std.proofs.Common.{◌≡◌, ℕ, ◌<◌, inl, inr, refl, sym, ◌∙◌, ap, List, [], ◌∷◌, ◌++◌, Option, Some, None}
+use Rattle.std.specs.Prelude.{is_some}
+use Rattle.ndef_value.specs.Wire.{Fields, octets, header_octet, payload_length_octets, id_length_octets}
+use Rattle.ndef_piece.proofs.HeaderOctet.{Parts, parts_of}
+use Rattle.ndef_piece.proofs.Lists.{split_append}
+use Rattle.std.proofs.lemmas.List.{append-nil}
+
+-- the header octet of a head
+abbrev pub header : Fields → ℕ
+header h = header_octet h.first h.last h.chunked h.short (is_some h.id_length) h.tnf
+
+-- the parts of its header octet
+pub parts : (h : Fields) → h.tnf < 8 → Parts (header h) h.first h.last h.chunked h.short (is_some h.id_length) h.tnf
+parts h t = parts_of h.first h.last h.chunked h.short (is_some h.id_length) h.tnf t
+
+-- its octets of PAYLOAD_LENGTH
+abbrev pub length_part : Fields → List ℕ
+length_part h = payload_length_octets h.short h.payload_length
+
+-- the next octet b of the head h, after the octets xs
+pub data Stage (h : Fields) (xs : List ℕ) (b : ℕ) : Type 0 where
+  at_header : xs ≡ [] → header h ≡ b → Stage h xs b
+  at_kind : xs ≡ header h ∷ [] → h.kind_length ≡ b → Stage h xs b
+  at_length : (ls m : List ℕ) → xs ≡ header h ∷ h.kind_length ∷ ls → length_part h ≡ ls ++ b ∷ m → Stage h xs b
+  at_id : xs ≡ header h ∷ h.kind_length ∷ length_part h → h.id_length ≡ Some b → Stage h xs b
+
+-- an octet after PAYLOAD_LENGTH is ID_LENGTH
+id_next : (o : Option ℕ) (m rest : List ℕ) (b : ℕ) → id_length_octets o ≡ m ++ b ∷ rest → (m ≡ []) × (o ≡ Some b)
+id_next None [] rest b e = cc
+id_next None (y ∷ m) rest b e = cc
+id_next (Some d) [] rest b e = (refl, cc)
+id_next (Some d) (y ∷ []) rest b e = cc
+id_next (Some d) (y ∷ z ∷ m) rest b e = cc
+
+-- the next octet stands in one of the fields
+pub stage : (h : Fields) (xs rest : List ℕ) (b : ℕ) → octets h ≡ xs ++ b ∷ rest → Stage h xs b
+stage h [] rest b e = at_header refl cc
+stage h (x ∷ []) rest b e = at_kind (let ex : header h ≡ x = cc in ap (λ t. t ∷ []) (sym ex)) cc
+stage h (x ∷ k ∷ ls) rest b e =
+    let ex : header h ≡ x = cc in
+    let ek : h.kind_length ≡ k = cc in
+    let et : length_part h ++ id_length_octets h.id_length ≡ ls ++ b ∷ rest = cc in
+    elim (split_append (length_part h) (id_length_octets h.id_length) ls (b ∷ rest) et) [
+      | inl w ↦ at_length ls w.1 (rw (ex, ek) refl) (let ew = w.2 in let er = w.3 in cc)
+      | inr w ↦
+          let i = id_next h.id_length w.0 rest b w.2 in
+          at_id (let el : ls ≡ length_part h = w.1 ∙ ap (λ m. length_part h ++ m) i.0 ∙ append-nil (length_part h) in rw (ex, ek, el) refl) i.1
+    ]

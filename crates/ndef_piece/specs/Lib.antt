@@ -1,0 +1,11 @@
+pub mod Header
+pub mod Heads
+pub mod Conditions
+pub mod Ranges
+pub mod Reading
+pub mod Inside
+pub mod Bounds
+pub mod Pieces
+pub mod Walk
+pub mod Fronts
+pub mod Rest

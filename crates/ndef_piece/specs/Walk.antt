@@ -1,0 +1,109 @@
+-- The pieces of a message, one after another, each at its spot.
+use Rattle.std.specs.Prelude.{◌≡◌, ℕ, ◌-◌, ◌^◌, ◌<◌, ◌≤◌, map, ◌==◌, Bool, true, false, List, [], ◌∷◌, ◌++◌, length, is_some, unwrap_or, Option, Some, None, ◌↔◌, if◌then◌else◌}
+use Rattle.ndef_value.specs.Wire.{Piece, IsPiece, AreOctets, Run, Item, joined, payload_of, tnf_of, all_pieces, IsMessage, LimitValues, AreInRange, IsWithin}
+use Rattle.ndef_value.specs.declared.profile.Profile.{Profile}
+use Rattle.ndef_piece.specs.declared.spot.Spot.{Spot}
+use Rattle.ndef_piece.specs.Pieces.{Stands}
+
+-- what is known before a piece, by the pieces before it
+pub record Before : Type 0 where
+  -- no piece was before it
+  pub first : Bool
+  -- the message has ended, and no piece follows
+  pub over : Bool
+  -- how many records may still end
+  pub records : ℕ
+  -- how many pieces its record may still have
+  pub pieces : ℕ
+  -- how many payload bytes its record may still have
+  pub room : ℕ
+  -- its record as far as it has come, where a run is open
+  pub begun : Option Item
+
+-- NDEF 1.0, chunked payloads: where a record begins, and where a run goes on
+abbrev pub outside : LimitValues → (first over : Bool) → (records : ℕ) → Before
+outside limits first over records =
+    record { first = first; over = over; records = records; pieces = limits.pieces; room = limits.payload; begun = None }
+
+abbrev pub inside : (records pieces room : ℕ) → Item → Before
+inside records pieces room m =
+    record { first = false; over = false; records = records; pieces = pieces; room = room; begun = Some m }
+
+-- before the first piece of a message
+abbrev pub start : LimitValues → Before
+start limits = outside limits true false limits.records
+
+-- what of it the head of the piece depends on
+abbrev pub spot : Profile → Before → Spot
+spot profile c = record {
+  profile = profile;
+  first = c.first;
+  inside = is_some c.begun;
+  last_piece = c.pieces == 1;
+  last_record = c.records == 1;
+  room = c.room;
+}
+
+-- NDEF 1.0, chunked payloads: the record as far as it has come with this piece
+abbrev pub extended : Option Item → Piece → Item
+extended None p = record { tnf = tnf_of p.tnf; kind = p.kind; id = unwrap_or p.id []; payload = p.payload }
+extended (Some m) p = record { tnf = m.tnf; kind = m.kind; id = m.id; payload = m.payload ++ p.payload }
+
+-- NDEF 1.0, CF: the record that the piece ends, if it does
+abbrev pub ended : Before → Piece → List Item
+ended c p = if p.chunked then [] else extended c.begun p ∷ []
+
+-- NDEF 1.0, CF and ME: what is known after the piece
+abbrev pub after : LimitValues → Before → Piece → Before
+after limits c p =
+    if p.chunked then inside c.records (c.pieces - 1) (c.room - length p.payload) (extended c.begun p)
+    else outside limits false p.last (c.records - 1)
+
+-- NDEF 1.0, messages: these pieces stand in turn, end these records, and the last of them ends the message
+abbrev pub Walk : LimitValues → Before → List Piece → List Item → Type 0
+Walk limits c [] items = (c.over ≡ true) × (items ≡ [])
+Walk limits c (p ∷ ps) items =
+    (c.over ≡ false) × Stands (spot limits.profile c) p × (rest : List Item) × (items ≡ ended c p ++ rest) × Walk limits (after limits c p) ps rest
+
+-- NDEF 1.0, messages: these pieces stand in turn, end these records, and then d is known
+abbrev pub Walked : LimitValues → Before → List Piece → List Item → Before → Type 0
+Walked limits c [] items d = (items ≡ []) × (d ≡ c)
+Walked limits c (p ∷ ps) items d =
+    (c.over ≡ false) × Stands (spot limits.profile c) p × (rest : List Item) × (items ≡ ended c p ++ rest) × Walked limits (after limits c p) ps rest d
+
+-- what is known where these are the pieces of the open run, none where no run is open
+abbrev pub standing : LimitValues → (first over : Bool) → (records : ℕ) → List Piece → Before
+standing limits first over records [] = outside limits first over records
+standing limits first over records (p ∷ ps) =
+    inside records (limits.pieces - length (p ∷ ps)) (limits.payload - length (payload_of (p ∷ ps))) (joined (record { initial = p; later = ps }))
+
+-- ---- laws
+
+-- The pieces that walk from the start are those of the messages within the limits.
+abbrev pub WalksAreMessages : Type 0
+WalksAreMessages = (limits : LimitValues) (ps : List Piece) (items : List Item) → AreInRange limits
+    → Walk limits (start limits) ps items ↔ ((runs : List Run) × (ps ≡ all_pieces runs) × IsMessage limits.profile runs items × IsWithin limits runs)
+
+-- A walk can be cut after any of its pieces.
+abbrev pub WalksAreCut : Type 0
+WalksAreCut = (limits : LimitValues) (c : Before) (ps qs : List Piece) (items : List Item)
+    → Walk limits c (ps ++ qs) items
+    ↔ ((done rest : List Item) × (d : Before) × (items ≡ done ++ rest) × Walked limits c ps done d × Walk limits d qs rest)
+
+-- The payload of an open run as far as it has come goes before what its pieces to come bring, and decides nothing else.
+abbrev pub RunsGoOn : Type 0
+RunsGoOn = (limits : LimitValues) (records pieces room : ℕ) (m : Item) (ps : List Piece) (items : List Item)
+    → Walk limits (inside records pieces room m) ps items
+    ↔ ((payload : List ℕ) × (rest : List Item) × (items ≡ record m { payload = m.payload ++ payload } ∷ rest)
+    × Walk limits (inside records pieces room (record m { payload = [] })) ps (record m { payload = payload } ∷ rest))
+
+-- What is known after the pieces of a front: how many runs are complete, and which pieces the open run has.
+abbrev pub WalksAreCounted : Type 0
+WalksAreCounted = (limits : LimitValues) (ps : List Piece) (done : List Item) (d : Before) → Walked limits (start limits) ps done d
+    → (runs : List Run) × (begun : List Piece) × (ps ≡ all_pieces runs ++ begun) × (done ≡ map joined runs)
+    × (d ≡ standing limits d.first d.over (limits.records - length runs) begun) × ((d.first ≡ true) ↔ (ps ≡ []))
+
+-- A message that is not over can be ended by one piece, with any payload that has room.
+abbrev pub WalksCanEnd : Type 0
+WalksCanEnd = (limits : LimitValues) (c : Before) (payload : List ℕ) → c.over ≡ false → AreOctets payload → length payload ≤ c.room → c.room < 2 ^ 32
+    → (p : Piece) × IsPiece p × (p.payload ≡ payload) × Walk limits c (p ∷ []) (extended c.begun p ∷ [])

@@ -1,0 +1,108 @@
+//! Which lengths the heads have that go on after some octets.
+ghost use Rattle.std.specs.Prelude.{◌≡◌, ◌^◌, ◌<◌, ◌≤◌, length, slice_index};
+ghost use Rattle.ndef_piece.specs.Header.{size};
+ghost use Rattle.ndef_piece.specs.Ranges.{range_of};
+ghost use Rattle.ndef_piece.specs.Bounds.{bounds_at, front_bounds, id_range, kind_range};
+
+use crate::header::{CHUNK, END, ID_THERE, is_set, size, tnf_number, tnf_of, width};
+use crate::payload_length::{least_and_greatest, length_front};
+use crate::{Head, Spot};
+use ndef_value::Tnf;
+
+/// What the heads that go on after some octets have in common, and the least and the greatest of
+/// their lengths. Each three lengths within these ranges are those of one such head.
+#[derive(Clone, Copy, Debug, PartialEq, Eq)]
+pub struct Bounds {
+    /// ME.
+    pub last: bool,
+    /// CF.
+    pub chunked: bool,
+    /// TNF, the reserved 7 being read as Unknown.
+    pub tnf: Tnf,
+    /// How many octets of the head are to come.
+    pub left: usize,
+    /// The least and the greatest TYPE_LENGTH.
+    pub kind: (u8, u8),
+    /// The least and the greatest ID_LENGTH, 0 where there is none.
+    pub id: (u8, u8),
+    /// The least and the greatest PAYLOAD_LENGTH.
+    pub payload: (u64, u64),
+}
+
+/// The least and the greatest payload length of the heads that go on after these octets.
+pub(crate) fn range(spot: &Spot, taken: &[u8]) -> (u64, u64)
+    ensures range { result ≡ range_of spot.now taken.now }
+    ensures room { spot.now.room < 2 ^ 32 }
+{
+    let room = spot.room;
+    match taken {
+        [] => (0, u64::from(room)),
+        [header, ..] => {
+            if tnf_number(*header) == 0 {
+                return (0, 0);
+            }
+            let (least, greatest) = least_and_greatest(width(*header), length_front(taken));
+            (u64::from(least), u64::from(greatest.min(room)))
+        }
+    }
+}
+
+/// The bounds after these octets of a head, where there are some.
+pub(crate) fn front_bounds(spot: &Spot, taken: &[u8]) -> Option<Bounds>
+    requires { length taken.now ≤ size (slice_index taken.now 0) }
+    ensures { result ≡ front_bounds spot.now taken.now }
+{
+    let payload = range(spot, taken);
+    match taken {
+        [] => None,
+        [header, rest @ ..] => Some(Bounds {
+            last: is_set(END, *header),
+            chunked: is_set(CHUNK, *header),
+            tnf: tnf_of(tnf_number(*header)),
+            left: size(*header) - taken.len(),
+            kind: kind_range(tnf_number(*header), rest),
+            id: id_range(tnf_number(*header), is_set(ID_THERE, *header)),
+            payload,
+        }),
+    }
+}
+
+/// The least and the greatest type length of a type name format, after these octets behind the
+/// header octet.
+fn kind_range(tnf: u8, rest: &[u8]) -> (u8, u8)
+    ensures { result ≡ kind_range tnf rest.now }
+{
+    match *rest {
+        [] if tnf > 0 && tnf < 5 => (1, 255),
+        [] => (0, 0),
+        [kind, ..] => (kind, kind),
+    }
+}
+
+/// The least and the greatest id length of a type name format, before it is read.
+fn id_range(tnf: u8, id_there: bool) -> (u8, u8)
+    ensures { result ≡ id_range tnf id_there }
+{
+    if id_there && tnf != 0 {
+        (0, 255)
+    } else {
+        (0, 0)
+    }
+}
+
+/// The bounds after a whole head: its own lengths.
+pub(crate) fn bounds_at(head: &Head) -> Bounds
+    ensures { result ≡ bounds_at head.now }
+{
+    let id = head.id_length.unwrap_or(0);
+    let payload = u64::from(head.payload_length);
+    Bounds {
+        last: head.last,
+        chunked: head.chunked,
+        tnf: head.tnf,
+        left: 0,
+        kind: (head.kind_length, head.kind_length),
+        id: (id, id),
+        payload: (payload, payload),
+    }
+}

@@ -1,0 +1,63 @@
+//! The head of a piece.
+ghost use Rattle.std.specs.Prelude.{◌≡◌, ◌+◌, length, slice_index, if◌then◌else◌, Some, None};
+ghost use Rattle.ndef_value.specs.Wire.{Fields, octets};
+ghost use Rattle.ndef_piece.specs.Header.{is_set, width, size};
+ghost use Rattle.ndef_piece.specs.Heads.{head, CanBeSpelled};
+
+use crate::header::{BEGIN, CHUNK, END, ID_THERE, SHORT, is_set, tnf_number, tnf_of, width};
+use crate::payload_length::{least_and_greatest, length_front};
+use ndef_value::Tnf;
+
+/// What the octets of a piece before its TYPE tell (NDEF 1.0, record layout).
+#[derive(Clone, Copy, Debug, PartialEq, Eq)]
+pub struct Head {
+    /// MB: the piece is the first of its message.
+    pub first: bool,
+    /// ME: it is the last of its message.
+    pub last: bool,
+    /// CF: another piece of its record follows.
+    pub chunked: bool,
+    /// SR: its PAYLOAD_LENGTH has one octet in place of four.
+    pub short: bool,
+    /// TNF, the reserved 7 being read as Unknown.
+    pub tnf: Tnf,
+    /// TYPE_LENGTH.
+    pub kind_length: u8,
+    /// PAYLOAD_LENGTH: the payload bytes of this piece alone.
+    pub payload_length: u32,
+    /// ID_LENGTH, there exactly if IL is set.
+    pub id_length: Option<u8>,
+}
+
+/// The id length in the octets of a whole head.
+fn id_length_of(taken: &[u8]) -> Option<u8>
+    requires { length taken.now ≡ size (slice_index taken.now 0) }
+    ensures { result ≡ (if is_set 3 (slice_index taken.now 0)
+        then Some (slice_index taken.now (2 + width (slice_index taken.now 0))) else None) }
+{
+    let at = 2 + width(taken[0]);
+    if is_set(ID_THERE, taken[0]) {
+        Some(taken[at])
+    } else {
+        None
+    }
+}
+
+/// The head that these octets are.
+pub(crate) fn head_of(taken: &[u8]) -> Head
+    requires { length taken.now ≡ size (slice_index taken.now 0) }
+    ensures { (f : Fields) → CanBeSpelled f → octets f ≡ taken.now → result ≡ head f }
+{
+    let header = taken[0];
+    let (payload_length, _) = least_and_greatest(width(header), length_front(taken));
+    Head {
+        first: is_set(BEGIN, header),
+        last: is_set(END, header),
+        chunked: is_set(CHUNK, header),
+        short: is_set(SHORT, header),
+        tnf: tnf_of(tnf_number(header)),
+        kind_length: taken[1],
+        payload_length,
+        id_length: id_length_of(taken),
+    }
+}

@@ -1,0 +1,67 @@
+//! What holds of heads, pieces and messages, whoever reads or writes them.
+ghost use Rattle.ndef_piece.specs.Heads.{HeadsAreApart, HeadsHaveSizes};
+ghost use Rattle.ndef_piece.specs.Conditions.{ConditionsAreInOrder};
+ghost use Rattle.ndef_piece.specs.Reading.{ConditionsAreExact, OneAnswer};
+ghost use Rattle.ndef_piece.specs.Bounds.{BoundsOfFronts, BoundsOfHeads};
+ghost use Rattle.ndef_piece.specs.Pieces.{HeadsOfPieces, PiecesOfHeads, HeadsOfBytes, LengthsOfPieces};
+ghost use Rattle.ndef_piece.specs.Walk.{WalksAreMessages, WalksAreCut, WalksAreCounted, WalksCanEnd, RunsGoOn};
+ghost use Rattle.ndef_piece.specs.Fronts.{FrontsHaveSpots};
+ghost use Rattle.ndef_piece.specs.Rest.{RestsAreFlat, RestsEnd, RestsPastHeads, RestsWithinHeads, RestsCanFollow};
+
+/// No head's octets begin those of another, and each head is told by its octets, 3 to 7 of them. So
+/// only one answer to an octet is right.
+pub fn heads_are_apart()
+    ensures apart { HeadsAreApart }
+    ensures sizes { HeadsHaveSizes }
+    ensures one_answer { OneAnswer }
+{}
+
+/// The conditions are those of the reasons 1 to 14, in that order. Where a head is open, one of
+/// them holds of an octet exactly where no head goes on with it.
+pub fn conditions_are_exact()
+    ensures order { ConditionsAreInOrder }
+    ensures exact { ConditionsAreExact }
+{}
+
+/// The heads that go on after some octets are those with all lengths in some ranges, together.
+pub fn lengths_are_independent()
+    ensures fronts { BoundsOfFronts }
+    ensures heads { BoundsOfHeads }
+{}
+
+/// A piece may stand at a spot exactly where its head may. Each head that may stand is that of each
+/// piece with its lengths. Where the bytes of a piece that may stand go on after an open front with
+/// some octet, that octet is not refused, and a head that is whole then is the head of the piece.
+pub fn heads_are_of_pieces()
+    ensures to_heads { HeadsOfPieces }
+    ensures to_pieces { PiecesOfHeads }
+    ensures bytes { HeadsOfBytes }
+    ensures lengths { LengthsOfPieces }
+{}
+
+/// Wherever a message within the limits is cut between pieces there is a spot, and the pieces that
+/// may stand at it are those with which such a message goes on. It follows from the pieces before.
+pub fn fronts_have_spots()
+    ensures { FrontsHaveSpots }
+{}
+
+/// The messages within the limits are those whose pieces stand in turn, each at the spot that the
+/// pieces before it lead to, the last of them ending the message. Such a walk can be cut after any
+/// piece.
+pub fn messages_are_walks()
+    ensures messages { WalksAreMessages }
+    ensures cut { WalksAreCut }
+    ensures counted { WalksAreCounted }
+    ensures end { WalksCanEnd }
+    ensures run { RunsGoOn }
+{}
+
+/// The bytes that complete a message, from its start to its end: past a head they are the body of a
+/// piece and what completes the message after it, and within a head they go on as some head does.
+pub fn messages_are_read_by_heads()
+    ensures flat { RestsAreFlat }
+    ensures end { RestsEnd }
+    ensures past { RestsPastHeads }
+    ensures within { RestsWithinHeads }
+    ensures follow { RestsCanFollow }
+{}
