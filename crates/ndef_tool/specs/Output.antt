@@ -1,5 +1,5 @@
 -- What the command prints: a function of the subcommand, of the messages that were accepted and of the ending.
-use Rattle.std.specs.Prelude.{◌≡◌, ◌+◌, ℕ, Bool, true, false, List, [], ◌∷◌, ◌++◌, length, Option, Result, Ok, Err, codes, decimal, take}
+use Rattle.std.specs.Prelude.{◌≡◌, ◌≢◌, ◌+◌, ℕ, Bool, true, false, List, [], ◌∷◌, ◌++◌, length, Option, Some, None, Result, Ok, Err, codes, decimal, take, ⊤}
 use Rattle.std.specs.Io.KnownBytes.{Appends, Keeps, IsAtEnd}
 use Rattle.ndef_value.specs.Wire.{Item, canonical}
 use Rattle.ndef_value.specs.Reason.{number_of, name_of}
@@ -75,11 +75,16 @@ output action ms ending = blocks action 1 0 ms ++ ending_line action (bytes_of m
 abbrev pub accepted : Read → Accepted
 accepted read = record { message = read.message; bytes = read.taken }
 
+-- some byte is left, where it is known
+abbrev pub IsOn : Option (List ℕ) → Type 0
+IsOn None = ⊤
+IsOn (Some bytes) = bytes ≢ []
+
 -- what was read of the bytes to come: nothing at their end, else one message; one whose block found no memory isn't among the accepted ones
 abbrev pub IsSession : (before after : Option (List ℕ)) → Bool → List Accepted → Ending → Type 0
 IsSession before after failed [] Clean = (failed ≡ false) × Keeps before after × IsAtEnd before
 IsSession before after failed (m ∷ []) Clean = (read : Read) × (m ≡ accepted read) × Reads before after failed (Ok read)
-IsSession before after failed [] (Refused r) = Reads before after failed (Err (read_error.Refused r))
+IsSession before after failed [] (Refused r) = IsOn before × Reads before after failed (Err (read_error.Refused r))
 IsSession before after failed [] Reading = failed ≡ true
 IsSession before after failed [] Memory = failed ≡ false
 IsSession before after failed _ _ = ⊥

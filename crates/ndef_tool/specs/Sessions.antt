@@ -1,7 +1,7 @@
 -- What was read of the input, and what is printed of it.
 use Rattle.std.specs.Prelude.{◌≡◌, ℕ, Bool, true, false, List, [], ◌++◌, Option, Some, None, Result, Ok, Err, ⊤}
 use Rattle.std.specs.Io.KnownBytes.{Keeps, IsAtEnd}
-use Rattle.ndef_tool.specs.Output.{Text, Accepted, accepted, block_of, blocks, ending_line, IsSession}
+use Rattle.ndef_tool.specs.Output.{Text, Accepted, accepted, block_of, blocks, ending_line, IsOn, IsSession}
 use Rattle.ndef_tool.specs.declared.choice.Action.{Action}
 use Rattle.ndef_tool.specs.declared.reading.Read.{Read}
 use Rattle.ndef_tool.specs.declared.running.Block.{Block}
@@ -19,7 +19,7 @@ IsBlock action read (Err e) = ⊤
 
 abbrev pub LooksAhead : {E : Type 0} → (before after : Option (List ℕ)) → Bool → Result Bool E → Type 0
 LooksAhead before after failed (Ok true) = (failed ≡ false) × Keeps before after × IsAtEnd before
-LooksAhead before after failed (Ok false) = Keeps before after
+LooksAhead before after failed (Ok false) = Keeps before after × IsOn before
 LooksAhead before after failed (Err e) = failed ≡ true
 
 abbrev pub IsSessionOf : Action → (before after : Option (List ℕ)) → Bool → Session → Type 0

@@ -37,7 +37,10 @@ fn is_at_end<S: Source>(source: &mut S) -> Result<bool, SourceFault>
     ensures { LooksAhead (S.coming source.old) (S.coming source.new) (S.has_failed source.new) result }
 {
     let bytes = source.fill()?;
-    Ok(bytes.is_empty())
+    if bytes.is_empty() {
+        return Ok(true);
+    }
+    Ok(false)
 }
 
 fn block_for(alloc: Global, action: Action, read: &Read) -> Result<Block, NoMemory>

@@ -82,24 +82,6 @@ impl<R: BufRead + Drop> StdSource<R> {
         }
     }
 
-    /// The reader, behind all that was taken.
-    pub fn into_inner(mut self) -> (R, Result<(), SourceFault>)
-        ensures { OnOk result.1 (Keeps (left_of (R.remaining self.reader) (R.consumable_len self.reader) self.fresh self.filled self.pending) (R.remaining result.0)) }
-    {
-        let pending = self.pending;
-        let settled = settle(&mut self.reader, pending);
-        let StdSource {
-            reader,
-            copy: _,
-            taken: _,
-            filled: _,
-            pending: _,
-            fresh: _,
-            has_failed: _,
-        } = self;
-        (reader, settled)
-    }
-
     fn refill(&mut self) -> Result<(), SourceFault>
         ensures room { self.new.filled ≤ 512 }
         ensures none { self.new.taken ≡ 0 }

@@ -8,6 +8,6 @@ returns g c =
     let read = c.in-Ok-read_message.read in
     let ahead = rw c.if-at_end.false at c.in-Ok.ensures in (
       accepted read ∷ [],
-      (read, refl, reads_kept _ _ _ _ read ahead c.in-Ok-read_message.ensures),
+      (read, refl, reads_kept _ _ _ _ read ahead.0 c.in-Ok-read_message.ensures),
       c.in-Ok-block_for.ensures ∙ one_block c.args.action (accepted read),
     )
