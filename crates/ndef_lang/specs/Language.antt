@@ -1,0 +1,56 @@
+-- What the laws of a payload language say.
+use Rattle.std.specs.Prelude.{◌≡◌, ℕ, ◌≤◌, List, ◌++◌, length, ◌↔◌, ◌⊎◌}
+use Rattle.ndef_value.specs.Reason.{rank_of}
+use Rattle.ndef_value.specs.declared.profile.Profile.{Profile}
+use Rattle.ndef_value.specs.declared.reason.Reason.{Reason}
+use Rattle.ndef_value.specs.declared.reason.Reason.TheVariants.{DoesNotFit}
+use Rattle.ndef_lang.specs.declared.kind.Kind.{Kind}
+
+-- the payloads of each kind, of a message with so many records, for each profile
+abbrev pub Sets : Type 1
+Sets = Kind → ℕ → Profile → List ℕ → Type 0
+
+-- which reasons hold of an octet after the octets of a payload before it
+abbrev pub Conditions : Type 1
+Conditions = Kind → ℕ → Profile → List ℕ → ℕ → Reason → Type 0
+
+-- some list passes
+abbrev pub Passes : (List ℕ → Type 0) → Type 0
+Passes future = (r : List ℕ) × future r
+
+-- some list of lo to hi octets passes
+pub record PassesBetween (future : List ℕ → Type 0) (lo hi : ℕ) : Type 0 where
+  pub rest : List ℕ
+  pub passed : future rest
+  pub least : lo ≤ length rest
+  pub most : length rest ≤ hi
+
+-- the new future passes just what the old one passes behind these octets
+abbrev pub Follows : (old new : List ℕ → Type 0) → List ℕ → Type 0
+Follows old new octets = (r : List ℕ) → new r ↔ old (octets ++ r)
+
+-- what was reached by a list is reached by it and these octets
+abbrev pub Reaches : (old new : List ℕ → Type 0) → List ℕ → Type 0
+Reaches old new octets = (s : List ℕ) → old s → new (s ++ octets)
+
+-- of the reasons that hold the one that is tried first
+pub record IsLowest (holds : Reason → Type 0) (reason : Reason) : Type 0 where
+  pub it : holds reason
+  pub first : (other : Reason) → holds other → rank_of reason ≤ rank_of other
+
+-- where one condition applies: its reason holds where it does, and always that nothing fits
+abbrev pub OneReason : Reason → Type 0 → Reason → Type 0
+OneReason reason condition other = ((other ≡ reason) × condition) ⊎ (other ≡ DoesNotFit)
+
+-- where no condition applies
+abbrev pub NoReason : Reason → Type 0
+NoReason other = other ≡ DoesNotFit
+
+-- these are the sets, whatever the number of records
+abbrev pub AreSets : Sets → (Kind → Profile → List ℕ → Type 0) → Type 0
+AreSets set payloads = (kind : Kind) (records : ℕ) (profile : Profile) (s : List ℕ) → set kind records profile s ↔ payloads kind profile s
+
+-- these are the conditions, whatever the number of records
+abbrev pub AreConditions : Conditions → (Kind → Profile → List ℕ → ℕ → Reason → Type 0) → Type 0
+AreConditions holds conditions =
+    (kind : Kind) (records : ℕ) (profile : Profile) (s : List ℕ) (b : ℕ) (reason : Reason) → holds kind records profile s b reason ↔ conditions kind profile s b reason

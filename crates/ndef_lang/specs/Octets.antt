@@ -1,0 +1,31 @@
+-- Fields of a payload.
+use Rattle.std.specs.Prelude.{◌≡◌, ℕ, zero, suc, ◌+◌, ◌<◌, List, [], ◌∷◌, length}
+use Rattle.ndef_value.specs.Wire.{AreOctets}
+use Rattle.ndef_lang.specs.declared.lengths.Lengths.{Lengths}
+use Rattle.ndef_lang.specs.declared.lengths.Lengths.TheVariants.{Never, Exactly, From, PairsFrom, Between}
+
+abbrev pub IsOctet : ℕ → Type 0
+IsOctet b = b < 256
+
+-- n octets that pass, and then a list that is in the set
+abbrev pub Octets : (ℕ → Type 0) → ℕ → (List ℕ → Type 0) → List ℕ → Type 0
+Octets passes zero set r = set r
+Octets passes (suc n) set [] = ⊥
+Octets passes (suc n) set (b ∷ r) = passes b × Octets passes n set r
+
+-- a length octet, so many octets, and then a list that is in the set
+abbrev pub Counted : (List ℕ → Type 0) → List ℕ → Type 0
+Counted set [] = ⊥
+Counted set (n ∷ s) = IsOctet n × Octets IsOctet n set s
+
+-- n octets
+abbrev pub AreOctetsOf : ℕ → List ℕ → Type 0
+AreOctetsOf n s = AreOctets s × (length s ≡ n)
+
+-- the lengths with n more
+abbrev pub later : ℕ → Lengths → Lengths
+later n Never = Never
+later n (Exactly m) = Exactly (n + m)
+later n (From m) = From (n + m)
+later n (PairsFrom m) = PairsFrom (n + m)
+later n (Between least most) = Between (n + least) (n + most)
