@@ -2,8 +2,8 @@
 use Rattle.std.proofs.Common.{◌≡◌, ◌-◌, ℕ, Bool, false, List, [], ◌∷◌, ◌++◌, Option, Some, None, Result, Ok, Err, refl, sym, ap, ◌∙◌, append-nil}
 use Rattle.std.proofs.lemmas.Bool.{false≢true}
 use Rattle.std.specs.Io.KnownBytes.{Keeps, Consumes}
-use Rattle.ndef_tool.specs.Sending.{Sent, MarksOf}
-use Rattle.ndef_tool.specs.declared.sending.WriteFault.{WriteFault}
+use Rattle.ndef_message.specs.Sending.{Sent, MarksOf}
+use Rattle.ndef_message.specs.declared.sending.WriteFault.{WriteFault}
 use Rattle.ndef_tool.specs.Output.{Text, Accepted, blocks, block_of, bytes_of, ending_line, output, IsSession, Ends, GoesOut}
 use Rattle.ndef_tool.specs.Reading.{Reads}
 use Rattle.ndef_tool.specs.declared.choice.Action.{Action}

@@ -5,7 +5,7 @@ use Rattle.std.specs.Io.KnownBytes.{Keeps, Consumes}
 use Rattle.std.proofs.KnownBytes.{Consumes-nil, Consumes-kept, Consumes-trans}
 use Rattle.ndef_value.specs.declared.reason.Reason.{Reason}
 use Rattle.ndef_tool.specs.Reading.{NonePlain, StopsBehind, Peeks, PartReads}
-use Rattle.ndef_tool.specs.Sources.{Drops}
+use Rattle.ndef_message.specs.Sources.{Drops}
 use Rattle.ndef_tool.specs.declared.reading.ReadError.{ReadError}
 use Rattle.ndef_tool.specs.declared.reading.ReadError.TheVariants.{Refused, ReadFault, NoMemory}
 use Rattle.ndef_tool.proofs.Plain.{none_short}

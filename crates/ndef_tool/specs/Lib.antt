@@ -1,6 +1,3 @@
-pub mod Sources
-pub mod Sinks
-pub mod Sending
 pub mod Reading
 pub mod ReadsBack
 pub mod CommandLine

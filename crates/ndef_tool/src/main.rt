@@ -3,23 +3,15 @@
 
 mod choice;
 mod command;
-mod encoding;
 mod ending;
 mod line;
 mod printing;
 mod reading;
 mod running;
-mod sending;
-mod sink;
-mod slice_source;
-mod source;
-mod std_sink;
-mod std_source;
 
 use crate::ending::Status;
 use crate::running::run;
-use crate::std_sink::StdSink;
-use crate::std_source::StdSource;
+use ndef_message::{StdSink, StdSource};
 use std::io::{BufReader, BufWriter, Write};
 use std::process::ExitCode;
 

@@ -1,10 +1,13 @@
 //! Reads the plainest message: one record, in one piece, in short form, without an id.
 ghost use Rattle.std.specs.Prelude.{◌≡◌, ◌≢◌, ◌+◌, ◌<◌, ◌≤◌, ◌^◌, [], ◌∷◌, false, IfOk, OnErr, MatchOption, length};
 ghost use Rattle.ndef_value.specs.Wire.{code, AreItems};
+ghost use Rattle.ndef_tool.specs.ReadsBack.{ReadsBack};
 ghost use Rattle.ndef_tool.specs.Reading.{Reads, Peeks, HeaderReads, KindReads, PayloadReads, HeadReads, PartReads, FitsKind, FitsPayload};
 
-use crate::source::Source;
-use ndef_value::{Message, NoMemory, Reason, Record, Refusal, Tnf};
+use ndef_message::Source;
+use ndef_value::{
+    Message, NoMemory, Reason, Record, Refusal, Tnf, canonical_is_a_spelling, one_meaning,
+};
 use std::alloc::Global;
 use thiserror::Error;
 
@@ -214,4 +217,13 @@ pub fn read_message<S: Source>(alloc: Global, source: &mut S) -> Result<Read, Re
     };
     let taken = at + u64::from(head.payload_length);
     Ok(Read { message, taken })
+}
+
+/// Reading the canonical spelling of a message gives the message back, where it is one that is read,
+/// whatever bytes follow it.
+pub fn reads_back()
+    ensures { ReadsBack }
+{
+    one_meaning();
+    canonical_is_a_spelling();
 }

@@ -2,17 +2,16 @@
 ghost use Rattle.std.specs.Prelude.{◌≡◌, ◌+◌, ◌≤◌, ◌<◌, ◌^◌, false, map, string_bytes, IfOk, length};
 ghost use Rattle.ndef_tool.specs.Output.{Runs, ending_line, status_of, Ends};
 ghost use Rattle.ndef_tool.specs.Sessions.{text_of, IsBlock, LooksAhead, IsSessionOf, output_of};
-ghost use Rattle.ndef_tool.specs.Sending.{Sent, MarksOf};
+ghost use Rattle.ndef_message.specs.Sending.{Sent, MarksOf};
 
 use crate::choice::{Action, WordsError, choose};
-use crate::encoding::encode;
 use crate::ending::{Ending, Status};
 use crate::line::Line;
 use crate::printing::{message_line, refusal_line};
 use crate::reading::{Read, ReadError, read_message};
-use crate::sending::{WriteFault, send};
-use crate::sink::Sink;
-use crate::source::{Source, SourceFault};
+use ndef_message::{
+    Form, Sink, Source, SourceFault, WriteFault, encode, send, texts_are_sent_in_turn,
+};
 use ndef_value::{Bytes, NoMemory};
 use std::alloc::Global;
 
@@ -51,7 +50,7 @@ fn block_for(alloc: Global, action: Action, read: &Read) -> Result<Block, NoMemo
             let records = read.message.len() as u64;
             Ok(Block::Line(message_line(1, 0, records, read.taken)))
         }
-        Action::Encode => Ok(Block::Bytes(encode(alloc, &read.message)?)),
+        Action::Encode => Ok(Block::Bytes(encode(alloc, &read.message, Form::Short)?)),
     }
 }
 
@@ -125,6 +124,7 @@ fn send_session<K: Sink>(action: Action, session: &Session, sink: &mut K) -> Res
     ensures sent { Sent 0 (K.written sink.old) (K.written sink.new) (output_of action session.now) result }
     ensures mark { MarksOf (K.has_failed sink.old) (K.has_failed sink.new) (output_of action session.now) result }
 {
+    texts_are_sent_in_turn();
     let before = send_block(&session.block, sink)?;
     send_ending(before, action, session.ending, sink)
 }

@@ -1,11 +1,7 @@
-use crate::encoding::encode;
 use crate::ending::Status;
 use crate::reading::{ReadError, read_message};
 use crate::running::run;
-use crate::sink::Sink;
-use crate::slice_source::SliceSource;
-use crate::std_sink::StdSink;
-use crate::std_source::StdSource;
+use ndef_message::{Form, Sink, SliceSource, StdSink, StdSource, encode};
 use std::alloc::Global;
 use std::io::{self, BufRead, Read, Write};
 use std::test::Fail;
@@ -25,10 +21,11 @@ fn words(alloc: Global, texts: &[&str]) -> Result<Vec<String>, Fail> {
     Ok(words)
 }
 
-// What is written, and the status, for bytes that come in pieces up to the cuts.
-fn ran(alloc: Global, texts: &[&str], bytes: &[u8], cuts: &[usize]) -> Result<(u8, Vec<u8>), Fail> {
+// What is written, and the status, for bytes that come in two pieces.
+fn ran(alloc: Global, texts: &[&str], bytes: &[u8], cut: usize) -> Result<(u8, Vec<u8>), Fail> {
     let words = words(alloc, texts)?;
-    let mut source = SliceSource::new(bytes, cuts);
+    let cuts = [cut.min(bytes.len())];
+    let mut source = SliceSource::new(bytes, &cuts);
     let mut out = Vec::new(alloc);
     let mut sink = StdSink::new(&mut out);
     let status = run(alloc, words.as_slice(), &mut source, &mut sink);
@@ -63,14 +60,14 @@ fn checks_the_table(rt: HostRuntime) -> Result<(), Fail> {
         (&[0xD5, 0x01], 1, "refused at 1: 11 TypeNotEmpty\n"),
     ];
     for (bytes, wanted, text) in table {
-        let (status, out) = ran(alloc, &["ndef", "check"], bytes, &[])?;
+        let (status, out) = ran(alloc, &["ndef", "check"], bytes, 0)?;
         assert!(rt;
             status == wanted && out.as_slice() == text.as_bytes(),
             "{text}"
         );
     }
     for cut in 0..HELLO.len() {
-        let (status, out) = ran(alloc, &["ndef", "check"], &HELLO, &[cut])?;
+        let (status, out) = ran(alloc, &["ndef", "check"], &HELLO, cut)?;
         assert!(rt;
             status == 0 && out.as_slice() == b"message 1 at 0: records 1, bytes 12\n".as_slice()
         );
@@ -81,11 +78,11 @@ fn checks_the_table(rt: HostRuntime) -> Result<(), Fail> {
 #[test]
 fn encodes(rt: HostRuntime) -> Result<(), Fail> {
     let alloc = rt.alloc();
-    let (status, out) = ran(alloc, &["ndef", "encode"], &HELLO, &[5])?;
+    let (status, out) = ran(alloc, &["ndef", "encode"], &HELLO, 5)?;
     assert!(rt; status == 0 && out.as_slice() == HELLO.as_slice());
-    let (status, out) = ran(alloc, &["ndef", "encode"], &[], &[])?;
+    let (status, out) = ran(alloc, &["ndef", "encode"], &[], 0)?;
     assert!(rt; status == 0 && out.is_empty());
-    let (status, out) = ran(alloc, &["ndef", "encode"], &[0xF5], &[])?;
+    let (status, out) = ran(alloc, &["ndef", "encode"], &[0xF5], 0)?;
     assert!(rt; status == 1 && out.is_empty());
     Ok(())
 }
@@ -102,7 +99,7 @@ fn prints_usage(rt: HostRuntime) -> Result<(), Fail> {
         &["ndef", "check", "--help"],
     ];
     for texts in table {
-        let (status, out) = ran(alloc, texts, &HELLO, &[])?;
+        let (status, out) = ran(alloc, texts, &HELLO, 0)?;
         assert!(rt; status == 2 && out.as_slice() == USAGE.as_bytes());
     }
     Ok(())
@@ -201,7 +198,7 @@ fn leaves_what_follows(rt: HostRuntime) -> Result<(), Fail> {
     let read = read_message(alloc, &mut source)?;
     drop(source);
     assert!(rt; read.taken == 12 && reader == HELLO.as_slice());
-    let written = encode(alloc, &read.message)?;
+    let written = encode(alloc, &read.message, Form::Short)?;
     assert!(rt; written.as_slice() == HELLO.as_slice());
     let refused = read_message(alloc, &mut SliceSource::new(&HELLO[..3], &[1]));
     assert!(rt; matches!(refused, Err(ReadError::Refused(_))));

@@ -1,0 +1,146 @@
+//! Messages encoded, and written to a sink that fails.
+ghost use Rattle.std.specs.Prelude.{◌≤◌};
+
+use crate::{
+    Form, Sink, SinkFault, StdSink, WriteFault, encode, encode_chunked, encoded_length,
+    write_message,
+};
+use ndef_value::{Message, Record, Tnf};
+use std::alloc::Global;
+use std::io::{self, Write};
+use std::test::Fail;
+
+// A text record that says Hello in English.
+const HELLO: [u8; 12] = [
+    0xD1, 0x01, 0x08, 0x54, 0x02, 0x65, 0x6E, 0x48, 0x65, 0x6C, 0x6C, 0x6F,
+];
+
+const HELLO_LONG: [u8; 15] = [
+    0xC1, 0x01, 0x00, 0x00, 0x00, 0x08, 0x54, 0x02, 0x65, 0x6E, 0x48, 0x65, 0x6C, 0x6C, 0x6F,
+];
+
+const HELLO_BY_ONE: [u8; 33] = [
+    0xB1, 0x01, 0x01, 0x54, 0x02, 0x36, 0x00, 0x01, 0x65, 0x36, 0x00, 0x01, 0x6E, 0x36, 0x00, 0x01,
+    0x48, 0x36, 0x00, 0x01, 0x65, 0x36, 0x00, 0x01, 0x6C, 0x36, 0x00, 0x01, 0x6C, 0x56, 0x00, 0x01,
+    0x6F,
+];
+
+const HELLO_BY_THREE: [u8; 18] = [
+    0xB1, 0x01, 0x03, 0x54, 0x02, 0x65, 0x6E, 0x36, 0x00, 0x03, 0x48, 0x65, 0x6C, 0x56, 0x00, 0x02,
+    0x6C, 0x6F,
+];
+
+const HELLO_LONG_BY_FOUR: [u8; 21] = [
+    0xA1, 0x01, 0x00, 0x00, 0x00, 0x04, 0x54, 0x02, 0x65, 0x6E, 0x48, 0x46, 0x00, 0x00, 0x00, 0x00,
+    0x04, 0x65, 0x6C, 0x6C, 0x6F,
+];
+
+fn message(alloc: Global, tnf: Tnf, kind: &[u8], payload: &[u8]) -> Result<Message, Fail> {
+    let mut records = Vec::new(alloc);
+    records.push(Record::new(alloc, tnf, kind, &[], payload)?)?;
+    Ok(Message::new(records)?)
+}
+
+fn hello(alloc: Global) -> Result<Message, Fail> {
+    message(alloc, Tnf::WellKnown, b"T", &HELLO[4..])
+}
+
+#[test]
+fn encodes_whole_records(rt: HostRuntime) -> Result<(), Fail> {
+    let alloc = rt.alloc();
+    let hello = hello(alloc)?;
+    assert!(rt; encode(alloc, &hello, Form::Short)?.as_slice() == HELLO.as_slice());
+    assert!(rt; encode(alloc, &hello, Form::Long)?.as_slice() == HELLO_LONG.as_slice());
+    assert!(rt; encoded_length(&hello, Form::Short) == 12);
+    assert!(rt; encoded_length(&hello, Form::Long) == 15);
+    let nothing = message(alloc, Tnf::Unknown, &[], &[])?;
+    let short: &[u8] = &[0xD5, 0x00, 0x00];
+    let long: &[u8] = &[0xC5, 0x00, 0x00, 0x00, 0x00, 0x00];
+    assert!(rt; encode(alloc, &nothing, Form::Short)?.as_slice() == short);
+    assert!(rt; encode(alloc, &nothing, Form::Long)?.as_slice() == long);
+    Ok(())
+}
+
+// A Handover Select and the media record that it names by its id.
+#[test]
+fn encodes_ids(rt: HostRuntime) -> Result<(), Fail> {
+    let alloc = rt.alloc();
+    let wanted: &[u8] = &[
+        0x91, 0x02, 0x0A, 0x48, 0x73, 0x12, 0xD1, 0x02, 0x04, 0x61, 0x63, 0x01, 0x01, 0x30, 0x00,
+        0x5A, 0x03, 0x01, 0x01, 0x61, 0x2F, 0x62, 0x30, 0x01,
+    ];
+    let mut records = Vec::new(alloc);
+    records.push(Record::new(alloc, Tnf::WellKnown, b"Hs", &[], &wanted[5..15])?)?;
+    records.push(Record::new(alloc, Tnf::Media, b"a/b", b"0", &[0x01])?)?;
+    let message = Message::new(records)?;
+    assert!(rt; encode(alloc, &message, Form::Short)?.as_slice() == wanted);
+    assert!(rt; encoded_length(&message, Form::Short) == 24);
+    assert!(rt; encoded_length(&message, Form::Long) == 30);
+    Ok(())
+}
+
+// Whether both encoders write these bytes.
+fn writes(
+    alloc: Global,
+    message: &Message,
+    form: Form,
+    size: u32,
+    wanted: &[u8],
+) -> Result<bool, Fail>
+    requires { 1 ≤ size }
+{
+    let bytes = encode_chunked(alloc, message, form, size)?;
+    let mut out = Vec::new(alloc);
+    let mut sink = StdSink::new(&mut out);
+    let written = write_message(message, form, Some(size), &mut sink)?;
+    drop(sink);
+    Ok(bytes.as_slice() == wanted && out.as_slice() == wanted && written == wanted.len() as u64)
+}
+
+#[test]
+fn encodes_pieces(rt: HostRuntime) -> Result<(), Fail> {
+    let alloc = rt.alloc();
+    let hello = hello(alloc)?;
+    assert!(rt; writes(alloc, &hello, Form::Short, 1, &HELLO_BY_ONE)?);
+    assert!(rt; writes(alloc, &hello, Form::Short, 3, &HELLO_BY_THREE)?);
+    assert!(rt; writes(alloc, &hello, Form::Short, 8, &HELLO)?);
+    assert!(rt; writes(alloc, &hello, Form::Long, 4, &HELLO_LONG_BY_FOUR)?);
+    assert!(rt; writes(alloc, &hello, Form::Long, 4294967295, &HELLO_LONG)?);
+    Ok(())
+}
+
+// A writer that takes so many bytes in all, two at a time, and then fails.
+#[derive(Drop)]
+struct FullWriter {
+    room: usize,
+}
+
+impl Write for FullWriter {
+    fn write(&mut self, buf: &[u8]) -> io::Result<usize> {
+        if self.room == 0 {
+            return Err(io::Error::from(io::ErrorKind::Interrupted));
+        }
+        let count = buf.len().min(self.room).min(2);
+        self.room -= count;
+        Ok(count)
+    }
+
+    fn flush(&mut self) -> io::Result<()> {
+        Ok(())
+    }
+}
+
+#[test]
+fn counts_what_went_out(rt: HostRuntime) -> Result<(), Fail> {
+    let hello = hello(rt.alloc())?;
+    for room in 0..HELLO.len() {
+        let mut sink = StdSink::new(FullWriter { room });
+        let fault = write_message(&hello, Form::Short, None, &mut sink).err();
+        let written = room as u64;
+        assert!(rt; fault == Some(WriteFault { written }));
+        assert!(rt; sink.write(&HELLO) == Err(SinkFault));
+    }
+    let mut sink = StdSink::new(FullWriter { room: 12 });
+    assert!(rt; write_message(&hello, Form::Short, None, &mut sink) == Ok(12));
+    Ok(())
+}
