@@ -1,6 +1,13 @@
 pub mod Cut
+pub mod Deep
+pub mod Feed
+pub mod Field
+pub mod Format
+pub mod Payload
+pub mod Place
 pub mod Sending
 pub mod Sinks
 pub mod Slices
 pub mod Sources
+pub mod State
 pub mod Written

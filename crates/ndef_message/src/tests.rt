@@ -1,2 +1,3 @@
+mod checking;
 mod encoding;
 mod sources;

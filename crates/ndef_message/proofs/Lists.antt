@@ -1,0 +1,76 @@
+-- Lists that begin alike, and lists of octets.
+use Rattle.std.proofs.Common.{◌≡◌, ℕ, ◌≤◌, ◌<◌, ◌⊎◌, inl, inr, refl, sym, arith, List, [], ◌∷◌, ◌++◌, length, zero, suc}
+use Rattle.ndef_value.specs.Wire.{AreOctets}
+
+-- one list ends inside the other, or at its end
+pub split_append : (p q l r : List ℕ) → p ++ q ≡ l ++ r
+    → ((y : ℕ) × (m : List ℕ) × (p ≡ l ++ y ∷ m) × (r ≡ (y ∷ m) ++ q)) ⊎ ((m : List ℕ) × (l ≡ p ++ m) × (q ≡ m ++ r))
+split_append [] q l r e = inr (l, refl, e)
+split_append (x ∷ p) q [] r e = inl (x, p, refl, sym e)
+split_append (x ∷ p) q (y ∷ l) r e =
+    let ex : x ≡ y = cc in
+    let et : p ++ q ≡ l ++ r = cc in
+    elim (split_append p q l r et) [
+      | inl w ↦ inl (w.0, w.1, (let ew = w.2 in cc), w.3)
+      | inr w ↦ inr (w.0, (let ew = w.1 in cc), w.2)
+    ]
+
+-- a front that isn't longer than the first part lies in it
+pub front_in : (p q l r : List ℕ) → p ++ q ≡ l ++ r → length l ≤ length p → (m : List ℕ) × (p ≡ l ++ m) × (r ≡ m ++ q)
+front_in p q [] r e n = (p, refl, sym e)
+front_in [] q (y ∷ l) r e n = absurd (omega arith)
+front_in (x ∷ p) q (y ∷ l) r e n =
+    let et : p ++ q ≡ l ++ r = cc in
+    let w = front_in p q l r et (omega arith) in
+    (w.0, (let ex : x ≡ y = cc in let ew = w.1 in cc), w.2)
+
+-- fronts of one length are alike, and so is what follows them
+pub cut_alike : (xs ys a b : List ℕ) → length xs ≡ length ys → xs ++ a ≡ ys ++ b → (xs ≡ ys) × (a ≡ b)
+cut_alike [] [] a b n e = (refl, e)
+cut_alike [] (y ∷ ys) a b n e = absurd (omega arith)
+cut_alike (x ∷ xs) [] a b n e = absurd (omega arith)
+cut_alike (x ∷ xs) (y ∷ ys) a b n e =
+    let f : xs ++ a ≡ ys ++ b = cc in
+    let w = cut_alike xs ys a b (omega arith) f in
+    ((let g : x ≡ y = cc in let h = w.0 in cc), w.1)
+
+pub octets_front : (xs ys : List ℕ) → AreOctets (xs ++ ys) → AreOctets xs
+octets_front [] ys p = tt
+octets_front (x ∷ xs) ys p = (p.0, octets_front xs ys p.1)
+
+pub octets_back : (xs ys : List ℕ) → AreOctets (xs ++ ys) → AreOctets ys
+octets_back [] ys p = p
+octets_back (x ∷ xs) ys p = octets_back xs ys p.1
+
+pub octets_append : (xs ys : List ℕ) → AreOctets xs → AreOctets ys → AreOctets (xs ++ ys)
+octets_append [] ys p q = q
+octets_append (x ∷ xs) ys p q = (p.0, octets_append xs ys p.1 q)
+
+pub octets_snoc : (xs : List ℕ) (b : ℕ) → AreOctets xs → b < 256 → AreOctets (xs ++ b ∷ [])
+octets_snoc xs b p q = octets_append xs (b ∷ []) p (q, tt)
+
+-- a list in two parts, the first of so many octets
+pub split_at : (n : ℕ) (xs : List ℕ) → n ≤ length xs → (a b : List ℕ) × (xs ≡ a ++ b) × (length a ≡ n)
+split_at zero xs h = ([], xs, refl, refl)
+split_at (suc n) [] h = absurd (omega arith)
+split_at (suc n) (x ∷ xs) h =
+    let w = split_at n xs (omega arith) in
+    (x ∷ w.0, w.1, (let e = w.2 in cc), (let e = w.3 in omega arith))
+
+-- a list of no octets
+pub no_octets : (xs : List ℕ) → length xs ≡ 0 → xs ≡ []
+no_octets [] e = refl
+no_octets (x ∷ xs) e = absurd (omega arith)
+
+-- so many 0 octets
+abbrev pub zeros : ℕ → List ℕ
+zeros zero = []
+zeros (suc n) = 0 ∷ zeros n
+
+pub zeros_length : (n : ℕ) → length (zeros n) ≡ n
+zeros_length zero = refl
+zeros_length (suc n) = let e = zeros_length n in omega arith
+
+pub zeros_octets : (n : ℕ) → AreOctets (zeros n)
+zeros_octets zero = tt
+zeros_octets (suc n) = (omega arith, zeros_octets n)

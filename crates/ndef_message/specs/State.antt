@@ -1,0 +1,180 @@
+-- What the fields of a checker say of the bytes that led there.
+use Rattle.std.specs.Prelude.{◌≡◌, ◌+◌, ◌-◌, ◌≤◌, ◌==◌, ◌||◌, nat_lt, ℕ, true, false, List, [], ◌∷◌, ◌++◌, length, Option, Some, None, is_some, unwrap_or, ⊤, ◌⊎◌, ◌↔◌, if◌then◌else◌}
+use Rattle.ndef_value.specs.Wire.{Item, Piece, Fields, octets, LimitValues, SpellAll, tnf_of}
+use Rattle.ndef_value.specs.declared.profile.Profile.{Profile}
+use Rattle.ndef_value.specs.declared.reason.Reason.{Reason}
+use Rattle.ndef_value.specs.declared.refusal.Refusal.{Refusal}
+use Rattle.ndef_lang.specs.declared.kind.Kind.{Kind}
+use Rattle.ndef_lang.specs.declared.kind.Kind.TheVariants.{Other}
+use Rattle.ndef_lang.specs.declared.kind.KindReader.{KindReader}
+use Rattle.ndef_lang.specs.Kind.{kind_of, kind_after, missing_of}
+use Rattle.ndef_lang.specs.Language.{Sets, Conditions, PassesBetween}
+use Rattle.ndef_piece.specs.declared.head.Head.{Head}
+use Rattle.ndef_piece.specs.declared.spot.Spot.{Spot}
+use Rattle.ndef_piece.specs.declared.head_reader.Step.TheVariants as steps
+use Rattle.ndef_piece.specs.declared.bounds.Bounds.{Bounds}
+use Rattle.ndef_piece.specs.Heads.{head, Begins, MayStand}
+use Rattle.ndef_piece.specs.Reading.{Reading}
+use Rattle.ndef_piece.specs.Walk.{Before, start, spot, Walked}
+use Rattle.ndef_message.specs.Deep.{IsViable}
+use Rattle.ndef_message.specs.Field.{Field, InHead, InType, InId, InPayload, AtEnd, part_octets, record_so_far, IsPart, IsAt, IsReason, Moves}
+use Rattle.ndef_message.specs.Payload.{completes, most_left}
+use Rattle.ndef_message.specs.declared.phase.Place.{Place}
+use Rattle.ndef_message.specs.declared.phase.Phase.{Phase}
+use Rattle.ndef_message.specs.declared.phase.Phase.TheVariants as phases
+
+-- what is kept of what is known before a piece
+abbrev pub numbers : Before → Place
+numbers c = record { first = c.first; inside = is_some c.begun; records = c.records; pieces = c.pieces; room = c.room }
+
+-- the spot of the piece
+abbrev pub spot_of : Profile → Place → Spot
+spot_of profile p =
+    record { profile = profile; first = p.first; inside = p.inside; last_piece = p.pieces == 1; last_record = p.records == 1; room = p.room }
+
+-- what is kept after a piece with this head
+abbrev pub next : LimitValues → Place → Head → Place
+next limits p h =
+    if h.chunked then record { first = false; inside = true; records = p.records; pieces = p.pieces - 1; room = p.room - h.payload_length }
+    else record { first = false; inside = false; records = p.records - 1; pieces = limits.pieces; room = limits.payload }
+
+-- what comes after a piece with this head
+abbrev pub phase_after : Head → Phase
+phase_after h = if h.chunked then phases.Head else (if h.last then phases.Done else phases.Head)
+
+-- the most payload octets of the record, where a piece goes on within the bounds of its head
+abbrev pub greatest_of : Bounds → ℕ → ℕ
+greatest_of b room = if b.chunked || nat_lt room b.payload.1 then room else b.payload.1
+
+-- the payload can be completed by the piece of some head that goes on after these octets
+abbrev pub SomeHead : (List ℕ → Type 0) → Spot → List ℕ → Type 0
+SomeHead pass spot xs = (f : Fields) × Begins spot xs f × PassesBetween pass f.payload_length (most_left f.chunked spot.room f.payload_length f.payload_length)
+
+-- the language has read the payload of the record so far
+pub record Speaks (set : Sets) (reach : Kind → ℕ → Profile → List ℕ → Type 0) (pass : List ℕ → Type 0) (limits : LimitValues) (m : Item) : Type 0 where
+  pub reached : reach (kind_of m.tnf m.kind) limits.records limits.profile m.payload
+  pub future : (r : List ℕ) → pass r ↔ completes set limits m r
+
+-- .. where one is open
+abbrev pub SpeaksIf : Sets → (Kind → ℕ → Profile → List ℕ → Type 0) → (List ℕ → Type 0) → LimitValues → Option Item → Type 0
+SpeaksIf set reach pass limits None = ⊤
+SpeaksIf set reach pass limits (Some m) = Speaks set reach pass limits m
+
+-- the reader of a type's name has read these octets
+pub record Reads (reader : KindReader) (f : Fields) (kind : List ℕ) (left : ℕ) : Type 0 where
+  pub missing : missing_of reader ≡ left
+  pub kinds : (more : List ℕ) → kind_after reader more ≡ (if length more == left then kind_of (tnf_of f.tnf) (kind ++ more) else Other)
+
+module _ (set : Sets) (holds : Conditions) (reach : Kind → ℕ → Profile → List ℕ → Type 0) (pass : List ℕ → Type 0) (limits : LimitValues) (place : Place) (reader : Reading) (phase : Phase) where
+  -- the fields tell the field of the next byte
+  abbrev pub Matches : Field → Type 0
+  Matches (InHead c xs) =
+      (place ≡ numbers c) × (phase ≡ phases.Head) × (reader ≡ record { spot = spot limits.profile c; octets = xs; answer = steps.More }) × SpeaksIf set reach pass limits c.begun
+  Matches (InType c f kind) =
+      (place ≡ numbers c) × (c.begun ≡ None) × (r : KindReader) × (phase ≡ phases.Type (head f) (f.kind_length - length kind) r) × Reads r f kind (f.kind_length - length kind)
+  Matches (InId c f kind id) =
+      (place ≡ numbers c) × (phase ≡ phases.Id (head f) (unwrap_or f.id_length 0 - length id)) × Speaks set reach pass limits (record_so_far c.begun f kind id [])
+  Matches (InPayload c f kind id payload) =
+      (place ≡ numbers c) × (phase ≡ phases.Payload (head f) (f.payload_length - length payload)) × Speaks set reach pass limits (record_so_far c.begun f kind id payload)
+  Matches (AtEnd c) = (place ≡ numbers c) × (phase ≡ phases.Done)
+
+  -- these bytes led here, and none was refused
+  pub record Stands (bytes : List ℕ) (given : List Item) (field : Field) : Type 0 where
+    pub at : IsAt limits bytes given field
+    pub viable : IsViable set limits bytes
+    pub matches : Matches field
+
+  -- these bytes led here, and the last one was refused
+  pub record Stopped (bytes : List ℕ) (given : List Item) (field : Field) : Type 0 where
+    pub front : List ℕ
+    pub byte : ℕ
+    pub refusal : Refusal
+    pub split : bytes ≡ front ++ byte ∷ []
+    pub at : IsAt limits front given field
+    pub viable : IsViable set limits front
+    pub refused : ¬ IsViable set limits bytes
+    pub phase_is : phase ≡ phases.Refused refusal
+    pub place_is : refusal.at ≡ length front
+    pub counted : place.records + length given ≡ limits.records
+    pub reason : IsReason holds limits field byte refusal.reason
+
+  -- these bytes led here: they end these records, and this is the field of the next byte, or of the one that was refused
+  abbrev pub Reached : List ℕ → List Item → Field → Type 0
+  Reached bytes given field = Stands bytes given field ⊎ Stopped bytes given field
+
+  -- after an octet behind these bytes
+  abbrev pub Onward : List ℕ → List Item → Field → ℕ → Type 0
+  Onward bytes given field b =
+      ((given' : List Item) × (field' : Field) × Moves limits given field b given' field' × Stands (bytes ++ b ∷ []) given' field') ⊎ Stopped (bytes ++ b ∷ []) given field
+
+  -- where so much is left of the id and the payload of a piece with this head
+  pub record InBody (h : Head) (id_left left : ℕ) (bytes : List ℕ) (given : List Item) (c : Before) (f : Fields) (kind id payload : List ℕ) : Type 0 where
+    pub pieces : List Piece
+    pub done : List ℕ
+    pub walked : Walked limits (start limits) pieces given c
+    pub spelled : SpellAll pieces done
+    pub split : bytes ≡ done ++ part_octets f kind id payload
+    pub part : IsPart limits c f kind id payload
+    pub head_is : h ≡ head f
+    pub kind_whole : length kind ≡ f.kind_length
+    pub id_left_is : id_left ≡ unwrap_or f.id_length 0 - length id
+    pub id_fits : length id ≤ unwrap_or f.id_length 0
+    pub left_is : left ≡ f.payload_length - length payload
+    pub payload_fits : length payload ≤ f.payload_length
+    pub in_turn : (length id ≡ unwrap_or f.id_length 0) ⊎ (payload ≡ [])
+    pub place_is : place ≡ numbers c
+    pub speaks : Speaks set reach pass limits (record_so_far c.begun f kind id payload)
+
+  -- some bytes led there
+  pub record SomeBody (h : Head) (id_left left : ℕ) : Type 0 where
+    pub bytes : List ℕ
+    pub given : List Item
+    pub before : Before
+    pub fields : Fields
+    pub kind : List ℕ
+    pub id : List ℕ
+    pub payload : List ℕ
+    pub body : InBody h id_left left bytes given before fields kind id payload
+
+  -- behind a whole head
+  pub record WholeHead (h : Head) (bytes : List ℕ) (given : List Item) (c : Before) (f : Fields) : Type 0 where
+    pub pieces : List Piece
+    pub done : List ℕ
+    pub walked : Walked limits (start limits) pieces given c
+    pub spelled : SpellAll pieces done
+    pub split : bytes ≡ done ++ octets f
+    pub goes_on : c.over ≡ false
+    pub stands : MayStand (spot limits.profile c) f
+    pub head_is : h ≡ head f
+    pub place_is : place ≡ numbers c
+    pub speaks : SpeaksIf set reach pass limits c.begun
+
+  pub record SomeWhole (h : Head) : Type 0 where
+    pub bytes : List ℕ
+    pub given : List Item
+    pub before : Before
+    pub fields : Fields
+    pub whole : WholeHead h bytes given before fields
+
+  pub record Led : Type 0 where
+    pub bytes : List ℕ
+    pub given : List Item
+    pub field : Field
+    pub stands : Stands bytes given field
+
+-- an octet came after these bytes, and this is its reason if it is refused
+pub record Came (set : Sets) (holds : Conditions) (limits : LimitValues) (at : ℕ) (reason : Reason) (bytes : List ℕ) (given : List Item) (field : Field) (b : ℕ) : Type 0 where
+  pub at_is : IsAt limits bytes given field
+  pub viable : IsViable set limits bytes
+  pub place_is : at ≡ length bytes
+  pub reason_is : IsReason holds limits field b reason
+
+-- these bytes, so many, led there
+abbrev pub Knows : (set : Sets) (holds : Conditions) (reach : Kind → ℕ → Profile → List ℕ → Type 0) (pass : List ℕ → Type 0) (limits : LimitValues) (place : Place) (reader : Reading) (phase : Phase) (taken : ℕ)
+    → List ℕ → List Item → Field → Type 0
+Knows set holds reach pass limits place reader phase taken bytes given field = (taken ≡ length bytes) × Reached set holds reach pass limits place reader phase bytes given field
+
+-- some bytes led there
+abbrev pub LedTo : (set : Sets) (holds : Conditions) (reach : Kind → ℕ → Profile → List ℕ → Type 0) (pass : List ℕ → Type 0) (limits : LimitValues) (place : Place) (reader : Reading) (phase : Phase) (taken : ℕ) → Type 0
+LedTo set holds reach pass limits place reader phase taken =
+    (bytes : List ℕ) × (given : List Item) × (field : Field) × Knows set holds reach pass limits place reader phase taken bytes given field

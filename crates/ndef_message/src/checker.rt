@@ -1,0 +1,160 @@
+//! The checker of a message, byte by byte.
+ghost use Rattle.std.specs.Prelude.{◌≡◌, ◌≢◌, ◌+◌, ◌≤◌, ◌++◌, ◌∷◌, [], ℕ, List, length, None};
+ghost use Rattle.ndef_value.specs.Wire.{Item, greatest_length};
+ghost use Rattle.ndef_message.specs.Field.{Field};
+ghost use Rattle.ndef_message.specs.Feed.{Feeds, Ends, IsAccepted, answer_of};
+ghost use Rattle.ndef_message.specs.State.{LedTo, Onward};
+
+use crate::Fed;
+use crate::format::format_laws;
+use crate::phase::{Phase, Place};
+use crate::state::State;
+use ndef_lang::{Kind, Language, OuterLanguage};
+use ndef_piece::HeadReader;
+use ndef_value::{Limits, Reason, Refusal};
+
+/// What is known of something that is fed the bytes of a message.
+pub trait Reading {
+    ghost use Rattle.ndef_value.specs.Wire.{Item, LimitValues};
+    ghost use Rattle.ndef_message.specs.Field.{Field};
+
+    /// Its limits.
+    ghost limits: { Self → LimitValues };
+
+    /// The bytes that lead there, a refused one with them, with the records that they end and the
+    /// field of the next byte, or of the refused one.
+    ghost reached: { Self → List ℕ → List Item → Field → Type 0 };
+}
+
+/// Checks one message in memory of fixed size.
+#[derive(Drop)]
+pub struct Checker<L: OuterLanguage> {
+    limits: Limits,
+    state: State<L>,
+    taken: u64,
+    ghost led: { ∥ LedTo L.set L.holds (L.reached state.payload) (L.future state.payload) limits state.place state.reader state.phase taken ∥₁ },
+}
+
+impl<L: OuterLanguage> Reading for Checker<L> {
+    ghost use Rattle.ndef_message.specs.State.{Knows};
+
+    ghost limits = { λ c. c.limits };
+
+    ghost reached = { λ c. Knows L.set L.holds (L.reached c.state.payload) (L.future c.state.payload) c.limits c.state.place c.state.reader c.state.phase c.taken };
+}
+
+impl<L: OuterLanguage> Checker<L> {
+    ghost use Rattle.ndef_message.specs.Field.{Field, InHead};
+    ghost use Rattle.ndef_piece.specs.Walk.{start};
+
+    /// Before a message.
+    pub fn new(limits: Limits) -> Self
+        ensures limits { ⟦<Checker<L> as Reading>⟧.limits result ≡ limits }
+        ensures reached { ⟦<Checker<L> as Reading>⟧.reached result [] [] (InHead (start limits) []) }
+    {
+        format_laws(&limits);
+        let place = Place {
+            first: true,
+            inside: false,
+            records: limits.records(),
+            pieces: limits.pieces(),
+            room: limits.payload(),
+        };
+        Checker {
+            limits,
+            state: State {
+                place,
+                reader: HeadReader::new(place.spot(limits.profile())),
+                payload: L::start(Kind::Other, limits.records(), limits.profile()),
+                phase: Phase::Head,
+            },
+            taken: 0,
+        }
+    }
+
+    /// Takes the next bytes of the message, up to its last one or the first that is refused. After
+    /// the last byte it takes none, and after a refusal it repeats that refusal.
+    pub fn feed(&mut self, bytes: &[u8]) -> Fed
+        ensures limits { ⟦<Checker<L> as Reading>⟧.limits self.new ≡ ⟦<Checker<L> as Reading>⟧.limits self.old }
+        ensures fed { (front : List ℕ) (given : List Item) (field : Field) → ⟦<Checker<L> as Reading>⟧.reached self.old front given field
+            → Feeds L.set L.holds (⟦<Checker<L> as Reading>⟧.limits self.old) (⟦<Checker<L> as Reading>⟧.reached self.new) front bytes.now result }
+    {
+        format_laws(&self.limits);
+        for (at, byte) in bytes.iter().enumerate() {
+            if let Some(answer) = self.answer(at) {
+                return answer;
+            }
+            self.step(*byte);
+        }
+        match self.answer(bytes.len()) {
+            Some(answer) => answer,
+            None => Fed::More,
+        }
+    }
+
+    /// What the input is, if it ends here.
+    pub fn end(&self) -> Result<(), Refusal>
+        ensures { (front : List ℕ) (given : List Item) (field : Field) → ⟦<Checker<L> as Reading>⟧.reached self.now front given field
+            → Ends L.set L.holds (⟦<Checker<L> as Reading>⟧.limits self.now) front result }
+    {
+        format_laws(&self.limits);
+        match self.state.phase {
+            Phase::Done => Ok(()),
+            Phase::Refused { refusal } => Err(refusal),
+            _ => Err(Refusal {
+                at: self.taken,
+                reason: Reason::EndOfInput,
+            }),
+        }
+    }
+
+    /// The records that have ended; after a refusal, before the refused byte.
+    pub fn records(&self) -> u32
+        ensures { (front : List ℕ) (given : List Item) (field : Field) → ⟦<Checker<L> as Reading>⟧.reached self.now front given field
+            → result ≡ length given }
+    {
+        format_laws(&self.limits);
+        self.limits
+            .records()
+            .saturating_sub(self.state.place.records)
+    }
+
+    /// The bytes that were taken; after a refusal, those before the refused one. They are at most as
+    /// many as a message within the limits can have.
+    pub fn place(&self) -> u64
+        ensures accepted { (front : List ℕ) (given : List Item) (field : Field) → ⟦<Checker<L> as Reading>⟧.reached self.now front given field
+            → IsAccepted L.set (⟦<Checker<L> as Reading>⟧.limits self.now) front result }
+        ensures bound { result ≤ greatest_length (⟦<Checker<L> as Reading>⟧.limits self.now) }
+    {
+        format_laws(&self.limits);
+        match self.state.phase {
+            Phase::Refused { refusal } => refusal.at,
+            _ => self.taken,
+        }
+    }
+
+    /// What is answered before another byte is seen.
+    fn answer(&self, taken: usize) -> Option<Fed>
+        ensures { result ≡ answer_of self.now.state.phase taken }
+    {
+        match self.state.phase {
+            Phase::Done => Some(Fed::Done { taken }),
+            Phase::Refused { refusal } => Some(Fed::Refused(refusal)),
+            _ => None,
+        }
+    }
+
+    /// Takes the next byte.
+    fn step(&mut self, byte: u8)
+        requires { answer_of self.old.state.phase 0 ≡ None }
+        ensures limits { self.new.limits ≡ self.old.limits }
+        ensures onward { (bytes : List ℕ) (given : List Item) (field : Field) → ⟦<Checker<L> as Reading>⟧.reached self.old bytes given field
+            → (self.new.taken ≡ length (bytes ++ byte ∷ []))
+            × Onward L.set L.holds (L.reached self.new.state.payload) (L.future self.new.state.payload) self.new.limits self.new.state.place self.new.state.reader self.new.state.phase bytes given field byte }
+    {
+        format_laws(&self.limits);
+        let at = self.taken;
+        self.state.step(&self.limits, at, byte);
+        self.taken = at + 1;
+    }
+}

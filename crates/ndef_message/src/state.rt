@@ -1,0 +1,238 @@
+//! One byte of a message.
+ghost use Rattle.std.specs.Prelude.{◌≡◌, ◌≢◌, ◌++◌, ◌∷◌, [], ◌-◌, ◌<◌, ◌⊎◌, ◌↔◌, ℕ, List, length, IsTrue, true};
+ghost use Rattle.ndef_value.specs.Wire.{Item, Fields};
+ghost use Rattle.ndef_piece.specs.Walk.{Before};
+
+use crate::format::format_laws;
+use crate::phase::{Phase, Place, greatest, phase_after};
+use ndef_lang::{Kind, KindReader, Language, OuterLanguage};
+use ndef_piece::{Head, HeadReader, Step};
+use ndef_value::{Limits, Reason, Refusal};
+
+/// What a checker keeps.
+#[derive(Drop)]
+pub(crate) struct State<L: OuterLanguage> {
+    pub(crate) place: Place,
+    pub(crate) reader: HeadReader,
+    pub(crate) payload: L,
+    pub(crate) phase: Phase,
+}
+
+impl<L: OuterLanguage> State<L> {
+    ghost use Rattle.ndef_message.specs.Field.{Field, given_next, field_next};
+    ghost use Rattle.ndef_message.specs.State.{Stands, Stopped, InBody, SomeBody, WholeHead, SomeWhole, SomeHead, Led, Came, Onward};
+    ghost use Rattle.ndef_piece.specs.Heads as heads;
+    ghost use Rattle.ndef_message.specs.Deep.{IsViable};
+
+    /// Takes the next byte, after `at` others.
+    pub(crate) fn step(&mut self, limits: &Limits, at: u64, byte: u8)
+        requires led { ∥ Led L.set L.holds (L.reached self.old.payload) (L.future self.old.payload) limits.now self.old.place self.old.reader self.old.phase ∥₁ }
+        ensures onward { (bytes : List ℕ) (given : List Item) (field : Field) → at ≡ length bytes
+            → Stands L.set L.holds (L.reached self.old.payload) (L.future self.old.payload) limits.now self.old.place self.old.reader self.old.phase bytes given field
+            → self.old.phase ≢ Phase.Done
+            → Onward L.set L.holds (L.reached self.new.payload) (L.future self.new.payload) limits.now self.new.place self.new.reader self.new.phase bytes given field byte }
+    {
+        match self.phase {
+            Phase::Head => self.in_head(limits, at, byte),
+            Phase::Type { head, left, kind } => self.in_type(limits, at, head, left, kind, byte),
+            Phase::Id { head, left } => self.in_id(limits, head, left, byte),
+            Phase::Payload { head, left } => self.in_payload(limits, at, head, left, byte),
+            Phase::Done | Phase::Refused { .. } => {}
+        }
+    }
+
+    /// Takes an octet of the head of a piece.
+    fn in_head(&mut self, limits: &Limits, at: u64, byte: u8)
+        requires phase { self.old.phase ≡ Phase.Head }
+        requires led { ∥ Led L.set L.holds (L.reached self.old.payload) (L.future self.old.payload) limits.now self.old.place self.old.reader self.old.phase ∥₁ }
+        ensures onward { (bytes : List ℕ) (given : List Item) (field : Field) → at ≡ length bytes
+            → Stands L.set L.holds (L.reached self.old.payload) (L.future self.old.payload) limits.now self.old.place self.old.reader self.old.phase bytes given field
+            → Onward L.set L.holds (L.reached self.new.payload) (L.future self.new.payload) limits.now self.new.place self.new.reader self.new.phase bytes given field byte }
+    {
+        format_laws(limits);
+        match self.reader.step(byte) {
+            Step::More => {
+                if !self.head_goes_on() {
+                    self.phase = Phase::Refused {
+                        refusal: Refusal {
+                            at,
+                            reason: Reason::DoesNotFit,
+                        },
+                    };
+                }
+            }
+            Step::Head(head) => self.behind_head(limits, at, head),
+            Step::Refused(reason) => self.phase = Phase::Refused {
+                refusal: Refusal { at, reason },
+            },
+        }
+    }
+
+    /// Whether the payload of an open run can be completed by a piece whose head goes on so.
+    fn head_goes_on(&self) -> bool
+        ensures { self.now.reader.octets ≢ [] → self.now.reader.spot.room ≡ self.now.place.room → heads.IsViable self.now.reader.spot self.now.reader.octets
+            → (IsTrue result ↔ (self.now.place.inside ≡ true → SomeHead (L.future self.now.payload) self.now.reader.spot self.now.reader.octets)) }
+    {
+        if !self.place.inside {
+            return true;
+        }
+        match self.reader.bounds() {
+            Some(bounds) => self
+                .payload
+                .fits(bounds.payload.0, greatest(&bounds, self.place.room)),
+            None => false,
+        }
+    }
+
+    /// Goes on behind a whole head.
+    fn behind_head(&mut self, limits: &Limits, at: u64, head: Head)
+        requires led { ∥ SomeWhole L.set L.holds (L.reached self.old.payload) (L.future self.old.payload) limits.now self.old.place self.old.reader self.old.phase head ∥₁ }
+        ensures entered { (bytes : List ℕ) (given : List Item) (field : Field) (b : ℕ) (c : Before) (f : Fields)
+            → Came L.set L.holds limits.now at Reason.DoesNotFit bytes given field b
+            → WholeHead L.set L.holds (L.reached self.old.payload) (L.future self.old.payload) limits.now self.old.place self.old.reader self.old.phase head (bytes ++ b ∷ []) given c f
+            → Stands L.set L.holds (L.reached self.new.payload) (L.future self.new.payload) limits.now self.new.place self.new.reader self.new.phase (bytes ++ b ∷ []) (given_next limits.now given c f [] [] []) (field_next limits.now c f [] [] [])
+            ⊎ Stopped L.set L.holds (L.reached self.new.payload) (L.future self.new.payload) limits.now self.new.place self.new.reader self.new.phase (bytes ++ b ∷ []) given field }
+    {
+        format_laws(limits);
+        if self.place.inside {
+            self.enter(limits, at, head, 0, head.payload_length, Reason::DoesNotFit);
+            return;
+        }
+        if head.kind_length > 0 {
+            self.phase = Phase::Type {
+                head,
+                left: head.kind_length,
+                kind: KindReader::new(head.tnf, head.kind_length),
+            };
+            return;
+        }
+        self.payload = L::start(Kind::Other, limits.records(), limits.profile());
+        let id_left = head.id_length.unwrap_or(0);
+        self.enter(
+            limits,
+            at,
+            head,
+            id_left,
+            head.payload_length,
+            Reason::DoesNotFit,
+        );
+    }
+
+    /// Takes an octet of PAYLOAD.
+    fn in_payload(&mut self, limits: &Limits, at: u64, head: Head, left: u32, byte: u8)
+        requires phase { self.old.phase ≡ Phase.Payload head left }
+        requires led { ∥ Led L.set L.holds (L.reached self.old.payload) (L.future self.old.payload) limits.now self.old.place self.old.reader self.old.phase ∥₁ }
+        ensures onward { (bytes : List ℕ) (given : List Item) (field : Field) → at ≡ length bytes
+            → Stands L.set L.holds (L.reached self.old.payload) (L.future self.old.payload) limits.now self.old.place self.old.reader self.old.phase bytes given field
+            → Onward L.set L.holds (L.reached self.new.payload) (L.future self.new.payload) limits.now self.new.place self.new.reader self.new.phase bytes given field byte }
+    {
+        format_laws(limits);
+        self.payload.step(byte);
+        let reason = self.payload.reason();
+        self.enter(limits, at, head, 0, left - 1, reason);
+    }
+
+    /// Takes an octet of ID.
+    fn in_id(&mut self, limits: &Limits, head: Head, left: u8, byte: u8)
+        requires phase { self.old.phase ≡ Phase.Id head left }
+        requires led { ∥ Led L.set L.holds (L.reached self.old.payload) (L.future self.old.payload) limits.now self.old.place self.old.reader self.old.phase ∥₁ }
+        ensures onward { (bytes : List ℕ) (given : List Item) (field : Field) → Stands L.set L.holds (L.reached self.old.payload) (L.future self.old.payload) limits.now self.old.place self.old.reader self.old.phase bytes given field
+            → Onward L.set L.holds (L.reached self.new.payload) (L.future self.new.payload) limits.now self.new.place self.new.reader self.new.phase bytes given field byte }
+    {
+        format_laws(limits);
+        self.settle(limits, head, left - 1, head.payload_length);
+    }
+
+    /// Takes an octet of TYPE.
+    fn in_type(
+        &mut self,
+        limits: &Limits,
+        at: u64,
+        head: Head,
+        left: u8,
+        kind: KindReader,
+        byte: u8,
+    )
+        requires phase { self.old.phase ≡ Phase.Type head left kind }
+        requires led { ∥ Led L.set L.holds (L.reached self.old.payload) (L.future self.old.payload) limits.now self.old.place self.old.reader self.old.phase ∥₁ }
+        ensures onward { (bytes : List ℕ) (given : List Item) (field : Field) → at ≡ length bytes
+            → Stands L.set L.holds (L.reached self.old.payload) (L.future self.old.payload) limits.now self.old.place self.old.reader self.old.phase bytes given field
+            → Onward L.set L.holds (L.reached self.new.payload) (L.future self.new.payload) limits.now self.new.place self.new.reader self.new.phase bytes given field byte }
+    {
+        format_laws(limits);
+        let mut kind = kind;
+        kind.step(byte);
+        if left > 1 {
+            self.phase = Phase::Type {
+                head,
+                left: left - 1,
+                kind,
+            };
+            return;
+        }
+        self.payload = L::start(kind.kind(), limits.records(), limits.profile());
+        let id_left = head.id_length.unwrap_or(0);
+        self.enter(
+            limits,
+            at,
+            head,
+            id_left,
+            head.payload_length,
+            Reason::DoesNotFit,
+        );
+    }
+
+    /// Goes on behind so much of the id and the payload of a piece, if what is left can complete the
+    /// payload.
+    fn enter(
+        &mut self,
+        limits: &Limits,
+        at: u64,
+        head: Head,
+        id_left: u8,
+        left: u32,
+        reason: Reason,
+    )
+        requires led { ∥ SomeBody L.set L.holds (L.reached self.old.payload) (L.future self.old.payload) limits.now self.old.place self.old.reader self.old.phase head id_left left ∥₁ }
+        ensures entered { (bytes : List ℕ) (given : List Item) (field : Field) (b : ℕ) (c : Before) (f : Fields) (kind id payload : List ℕ)
+            → Came L.set L.holds limits.now at reason bytes given field b
+            → InBody L.set L.holds (L.reached self.old.payload) (L.future self.old.payload) limits.now self.old.place self.old.reader self.old.phase head id_left left (bytes ++ b ∷ []) given c f kind id payload
+            → Stands L.set L.holds (L.reached self.new.payload) (L.future self.new.payload) limits.now self.new.place self.new.reader self.new.phase (bytes ++ b ∷ []) (given_next limits.now given c f kind id payload) (field_next limits.now c f kind id payload)
+            ⊎ Stopped L.set L.holds (L.reached self.new.payload) (L.future self.new.payload) limits.now self.new.place self.new.reader self.new.phase (bytes ++ b ∷ []) given field }
+    {
+        format_laws(limits);
+        if self
+            .payload
+            .fits(u64::from(left), self.place.most_left(&head, left))
+        {
+            self.settle(limits, head, id_left, left);
+        } else {
+            self.phase = Phase::Refused {
+                refusal: Refusal { at, reason },
+            };
+        }
+    }
+
+    /// Goes on behind so much of the id and the payload of a piece.
+    fn settle(&mut self, limits: &Limits, head: Head, id_left: u8, left: u32)
+        ensures stands { (bytes : List ℕ) (given : List Item) (c : Before) (f : Fields) (kind id payload : List ℕ) → InBody L.set L.holds (L.reached self.old.payload) (L.future self.old.payload) limits.now self.old.place self.old.reader self.old.phase head id_left left bytes given c f kind id payload
+            → IsViable L.set limits.now bytes
+            → Stands L.set L.holds (L.reached self.new.payload) (L.future self.new.payload) limits.now self.new.place self.new.reader self.new.phase bytes (given_next limits.now given c f kind id payload) (field_next limits.now c f kind id payload) }
+    {
+        format_laws(limits);
+        if id_left > 0 {
+            self.phase = Phase::Id {
+                head,
+                left: id_left,
+            };
+            return;
+        }
+        if left > 0 {
+            self.phase = Phase::Payload { head, left };
+            return;
+        }
+        self.place = self.place.after(limits, &head);
+        self.reader = HeadReader::new(self.place.spot(limits.profile()));
+        self.phase = phase_after(&head);
+    }
+}

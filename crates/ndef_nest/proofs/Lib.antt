@@ -1,0 +1,4 @@
+pub mod HeadBounds
+pub mod Places
+pub mod Ranges
+pub mod Steps

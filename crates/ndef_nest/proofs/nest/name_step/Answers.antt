@@ -1,0 +1,10 @@
+use Rattle.std.proofs.Common.{arith}
+use Rattle.ndef_nest.specs.Demands.{Later}
+use Rattle.ndef_nest.proofs.Steps.{after_name, chain}
+use Rattle.ndef_nest.proofs.nest.name_step.Goals as goal
+
+pub returns-clause-future : goal.returns-clause-future
+returns-clause-future c r =
+    let x = c.args.context.now in
+    chain (c.named.ensures.future r)
+    (after_name x.profile x.table (Later x.profile x.table x.records) c.args.last x.demand c.args.names c.step.new.self c.args.left c.args.id c.args.payload c.args.byte r (omega arith) (omega arith) c.step.ensures.kind)

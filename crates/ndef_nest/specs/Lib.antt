@@ -1,0 +1,17 @@
+pub mod BodyLaws
+pub mod Conditions
+pub mod Demands
+pub mod FrontLaws
+pub mod Fronts
+pub mod HeadLaws
+pub mod HeaderLaws
+pub mod NameLaws
+pub mod Nested
+pub mod NestedLaws
+pub mod Nests
+pub mod OctetLaws
+pub mod Phases
+pub mod RecordLaws
+pub mod RestLaws
+pub mod SpanLaws
+pub mod Spans
