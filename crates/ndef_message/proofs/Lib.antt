@@ -7,6 +7,7 @@ pub mod Encoded
 pub mod Ended
 pub mod Entered
 pub mod Feeding
+pub mod Fields
 pub mod HeadOctets
 pub mod Judged
 pub mod Lists
@@ -20,6 +21,7 @@ pub mod ShortForm
 pub mod Shown
 pub mod Somewhere
 pub mod Starts
+pub mod Told
 pub mod Viable
 pub mod WrittenPieces
 pub mod WrittenRuns

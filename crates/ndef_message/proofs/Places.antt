@@ -24,7 +24,7 @@ viable_shorter set limits m n xs h v =
     let w = front_of m n xs h in
     viable_front set limits (take m xs) w.0 (subst (IsViable set limits) w.1 v)
 
-order : (p q : ℕ) → (p < q) ⊎ (q ≤ p)
+pub order : (p q : ℕ) → (p < q) ⊎ (q ≤ p)
 order p zero = inr (omega arith)
 order zero (suc q) = inl (omega arith)
 order (suc p) (suc q) = elim (order p q) as (λ v. (suc p < suc q) ⊎ (suc q ≤ suc p)) [ inl h ↦ inl (omega arith) | inr h ↦ inr (omega arith) ]

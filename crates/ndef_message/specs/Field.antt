@@ -117,3 +117,10 @@ Moves limits given (InType c f kind) b given' field' = GoesTo limits given c f (
 Moves limits given (InId c f kind id) b given' field' = GoesTo limits given c f kind (id ++ b ∷ []) [] given' field'
 Moves limits given (InPayload c f kind id payload) b given' field' = GoesTo limits given c f kind id (payload ++ b ∷ []) given' field'
 Moves limits given (AtEnd c) b given' field' = ⊥
+
+-- ---- law
+
+-- The bytes before a byte tell its field, and the records that they end.
+abbrev pub OneField : Type 0
+OneField = (limits : LimitValues) (bytes : List ℕ) (given others : List Item) (field other : Field)
+    → IsAt limits bytes given field → IsAt limits bytes others other → (given ≡ others) × (field ≡ other)

@@ -27,7 +27,7 @@ pub use encoding_laws::{
 };
 pub use fed::Fed;
 pub use form::Form;
-pub use laws::places_are_told;
+pub use laws::{answers_are_told, fields_are_told, places_are_told};
 pub use sending::{WriteFault, send, texts_are_sent_in_turn};
 pub use sink::{Sink, SinkFault};
 pub use slice_source::SliceSource;

@@ -2,3 +2,4 @@ pub mod Octets
 pub mod Unique
 pub mod Canonical
 pub mod Bounds
+pub mod Ranks

@@ -1,5 +1,5 @@
 -- The reasons for a refusal: their numbers, their order and their names.
-use Rattle.std.specs.Prelude.{ℕ, List, codes}
+use Rattle.std.specs.Prelude.{◌≡◌, ℕ, List, codes}
 use Rattle.ndef_value.specs.declared.reason.Reason.{Reason}
 use Rattle.ndef_value.specs.declared.reason.Reason.TheVariants.{ReservedTnf, BeginMissing, BeginAgain, UnchangedOutside, ChangedInside, IdInside, ChunkAtEnd, ChunkOfEmpty, TooManyPieces, TooManyRecords, TypeNotEmpty, TypeEmpty, EmptyNotEmpty, PayloadTooLarge, TextBit, Language, Utf8, Utf16, UriCode, UriMissing, UriAgain, Version, CollisionMissing, DoesNotFit, EndOfInput}
 
@@ -65,3 +65,9 @@ name_of Version = codes "Version"
 name_of CollisionMissing = codes "CollisionMissing"
 name_of DoesNotFit = codes "DoesNotFit"
 name_of EndOfInput = codes "EndOfInput"
+
+-- ---- law
+
+-- No two reasons have one rank.
+abbrev pub RanksAreApart : Type 0
+RanksAreApart = (reason other : Reason) → rank_of reason ≡ rank_of other → reason ≡ other

@@ -1,4 +1,5 @@
 //! What holds of the format, whoever reads or writes it.
+ghost use Rattle.ndef_value.specs.Reason.{RanksAreApart};
 ghost use Rattle.ndef_value.specs.Wire.{OneMeaning, StrictIsRead, CanonicalIsFlat, MessagesAreBounded};
 
 /// Bytes that begin with the spelling of a message are the spelling of no other message, with other
@@ -17,4 +18,9 @@ pub fn canonical_is_a_spelling()
 /// A message within the limits has at most so many bytes.
 pub fn messages_are_bounded()
     ensures { MessagesAreBounded }
+{}
+
+/// Of some reasons one alone is tried first: no two have one rank.
+pub fn ranks_are_apart()
+    ensures { RanksAreApart }
 {}

@@ -14,7 +14,7 @@ mod refusal;
 mod tnf;
 
 pub use bytes::Bytes;
-pub use laws::{canonical_is_a_spelling, messages_are_bounded, one_meaning};
+pub use laws::{canonical_is_a_spelling, messages_are_bounded, one_meaning, ranks_are_apart};
 pub use limits::{Limits, OutOfRange};
 pub use message::{Message, MessageError};
 pub use name::{Name, NameError};
