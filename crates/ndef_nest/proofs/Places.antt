@@ -7,10 +7,7 @@ use Rattle.ndef_value.specs.Wire.{Piece, Spells, SpellAll, Fields, fields, octet
 use Rattle.ndef_piece.specs.Heads.{CanBeSpelled, HeadsAreApart}
 use Rattle.ndef_nest.specs.Conditions.{Place, before, IsPlace, StandsAt}
 use Rattle.ndef_nest.specs.Conditions.Place.{InHead, InType, InId, InPayload}
-
-id_count : (o : Option (List ℕ)) → unwrap_or (option_map length o) 0 ≡ length (unwrap_or o [])
-id_count None = refl
-id_count (Some xs) = refl
+use Rattle.ndef_nest.specs.NestedLaws.{id_count}
 
 -- lists of one length before others
 cut_alike : (xs ys a b : List ℕ) → length xs ≡ length ys → xs ++ a ≡ ys ++ b → (xs ≡ ys) × (a ≡ b)
@@ -30,7 +27,7 @@ body_length : (p : Piece) → length (body p) ≡ length p.kind + length (unwrap
 body_length p = omega (arith, length-append p.kind (unwrap_or p.id [] ++ p.payload), length-append (unwrap_or p.id []) p.payload)
 
 -- a field with an octet to come doesn't go past a piece
-no_overrun : (apart : HeadsAreApart) (place : Place) (p : Piece) (short : Bool) (bytes rest : List ℕ) → IsPlace place → Spells p short bytes → before place ≡ bytes ++ rest → ⊥
+pub no_overrun : (apart : HeadsAreApart) (place : Place) (p : Piece) (short : Bool) (bytes rest : List ℕ) → IsPlace place → Spells p short bytes → before place ≡ bytes ++ rest → ⊥
 no_overrun apart (InHead begun) p short bytes rest at s e =
     let f : octets at.0 ++ [] ≡ octets (fields p short) ++ (body p ++ (rest ++ (at.1 ∷ at.2))) =
     append-nil (octets at.0) ∙ at.4 ∙ ap (λ z. z ++ (at.1 ∷ at.2)) (e ∙ ap (λ z. z ++ rest) s.spelled) ∙ simp append_assoc in
@@ -57,7 +54,7 @@ same_id None (Some y) e f = cc
 same_id (Some x) None e f = cc
 same_id (Some x) (Some y) e f = ap (λ z. Some z) f
 
-same_piece : (apart : HeadsAreApart) (p q : Piece) (s t : Bool) (x y a b : List ℕ) → Spells p s x → Spells q t y → x ++ a ≡ y ++ b → (p ≡ q) × (a ≡ b)
+pub same_piece : (apart : HeadsAreApart) (p q : Piece) (s t : Bool) (x y a b : List ℕ) → Spells p s x → Spells q t y → x ++ a ≡ y ++ b → (p ≡ q) × (a ≡ b)
 same_piece apart p q s t x y a b h k e =
     let f : octets (fields p s) ++ (body p ++ a) ≡ octets (fields q t) ++ (body q ++ b) =
     sym (append_assoc (octets (fields p s)) (body p) a) ∙ ap (λ z. z ++ a) (sym h.spelled) ∙ e ∙ ap (λ z. z ++ b) k.spelled ∙ append_assoc (octets (fields q t)) (body q) b in

@@ -1,6 +1,7 @@
 -- One octet on in a nested message.
 use Rattle.std.proofs.Common.{◌≡◌, ℕ, zero, suc, ◌-◌, ◌<◌, ◌≤◌, ◌↔◌, inl, inr, Bool, true, false, List, [], ◌∷◌, ◌++◌, length, length-append, refl, sym, ◌∙◌, ap, subst, arith, append_assoc}
-use Rattle.std.specs.Prelude.{unwrap_or, nat_lt, ◌||◌, ◌&&◌, not}
+use Rattle.std.specs.Prelude.{unwrap_or, nat_lt, ◌||◌, ◌&&◌, ◌==◌, not}
+use Rattle.std.proofs.lemmas.Bool.{eqb-true}
 use Rattle.std.proofs.lemmas.Bool.Decides.{nat_tests}
 use Rattle.ndef_value.specs.Wire.{octets, tnf_of}
 use Rattle.ndef_value.specs.declared.tnf.Tnf.{Tnf}
@@ -30,7 +31,7 @@ use Rattle.ndef_nest.specs.BodyLaws.{body_end, body_as, id_step, payload_step, t
 use Rattle.ndef_nest.specs.HeadLaws.{cut, head_end}
 use Rattle.ndef_nest.specs.HeaderLaws.{header_of, size_of}
 use Rattle.ndef_nest.specs.RestLaws.{head_least}
-use Rattle.ndef_nest.specs.SpanLaws.{leaf_at}
+use Rattle.ndef_nest.specs.SpanLaws.{leaf_at, some_records, and_left, and_right}
 use Rattle.ndef_nest.specs.NestedLaws.{rest_is_nested}
 use Rattle.ndef_nest.specs.declared.context.Context.{Context}
 use Rattle.ndef_nest.specs.declared.phase.Phase.{Phase}
@@ -195,6 +196,18 @@ pub fresh : (xs : List ℕ) (first : Bool) (more : Bool) → ((is_nil xs && not 
 fresh [] true more h = absurd (cc)
 fresh [] false more h = (refl, refl)
 fresh (x ∷ xs) first more h = absurd (cc)
+
+-- of a type some octets are to come
+pub half_read : (a more : Bool) (left missing : ℕ) → (a && ((nat_lt 0 left && left == missing) && more)) ≡ true → (0 < left) × (left ≡ missing)
+half_read true more left missing h =
+    let k = and_left (nat_lt 0 left && left == missing) more h in
+    (some_records left (and_left (nat_lt 0 left) _ k), eqb-true _ _ (and_right (nat_lt 0 left) _ k))
+half_read false more left missing h = absurd (cc)
+
+-- of an id or a payload some octets are to come
+pub some_left : (a more : Bool) (left : ℕ) → (a && (nat_lt 0 left && more)) ≡ true → 0 < left
+some_left true more left h = some_records left (and_left (nat_lt 0 left) more h)
+some_left false more left h = absurd (cc)
 
 pub fresh_completes : {X : Type 0} (c : Context) (first : Bool) (xs : List ℕ) (phase : Phase) (r : List ℕ) → xs ≡ [] → first ≡ false → (Completes c false [] phase r ↔ X) → Completes c first xs phase r ↔ X
 fresh_completes c first xs phase r e f h = rw (e, f) h

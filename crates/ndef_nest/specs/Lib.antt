@@ -11,7 +11,9 @@ pub mod NestedLaws
 pub mod Nests
 pub mod OctetLaws
 pub mod Phases
+pub mod Reached
 pub mod RecordLaws
 pub mod RestLaws
 pub mod SpanLaws
 pub mod Spans
+pub mod Told

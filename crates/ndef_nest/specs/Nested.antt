@@ -11,6 +11,12 @@ use Rattle.ndef_lang.specs.declared.kind.Kind.TheVariants as kinds
 use Rattle.ndef_nest.specs.declared.table.Table.{Table}
 use Rattle.ndef_nest.specs.declared.table.Table.TheVariants.{SmartPoster, Request, Select}
 
+-- RTD Smart Poster 1.0 and Connection Handover 1.2: the nested message of a kind of payload; a poster where it has none
+abbrev pub table_of : Kind → Table
+table_of kinds.Request = Request
+table_of kinds.Select = Select
+table_of _ = SmartPoster
+
 -- RTD Smart Poster 1.0 and Connection Handover 1.2: the records whose payloads are checked in each nested message
 abbrev pub is_checked : Table → Kind → Bool
 is_checked SmartPoster kinds.Uri = true

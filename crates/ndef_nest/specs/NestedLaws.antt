@@ -51,7 +51,7 @@ pub record IsPieces (profile : Profile) (table : Table) (records : ℕ) (first :
 
 -- ---- a piece and its head
 
-id_count : (o : Option (List ℕ)) → unwrap_or (option_map length o) 0 ≡ length (unwrap_or o [])
+pub id_count : (o : Option (List ℕ)) → unwrap_or (option_map length o) 0 ≡ length (unwrap_or o [])
 id_count None = refl
 id_count (Some xs) = refl
 
@@ -125,16 +125,16 @@ from_pieces profile table (suc others) first demand (p ∷ ps) bytes x =
 
 -- ---- back
 
-id_as : Option ℕ → List ℕ → Option (List ℕ)
+pub id_as : Option ℕ → List ℕ → Option (List ℕ)
 id_as None ids = None
 id_as (Some n) ids = Some ids
 
-id_as_length : (o : Option ℕ) (ids : List ℕ) → length ids ≡ unwrap_or o 0 → option_map length (id_as o ids) ≡ o
+pub id_as_length : (o : Option ℕ) (ids : List ℕ) → length ids ≡ unwrap_or o 0 → option_map length (id_as o ids) ≡ o
 unfolding id_as
 id_as_length None ids e = refl
 id_as_length (Some n) ids e = ap (λ x. Some x) e
 
-id_as_list : (o : Option ℕ) (ids : List ℕ) → length ids ≡ unwrap_or o 0 → unwrap_or (id_as o ids) [] ≡ ids
+pub id_as_list : (o : Option ℕ) (ids : List ℕ) → length ids ≡ unwrap_or o 0 → unwrap_or (id_as o ids) [] ≡ ids
 unfolding id_as
 id_as_list None ids e = sym (nil_from_length ids e)
 id_as_list (Some n) ids e = refl

@@ -1,13 +1,19 @@
 //! A nested message, read octet by octet.
-ghost use Rattle.std.specs.Prelude.{◌≡◌, ◌≤◌, ◌<◌, ◌+◌, ◌-◌, ◌^◌, ◌↔◌, ◌||◌, ℕ, Bool, true, false, nat_lt, IsTrue, unwrap_or, List, [], ◌∷◌};
+ghost use Rattle.std.specs.Prelude.{◌≡◌, ◌≤◌, ◌<◌, ◌+◌, ◌-◌, ◌^◌, ◌↔◌, ◌||◌, ℕ, Bool, true, false, nat_lt, IsTrue, unwrap_or, List, [], ◌∷◌, ◌++◌};
 ghost use Rattle.ndef_piece.specs.declared.head_reader.Step.TheVariants as steps;
-ghost use Rattle.ndef_lang.specs.Language.{Follows, PassesBetween};
-ghost use Rattle.ndef_lang.specs.Leaf.{IsPayload, CompletesLeaf};
+ghost use Rattle.ndef_value.specs.declared.profile.Profile.{Profile};
+ghost use Rattle.ndef_value.specs.declared.reason.Reason.TheVariants as reasons;
+ghost use Rattle.ndef_lang.specs.Language.{Follows, Passes, IsLowest, OneReason};
+ghost use Rattle.ndef_lang.specs.Leaf.{IsPayload, PayloadReason, CompletesLeaf, LeafReached, leaf_told};
+ghost use Rattle.ndef_lang.specs.declared.kind.Kind.{Kind};
 ghost use Rattle.ndef_lang.specs.Kind.{missing_of, kind_after};
-ghost use Rattle.ndef_nest.specs.Nested.{IsNest, checked, kind_in};
+ghost use Rattle.ndef_nest.specs.Nested.{IsNest, IsVersion, checked, kind_in, table_of};
 ghost use Rattle.ndef_nest.specs.Demands.{Allows, after, suits, spot, Tail, Later, IsBody, IsTyped};
 ghost use Rattle.ndef_nest.specs.Spans.{least, most};
 ghost use Rattle.ndef_nest.specs.Phases.{Completes, CompletesVersion, is_sound, start_fits, fits, span_of, head_span};
+ghost use Rattle.ndef_nest.specs.Conditions.{MessageReason, NestReason};
+ghost use Rattle.ndef_nest.specs.Reached.{IsNew, IsHeaded, IsInName, IsNamed, IsInBody, HasCome};
+ghost use Rattle.ndef_nest.specs.Told.{may_have, head_told, collision_octet, name_told};
 ghost use Rattle.ndef_nest.specs.Fronts.{FrontAt};
 ghost use Rattle.ndef_nest.specs.FrontLaws.{front_at_prop};
 
@@ -17,8 +23,10 @@ use crate::demand::Demand;
 use crate::phase::Phase;
 use crate::span::{Open, least, meets, most, tail};
 use ndef_lang::{Kind, KindReader, Language, Leaf};
-use ndef_piece::{Head, HeadReader, Step, heads_are_apart, lengths_are_independent};
-use ndef_value::Profile;
+use ndef_piece::{
+    Bounds, Head, HeadReader, Step, conditions_are_exact, heads_are_apart, lengths_are_independent,
+};
+use ndef_value::{Profile, Reason, Tnf};
 
 /// The payload of a record that holds a message: a smart poster, or a handover request or select
 /// with its version octet.
@@ -27,6 +35,8 @@ pub struct Nest {
     context: Context,
     reader: HeadReader,
     phase: Phase,
+    /// Why the octet taken last is refused, if it is.
+    told: Reason,
     ghost suited: { suits context.table context.demand ≡ true },
     ghost going: { reader.answer ≡ steps.More },
     ghost spot: { reader.spot ≡ spot context.profile reader.spot.first context.records },
@@ -35,14 +45,57 @@ pub struct Nest {
 }
 
 /// After an octet in the place of the version octet.
-fn after_version(byte: u8) -> Phase
-    ensures future { (c : Context) (first : Bool) (xs r : List ℕ) → Completes c first xs result r ↔ CompletesVersion c (byte ∷ r) }
-    ensures sound { (c : Context) (first : Bool) (xs : List ℕ) → is_sound c first xs Phase.Version ≡ true → is_sound c first xs result ≡ true }
+fn after_version(byte: u8) -> (Phase, Reason)
+    ensures future { (c : Context) (first : Bool) (xs r : List ℕ) → Completes c first xs result.0 r ↔ CompletesVersion c (byte ∷ r) }
+    ensures sound { (c : Context) (first : Bool) (xs : List ℕ) → is_sound c first xs Phase.Version ≡ true → is_sound c first xs result.0 ≡ true }
+    ensures come { (c : Context) (first : Bool) (xs : List ℕ) (records : ℕ) → IsNew c records → HasCome c first xs result.0 records [] }
+    ensures reason { IsLowest (OneReason reasons.Version (IsVersion byte → ⊥)) result.1 }
 {
     if byte / 16 == 1 {
-        Phase::Start
+        (Phase::Start, Reason::DoesNotFit)
     } else {
-        Phase::Refused
+        (Phase::Refused, Reason::Version)
+    }
+}
+
+/// Whether the type may be a well-known one of so many octets.
+fn may_have(bounds: &Bounds, length: u8) -> bool
+    ensures { result ≡ may_have bounds.now length }
+{
+    matches!(bounds.tnf, Tnf::WellKnown) && bounds.kind.0 <= length && length <= bounds.kind.1
+}
+
+/// Why an octet is refused that a head goes on with, if it is.
+fn head_reason(demand: Demand, bounds: &Bounds) -> Reason
+    ensures { result ≡ head_told demand bounds.now }
+{
+    match demand {
+        Demand::OneUri if bounds.last && !may_have(bounds, 1) => Reason::UriMissing,
+        Demand::Collision if !may_have(bounds, 2) => Reason::CollisionMissing,
+        _ => Reason::DoesNotFit,
+    }
+}
+
+/// The octet of `cr` that so many octets of a type begin with.
+fn collision_octet(left: u8) -> u8
+    ensures { result ≡ collision_octet left }
+{
+    if left == 2 { b'c' } else { b'r' }
+}
+
+/// Why the next octet of a type is refused, if it is.
+fn name_reason(demand: Demand, names: KindReader, last: bool, left: u8, byte: u8) -> Reason
+    requires left { left ≡ missing_of names }
+    requires some { 0 < left }
+    ensures { result ≡ name_told demand names last left byte }
+{
+    let mut names = names;
+    names.step(byte);
+    match demand {
+        Demand::OneUri if last && byte != b'U' => Reason::UriMissing,
+        Demand::NoUri if matches!(names.kind(), Kind::Uri) => Reason::UriAgain,
+        Demand::Collision if byte != collision_octet(left) => Reason::CollisionMissing,
+        _ => Reason::DoesNotFit,
     }
 }
 
@@ -52,6 +105,7 @@ fn settled(context: &Context, leaf: Leaf, last: bool, id: u8, payload: u32) -> P
     ensures future { (r : List ℕ) → Completes context.now false [] result r
         ↔ IsBody (CompletesLeaf leaf) id payload (Tail (Later context.now.profile context.now.table context.now.records) last context.now.demand) r }
     ensures sound { is_sound context.now false [] result ≡ true }
+    ensures come { (records : ℕ) (m : List ℕ) → IsInBody context.now leaf last id payload records m → HasCome context.now false [] result records m }
 {
     let left = u64::from(id) + u64::from(payload);
     if left > 0 {
@@ -80,6 +134,8 @@ fn entered(context: &Context, kind: Kind, last: bool, id: u8, payload: u32) -> (
         × IsBody (IsPayload kind context.now.profile) id payload (Tail (Later context.now.profile context.now.table context.now.records) last (after context.now.demand kind)) r) }
     ensures sound { is_sound (record context.now { demand = result.0 }) false [] result.1 ≡ true }
     ensures suited { suits context.now.table context.now.demand ≡ true → suits context.now.table result.0 ≡ true }
+    ensures come { (records : ℕ) (m : List ℕ) → IsNamed context.now kind last id payload records m
+        → HasCome (record context.now { demand = result.0 }) false [] result.1 records m }
 {
     if !context.demand.allows(kind) {
         return (context.demand, Phase::Refused);
@@ -105,6 +161,8 @@ fn named(
         ↔ IsTyped context.now.profile (λ more. checked context.now.table (kind_after names more)) (Later context.now.profile context.now.table context.now.records) last context.now.demand left id payload r }
     ensures sound { is_sound (record context.now { demand = result.0 }) false [] result.1 ≡ true }
     ensures suited { suits context.now.table context.now.demand ≡ true → suits context.now.table result.0 ≡ true }
+    ensures come { (records : ℕ) (m : List ℕ) → IsInName context.now names last left id payload records m
+        → HasCome (record context.now { demand = result.0 }) false [] result.1 records m }
 {
     if left > 0 {
         let phase = Phase::Name {
@@ -142,6 +200,8 @@ fn name_step(
         ↔ IsTyped context.now.profile (λ more. checked context.now.table (kind_after names more)) (Later context.now.profile context.now.table context.now.records) last context.now.demand left id payload (byte ∷ r) }
     ensures sound { is_sound (record context.now { demand = result.0 }) false [] result.1 ≡ true }
     ensures suited { suits context.now.table context.now.demand ≡ true → suits context.now.table result.0 ≡ true }
+    ensures come { (records : ℕ) (m : List ℕ) → IsInName context.now names last left id payload records m
+        → HasCome (record context.now { demand = result.0 }) false [] result.1 records (m ++ byte ∷ []) }
 {
     let mut next = names;
     next.step(byte);
@@ -149,19 +209,32 @@ fn name_step(
 }
 
 /// After the next octet of the id or the payload of a record.
-fn body_step(context: &Context, leaf: Leaf, last: bool, id: u8, payload: u32, byte: u8) -> Phase
+fn body_step(
+    context: &Context,
+    leaf: Leaf,
+    last: bool,
+    id: u8,
+    payload: u32,
+    byte: u8,
+) -> (Phase, Reason)
     requires followed { last || nat_lt 0 context.now.records ≡ true }
     requires some { 0 < id + payload }
-    ensures future { (r : List ℕ) → Completes context.now false [] result r
+    ensures future { (r : List ℕ) → Completes context.now false [] result.0 r
         ↔ IsBody (CompletesLeaf leaf) id payload (Tail (Later context.now.profile context.now.table context.now.records) last context.now.demand) (byte ∷ r) }
-    ensures sound { is_sound context.now false [] result ≡ true }
+    ensures sound { is_sound context.now false [] result.0 ≡ true }
+    ensures come { (records : ℕ) (m : List ℕ) → IsInBody context.now leaf last id payload records m → HasCome context.now false [] result.0 records (m ++ byte ∷ []) }
+    ensures in_id { 0 < id → result.1 ≡ reasons.DoesNotFit }
+    ensures in_payload { id ≡ 0 → (kind : Kind) (profile : Profile) (s : List ℕ) → LeafReached leaf kind profile s → Passes (CompletesLeaf leaf)
+        → IsLowest (PayloadReason kind profile s byte) result.1 }
 {
     if id > 0 {
-        return settled(context, leaf, last, id - 1, payload);
+        let phase = settled(context, leaf, last, id - 1, payload);
+        return (phase, Reason::DoesNotFit);
     }
     let mut next = leaf;
     next.step(byte);
-    settled(context, next, last, id, payload - 1)
+    let reason = next.reason();
+    (settled(context, next, last, id, payload - 1), reason)
 }
 
 /// After a head.
@@ -171,6 +244,8 @@ fn headed(context: &Context, head: &Head) -> (Demand, Phase)
         ↔ IsTyped context.now.profile (kind_in context.now.table head.now.tnf) (Later context.now.profile context.now.table context.now.records) head.now.last context.now.demand head.now.kind_length (unwrap_or head.now.id_length 0) head.now.payload_length r }
     ensures sound { is_sound (record context.now { demand = result.0 }) false [] result.1 ≡ true }
     ensures suited { suits context.now.table context.now.demand ≡ true → suits context.now.table result.0 ≡ true }
+    ensures come { (records : ℕ) (m : List ℕ) → IsHeaded context.now head.now records m
+        → HasCome (record context.now { demand = result.0 }) false [] result.1 records m }
 {
     let names = KindReader::new(head.tnf, head.kind_length);
     let id = head.id_length.unwrap_or(0);
@@ -219,12 +294,13 @@ fn body_span(context: &Context, leaf: Leaf, last: bool, id: u8, payload: u32) ->
 }
 
 impl Nest {
-    ghost use Rattle.ndef_nest.specs.Nests.{future};
+    ghost use Rattle.ndef_nest.specs.Nests.{future, come, reached};
 
     /// Before the first octet of the payload; its message has at most `records` records.
     pub fn new(table: Table, records: u32, profile: Profile) -> Self
         requires some { 1 ≤ records }
         ensures future { Follows (IsNest table records profile) (future result) [] }
+        ensures reached { (kind : Kind) → table_of kind ≡ table → reached result kind records profile [] }
     {
         let context = Context {
             profile,
@@ -236,59 +312,11 @@ impl Nest {
             context,
             reader: HeadReader::new(context.spot(true)),
             phase: Phase::first(table),
+            told: Reason::DoesNotFit,
         }
     }
 
-    /// Takes an octet.
-    pub fn step(&mut self, byte: u8)
-        ensures future { Follows (future self.old) (future self.new) (byte ∷ []) }
-    {
-        match self.phase {
-            Phase::Version => self.phase = after_version(byte),
-            Phase::Start => {
-                self.reader = HeadReader::new(self.context.spot(true));
-                self.phase = Phase::Head;
-                self.at_head(byte);
-            }
-            Phase::Head => self.at_head(byte),
-            Phase::Name {
-                names,
-                last,
-                left,
-                id,
-                payload,
-            } => {
-                let (demand, phase) = name_step(
-                    &self.context,
-                    names,
-                    last,
-                    left,
-                    id,
-                    payload,
-                    byte,
-                );
-                self.context.demand = demand;
-                self.phase = phase;
-            }
-            Phase::Body {
-                leaf,
-                last,
-                id,
-                payload,
-            } => self.phase = body_step(&self.context, leaf, last, id, payload, byte),
-            Phase::Ended | Phase::Refused => self.phase = Phase::Refused,
-        }
-    }
-
-    /// Whether some `lo` to `hi` octets complete the payload.
-    pub fn fits(&self, lo: u64, hi: u64) -> bool
-        requires { hi < 2 ^ 32 }
-        ensures { IsTrue result ↔ PassesBetween (future self.now) lo hi }
-    {
-        self.fitting(lo, hi)
-    }
-
-    /// The same, by the ranges.
+    /// The same as `fits`, by the ranges.
     fn fitting(&self, lo: u64, hi: u64) -> bool
         ensures { result ≡ fits self.now.context self.now.reader.spot.first self.now.reader.octets self.now.phase lo hi }
     {
@@ -341,22 +369,122 @@ impl Nest {
     fn at_head(&mut self, byte: u8)
         requires { self.old.phase ≡ Phase.Head }
         ensures future { Follows (future self.old) (future self.new) (byte ∷ []) }
+        ensures come { (records : ℕ) (m : List ℕ) → come self.old records m → come self.new records (m ++ byte ∷ []) }
+        ensures kept { (self.new.context.table ≡ self.old.context.table) × (self.new.context.profile ≡ self.old.context.profile) }
+        ensures reason { (records : ℕ) (m : List ℕ) → come self.old records m → Passes (future self.old)
+            → IsLowest (MessageReason self.old.context.table records self.old.context.profile m byte) self.new.told }
     {
         lengths_are_independent();
         heads_are_apart();
+        conditions_are_exact();
         match self.reader.step(byte) {
-            Step::More => {}
+            Step::More => {
+                if let Some(bounds) = self.reader.bounds() {
+                    self.told = head_reason(self.context.demand, &bounds);
+                }
+            }
             Step::Head(head) => {
                 self.context.records -= 1;
                 self.reader = HeadReader::new(self.context.spot(false));
                 let (demand, phase) = headed(&self.context, &head);
                 self.context.demand = demand;
                 self.phase = phase;
+                self.told = Reason::DoesNotFit;
             }
-            Step::Refused(_) => {
+            Step::Refused(reason) => {
                 self.reader = HeadReader::new(self.context.spot(false));
                 self.phase = Phase::Refused;
+                self.told = reason;
             }
         }
     }
+}
+
+impl Language for Nest {
+    ghost use Rattle.std.proofs.Common.{subst};
+    ghost use Rattle.ndef_nest.specs.Nests.{future, reached};
+    ghost use Rattle.ndef_nest.specs.SpanLaws.{fits_exactly};
+    ghost use Rattle.ndef_nest.specs.OctetLaws.{completes_octets, nest_octets};
+
+    ghost set = { λ kind records profile s. IsNest (table_of kind) records profile s };
+
+    ghost holds = { λ kind records profile s b. NestReason (table_of kind) records profile s b };
+
+    ghost future = { future };
+
+    ghost reached = { reached };
+
+    ghost fitting = { λ nest. fits nest.context nest.reader.spot.first nest.reader.octets nest.phase };
+
+    ghost told = { λ nest. nest.told };
+
+    fn start(kind: Kind, records: u32, profile: Profile) -> Self {
+        Nest::new(Table::of(kind), records, profile)
+    }
+
+    fn step(&mut self, byte: u8) {
+        heads_are_apart();
+        match self.phase {
+            Phase::Version => {
+                let (phase, told) = after_version(byte);
+                self.phase = phase;
+                self.told = told;
+            }
+            Phase::Start => {
+                self.reader = HeadReader::new(self.context.spot(true));
+                self.phase = Phase::Head;
+                self.at_head(byte);
+            }
+            Phase::Head => self.at_head(byte),
+            Phase::Name {
+                names,
+                last,
+                left,
+                id,
+                payload,
+            } => {
+                self.told = name_reason(self.context.demand, names, last, left, byte);
+                let (demand, phase) = name_step(
+                    &self.context,
+                    names,
+                    last,
+                    left,
+                    id,
+                    payload,
+                    byte,
+                );
+                self.context.demand = demand;
+                self.phase = phase;
+            }
+            Phase::Body {
+                leaf,
+                last,
+                id,
+                payload,
+            } => {
+                let (phase, told) = body_step(&self.context, leaf, last, id, payload, byte);
+                self.phase = phase;
+                self.told = told;
+            }
+            Phase::Ended | Phase::Refused => {
+                self.phase = Phase::Refused;
+                self.told = Reason::DoesNotFit;
+            }
+        }
+    }
+
+    fn fits(&self, lo: u64, hi: u64) -> bool {
+        self.fitting(lo, hi)
+    }
+
+    fn reason(&self) -> Reason {
+        self.told
+    }
+
+    ghost exact = { λ nest lo hi small. fits_exactly nest.context nest.reader.spot.first nest.reader.octets nest.phase lo hi nest.suited nest.sound
+        (subst (λ p. FrontAt p nest.reader.octets) nest.spot nest.front) small };
+
+    ghost future_octets = { λ nest r h. completes_octets nest.context nest.reader.spot.first nest.reader.octets nest.phase r h };
+
+    ghost set_octets = { λ kind records profile s h. nest_octets (table_of kind) records profile s h };
 }

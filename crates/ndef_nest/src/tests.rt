@@ -2,6 +2,7 @@
 ghost use Rattle.std.specs.Prelude.{◌≤◌};
 
 use super::*;
+use ndef_lang::Language;
 use ndef_value::Profile;
 
 /// What comes of a payload.

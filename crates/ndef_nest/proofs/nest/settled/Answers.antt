@@ -3,6 +3,7 @@ use Rattle.ndef_lang.specs.Leaf.{leaf_lengths}
 use Rattle.ndef_lang.specs.Lengths.{meets}
 use Rattle.ndef_nest.specs.Demands.{Tail, Later, is_met}
 use Rattle.ndef_nest.proofs.Steps.{whole_body, no_whole_body}
+use Rattle.ndef_nest.proofs.Reaching.{body_head, body_end}
 use Rattle.ndef_nest.proofs.nest.settled.Goals as goal
 
 pub returns-then-not-fits-clause-future : goal.returns-then-not-fits-clause-future
@@ -26,3 +27,13 @@ returns-then-is_met-clause-future c r =
     let w = whole_body c.args.leaf (Tail (Later c.args.context.now.profile c.args.context.now.table c.args.context.now.records) c.args.last c.args.context.now.demand) c.args.id c.args.payload r (omega arith) (omega arith) e in
     let v = rw l at w in
     rw l (λ x. v.1 (m, x), λ x. (v.0 x).1)
+
+pub returns-then-not-last-clause-come : goal.returns-then-not-last-clause-come
+returns-then-not-last-clause-come c records m x =
+    let l : c.args.last ≡ false = search rules in
+    body_head c.args.context.now c.args.leaf c.args.last c.args.id c.args.payload records m (omega arith) l x
+
+pub returns-then-is_met-clause-come : goal.returns-then-is_met-clause-come
+returns-then-is_met-clause-come c records m x =
+    let l : c.args.last ≡ true = search rules in
+    body_end c.args.context.now c.args.leaf c.args.last c.args.id c.args.payload records m (omega arith) l x
