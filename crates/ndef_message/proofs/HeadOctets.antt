@@ -297,10 +297,10 @@ module _ (laws : FormatLaws) (set : Sets) (holds : Conditions) (reach : Kind →
         let k = subst P e clause in
         k (λ q. absurd (omega (arith, ap length q, length-append xs (b ∷ [])))) (sym (ap (λ x. x.room) place_is)) (open_viable (spot limits.profile c) (xs ++ b ∷ []) o)
 
-pub moves_head : (limits : LimitValues) (given : List Item) (field : Field) (b : ℕ) (c : Before) (xs : List ℕ) (f : Fields) → field ≡ InHead c xs → octets f ≡ xs ++ b ∷ []
+pub moves_head : (limits : LimitValues) (given : List Item) (field : Field) (b : ℕ) (c : Before) (xs : List ℕ) (f : Fields) → field ≡ InHead c xs → MayStand (spot limits.profile c) f → octets f ≡ xs ++ b ∷ []
     → Moves limits given field b (given_next limits given c f [] [] []) (field_next limits c f [] [] [])
-moves_head limits given field b c xs f e s =
-    subst (λ x. Moves limits given x b (given_next limits given c f [] [] []) (field_next limits c f [] [] [])) (sym e) (inr (f, s, (refl, refl)))
+moves_head limits given field b c xs f e m s =
+    subst (λ x. Moves limits given x b (given_next limits given c f [] [] []) (field_next limits c f [] [] [])) (sym e) (inr (f, m, s, (refl, refl)))
 
 pub moves_within : (limits : LimitValues) (given : List Item) (field : Field) (b : ℕ) (c : Before) (xs : List ℕ) → field ≡ InHead c xs → Moves limits given field b given (InHead c (xs ++ b ∷ []))
 moves_within limits given field b c xs e = subst (λ x. Moves limits given x b given (InHead c (xs ++ b ∷ []))) (sym e) (inl (refl, refl))

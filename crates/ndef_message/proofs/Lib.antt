@@ -3,15 +3,19 @@ pub mod Bodies
 pub mod CutParts
 pub mod CutSpelled
 pub mod CutSplits
+pub mod Decoded
 pub mod Encoded
 pub mod Ended
 pub mod Entered
 pub mod Feeding
 pub mod Fields
+pub mod Halted
 pub mod HeadOctets
+pub mod Holding
 pub mod Judged
 pub mod Lists
 pub mod Octets
+pub mod Opening
 pub mod Parts
 pub mod Places
 pub mod Rests
@@ -21,6 +25,7 @@ pub mod ShortForm
 pub mod Shown
 pub mod Somewhere
 pub mod Starts
+pub mod Taking
 pub mod Told
 pub mod Viable
 pub mod WrittenPieces

@@ -1,7 +1,40 @@
--- Numbers of what is only known to be there.
-use Rattle.std.proofs.Common.{ℕ, ◌≤◌}
+-- What follows of what is only known to be there.
+use Rattle.std.proofs.Common.{ℕ, ◌+◌, ◌≤◌, length, arith}
 use Rattle.std.proofs.Math.Logic.{∥∥₁_elim}
 use Rattle.std.proofs.Props.{props}
+use Rattle.ndef_value.specs.Wire.{Item, HasShape, IsShaped}
+use Rattle.ndef_value.specs.declared.tnf.Tnf.{Tnf}
+use Rattle.ndef_value.specs.declared.tnf.Tnf.TheVariants.{Empty, WellKnown, Media, AbsoluteUri, External, Unknown, Unchanged}
+use Rattle.ndef_message.specs.Opened.{Opened, HasRoom}
+use Rattle.ndef_message.specs.declared.phase.Phase.{Phase}
+use Rattle.ndef_message.specs.declared.phase.Phase.TheVariants as phases
 
 pub number_of_some : (A : Type 0) (m n : ℕ) → ∥ A ∥₁ → (A → m ≤ n) → m ≤ n
 number_of_some A m n some f = ∥∥₁_elim some (hlevel props) f
+
+pub never_some : (A : Type 0) → ∥ A ∥₁ → (A → ⊥) → ⊥
+never_some A some f = ∥∥₁_elim some (hlevel props) f
+
+-- .. and what is shaped so, or has room
+shape_of_some : (A : Type 0) (tnf : Tnf) (kind id payload : ℕ) → ∥ A ∥₁ → (A → HasShape tnf kind id payload) → HasShape tnf kind id payload
+shape_of_some A Empty kind id payload some f = (∥∥₁_elim some (hlevel props) (λ a. (f a).0), ∥∥₁_elim some (hlevel props) (λ a. (f a).1), ∥∥₁_elim some (hlevel props) (λ a. (f a).2))
+shape_of_some A WellKnown kind id payload some f = number_of_some A 1 kind some f
+shape_of_some A Media kind id payload some f = number_of_some A 1 kind some f
+shape_of_some A AbsoluteUri kind id payload some f = number_of_some A 1 kind some f
+shape_of_some A External kind id payload some f = number_of_some A 1 kind some f
+shape_of_some A Unknown kind id payload some f = ∥∥₁_elim some (hlevel props) f
+shape_of_some A Unchanged kind id payload some f = ∥∥₁_elim some (hlevel props) f
+
+pub shaped_of_some : (A : Type 0) (m : Item) → ∥ A ∥₁ → (A → IsShaped m) → IsShaped m
+shaped_of_some A m some f = record {
+  changed = λ e. never_some A some (λ a. (f a).changed e);
+  shape = shape_of_some A m.tnf (length m.kind) (length m.id) (length m.payload) some (λ a. (f a).shape);
+}
+
+pub room_of_some : (A : Type 0) (phase : Phase) (o : Opened) → ∥ A ∥₁ → (A → HasRoom phase o) → HasRoom phase o
+room_of_some A phases.Head o some f = tt
+room_of_some A (phases.Type x y z) o some f = let n : length o.kind + 1 ≤ 255 = number_of_some A (length o.kind + 1) 255 some (λ a. let n = f a in omega arith) in omega arith
+room_of_some A (phases.Id x y) o some f = let n : length o.id + 1 ≤ 255 = number_of_some A (length o.id + 1) 255 some (λ a. let n = f a in omega arith) in omega arith
+room_of_some A (phases.Payload x y) o some f = tt
+room_of_some A phases.Done o some f = tt
+room_of_some A (phases.Refused x) o some f = tt

@@ -112,7 +112,7 @@ GoesTo limits given c f kind id payload given' field' = (given' ≡ given_next l
 -- NDEF 1.0, record layout: the records ended and the field, after an octet of a field
 abbrev pub Moves : LimitValues → List Item → Field → ℕ → List Item → Field → Type 0
 Moves limits given (InHead c xs) b given' field' =
-    ((given' ≡ given) × (field' ≡ InHead c (xs ++ b ∷ []))) ⊎ ((f : Fields) × (octets f ≡ xs ++ b ∷ []) × GoesTo limits given c f [] [] [] given' field')
+    ((given' ≡ given) × (field' ≡ InHead c (xs ++ b ∷ []))) ⊎ ((f : Fields) × MayStand (spot limits.profile c) f × (octets f ≡ xs ++ b ∷ []) × GoesTo limits given c f [] [] [] given' field')
 Moves limits given (InType c f kind) b given' field' = GoesTo limits given c f (kind ++ b ∷ []) [] [] given' field'
 Moves limits given (InId c f kind id) b given' field' = GoesTo limits given c f kind (id ++ b ∷ []) [] given' field'
 Moves limits given (InPayload c f kind id payload) b given' field' = GoesTo limits given c f kind id (payload ++ b ∷ []) given' field'

@@ -1,6 +1,6 @@
 -- What is known of the format from the crates below.
 use Rattle.ndef_value.specs.Wire.{OneMeaning, MessagesAreBounded}
-use Rattle.ndef_piece.specs.Heads.{HeadsAreApart}
+use Rattle.ndef_piece.specs.Heads.{HeadsAreApart, HeadersTell}
 use Rattle.ndef_piece.specs.Reading.{ConditionsAreExact}
 use Rattle.ndef_piece.specs.Pieces.{HeadsOfPieces, PiecesOfHeads}
 use Rattle.ndef_piece.specs.Walk.{WalksAreCut, WalksCanEnd}
@@ -11,6 +11,7 @@ pub record FormatLaws : Type 0 where
   pub meaning : OneMeaning
   pub bounded : MessagesAreBounded
   pub apart : HeadsAreApart
+  pub headers : HeadersTell
   pub exact : ConditionsAreExact
   pub to_heads : HeadsOfPieces
   pub to_pieces : PiecesOfHeads

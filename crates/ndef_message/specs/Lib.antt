@@ -1,8 +1,10 @@
 pub mod Cut
+pub mod Decoding
 pub mod Deep
 pub mod Feed
 pub mod Field
 pub mod Format
+pub mod Opened
 pub mod Payload
 pub mod Place
 pub mod Sending

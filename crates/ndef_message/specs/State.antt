@@ -1,5 +1,5 @@
 -- What the fields of a checker say of the bytes that led there.
-use Rattle.std.specs.Prelude.{◌≡◌, ◌+◌, ◌-◌, ◌≤◌, ◌==◌, ◌||◌, nat_lt, ℕ, true, false, List, [], ◌∷◌, ◌++◌, length, Option, Some, None, is_some, unwrap_or, ⊤, ◌⊎◌, ◌↔◌, if◌then◌else◌}
+use Rattle.std.specs.Prelude.{◌≡◌, ◌+◌, ◌-◌, ◌≤◌, ◌==◌, ◌||◌, nat_lt, ℕ, Bool, true, false, List, [], ◌∷◌, ◌++◌, length, Option, Some, None, is_some, unwrap_or, ⊤, ◌⊎◌, ◌↔◌, if◌then◌else◌}
 use Rattle.ndef_value.specs.Wire.{Item, Piece, Fields, octets, LimitValues, SpellAll, tnf_of}
 use Rattle.ndef_value.specs.declared.profile.Profile.{Profile}
 use Rattle.ndef_value.specs.declared.reason.Reason.{Reason}
@@ -41,6 +41,11 @@ next limits p h =
 -- what comes after a piece with this head
 abbrev pub phase_after : Head → Phase
 phase_after h = if h.chunked then phases.Head else (if h.last then phases.Done else phases.Head)
+
+-- the message has ended
+abbrev pub is_done : Phase → Bool
+is_done phases.Done = true
+is_done _ = false
 
 -- the most payload octets of the record, where a piece goes on within the bounds of its head
 abbrev pub greatest_of : Bounds → ℕ → ℕ

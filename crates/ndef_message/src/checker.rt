@@ -29,9 +29,9 @@ pub trait Reading {
 /// Checks one message in memory of fixed size.
 #[derive(Drop)]
 pub struct Checker<L: OuterLanguage> {
-    limits: Limits,
-    state: State<L>,
-    taken: u64,
+    pub(crate) limits: Limits,
+    pub(crate) state: State<L>,
+    pub(crate) taken: u64,
     ghost led: { ∥ LedTo L.set L.holds (L.reached state.payload) (L.future state.payload) limits state.place state.reader state.phase taken ∥₁ },
 }
 
@@ -145,7 +145,7 @@ impl<L: OuterLanguage> Checker<L> {
     }
 
     /// Takes the next byte.
-    fn step(&mut self, byte: u8)
+    pub(crate) fn step(&mut self, byte: u8)
         requires { answer_of self.old.state.phase 0 ≡ None }
         ensures limits { self.new.limits ≡ self.old.limits }
         ensures onward { (bytes : List ℕ) (given : List Item) (field : Field) → ⟦<Checker<L> as Reading>⟧.reached self.old bytes given field

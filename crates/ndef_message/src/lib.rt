@@ -3,12 +3,15 @@
 #![tactic(auto)]
 
 mod checker;
+mod decoder;
 mod encoding;
 mod encoding_laws;
+mod event;
 mod fed;
 mod form;
 mod format;
 mod laws;
+mod open;
 mod phase;
 mod sending;
 mod sink;
@@ -21,10 +24,12 @@ mod whole_input;
 mod writing;
 
 pub use checker::{Checker, Reading};
+pub use decoder::{Allocating, Decoder};
 pub use encoding::{encode, encode_chunked, encoded_length};
 pub use encoding_laws::{
     records_are_cut, short_is_canonical, short_tells_messages, writing_is_spelling,
 };
+pub use event::Event;
 pub use fed::Fed;
 pub use form::Form;
 pub use laws::{answers_are_told, fields_are_told, places_are_told};

@@ -8,7 +8,7 @@ use Rattle.ndef_piece.specs.declared.head.Head.{Head}
 use Rattle.ndef_piece.specs.declared.spot.Spot.{Spot}
 use Rattle.ndef_piece.specs.declared.head_reader.Step.TheVariants as steps
 use Rattle.ndef_piece.specs.Header.{is_set, tnf_number, size}
-use Rattle.ndef_piece.specs.Heads.{head, CanBeSpelled, HeadsAreApart, Begins, IsOpen, IsWhole, IsViable}
+use Rattle.ndef_piece.specs.Heads.{head, CanBeSpelled, HeadsAreApart, HeadersTell, Begins, IsOpen, IsWhole, IsViable}
 use Rattle.ndef_piece.specs.Reading.{OneAnswer}
 use Rattle.ndef_piece.proofs.Lists.{cut_alike}
 use Rattle.ndef_piece.proofs.ReadBack.{read_back}
@@ -33,6 +33,10 @@ alike g h t u e = record {
   tnf = sym (parts g t).tnf ∙ ap tnf_number e ∙ (parts h u).tnf;
   id = sym (parts g t).id_there ∙ ap (is_set 3) e ∙ (parts h u).id_there;
 }
+
+-- a header octet tells the type name format
+pub headers_tell : HeadersTell
+headers_tell f b rest h e = let g : b ≡ header f = cc in ap tnf_number g ∙ (parts f h.tnf).tnf
 
 -- ---- heads with all octets alike
 

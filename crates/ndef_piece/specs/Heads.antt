@@ -3,6 +3,7 @@ use Rattle.std.specs.Prelude.{◌≡◌, ◌≢◌, ℕ, ◌+◌, ◌^◌, ◌<�
 use Rattle.ndef_value.specs.Wire.{Fields, octets, FitsForm, IsRead, HasShape, code, tnf_of}
 use Rattle.ndef_piece.specs.declared.head.Head.{Head}
 use Rattle.ndef_piece.specs.declared.spot.Spot.{Spot}
+use Rattle.ndef_piece.specs.Header.{tnf_number}
 
 -- NDEF 1.0, TNF: the head that a reader makes of the fields; 7 is read as Unknown
 abbrev pub head : Fields → Head
@@ -98,3 +99,7 @@ HeadsAreApart = (f g : Fields) (x y : List ℕ) → CanBeSpelled f → CanBeSpel
 -- A head has 3 to 7 octets, as SR and IL tell.
 abbrev pub HeadsHaveSizes : Type 0
 HeadsHaveSizes = (f : Fields) → CanBeSpelled f → length (octets f) ≡ 2 + (if f.short then 1 else 4) + (if is_some f.id_length then 1 else 0)
+
+-- A header octet tells the type name format of its head.
+abbrev pub HeadersTell : Type 0
+HeadersTell = (f : Fields) (header : ℕ) (rest : List ℕ) → CanBeSpelled f → octets f ≡ header ∷ rest → tnf_number header ≡ f.tnf

@@ -47,6 +47,14 @@ pub(crate) fn tnf_of(number: u8) -> Tnf
     }
 }
 
+/// The type name format that a header octet tells (NDEF 1.0, TNF), the reserved 7 being read as
+/// Unknown.
+pub fn header_tnf(header: u8) -> Tnf
+    ensures { result ≡ tnf_of (tnf_number header) }
+{
+    tnf_of(tnf_number(header))
+}
+
 /// How many octets PAYLOAD_LENGTH has.
 pub(crate) fn width(header: u8) -> usize
     ensures { result ≡ width header }

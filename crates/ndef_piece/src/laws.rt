@@ -1,5 +1,5 @@
 //! What holds of heads, pieces and messages, whoever reads or writes them.
-ghost use Rattle.ndef_piece.specs.Heads.{HeadsAreApart, HeadsHaveSizes};
+ghost use Rattle.ndef_piece.specs.Heads.{HeadsAreApart, HeadsHaveSizes, HeadersTell};
 ghost use Rattle.ndef_piece.specs.Conditions.{ConditionsAreInOrder};
 ghost use Rattle.ndef_piece.specs.Reading.{ConditionsAreExact, OneAnswer};
 ghost use Rattle.ndef_piece.specs.Bounds.{BoundsOfFronts, BoundsOfHeads};
@@ -8,11 +8,12 @@ ghost use Rattle.ndef_piece.specs.Walk.{WalksAreMessages, WalksAreCut, WalksAreC
 ghost use Rattle.ndef_piece.specs.Fronts.{FrontsHaveSpots};
 ghost use Rattle.ndef_piece.specs.Rest.{RestsAreFlat, RestsEnd, RestsPastHeads, RestsWithinHeads, RestsCanFollow};
 
-/// No head's octets begin those of another, and each head is told by its octets, 3 to 7 of them. So
-/// only one answer to an octet is right.
+/// No head's octets begin those of another, and each head is told by its octets, 3 to 7 of them, its
+/// type name format by the first. So only one answer to an octet is right.
 pub fn heads_are_apart()
     ensures apart { HeadsAreApart }
     ensures sizes { HeadsHaveSizes }
+    ensures header { HeadersTell }
     ensures one_answer { OneAnswer }
 {}
 

@@ -52,7 +52,7 @@ returns-in-Head g c =
           let e = c.behind_head.ensures.entered bytes given field b a.c t.0
           record { at_is = stands.at; viable = stands.viable; place_is = place; reason_is = subst (λ x. IsReason holds l x b DoesNotFit) (sym a.field_is) why } t.1 in
           octets.onward_of set holds (g.L.Language.reached end.payload) (g.L.Language.future end.payload) l end.place end.reader end.phase bytes given field b
-          a.c t.0 [] [] [] (heads.moves_head l given field b a.c a.xs t.0 a.field_is t.2) e;
+          a.c t.0 [] [] [] (heads.moves_head l given field b a.c a.xs t.0 a.field_is t.1.stands t.2) e;
     }
 
 pub returns-in-Refused : goal.returns-in-Refused
