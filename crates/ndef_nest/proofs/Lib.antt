@@ -4,3 +4,4 @@ pub mod Ranges
 pub mod Reaching
 pub mod Reasons
 pub mod Steps
+pub mod TypedReasons

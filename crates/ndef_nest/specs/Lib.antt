@@ -17,3 +17,5 @@ pub mod RestLaws
 pub mod SpanLaws
 pub mod Spans
 pub mod Told
+pub mod Typed
+pub mod TypedLaws

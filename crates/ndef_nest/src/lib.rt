@@ -9,10 +9,14 @@ mod nest;
 mod phase;
 mod span;
 mod table;
+mod typed;
 
-pub use laws::{fields_are_told, lengths_have_ranges, payloads_are_octets};
+pub use laws::{
+    fields_are_told, lengths_have_ranges, nest_payloads, payloads_are_octets, typed_payloads,
+};
 pub use nest::Nest;
 pub use table::Table;
+pub use typed::Typed;
 
 #[cfg(test)]
 mod tests;

@@ -1,146 +1,246 @@
 //! Worked payloads.
-ghost use Rattle.std.specs.Prelude.{◌≤◌};
+ghost use Rattle.std.specs.Prelude.{◌≤◌, ◌<◌, ◌^◌};
 
 use super::*;
-use ndef_lang::Language;
-use ndef_value::Profile;
+use ndef_lang::{Kind, Language, Leaf};
+use ndef_value::{Profile, Reason};
 
-/// What comes of a payload.
+/// What comes of the front of a payload.
 #[derive(Clone, Copy, Debug, PartialEq, Eq)]
 enum Answer {
-    /// No payload has this length.
+    /// No payload has such a length.
     NoLength,
-    /// Nothing can follow this octet, by its place.
-    Refused(usize),
+    /// Nothing can follow the octet at this place.
+    Refused(usize, Reason),
     /// It can go on.
     GoesOn,
     /// It is whole.
     Whole,
 }
 
-/// What comes of the front of a payload of this length.
-fn read(table: Table, records: u32, profile: Profile, length: u32, front: &[u8]) -> Answer
-    requires { 1 ≤ records }
+use Answer::{GoesOn, NoLength, Refused, Whole};
+
+/// What comes of the front of a payload of `least` to `most` octets.
+fn read<L: Language>(
+    kind: Kind,
+    records: u32,
+    profile: Profile,
+    least: u32,
+    most: u32,
+    front: &[u8],
+) -> Answer
+    requires some { 1 ≤ records }
+    requires few { records < 2 ^ 16 }
 {
-    let mut nest = Nest::new(table, records, profile);
-    let mut left = length;
-    if !nest.fits(u64::from(left), u64::from(left)) {
-        return Answer::NoLength;
+    let mut state = L::start(kind, records, profile);
+    let (mut least, mut most) = (least, most);
+    if !state.fits(u64::from(least), u64::from(most)) {
+        return NoLength;
     }
     for (at, byte) in front.iter().enumerate() {
-        nest.step(*byte);
-        left = left.saturating_sub(1);
-        if !nest.fits(u64::from(left), u64::from(left)) {
-            return Answer::Refused(at);
+        state.step(*byte);
+        least = least.saturating_sub(1);
+        most = most.saturating_sub(1);
+        if !state.fits(u64::from(least), u64::from(most)) {
+            return Refused(at, state.reason());
         }
     }
-    if left == 0 {
-        Answer::Whole
-    } else {
-        Answer::GoesOn
-    }
+    if most == 0 { Whole } else { GoesOn }
 }
 
-/// The same, strictly, with many records.
-fn strict(table: Table, length: u32, front: &[u8]) -> Answer {
-    read(table, 1024, Profile::Strict, length, front)
+/// The same of a payload of one length, by itself and as that of a record of a message.
+fn both(kind: Kind, records: u32, profile: Profile, length: u32, front: &[u8]) -> [Answer; 2]
+    requires some { 1 ≤ records }
+    requires few { records < 2 ^ 16 }
+{
+    [
+        read::<Nest>(kind, records, profile, length, length, front),
+        read::<Typed>(kind, records, profile, length, length, front),
+    ]
+}
+
+/// The same of a strict reader that takes many records.
+fn strict(kind: Kind, length: u32, front: &[u8]) -> [Answer; 2] {
+    both(kind, 1024, Profile::Strict, length, front)
 }
 
 #[test]
 fn posters(rt: HostRuntime) {
-    let poster = Table::SmartPoster;
-    let one = b"\xd1\x01\x02U\x00a";
-    assert_eq!(rt; strict(poster, 6, one), Answer::Whole);
-    assert_eq!(rt; read(poster, 1, Profile::Strict, 6, one), Answer::Whole);
-    assert_eq!(rt; strict(poster, 5, b"\xd1\x01\x01T"), Answer::Refused(3));
-    assert_eq!(rt; strict(poster, 4, b""), Answer::NoLength);
-    assert_eq!(rt; strict(poster, 1000, b"\xd1"), Answer::Refused(0));
-    assert_eq!(rt; strict(poster, 7, b"\xd1\x01\x02"), Answer::Refused(2));
-    assert_eq!(rt; strict(poster, 6, b"\x90"), Answer::Refused(0));
-    assert_eq!(rt;
-        strict(poster, 8, b"\x90\x00\x00Q\x01\x01U\x00"),
-        Answer::Whole
-    );
-    assert_eq!(rt;
-        strict(poster, 11, b"\x91\x01\x01U\x00Q\x01\x02U"),
-        Answer::Refused(8)
-    );
-    assert_eq!(rt;
-        strict(poster, 14, b"\x91\x01\x02U\x00aQ\x03\x02act"),
-        Answer::Refused(11)
-    );
+    let table: [(u32, &[u8], Answer); 17] = [
+        (6, b"\xd1\x01\x02U\x00a", Whole),
+        (8, b"\x90\x00\x00Q\x01\x01U\x00", Whole),
+        (13, b"\x91\x01\x02U\x00aQ\x03\x01act\x03", Whole),
+        (4, b"", NoLength),
+        (5, b"\xd1\x01\x01T", Refused(3, Reason::UriMissing)),
+        (5, b"\xd5", Refused(0, Reason::UriMissing)),
+        (6, b"\xd1\x02", Refused(1, Reason::UriMissing)),
+        (5, b"\xd7", Refused(0, Reason::ReservedTnf)),
+        (6, b"\xb1", Refused(0, Reason::TooManyPieces)),
+        (6, b"\x90", Refused(0, Reason::DoesNotFit)),
+        (7, b"\xd1\x01\x02", Refused(2, Reason::DoesNotFit)),
+        (1000, b"\xd1", Refused(0, Reason::DoesNotFit)),
+        (6, b"\xd1\x01\x02U\xffa", Refused(4, Reason::UriCode)),
+        (
+            11,
+            b"\x91\x01\x01U\x00Q\x01\x02U",
+            Refused(8, Reason::UriAgain),
+        ),
+        (
+            14,
+            b"\x91\x01\x02U\x00aQ\x03\x02act",
+            Refused(11, Reason::DoesNotFit),
+        ),
+        (
+            u32::MAX,
+            b"\xc1\x01\xff\xff\xff\xf7",
+            Refused(5, Reason::DoesNotFit),
+        ),
+        (u32::MAX, b"\xc1\x01\xff\xff\xff\xf8", GoesOn),
+    ];
+    for (length, front, answer) in table {
+        assert_eq!(rt; strict(Kind::SmartPoster, length, front), [answer; 2]);
+    }
 }
 
 #[test]
-fn profiles(rt: HostRuntime) {
-    let poster = Table::SmartPoster;
-    let reserved = b"\xd1\x01\x02U\xffa";
-    assert_eq!(rt; strict(poster, 5, b"\xd7"), Answer::Refused(0));
-    assert_eq!(rt;
-        read(poster, 9, Profile::Standard, 5, b"\xd7"),
-        Answer::Refused(0)
-    );
-    assert_eq!(rt; strict(poster, 6, reserved), Answer::Refused(4));
-    assert_eq!(rt;
-        read(poster, 9, Profile::Standard, 6, reserved),
-        Answer::Whole
-    );
+fn handovers(rt: HostRuntime) {
+    let table: [(Kind, u32, &[u8], Answer); 19] = [
+        (Kind::Select, 1, b"\x12", Whole),
+        (Kind::Select, 4, b"\x12\xd0\x00\x00", Whole),
+        (Kind::Select, 9, b"\x12\xd1\x03\x02err\x01@", Whole),
+        (Kind::Select, 10, b"\x12\xd1\x02\x04ac\x01\x010\x00", Whole),
+        (Kind::Select, 0, b"", NoLength),
+        (Kind::Select, 2, b"", NoLength),
+        (Kind::Select, 1, b"\x22", Refused(0, Reason::Version)),
+        (
+            Kind::Select,
+            9,
+            b"\x12\xd1\x03\x02err\x02",
+            Refused(7, Reason::DoesNotFit),
+        ),
+        (Kind::Request, 8, b"\x12\xd1\x02\x02cr\x01\x02", Whole),
+        (Kind::Request, 3, b"", NoLength),
+        (Kind::Request, 4, b"", NoLength),
+        (Kind::Request, 7, b"", NoLength),
+        (Kind::Request, 8, b"\x22", Refused(0, Reason::Version)),
+        (
+            Kind::Request,
+            8,
+            b"\x12\xd0",
+            Refused(1, Reason::CollisionMissing),
+        ),
+        (
+            Kind::Request,
+            8,
+            b"\x12\xd7",
+            Refused(1, Reason::ReservedTnf),
+        ),
+        (
+            Kind::Request,
+            8,
+            b"\x12\xd1\x01",
+            Refused(2, Reason::CollisionMissing),
+        ),
+        (
+            Kind::Request,
+            8,
+            b"\x12\xd1\x00",
+            Refused(2, Reason::TypeEmpty),
+        ),
+        (
+            Kind::Request,
+            8,
+            b"\x12\xd1\x02\x03",
+            Refused(3, Reason::DoesNotFit),
+        ),
+        (
+            Kind::Request,
+            8,
+            b"\x12\xd1\x02\x02cs",
+            Refused(5, Reason::CollisionMissing),
+        ),
+    ];
+    for (kind, length, front, answer) in table {
+        assert_eq!(rt; strict(kind, length, front), [answer; 2]);
+    }
 }
 
 #[test]
-fn selects(rt: HostRuntime) {
-    let select = Table::Select;
-    assert_eq!(rt; strict(select, 1, b"\x12"), Answer::Whole);
-    assert_eq!(rt; strict(select, 2, b""), Answer::NoLength);
-    assert_eq!(rt; strict(select, 4, b"\x12\xd0\x00\x00"), Answer::Whole);
-    assert_eq!(rt;
-        strict(select, 9, b"\x12\xd1\x03\x02err\x01@"),
-        Answer::Whole
-    );
-    assert_eq!(rt;
-        strict(select, 9, b"\x12\xd1\x03\x02err\x02"),
-        Answer::Refused(7)
-    );
-    assert_eq!(rt; strict(select, 4, b"\x22"), Answer::Refused(0));
+fn profiles_and_limits(rt: HostRuntime) {
+    let table: [(Kind, u32, &[u8], Answer); 3] = [
+        (
+            Kind::Request,
+            8,
+            b"\x12\xd7",
+            Refused(1, Reason::CollisionMissing),
+        ),
+        (
+            Kind::SmartPoster,
+            5,
+            b"\xd7",
+            Refused(0, Reason::UriMissing),
+        ),
+        (Kind::SmartPoster, 6, b"\xd1\x01\x02U\xffa", Whole),
+    ];
+    for (kind, length, front, answer) in table {
+        assert_eq!(rt;
+            both(kind, 1024, Profile::Standard, length, front),
+            [answer; 2]
+        );
+    }
+    let table: [(Kind, u32, &[u8], Answer); 4] = [
+        (Kind::SmartPoster, 6, b"\xd1\x01\x02U\x00a", Whole),
+        (
+            Kind::SmartPoster,
+            6,
+            b"\x91",
+            Refused(0, Reason::TooManyRecords),
+        ),
+        (Kind::Request, 267, b"", GoesOn),
+        (Kind::Request, 268, b"", NoLength),
+    ];
+    for (kind, length, front, answer) in table {
+        assert_eq!(rt; both(kind, 1, Profile::Strict, length, front), [answer; 2]);
+    }
+}
+
+/// A poster that comes in pieces: how many octets may follow the first of them.
+#[test]
+fn pieces(rt: HostRuntime) {
+    let table: [(&[u8], u32, u32, bool); 4] = [
+        (b"\xd1\x01\x02", 3, 3, true),
+        (b"\xd1\x01\x02", 2, 2, false),
+        (b"\xd1\x01\x02", 65536, 131071, false),
+        (b"\xc1\x01\x00\x00\x01\x2c", 0, 255, false),
+    ];
+    for (front, least, most, goes_on) in table {
+        let mut poster = Typed::start(Kind::SmartPoster, 1024, Profile::Strict);
+        for byte in front {
+            poster.step(*byte);
+        }
+        assert_eq!(rt; poster.fits(u64::from(least), u64::from(most)), goes_on);
+    }
 }
 
 #[test]
-fn requests(rt: HostRuntime) {
-    let request = Table::Request;
+fn leaves(rt: HostRuntime) {
+    let table: [(Kind, &[u8], Answer); 6] = [
+        (Kind::Carrier, b"\x01\x03a/b\x05", Whole),
+        (Kind::Carrier, b"\x01", NoLength),
+        (Kind::Text, b"\x40", Refused(0, Reason::TextBit)),
+        (Kind::Uri, b"\x24", Refused(0, Reason::UriCode)),
+        (Kind::Action, b"ab", Whole),
+        (Kind::Other, b"\x00", Whole),
+    ];
+    for (kind, payload, answer) in table {
+        let length = payload.len() as u32;
+        assert_eq!(rt;
+            read::<Typed>(kind, 1, Profile::Strict, length, length, payload),
+            answer
+        );
+    }
     assert_eq!(rt;
-        strict(request, 8, b"\x12\xd1\x02\x02cr\x01\x02"),
-        Answer::Whole
-    );
-    assert_eq!(rt; strict(request, 7, b""), Answer::NoLength);
-    assert_eq!(rt; strict(request, 8, b"\x12\xd0"), Answer::Refused(1));
-    assert_eq!(rt; strict(request, 8, b"\x12\xd1\x01"), Answer::Refused(2));
-    assert_eq!(rt; strict(request, 8, b"\x12\xd1\x02\x03"), Answer::Refused(3));
-    assert_eq!(rt;
-        strict(request, 8, b"\x12\xd1\x02\x02cs"),
-        Answer::Refused(5)
-    );
-    assert_eq!(rt;
-        read(request, 1, Profile::Strict, 268, b""),
-        Answer::NoLength
-    );
-    assert_eq!(rt; read(request, 1, Profile::Strict, 267, b""), Answer::GoesOn);
-}
-
-#[test]
-fn longest_payloads(rt: HostRuntime) {
-    let poster = Table::SmartPoster;
-    let most = u32::MAX;
-    assert_eq!(rt; strict(poster, most, b"\xd1"), Answer::Refused(0));
-    assert_eq!(rt;
-        strict(poster, most, b"\xc1\x01\xff\xff\xff\xf8"),
-        Answer::GoesOn
-    );
-    assert_eq!(rt;
-        strict(poster, most, b"\xc1\x01\xff\xff\xff\xf7"),
-        Answer::Refused(5)
-    );
-    assert_eq!(rt;
-        strict(poster, most, b"\xc1\x01\xff\xff\xff\xf9"),
-        Answer::Refused(5)
+        read::<Leaf>(Kind::Action, 1, Profile::Strict, 2, 2, b"ab"),
+        NoLength
     );
 }
