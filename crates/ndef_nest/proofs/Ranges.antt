@@ -85,8 +85,8 @@ range_at : (c : Context) (first : Bool) (octets : List ℕ) (phase : Phase) → 
 range_at c first octets phases.Version s i at = version_range c s (some_records c.records i)
 range_at c first octets phases.Start s i at = start_range c s (some_records c.records i)
 range_at c first octets phases.Head s i at = inl (_, spans c first octets phases.Head tt s i at)
-range_at c first octets (phases.Name names last left id payload) s i at = inl (_, spans c first octets (phases.Name names last left id payload) tt s i at)
-range_at c first octets (phases.Body leaf last id payload) s i at = inl (_, spans c first octets (phases.Body leaf last id payload) tt s i at)
+range_at c first octets (phases.Name n) s i at = inl (_, spans c first octets (phases.Name n) tt s i at)
+range_at c first octets (phases.Body b) s i at = inl (_, spans c first octets (phases.Body b) tt s i at)
 range_at c first octets phases.Ended s i at = inl (_, spans c first octets phases.Ended tt s i at)
 range_at c first octets phases.Refused s i at = inl (_, spans c first octets phases.Refused tt s i at)
 

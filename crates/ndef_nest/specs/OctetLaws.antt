@@ -82,9 +82,9 @@ pub completes_octets : (c : Context) (first : Bool) (xs : List ℕ) (phase : Pha
 completes_octets c first xs phases.Version r x = version_are c r x
 completes_octets c first xs phases.Start r x = start_octets c r x
 completes_octets c first xs phases.Head r x = octets_behind xs r (rest_octets c.profile c.table c.records first c.demand (xs ++ r) x)
-completes_octets c first xs (phases.Name names last left id payload) r x = typed_octets c.profile _ _ last c.demand left id payload r (λ d s h. rest_octets c.profile c.table c.records false d s h) x
-completes_octets c first xs (phases.Body leaf last id payload) r x =
-    body_octets _ _ id payload r (completes_leaf_octets leaf) (λ s h. tail_octets (Later c.profile c.table c.records) last c.demand s (λ d t k. rest_octets c.profile c.table c.records false d t k) h) x
+completes_octets c first xs (phases.Name n) r x = typed_octets c.profile _ _ n.last c.demand n.left n.id n.payload r (λ d s h. rest_octets c.profile c.table c.records false d s h) x
+completes_octets c first xs (phases.Body b) r x =
+    body_octets _ _ b.id b.payload r (completes_leaf_octets b.leaf) (λ s h. tail_octets (Later c.profile c.table c.records) b.last c.demand s (λ d t k. rest_octets c.profile c.table c.records false d t k) h) x
 completes_octets c first xs phases.Ended r x = subst (λ z. AreOctets z) (sym x) tt
 completes_octets c first xs phases.Refused r x = absurd x
 

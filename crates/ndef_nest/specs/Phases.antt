@@ -37,10 +37,10 @@ abbrev pub Completes : Context → (first : Bool) → (octets : List ℕ) → Ph
 Completes c first octets phases.Version r = CompletesVersion c r
 Completes c first octets phases.Start r = CompletesStart c r
 Completes c first octets phases.Head r = Rest c.profile c.table c.records first c.demand (octets ++ r)
-Completes c first octets (phases.Name names last left id payload) r =
-    IsTyped c.profile (λ more. checked c.table (kind_after names more)) (Later c.profile c.table c.records) last c.demand left id payload r
-Completes c first octets (phases.Body leaf last id payload) r =
-    IsBody (CompletesLeaf leaf) id payload (Tail (Later c.profile c.table c.records) last c.demand) r
+Completes c first octets (phases.Name n) r =
+    IsTyped c.profile (λ more. checked c.table (kind_after n.names more)) (Later c.profile c.table c.records) n.last c.demand n.left n.id n.payload r
+Completes c first octets (phases.Body b) r =
+    IsBody (CompletesLeaf b.leaf) b.id b.payload (Tail (Later c.profile c.table c.records) b.last c.demand) r
 Completes c first octets phases.Ended r = r ≡ []
 Completes c first octets phases.Refused r = ⊥
 
@@ -53,10 +53,10 @@ abbrev pub is_sound : Context → (first : Bool) → (octets : List ℕ) → Pha
 is_sound c first octets phases.Version = nat_lt 0 c.records
 is_sound c first octets phases.Start = nat_lt 0 c.records
 is_sound c first octets phases.Head = nat_lt 0 c.records
-is_sound c first octets (phases.Name names last left id payload) =
-    (is_nil octets && not first) && ((nat_lt 0 left && left == missing_of names) && (last || nat_lt 0 c.records))
-is_sound c first octets (phases.Body leaf last id payload) =
-    (is_nil octets && not first) && (nat_lt 0 (id + payload) && (last || nat_lt 0 c.records))
+is_sound c first octets (phases.Name n) =
+    (is_nil octets && not first) && ((nat_lt 0 n.left && n.left == missing_of n.names) && (n.last || nat_lt 0 c.records))
+is_sound c first octets (phases.Body b) =
+    (is_nil octets && not first) && (nat_lt 0 (b.id + b.payload) && (b.last || nat_lt 0 c.records))
 is_sound c first octets phases.Ended = true
 is_sound c first octets phases.Refused = true
 
@@ -74,9 +74,9 @@ longer n span = (n + span.0, n + span.1)
 -- the range of what completes a message that has begun
 abbrev pub span_of : Context → (first : Bool) → List ℕ → Phase → ℕ × ℕ
 span_of c first octets phases.Head = head_span c first octets
-span_of c first octets (phases.Name names last left id payload) = open_span c.demand (open_name c.demand names last left id payload)
-span_of c first octets (phases.Body leaf last id payload) =
-    if meets (leaf_lengths leaf) payload payload then longer (id + payload) (tail_span last c.demand c.records) else (1, 0)
+span_of c first octets (phases.Name n) = open_span c.demand (open_name c.demand n.names n.last n.left n.id n.payload)
+span_of c first octets (phases.Body b) =
+    if meets (leaf_lengths b.leaf) b.payload b.payload then longer (b.id + b.payload) (tail_span b.last c.demand c.records) else (1, 0)
 span_of c first octets phases.Ended = (0, 0)
 span_of c first octets _ = (1, 0)
 

@@ -120,8 +120,8 @@ abbrev pub HasCome : Context → (first : Bool) → (begun : List ℕ) → Phase
 HasCome c first begun phases.Version records m = ⊥
 HasCome c first begun phases.Start records m = (m ≡ []) × IsNew c records
 HasCome c first begun phases.Head records m = IsInHead c first begun records m
-HasCome c first begun (phases.Name names last left id payload) records m = IsInName c names last left id payload records m
-HasCome c first begun (phases.Body leaf last id payload) records m = IsInBody c leaf last id payload records m
+HasCome c first begun (phases.Name n) records m = IsInName c n.names n.last n.left n.id n.payload records m
+HasCome c first begun (phases.Body b) records m = IsInBody c b.leaf b.last b.id b.payload records m
 HasCome c first begun phases.Ended records m = IsWhole m
 HasCome c first begun phases.Refused records m = ⊤
 

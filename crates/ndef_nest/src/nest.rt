@@ -1,30 +1,27 @@
 //! A nested message, read octet by octet.
-ghost use Rattle.std.specs.Prelude.{◌≡◌, ◌≤◌, ◌<◌, ◌+◌, ◌-◌, ◌^◌, ◌↔◌, ◌||◌, ℕ, Bool, true, false, nat_lt, IsTrue, unwrap_or, List, [], ◌∷◌, ◌++◌};
+ghost use Rattle.std.specs.Prelude.{◌≡◌, ◌≤◌, ◌<◌, ◌-◌, ◌↔◌, ℕ, Bool, true, List, [], ◌∷◌, ◌++◌};
 ghost use Rattle.ndef_piece.specs.declared.head_reader.Step.TheVariants as steps;
-ghost use Rattle.ndef_value.specs.declared.profile.Profile.{Profile};
 ghost use Rattle.ndef_value.specs.declared.reason.Reason.TheVariants as reasons;
 ghost use Rattle.ndef_lang.specs.Language.{Follows, Passes, IsLowest, OneReason};
-ghost use Rattle.ndef_lang.specs.Leaf.{IsPayload, PayloadReason, CompletesLeaf, LeafReached, leaf_told};
 ghost use Rattle.ndef_lang.specs.declared.kind.Kind.{Kind};
-ghost use Rattle.ndef_lang.specs.Kind.{missing_of, kind_after};
-ghost use Rattle.ndef_nest.specs.Nested.{IsNest, IsVersion, checked, kind_in, table_of};
-ghost use Rattle.ndef_nest.specs.Demands.{Allows, after, suits, spot, Tail, Later, IsBody, IsTyped};
+ghost use Rattle.ndef_nest.specs.Nested.{IsNest, IsVersion, table_of};
+ghost use Rattle.ndef_nest.specs.Demands.{suits, spot};
 ghost use Rattle.ndef_nest.specs.Spans.{least, most};
 ghost use Rattle.ndef_nest.specs.Phases.{Completes, CompletesVersion, is_sound, start_fits, fits, span_of, head_span};
 ghost use Rattle.ndef_nest.specs.Conditions.{MessageReason, NestReason};
-ghost use Rattle.ndef_nest.specs.Reached.{IsNew, IsHeaded, IsInName, IsNamed, IsInBody, HasCome};
-ghost use Rattle.ndef_nest.specs.Told.{may_have, head_told, collision_octet, name_told};
+ghost use Rattle.ndef_nest.specs.Reached.{IsNew, HasCome};
+ghost use Rattle.ndef_nest.specs.Told.{may_have, head_told};
 ghost use Rattle.ndef_nest.specs.Fronts.{FrontAt};
 ghost use Rattle.ndef_nest.specs.FrontLaws.{front_at_prop};
 
 use crate::Table;
 use crate::context::Context;
 use crate::demand::Demand;
-use crate::phase::Phase;
-use crate::span::{Open, least, meets, most, tail};
-use ndef_lang::{Kind, KindReader, Language, Leaf};
+use crate::phase::{Phase, headed};
+use crate::span::{Open, least, meets, most};
+use ndef_lang::{Kind, Language};
 use ndef_piece::{
-    Bounds, Head, HeadReader, Step, conditions_are_exact, heads_are_apart, lengths_are_independent,
+    Bounds, HeadReader, Step, conditions_are_exact, heads_are_apart, lengths_are_independent,
 };
 use ndef_value::{Profile, Reason, Tnf};
 
@@ -46,9 +43,12 @@ pub struct Nest {
 
 /// After an octet in the place of the version octet.
 fn after_version(byte: u8) -> (Phase, Reason)
-    ensures future { (c : Context) (first : Bool) (xs r : List ℕ) → Completes c first xs result.0 r ↔ CompletesVersion c (byte ∷ r) }
-    ensures sound { (c : Context) (first : Bool) (xs : List ℕ) → is_sound c first xs Phase.Version ≡ true → is_sound c first xs result.0 ≡ true }
-    ensures come { (c : Context) (first : Bool) (xs : List ℕ) (records : ℕ) → IsNew c records → HasCome c first xs result.0 records [] }
+    ensures future { (c : Context) (first : Bool) (xs r : List ℕ)
+        → Completes c first xs result.0 r ↔ CompletesVersion c (byte ∷ r) }
+    ensures sound { (c : Context) (first : Bool) (xs : List ℕ)
+        → is_sound c first xs Phase.Version ≡ true → is_sound c first xs result.0 ≡ true }
+    ensures come { (c : Context) (first : Bool) (xs : List ℕ) (records : ℕ)
+        → IsNew c records → HasCome c first xs result.0 records [] }
     ensures reason { IsLowest (OneReason reasons.Version (IsVersion byte → ⊥)) result.1 }
 {
     if byte / 16 == 1 {
@@ -76,189 +76,6 @@ fn head_reason(demand: Demand, bounds: &Bounds) -> Reason
     }
 }
 
-/// The octet of `cr` that so many octets of a type begin with.
-fn collision_octet(left: u8) -> u8
-    ensures { result ≡ collision_octet left }
-{
-    if left == 2 { b'c' } else { b'r' }
-}
-
-/// Why the next octet of a type is refused, if it is.
-fn name_reason(demand: Demand, names: KindReader, last: bool, left: u8, byte: u8) -> Reason
-    requires left { left ≡ missing_of names }
-    requires some { 0 < left }
-    ensures { result ≡ name_told demand names last left byte }
-{
-    let mut names = names;
-    names.step(byte);
-    match demand {
-        Demand::OneUri if last && byte != b'U' => Reason::UriMissing,
-        Demand::NoUri if matches!(names.kind(), Kind::Uri) => Reason::UriAgain,
-        Demand::Collision if byte != collision_octet(left) => Reason::CollisionMissing,
-        _ => Reason::DoesNotFit,
-    }
-}
-
-/// After the type of a record: in its id or payload, or behind it.
-fn settled(context: &Context, leaf: Leaf, last: bool, id: u8, payload: u32) -> Phase
-    requires { last || nat_lt 0 context.now.records ≡ true }
-    ensures future { (r : List ℕ) → Completes context.now false [] result r
-        ↔ IsBody (CompletesLeaf leaf) id payload (Tail (Later context.now.profile context.now.table context.now.records) last context.now.demand) r }
-    ensures sound { is_sound context.now false [] result ≡ true }
-    ensures come { (records : ℕ) (m : List ℕ) → IsInBody context.now leaf last id payload records m → HasCome context.now false [] result records m }
-{
-    let left = u64::from(id) + u64::from(payload);
-    if left > 0 {
-        Phase::Body {
-            leaf,
-            last,
-            id,
-            payload,
-        }
-    } else if !leaf.fits(0, 0) {
-        Phase::Refused
-    } else if !last {
-        Phase::Head
-    } else if context.demand.is_met() {
-        Phase::Ended
-    } else {
-        Phase::Refused
-    }
-}
-
-/// After the type of a record of this kind.
-fn entered(context: &Context, kind: Kind, last: bool, id: u8, payload: u32) -> (Demand, Phase)
-    requires { last || nat_lt 0 context.now.records ≡ true }
-    ensures future { (r : List ℕ) → Completes (record context.now { demand = result.0 }) false [] result.1 r
-        ↔ (Allows context.now.demand kind
-        × IsBody (IsPayload kind context.now.profile) id payload (Tail (Later context.now.profile context.now.table context.now.records) last (after context.now.demand kind)) r) }
-    ensures sound { is_sound (record context.now { demand = result.0 }) false [] result.1 ≡ true }
-    ensures suited { suits context.now.table context.now.demand ≡ true → suits context.now.table result.0 ≡ true }
-    ensures come { (records : ℕ) (m : List ℕ) → IsNamed context.now kind last id payload records m
-        → HasCome (record context.now { demand = result.0 }) false [] result.1 records m }
-{
-    if !context.demand.allows(kind) {
-        return (context.demand, Phase::Refused);
-    }
-    let demand = context.demand.after(kind);
-    let next = Context { demand, ..*context };
-    let leaf = Leaf::start(kind, 1, context.profile);
-    (demand, settled(&next, leaf, last, id, payload))
-}
-
-/// After an octet of the type of a record, or after its head.
-fn named(
-    context: &Context,
-    names: KindReader,
-    last: bool,
-    left: u8,
-    id: u8,
-    payload: u32,
-) -> (Demand, Phase)
-    requires followed { last || nat_lt 0 context.now.records ≡ true }
-    requires left { left ≡ missing_of names }
-    ensures future { (r : List ℕ) → Completes (record context.now { demand = result.0 }) false [] result.1 r
-        ↔ IsTyped context.now.profile (λ more. checked context.now.table (kind_after names more)) (Later context.now.profile context.now.table context.now.records) last context.now.demand left id payload r }
-    ensures sound { is_sound (record context.now { demand = result.0 }) false [] result.1 ≡ true }
-    ensures suited { suits context.now.table context.now.demand ≡ true → suits context.now.table result.0 ≡ true }
-    ensures come { (records : ℕ) (m : List ℕ) → IsInName context.now names last left id payload records m
-        → HasCome (record context.now { demand = result.0 }) false [] result.1 records m }
-{
-    if left > 0 {
-        let phase = Phase::Name {
-            names,
-            last,
-            left,
-            id,
-            payload,
-        };
-        return (context.demand, phase);
-    }
-    entered(
-        context,
-        context.table.checked(names.kind()),
-        last,
-        id,
-        payload,
-    )
-}
-
-/// After the next octet of the type of a record.
-fn name_step(
-    context: &Context,
-    names: KindReader,
-    last: bool,
-    left: u8,
-    id: u8,
-    payload: u32,
-    byte: u8,
-) -> (Demand, Phase)
-    requires followed { last || nat_lt 0 context.now.records ≡ true }
-    requires left { left ≡ missing_of names }
-    requires some { 0 < left }
-    ensures future { (r : List ℕ) → Completes (record context.now { demand = result.0 }) false [] result.1 r
-        ↔ IsTyped context.now.profile (λ more. checked context.now.table (kind_after names more)) (Later context.now.profile context.now.table context.now.records) last context.now.demand left id payload (byte ∷ r) }
-    ensures sound { is_sound (record context.now { demand = result.0 }) false [] result.1 ≡ true }
-    ensures suited { suits context.now.table context.now.demand ≡ true → suits context.now.table result.0 ≡ true }
-    ensures come { (records : ℕ) (m : List ℕ) → IsInName context.now names last left id payload records m
-        → HasCome (record context.now { demand = result.0 }) false [] result.1 records (m ++ byte ∷ []) }
-{
-    let mut next = names;
-    next.step(byte);
-    named(context, next, last, left - 1, id, payload)
-}
-
-/// After the next octet of the id or the payload of a record.
-fn body_step(
-    context: &Context,
-    leaf: Leaf,
-    last: bool,
-    id: u8,
-    payload: u32,
-    byte: u8,
-) -> (Phase, Reason)
-    requires followed { last || nat_lt 0 context.now.records ≡ true }
-    requires some { 0 < id + payload }
-    ensures future { (r : List ℕ) → Completes context.now false [] result.0 r
-        ↔ IsBody (CompletesLeaf leaf) id payload (Tail (Later context.now.profile context.now.table context.now.records) last context.now.demand) (byte ∷ r) }
-    ensures sound { is_sound context.now false [] result.0 ≡ true }
-    ensures come { (records : ℕ) (m : List ℕ) → IsInBody context.now leaf last id payload records m → HasCome context.now false [] result.0 records (m ++ byte ∷ []) }
-    ensures in_id { 0 < id → result.1 ≡ reasons.DoesNotFit }
-    ensures in_payload { id ≡ 0 → (kind : Kind) (profile : Profile) (s : List ℕ) → LeafReached leaf kind profile s → Passes (CompletesLeaf leaf)
-        → IsLowest (PayloadReason kind profile s byte) result.1 }
-{
-    if id > 0 {
-        let phase = settled(context, leaf, last, id - 1, payload);
-        return (phase, Reason::DoesNotFit);
-    }
-    let mut next = leaf;
-    next.step(byte);
-    let reason = next.reason();
-    (settled(context, next, last, id, payload - 1), reason)
-}
-
-/// After a head.
-fn headed(context: &Context, head: &Head) -> (Demand, Phase)
-    requires { head.now.last || nat_lt 0 context.now.records ≡ true }
-    ensures future { (r : List ℕ) → Completes (record context.now { demand = result.0 }) false [] result.1 r
-        ↔ IsTyped context.now.profile (kind_in context.now.table head.now.tnf) (Later context.now.profile context.now.table context.now.records) head.now.last context.now.demand head.now.kind_length (unwrap_or head.now.id_length 0) head.now.payload_length r }
-    ensures sound { is_sound (record context.now { demand = result.0 }) false [] result.1 ≡ true }
-    ensures suited { suits context.now.table context.now.demand ≡ true → suits context.now.table result.0 ≡ true }
-    ensures come { (records : ℕ) (m : List ℕ) → IsHeaded context.now head.now records m
-        → HasCome (record context.now { demand = result.0 }) false [] result.1 records m }
-{
-    let names = KindReader::new(head.tnf, head.kind_length);
-    let id = head.id_length.unwrap_or(0);
-    named(
-        context,
-        names,
-        head.last,
-        head.kind_length,
-        id,
-        head.payload_length,
-    )
-}
-
 /// The least and the greatest number of octets of the records to come.
 fn records_span(context: &Context) -> (u64, u64)
     requires { 0 < context.now.records }
@@ -277,20 +94,6 @@ fn start_fits(context: &Context, lo: u64, hi: u64) -> bool
 {
     let may_be_empty = matches!(context.table, Table::Select);
     may_be_empty && lo == 0 || meets(records_span(context), lo, hi)
-}
-
-/// The least and the greatest number of octets that complete the message, after the type of a record.
-fn body_span(context: &Context, leaf: Leaf, last: bool, id: u8, payload: u32) -> (u64, u64)
-    requires { last || nat_lt 0 context.now.records ≡ true }
-    ensures { result ≡ span_of context.now false [] (Phase.Body leaf last id payload) }
-{
-    let length = u64::from(payload);
-    if !leaf.fits(length, length) {
-        return (1, 0);
-    }
-    let left = u64::from(id) + length;
-    let span = tail(last, context.demand, context.records);
-    (left + span.0, left + span.1)
 }
 
 impl Nest {
@@ -335,21 +138,11 @@ impl Nest {
         match self.phase {
             Phase::Version | Phase::Start | Phase::Refused => (1, 0),
             Phase::Head => self.head_span(),
-            Phase::Name {
-                names,
-                last,
-                left,
-                id,
-                payload,
-            } => Open::of_name(self.context.demand, names, last, left, id, payload).span(
-                self.context.demand,
-            ),
-            Phase::Body {
-                leaf,
-                last,
-                id,
-                payload,
-            } => body_span(&self.context, leaf, last, id, payload),
+            Phase::Name(name) => {
+                let demand = self.context.demand;
+                Open::of_name(demand, name).span(demand)
+            }
+            Phase::Body(body) => body.span(&self.context),
             Phase::Ended => (0, 0),
         }
     }
@@ -372,7 +165,8 @@ impl Nest {
         ensures come { (records : ℕ) (m : List ℕ) → come self.old records m → come self.new records (m ++ byte ∷ []) }
         ensures kept { (self.new.context.table ≡ self.old.context.table) × (self.new.context.profile ≡ self.old.context.profile) }
         ensures reason { (records : ℕ) (m : List ℕ) → come self.old records m → Passes (future self.old)
-            → IsLowest (MessageReason self.old.context.table records self.old.context.profile m byte) self.new.told }
+            → IsLowest (MessageReason self.old.context.table records self.old.context.profile m byte)
+            self.new.told }
     {
         lengths_are_independent();
         heads_are_apart();
@@ -436,33 +230,14 @@ impl Language for Nest {
                 self.at_head(byte);
             }
             Phase::Head => self.at_head(byte),
-            Phase::Name {
-                names,
-                last,
-                left,
-                id,
-                payload,
-            } => {
-                self.told = name_reason(self.context.demand, names, last, left, byte);
-                let (demand, phase) = name_step(
-                    &self.context,
-                    names,
-                    last,
-                    left,
-                    id,
-                    payload,
-                    byte,
-                );
+            Phase::Name(name) => {
+                self.told = name.reason(self.context.demand, byte);
+                let (demand, phase) = name.step(&self.context, byte);
                 self.context.demand = demand;
                 self.phase = phase;
             }
-            Phase::Body {
-                leaf,
-                last,
-                id,
-                payload,
-            } => {
-                let (phase, told) = body_step(&self.context, leaf, last, id, payload, byte);
+            Phase::Body(body) => {
+                let (phase, told) = body.step(&self.context, byte);
                 self.phase = phase;
                 self.told = told;
             }
@@ -481,10 +256,12 @@ impl Language for Nest {
         self.told
     }
 
-    ghost exact = { λ nest lo hi small. fits_exactly nest.context nest.reader.spot.first nest.reader.octets nest.phase lo hi nest.suited nest.sound
+    ghost exact = { λ nest lo hi small. fits_exactly
+        nest.context nest.reader.spot.first nest.reader.octets nest.phase lo hi nest.suited nest.sound
         (subst (λ p. FrontAt p nest.reader.octets) nest.spot nest.front) small };
 
-    ghost future_octets = { λ nest r h. completes_octets nest.context nest.reader.spot.first nest.reader.octets nest.phase r h };
+    ghost future_octets = { λ nest r h. completes_octets
+        nest.context nest.reader.spot.first nest.reader.octets nest.phase r h };
 
     ghost set_octets = { λ kind records profile s h. nest_octets (table_of kind) records profile s h };
 }

@@ -7,6 +7,7 @@ ghost use Rattle.ndef_nest.specs.Phases.{meets_span, longer};
 ghost use Rattle.ndef_nest.specs.Demands.{is_met};
 
 use crate::demand::Demand;
+use crate::phase::Name;
 use ndef_lang::{Kind, KindReader};
 use ndef_piece::Bounds;
 use ndef_value::Tnf;
@@ -189,25 +190,19 @@ impl Open {
     }
 
     /// Within a type.
-    pub(crate) fn of_name(
-        demand: Demand,
-        names: KindReader,
-        last: bool,
-        left: u8,
-        id: u8,
-        payload: u32,
-    ) -> Self
-        requires { left ≡ missing_octets names }
-        ensures { result ≡ open_name demand names last left id payload }
+    pub(crate) fn of_name(demand: Demand, name: Name) -> Self
+        requires { name.left ≡ missing_octets name.names }
+        ensures exact { result ≡ open_name demand name.names name.last name.left name.id name.payload }
+        ensures short { (result.payload.0 < 2 ^ 32) × (result.payload.1 < 2 ^ 32) }
     {
-        let payload = u64::from(payload);
+        let payload = u64::from(name.payload);
         Open {
-            last,
+            last: name.last,
             head: 0,
-            kind: (left, left),
-            id: (id, id),
+            kind: (name.left, name.left),
+            id: (name.id, name.id),
             payload: (payload, payload),
-            missing: missing(demand, names, left),
+            missing: missing(demand, name.names, name.left),
         }
     }
 }
