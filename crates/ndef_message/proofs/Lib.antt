@@ -1,3 +1,4 @@
+pub mod Answered
 pub mod Befores
 pub mod Bodies
 pub mod CutParts
@@ -18,8 +19,10 @@ pub mod Octets
 pub mod Opening
 pub mod Parts
 pub mod Places
+pub mod ReadingOn
 pub mod Rests
 pub mod Sends
+pub mod Shows
 pub mod Settled
 pub mod ShortForm
 pub mod Shown

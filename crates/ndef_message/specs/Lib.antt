@@ -7,6 +7,7 @@ pub mod Format
 pub mod Opened
 pub mod Payload
 pub mod Place
+pub mod Readings
 pub mod Sending
 pub mod Sinks
 pub mod Slices

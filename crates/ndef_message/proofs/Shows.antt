@@ -1,0 +1,53 @@
+-- What a source loses by a fill and a take.
+use Rattle.std.proofs.Common.{◌≡◌, ◌<◌, ◌≤◌, ◌==◌, ℕ, List, [], ◌++◌, length, take, drop, Option, Some, None, false, refl, sym, ap, ◌∙◌, arith, append_assoc}
+use Rattle.std.specs.Prelude.{IfSome}
+use Rattle.std.specs.Io.KnownBytes.{Keeps, Consumes}
+use Rattle.std.proofs.lemmas.Bool.Decides.{nat_tests}
+use Rattle.std.proofs.lemmas.List.{append-nil, take-append-drop, take-take}
+use Rattle.ndef_message.specs.Readings.{Shown}
+use Rattle.ndef_message.specs.Sources.{Shows, Drops}
+
+some_in : {X : Type 0} {u v : X} → Some u ≡ Some v → u ≡ v
+some_in h = cc
+
+none_some : {X : Type 0} {y : X} → None ≡ Some y → ⊥
+none_some h = cc
+
+-- a take consumes a front of what was shown
+consumed : (before mid after : Option (List ℕ)) (bytes : List ℕ) (n : ℕ) → n ≤ length bytes → Shows before bytes → Keeps before mid → Drops mid after n → Consumes before after (take n bytes)
+consumed None mid after bytes n h s k d = tt
+consumed (Some xs) None after bytes n h s k d = absurd k
+consumed (Some xs) (Some ys) None bytes n h s k d = absurd (none_some d)
+consumed (Some xs) (Some ys) (Some zs) bytes n h s k d =
+    let zs_is : zs ≡ drop n xs = some_in d ∙ ap (drop n) k in
+    let front : take n xs ≡ take n bytes = sym (take-take n (length bytes) xs h) ∙ ap (take n) s.0 in
+    sym (take-append-drop n xs) ∙ ap (λ v. v ++ drop n xs) front ∙ ap (λ v. take n bytes ++ v) (sym zs_is)
+
+begins : (before : Option (List ℕ)) (bytes : List ℕ) → Shows before bytes → IfSome before (λ input. (rest : List ℕ) × (input ≡ bytes ++ rest))
+begins None bytes s = tt
+begins (Some xs) bytes s = (drop (length bytes) xs, sym (take-append-drop (length bytes) xs) ∙ ap (λ v. v ++ drop (length bytes) xs) s.0)
+
+not_none : (n : ℕ) → (n == 0) ≡ false → 0 < n
+not_none n e = grind (arith, nat_tests)
+
+-- some bytes were shown, and so many of them taken
+pub shown : (before mid after : Option (List ℕ)) (bytes : List ℕ) (n : ℕ) → (length bytes == 0) ≡ false → n ≤ length bytes → Shows before bytes → Keeps before mid → Drops mid after n → Shown before after bytes n
+shown before mid after bytes n some h s k d =
+    record { some = not_none (length bytes) some; within = h; begins = begins before bytes s; taken = consumed before mid after bytes n h s k d }
+
+-- none were
+pub none_shown : (before : Option (List ℕ)) (bytes : List ℕ) → Shows before bytes → length bytes ≡ 0 → IfSome before (λ input. input ≡ [])
+none_shown None bytes s e = tt
+none_shown (Some xs) bytes s e = s.1 e
+
+pub consumed_none : (before after : Option (List ℕ)) → Keeps before after → Consumes before after []
+consumed_none None after k = tt
+consumed_none (Some xs) None k = absurd k
+consumed_none (Some xs) (Some ys) k = sym k
+
+-- one taking after another
+pub consumed_more : (before mid after : Option (List ℕ)) (s t : List ℕ) → Consumes before mid s → Consumes mid after t → Consumes before after (s ++ t)
+consumed_more None mid after s t c d = tt
+consumed_more (Some xs) None after s t c d = absurd c
+consumed_more (Some xs) (Some ys) None s t c d = absurd d
+consumed_more (Some xs) (Some ys) (Some zs) s t c d = c ∙ ap (λ v. s ++ v) d ∙ sym (append_assoc s t zs)
