@@ -31,15 +31,15 @@ use Rattle.ndef_nest.specs.Conditions.{HasUri, IsPlace, Place, before, StandsAt}
 use Rattle.ndef_nest.specs.Conditions.Place.{InHead, InType, InId, InPayload}
 use Rattle.ndef_nest.specs.NestedLaws.{kind_at, id_as, id_as_length, id_as_list}
 use Rattle.ndef_nest.specs.Reached as reached
-use Rattle.ndef_nest.specs.Reached.{IsMessageOf, IsReached, HasCome, Leaves, AreDone, IsInHead, IsPastHead, IsHeaded, IsInName, IsNamed, IsInBody, IsNew}
+use Rattle.ndef_nest.specs.Reached.{IsMessageOf, IsReached, HasCome, IsAsked, AreDone, IsInHead, IsPastHead, IsHeaded, IsInName, IsNamed, IsInBody, IsNew}
 use Rattle.ndef_nest.proofs.Places.{no_overrun, same_piece}
 
 -- ---- what is asked
 
-pub new_leaves : (table : Table) → Leaves table [] (first_demand table)
-new_leaves SmartPoster = λ h. h
-new_leaves Request = refl
-new_leaves Select = tt
+pub new_asked : (table : Table) → IsAsked table [] (first_demand table)
+new_asked SmartPoster = λ h. h
+new_asked Request = refl
+new_asked Select = tt
 
 uri_or_not : (kind : Kind) → (kind ≡ kinds.Uri) ⊎ ((kind ≢ kinds.Uri) × (after demands.OneUri kind ≡ demands.OneUri))
 uri_or_not kinds.Uri = inl refl
@@ -64,23 +64,23 @@ some_pieces : (done : List Piece) (p : Piece) → done ++ p ∷ [] ≢ []
 some_pieces done p e = omega (arith, ap length e, length-append done (p ∷ []))
 
 -- a record more
-pub leaves_after : (table : Table) (done : List Piece) (demand : Demand) (p : Piece) → Leaves table done demand → Leaves table (done ++ p ∷ []) (after demand (kind_at table p))
-leaves_after SmartPoster done demands.OneUri p h = by_kind (uri_or_not (kind_at SmartPoster p))
+pub asked_after : (table : Table) (done : List Piece) (demand : Demand) (p : Piece) → IsAsked table done demand → IsAsked table (done ++ p ∷ []) (after demand (kind_at table p))
+asked_after SmartPoster done demands.OneUri p h = by_kind (uri_or_not (kind_at SmartPoster p))
   where
-    by_kind : (kind_at SmartPoster p ≡ kinds.Uri) ⊎ ((kind_at SmartPoster p ≢ kinds.Uri) × (after demands.OneUri (kind_at SmartPoster p) ≡ demands.OneUri)) → Leaves SmartPoster (done ++ p ∷ []) (after demands.OneUri (kind_at SmartPoster p))
-    by_kind (inl e) = subst (λ k. Leaves SmartPoster (done ++ p ∷ []) (after demands.OneUri k)) (sym e) (uri_at_end done p e)
-    by_kind (inr n) = subst (λ d. Leaves SmartPoster (done ++ p ∷ []) d) (sym n.1) (λ k. elim (uri_among done p k) [ inl x ↦ h x | inr e ↦ n.0 e ])
-leaves_after SmartPoster done demands.NoUri p h = uri_before done p h
-leaves_after SmartPoster done demands.Anything p h = absurd h
-leaves_after SmartPoster done demands.Collision p h = absurd h
-leaves_after Request done demands.Collision p h = some_pieces done p
-leaves_after Request done demands.Anything p h = some_pieces done p
-leaves_after Request done demands.OneUri p h = absurd h
-leaves_after Request done demands.NoUri p h = absurd h
-leaves_after Select done demands.Anything p h = tt
-leaves_after Select done demands.Collision p h = absurd h
-leaves_after Select done demands.OneUri p h = absurd h
-leaves_after Select done demands.NoUri p h = absurd h
+    by_kind : (kind_at SmartPoster p ≡ kinds.Uri) ⊎ ((kind_at SmartPoster p ≢ kinds.Uri) × (after demands.OneUri (kind_at SmartPoster p) ≡ demands.OneUri)) → IsAsked SmartPoster (done ++ p ∷ []) (after demands.OneUri (kind_at SmartPoster p))
+    by_kind (inl e) = subst (λ k. IsAsked SmartPoster (done ++ p ∷ []) (after demands.OneUri k)) (sym e) (uri_at_end done p e)
+    by_kind (inr n) = subst (λ d. IsAsked SmartPoster (done ++ p ∷ []) d) (sym n.1) (λ k. elim (uri_among done p k) [ inl x ↦ h x | inr e ↦ n.0 e ])
+asked_after SmartPoster done demands.NoUri p h = uri_before done p h
+asked_after SmartPoster done demands.Anything p h = absurd h
+asked_after SmartPoster done demands.Collision p h = absurd h
+asked_after Request done demands.Collision p h = some_pieces done p
+asked_after Request done demands.Anything p h = some_pieces done p
+asked_after Request done demands.OneUri p h = absurd h
+asked_after Request done demands.NoUri p h = absurd h
+asked_after Select done demands.Anything p h = tt
+asked_after Select done demands.Collision p h = absurd h
+asked_after Select done demands.OneUri p h = absurd h
+asked_after Select done demands.NoUri p h = absurd h
 
 -- ---- a head
 
@@ -101,7 +101,7 @@ pub head_first : (c : Context) (records : ℕ) (m : List ℕ) → m ≡ [] → I
 head_first c records m e h = record {
   done = [];
   front = [];
-  before = record { whole = refl; going_on = tt; leaves = subst (λ d. Leaves c.table [] d) (sym h.0) (new_leaves c.table); count = omega (arith, h.1) };
+  before = record { whole = refl; going_on = tt; asked = subst (λ d. IsAsked c.table [] d) (sym h.0) (new_asked c.table); count = omega (arith, h.1) };
   spelled = e;
   to_come = any_head;
   first_is = refl;
@@ -125,7 +125,7 @@ whole_head c next first xs records m spot b h some e at x = rw e (record {
   fields = at.fields;
   past = record {
     front = x.front;
-    before = record { whole = x.before.whole; going_on = x.before.going_on; leaves = x.before.leaves; count = omega (arith, x.before.count) };
+    before = record { whole = x.before.whole; going_on = x.before.going_on; asked = x.before.asked; count = omega (arith, x.before.count) };
     can = at.stands.spelled;
     spelled = ap (λ z. z ++ b ∷ []) x.spelled ∙ append_assoc x.front xs (b ∷ []) ∙ ap (λ z. x.front ++ z) (sym at.spelled ∙ sym (append-nil (octets at.fields)));
   };
@@ -308,7 +308,7 @@ body_head c leaf last id payload records m e l x =
       before = record {
         whole = all_spelled c leaf last id payload records m x e;
         going_on = going_on x.done p x.past.before.going_on (x.last_is ∙ l);
-        leaves = subst (λ d. Leaves c.table (x.done ++ p ∷ []) d) x.demand_is (leaves_after c.table x.done x.demand p x.past.before.leaves);
+        asked = subst (λ d. IsAsked c.table (x.done ++ p ∷ []) d) x.demand_is (asked_after c.table x.done x.demand p x.past.before.asked);
         count = omega (arith, n, x.past.before.count);
       };
       spelled = sym (append-nil m);

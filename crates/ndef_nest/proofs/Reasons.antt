@@ -42,7 +42,7 @@ use Rattle.ndef_nest.specs.Phases.{Completes}
 use Rattle.ndef_nest.specs.HeaderLaws.{header_of, header_parts}
 use Rattle.ndef_nest.specs.NameLaws.{kind_of_name, checked_as, after_name}
 use Rattle.ndef_nest.specs.Reached as reached
-use Rattle.ndef_nest.specs.Reached.{Leaves, IsMessageOf, IsInHead, IsInName, IsInBody, HasCome, IsReached}
+use Rattle.ndef_nest.specs.Reached.{IsAsked, IsMessageOf, IsInHead, IsInName, IsInBody, HasCome, IsReached}
 use Rattle.ndef_nest.specs.declared.context.Context.{Context}
 use Rattle.ndef_nest.specs.declared.phase.Phase.{Phase}
 use Rattle.ndef_nest.specs.declared.phase.Phase.TheVariants as phases
@@ -344,7 +344,7 @@ request_head spot done (header ∷ []) b none can = rw (length_may spot header b
 request_head spot done (header ∷ kind ∷ xs) b none can = rw (length_may spot header kind 2 (xs ++ b ∷ []) can.0, can.1) (inr (refl, λ other h. h.2))
 
 -- where no URI or collision resolution is missing
-nothing_missing : (table : Table) (done : List Piece) (demand : Demand) (xs : List ℕ) (b : ℕ) → Leaves table done demand → demand ≢ demands.OneUri → demand ≢ demands.Collision
+nothing_missing : (table : Table) (done : List Piece) (demand : Demand) (xs : List ℕ) (b : ℕ) → IsAsked table done demand → demand ≢ demands.OneUri → demand ≢ demands.Collision
     → (other : Reason) → OfMessage table done (InHead xs) b other → ⊥
 nothing_missing SmartPoster done demands.NoUri xs b l g h other (inl x) = x.1 l
 nothing_missing SmartPoster done demands.NoUri xs b l g h other (inr x) = x.2
@@ -357,7 +357,7 @@ nothing_missing Request done demands.OneUri xs b l g h other x = l
 nothing_missing Request done demands.NoUri xs b l g h other x = l
 nothing_missing Select done demand xs b l g h other x = x
 
-pub told_of_head : (table : Table) (demand : Demand) (profile : Profile) (records : ℕ) (first : Bool) (spot : Spot) (done : List Piece) (xs : List ℕ) (b : ℕ) → Leaves table done demand
+pub told_of_head : (table : Table) (demand : Demand) (profile : Profile) (records : ℕ) (first : Bool) (spot : Spot) (done : List Piece) (xs : List ℕ) (b : ℕ) → IsAsked table done demand
     → Passes (λ r. Rest profile table records first demand (xs ++ r)) → IsToldOf table done (InHead xs) b (head_told demand (bounds_on spot xs b))
 unfolding IsToldOf
 told_of_head SmartPoster demands.OneUri profile records first spot done xs b l p = poster_head spot done xs b l (λ e. uri_head profile records first xs p.0 e p.1)
@@ -466,7 +466,7 @@ request_name done f (first ∷ []) names last left b none some n =
     rw l (elim (eqb_tells b 0x72) [ inl x ↦ rw x.0 (inr (refl, λ other h. h.2 x.1)) | inr x ↦ rw x.0 (inl (refl, none, x.1)) ])
 request_name done f (first ∷ second ∷ name) names last left b none some n = absurd (omega arith)
 
-pub told_of_name : (table : Table) (demand : Demand) (profile : Profile) (more : Demand → List ℕ → Type 0) (done : List Piece) (f : Fields) (name : List ℕ) (names : KindReader) (last : Bool) (left id payload b : ℕ) → Leaves table done demand
+pub told_of_name : (table : Table) (demand : Demand) (profile : Profile) (more : Demand → List ℕ → Type 0) (done : List Piece) (f : Fields) (name : List ℕ) (names : KindReader) (last : Bool) (left id payload b : ℕ) → IsAsked table done demand
     → IsHalfRead f name names last left → Passes (IsTyped profile (λ s. checked table (kind_after names s)) more last demand left id payload) → IsToldOf table done (InType f name) b (name_told demand names last left b)
 unfolding IsToldOf
 told_of_name SmartPoster demands.OneUri profile more done f name names last left id payload b l h p = poster_name done f name names last left b l h.last_is
@@ -565,7 +565,7 @@ pub told_in_head : (one : OneField) (c : Context) (first : Bool) (xs : List ℕ)
 told_in_head one c first xs records m b place e none p x =
     kept_head one c.table records c.profile m b x.done xs (head_told c.demand (bounds_on place xs b)) (stands_in_head c first xs records m x)
     (subst (λ z. reason_for z xs b ≡ None) (e ∙ sym (same_spot c.profile first c.records records x.done x.before.count x.first_is)) none)
-    (told_of_head c.table c.demand c.profile c.records first place x.done xs b x.before.leaves p)
+    (told_of_head c.table c.demand c.profile c.records first place x.done xs b x.before.asked p)
 
 pub told_at_end : (one : OneField) (c : Context) (first : Bool) (xs : List ℕ) (records : ℕ) (m : List ℕ) (b : ℕ) (place : Spot) (h : Head) → place ≡ spot c.profile first c.records → reason_for place xs b ≡ None
     → IsWhole place (xs ++ b ∷ []) h → IsInHead c first xs records m → IsLowest (MessageReason c.table records c.profile m b) reasons.DoesNotFit
@@ -585,7 +585,7 @@ pub told_in_name : (one : OneField) (c : Context) (names : KindReader) (last : B
     → IsLowest (MessageReason c.table records c.profile m b) (name_told c.demand names last left b)
 told_in_name one c names last left id payload records m b some missing p x =
     lowest_of_message one c.table records c.profile m b x.done (InType x.fields x.name) (stands_in_name c names last left id payload records m some x) (name_told c.demand names last left b) (λ other y. y)
-    (told_of_name c.table c.demand c.profile (Later c.profile c.table c.records) x.done x.fields x.name names last left id payload b x.past.before.leaves
+    (told_of_name c.table c.demand c.profile (Later c.profile c.table c.records) x.done x.fields x.name names last left id payload b x.past.before.asked
     (record { last_is = x.last_is; left_is = x.left_is; some = some; missing = missing; kind_is = x.kind_is }) p)
 
 pub told_in_body : (one : OneField) (c : Context) (leaf : Leaf) (last : Bool) (id payload records : ℕ) (m : List ℕ) (b : ℕ) (r : Reason) (tail : List ℕ → Type 0) → 0 < id + payload → (0 < id → r ≡ reasons.DoesNotFit)
