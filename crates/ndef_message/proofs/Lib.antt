@@ -1,6 +1,7 @@
 pub mod Answered
 pub mod Befores
 pub mod Bodies
+pub mod CheckingOn
 pub mod CutParts
 pub mod CutSpelled
 pub mod CutSplits
@@ -15,6 +16,7 @@ pub mod HeadOctets
 pub mod Holding
 pub mod Judged
 pub mod Lists
+pub mod Moved
 pub mod Octets
 pub mod Opening
 pub mod Parts

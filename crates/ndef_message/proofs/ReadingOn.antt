@@ -170,9 +170,9 @@ module _ (laws : FormatLaws) (set : Sets) (limits : LimitValues) where
         (consumed_more before mid after s.bytes (take count bytes) s.consumed shown.taken, viable_bounded laws set limits (s.bytes ++ take count bytes) (ends_viable set limits _ _ last w))
 
     -- one byte is refused
-    pub refused : (refusal : Refusal) → Decodes set holds limits new no_memory s.bytes items s.field bytes count (event.Refused refusal)
+    pub refused_at : (refusal : Refusal) → count ≡ refusal.at - length s.bytes → refusal.at < length (s.bytes ++ bytes) → Refuses set holds limits (s.bytes ++ bytes) refusal
         → (seen : List ℕ) × AreSeen before seen refusal.at × Refuses set holds limits seen refusal × Consumes before after (take refusal.at seen)
-    refused refusal (n, h, r, k) =
+    refused_at refusal n h r =
         let low = refused_behind set holds limits s.bytes bytes refusal r s.viable in
         let e : take refusal.at (s.bytes ++ bytes) ≡ s.bytes ++ take count bytes =
         ap (λ m. take m (s.bytes ++ bytes)) (let q : refusal.at ≡ length s.bytes + count = omega arith in q) ∙ take-append-add s.bytes bytes count in (

@@ -1,5 +1,5 @@
 -- What a source loses by a fill and a take.
-use Rattle.std.proofs.Common.{◌≡◌, ◌<◌, ◌≤◌, ◌==◌, ℕ, List, [], ◌++◌, length, take, drop, Option, Some, None, false, refl, sym, ap, ◌∙◌, arith, append_assoc}
+use Rattle.std.proofs.Common.{◌≡◌, ◌<◌, ◌≤◌, ◌==◌, ℕ, List, [], ◌++◌, length, take, drop, Option, Some, None, true, false, refl, sym, ap, ◌∙◌, arith, append_assoc}
 use Rattle.std.specs.Prelude.{IfSome}
 use Rattle.std.specs.Io.KnownBytes.{Keeps, Consumes}
 use Rattle.std.proofs.lemmas.Bool.Decides.{nat_tests}
@@ -29,6 +29,9 @@ begins (Some xs) bytes s = (drop (length bytes) xs, sym (take-append-drop (lengt
 
 not_none : (n : ℕ) → (n == 0) ≡ false → 0 < n
 not_none n e = grind (arith, nat_tests)
+
+pub none : (n : ℕ) → (n == 0) ≡ true → n ≡ 0
+none n e = grind (arith, nat_tests)
 
 -- some bytes were shown, and so many of them taken
 pub shown : (before mid after : Option (List ℕ)) (bytes : List ℕ) (n : ℕ) → (length bytes == 0) ≡ false → n ≤ length bytes → Shows before bytes → Keeps before mid → Drops mid after n → Shown before after bytes n

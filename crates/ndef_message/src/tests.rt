@@ -1,3 +1,5 @@
 mod checking;
 mod encoding;
+mod memory;
+mod reading;
 mod sources;

@@ -1,4 +1,5 @@
 //! Worked messages and refusals, whole, byte by byte and with every cut.
+use super::reading::reads_as;
 use crate::*;
 use ndef_lang::{Leaf, Opaque, OuterLanguage};
 use ndef_value::{Limits, Profile, Reason, Refusal};
@@ -161,6 +162,8 @@ fn payloads_that_are_not_looked_into(rt: HostRuntime) {
             Some(*answer),
             "{bytes:?}"
         );
+        let whole = (*answer).map(|taken| taken as u64);
+        assert!(rt; reads_as::<Opaque>(rt.alloc(), *limits, *bytes, whole), "{bytes:?}");
     }
 }
 
@@ -307,6 +310,8 @@ fn payloads_of_one_field(rt: HostRuntime) {
             Some(*answer),
             "{bytes:?}"
         );
+        let whole = (*answer).map(|taken| taken as u64);
+        assert!(rt; reads_as::<Leaf>(rt.alloc(), *limits, *bytes, whole), "{bytes:?}");
     }
 }
 

@@ -223,7 +223,7 @@ returns-in-Refused-clause-reads g c =
     let t = c.in-Fed.ensures.turned s.bytes items s.field s.led in
     let d : Decodes set holds limits new (is_some m.failed) s.bytes items s.field t.1 t.2 (event.Refused c.in-Refused.refusal) =
     subst (λ l. Decodes set holds l new (is_some m.failed) s.bytes items s.field t.1 t.2 (event.Refused c.in-Refused.refusal)) inv.limits (rw c.in-Refused.is at t.4) in
-    reading.refused laws set limits holds before mid after old new (is_some m.failed) items s t.1 t.2 t.3 c.in-Refused.refusal d
+    reading.refused_at laws set limits holds before mid after old new (is_some m.failed) items s t.1 t.2 t.3 c.in-Refused.refusal d.0 d.1 d.2
 
 pub returns-in-Failed-clause-reads : goal.returns-in-Failed-clause-reads
 returns-in-Failed-clause-reads g c =

@@ -1,0 +1,119 @@
+//! Messages where memory is used up.
+use crate::*;
+use ndef_lang::Opaque;
+use ndef_value::{Limits, Message, Record, Tnf};
+use std::alloc::Global;
+use std::test::Fail;
+
+// A text record that says Hello in English.
+const HELLO: [u8; 12] = [
+    0xD1, 0x01, 0x08, 0x54, 0x02, 0x65, 0x6E, 0x48, 0x65, 0x6C, 0x6C, 0x6F,
+];
+
+const PART: [u8; 40] = [0x41; 40];
+
+// Takes all memory that there is, in blocks from the largest to the least. An allocator without an
+// end, as under `rt try`, leaves some.
+fn use_up(alloc: Global, held: &mut Vec<Vec<u8>>) -> bool {
+    let mut size: usize = 1 << 46;
+    for _ in 0..70000 {
+        let mut block: Vec<u8> = Vec::new(alloc);
+        if block.try_reserve(size).is_ok() {
+            let _ = held.push(block);
+        } else if size == 1 {
+            return true;
+        } else {
+            size /= 2;
+        }
+    }
+    false
+}
+
+// Blocks that are let go one by one.
+fn spare_blocks(alloc: Global) -> Result<Vec<Vec<u8>>, Fail> {
+    let mut spare: Vec<Vec<u8>> = Vec::with_capacity(alloc, 24)?;
+    for _ in 0..24u8 {
+        spare.push(Vec::with_capacity(alloc, 64)?)?;
+    }
+    Ok(spare)
+}
+
+// A message with a type, an id and a payload that aren't kept inline.
+fn wide_message(alloc: Global) -> Result<Message, Fail> {
+    let mut records = Vec::new(alloc);
+    records.push(Record::new(alloc, Tnf::Media, &PART, &PART, &PART)?)?;
+    Ok(Message::new(records)?)
+}
+
+fn is_read(alloc: Global, bytes: &[u8]) -> Result<bool, ReadError> {
+    let mut source = SliceSource::new(bytes, &[]);
+    let read = read_message::<Opaque, _>(alloc, &mut source, Limits::usual())?;
+    Ok(read.taken == bytes.len() as u64)
+}
+
+// Lets blocks go until the message is read; until then each answer is that there is no memory.
+fn reads_at_last(alloc: Global, bytes: &[u8], spare: &mut Vec<Vec<u8>>) -> bool {
+    for _ in 0..24u8 {
+        match is_read(alloc, bytes) {
+            Ok(whole) => return whole,
+            Err(ReadError::NoMemory) => {
+                let _ = spare.pop();
+            }
+            Err(_) => return false,
+        }
+    }
+    false
+}
+
+// What needs no memory: checking, a record without parts, and the head of a record.
+fn works_without_memory(alloc: Global) -> bool {
+    let mut source = SliceSource::new(&HELLO, &[]);
+    let checked = check_message::<Opaque, _>(&mut source, Limits::usual());
+    let mut decoder = Decoder::<Opaque>::new(alloc, Limits::usual());
+    let empty = matches!(
+        decoder.feed(&[0xD0, 0x00, 0x00]),
+        (3, Event::Whole { last: true, .. })
+    );
+    checked.is_ok() && empty
+}
+
+fn reserves_nothing(alloc: Global) -> bool {
+    let Ok(limits) = Limits::new(4294967295, 1, 1) else {
+        return false;
+    };
+    let mut decoder = Decoder::<Opaque>::new(alloc, limits);
+    let head = decoder.feed(&[0xC5, 0x00, 0xFF, 0xFF, 0xFF, 0xFF]);
+    matches!(head, (6, Event::More)) && decoder.place() == 6 && decoder.held() == 0
+}
+
+// The first growth is refused for good, and nothing is taken or held then.
+fn fails_for_good(alloc: Global) -> bool {
+    let mut decoder = Decoder::<Opaque>::new(alloc, Limits::usual());
+    let head = matches!(decoder.feed(&HELLO[..4]), (4, Event::More));
+    let failed = matches!(decoder.feed(&HELLO[4..]), (0, Event::Failed(_)));
+    let again = matches!(decoder.feed(&HELLO[4..]), (0, Event::Failed(_)));
+    head && failed && again && decoder.place() == 4 && decoder.held() == 0
+}
+
+#[test]
+fn refuses_each_growth(rt: HostRuntime) -> Result<(), Fail> {
+    let alloc = rt.alloc();
+    let wide = wide_message(alloc)?;
+    let bytes = encode(alloc, &wide, Form::Short)?;
+    let mut spare = spare_blocks(alloc)?;
+    let mut held = Vec::with_capacity(alloc, 65536)?;
+    let used_up = use_up(alloc, &mut held);
+    let whole = works_without_memory(alloc);
+    let reserved = reserves_nothing(alloc);
+    let failed = fails_for_good(alloc);
+    let unread = is_read(alloc, &[0xD0, 0x00, 0x00]);
+    let unwritten = encode(alloc, &wide, Form::Short).is_err();
+    let uncut = encode_chunked(alloc, &wide, Form::Long, 8).is_err();
+    let read = reads_at_last(alloc, bytes.as_slice(), &mut spare);
+    drop(held);
+    assert!(rt; used_up, "memory has no end here");
+    assert!(rt; whole && reserved && failed);
+    assert!(rt; unread == Err(ReadError::NoMemory) && unwritten && uncut);
+    assert!(rt; read);
+    Ok(())
+}
