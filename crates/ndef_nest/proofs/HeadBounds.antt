@@ -78,10 +78,6 @@ no_bounds profile first others b x =
     let y = j.tnf in
     absurd (cc)
 
-pub viable_at : (s : Spot) (xs : List ℕ) → xs ≢ [] → FrontAt s xs → IsViable s xs
-viable_at s [] h at = absurd (h refl)
-viable_at s (header ∷ xs) h at = front_viable s header xs at
-
 -- the bounds that were told are those of a head that has begun
 pub told_viable : (profile : Profile) (first : Bool) (records : ℕ) (xs : List ℕ) (b : Bounds) → 0 < records → FrontAt (spot profile first records) xs → AreBounds (spot profile first records) xs b → IsViable (spot profile first records) xs
 told_viable profile first zero xs b h at x = absurd (omega arith)

@@ -134,22 +134,6 @@ whole_head c next first xs records m spot b h some e at x = rw e (record {
 
 -- ---- a type
 
--- before its first octet
-pub name_first : (c : Context) (h : Head) (names : KindReader) (records : ℕ) (m : List ℕ) → ((more : List ℕ) → length more ≡ h.kind_length → kind_after names more ≡ kind_of h.tnf more)
-    → IsHeaded c h records m → IsInName c names h.last h.kind_length (unwrap_or h.id_length 0) h.payload_length records m
-name_first c h names records m same x = record {
-  done = x.done;
-  fields = x.fields;
-  name = [];
-  past = x.past;
-  are_octets = tt;
-  left_is = omega (arith, ap (λ z. z.kind_length) x.read);
-  last_is = ap (λ z. z.last) x.read;
-  id_is = ap (λ z. unwrap_or z.id_length 0) x.read;
-  payload_is = ap (λ z. z.payload_length) x.read;
-  kind_is = λ more l. same more l ∙ ap (λ z. kind_of z.tnf more) (sym x.read);
-}
-
 octets_on : (xs : List ℕ) (b : ℕ) → b < 256 → AreOctets xs → AreOctets (xs ++ b ∷ [])
 octets_on [] b small h = (small, tt)
 octets_on (x ∷ xs) b small h = (h.0, octets_on xs b small h.1)
@@ -371,12 +355,6 @@ message_on SmartPoster m s b e = ap (λ z. z ++ b ∷ []) e
 message_on Request m s b e = (e.0, ap (λ z. z ++ b ∷ []) e.1)
 message_on Select m s b e = (e.0, ap (λ z. z ++ b ∷ []) e.1)
 
--- the version octet
-pub version_on : (table : Table) (s : List ℕ) (b : ℕ) → table ≢ SmartPoster → s ≡ [] → IsMessageOf table [] (s ++ b ∷ [])
-version_on SmartPoster s b h e = absurd (h refl)
-version_on Request s b h e = (b, ap (λ z. z ++ b ∷ []) e)
-version_on Select s b h e = (b, ap (λ z. z ++ b ∷ []) e)
-
 -- before the first octet
 pub new_reached : (table : Table) (records : ℕ) (profile : Profile) (first : Bool) (xs : List ℕ)
     → IsReached (record { profile = profile; table = table; demand = first_demand table; records = records }) first xs (first_phase table) records []
@@ -390,12 +368,6 @@ pub reached_on : (c next : Context) (f g : Bool) (xs ys : List ℕ) (old new : P
 reached_on c next f g xs ys old new records s b h e step (inl x) = absurd (h x.0)
 reached_on c next f g xs ys old new records s b h e step (inr x) =
     inr (x.0 ++ b ∷ [], subst (λ t. IsMessageOf t (x.0 ++ b ∷ []) (s ++ b ∷ [])) (sym e) (message_on c.table x.0 s b x.1), step x.0 x.2)
-
--- the version octet
-pub reached_version : (c : Context) (f : Bool) (xs : List ℕ) (old new : Phase) (records : ℕ) (s : List ℕ) (b : ℕ) → old ≡ phases.Version → (IsNew c records → HasCome c f xs new records [])
-    → IsReached c f xs old records s → IsReached c f xs new records (s ++ b ∷ [])
-reached_version c f xs old new records s b e step (inl x) = inr ([], version_on c.table s b x.1 x.3, step x.2)
-reached_version c f xs old new records s b e step (inr x) = absurd (rw e at x.2)
 
 -- between records no octet of a head was read
 pub fresh_come : (c : Context) (first : Bool) (xs : List ℕ) (phase : Phase) (records : ℕ) (m : List ℕ) → xs ≡ [] → first ≡ false → HasCome c false [] phase records m → HasCome c first xs phase records m

@@ -18,7 +18,7 @@ use Rattle.ndef_piece.specs.Header.{is_set, tnf_number}
 use Rattle.ndef_piece.specs.Heads.{CanBeSpelled, HeadsAreApart, IsOpen, IsWhole}
 use Rattle.ndef_piece.specs.Bounds.{bounds_of, AreBounds, BoundsOfFronts}
 use Rattle.ndef_piece.specs.Conditions.{conditions, lowest, reason_for}
-use Rattle.ndef_lang.specs.Language.{IsLowest, Passes, OneReason}
+use Rattle.ndef_lang.specs.Language.{IsLowest, Passes}
 use Rattle.ndef_lang.specs.Kind.{kind_of, kind_after, name_of, missing_of}
 use Rattle.ndef_lang.specs.Leaf.{PayloadReason, LeafReached, CompletesLeaf}
 use Rattle.ndef_lang.specs.declared.leaf.Leaf.{Leaf}
@@ -34,7 +34,7 @@ use Rattle.ndef_nest.specs.declared.table.Table.{Table}
 use Rattle.ndef_nest.specs.declared.table.Table.TheVariants.{SmartPoster, Request, Select}
 use Rattle.ndef_nest.specs.declared.demand.Demand.{Demand}
 use Rattle.ndef_nest.specs.declared.demand.Demand.TheVariants as demands
-use Rattle.ndef_nest.specs.Nested.{kind_in, checked, is_uri, IsVersion, table_of}
+use Rattle.ndef_nest.specs.Nested.{kind_in, checked, is_uri, table_of}
 use Rattle.ndef_nest.specs.Demands.{after, is_met, IsBody, IsTyped, Rest, Later, spot}
 use Rattle.ndef_nest.specs.Conditions.{HasUri, IsUriAgain, Place, StandsAt, Listed, OfField, OfMessage, MessageReason, NestReason, OneField, spot_after}
 use Rattle.ndef_nest.specs.Conditions.Place.{InHead, InType, InId, InPayload}
@@ -535,12 +535,6 @@ told_of_whole apart table records profile m b x = record { it = inr refl; first 
     first other (inl h) = absurd (whole_stands_nowhere apart m h.0 h.1 x h.2)
     first other (inr e) = omega (arith, ap rank_of e)
 
--- the version octet
-pub told_of_version : (table : Table) (records : ℕ) (profile : Profile) (s : List ℕ) (b : ℕ) (r : Reason) → table ≢ SmartPoster → s ≡ [] → IsLowest (OneReason reasons.Version (IsVersion b → ⊥)) r → IsLowest (NestReason table records profile s b) r
-told_of_version SmartPoster records profile s b r h e l = absurd (h refl)
-told_of_version Request records profile s b r h e l = rw e l
-told_of_version Select records profile s b r h e l = rw e l
-
 -- an octet of the message
 pub told_behind : (table : Table) (records : ℕ) (profile : Profile) (m s : List ℕ) (b : ℕ) (r : Reason) → IsMessageOf table m s → IsLowest (MessageReason table records profile m b) r → IsLowest (NestReason table records profile s b) r
 told_behind SmartPoster records profile m s b r e l = rw e l
@@ -554,11 +548,6 @@ pub told_on : (c : Context) (f : Bool) (xs : List ℕ) (phase : Phase) (kind : K
 told_on c f xs phase kind records profile s b r h e p told (inl x) = absurd (h x.0)
 told_on c f xs phase kind records profile s b r h e p told (inr x) =
     subst (λ t. IsLowest (NestReason t records profile s b) r) e (subst (λ q. IsLowest (NestReason c.table records q s b) r) p (told_behind c.table records c.profile x.0 s b r x.1 (told x.0 x.2)))
-
-pub told_at_version : (c : Context) (f : Bool) (xs : List ℕ) (phase : Phase) (kind : Kind) (records : ℕ) (profile : Profile) (s : List ℕ) (b : ℕ) (r : Reason) → phase ≡ phases.Version → c.table ≡ table_of kind
-    → IsLowest (OneReason reasons.Version (IsVersion b → ⊥)) r → IsReached c f xs phase records s → IsLowest (NestReason (table_of kind) records profile s b) r
-told_at_version c f xs phase kind records profile s b r h e l (inl x) = subst (λ t. IsLowest (NestReason t records profile s b) r) e (told_of_version c.table records profile s b r x.1 x.3 l)
-told_at_version c f xs phase kind records profile s b r h e l (inr x) = absurd (rw h at x.2)
 
 pub told_in_head : (one : OneField) (c : Context) (first : Bool) (xs : List ℕ) (records : ℕ) (m : List ℕ) (b : ℕ) (place : Spot) → place ≡ spot c.profile first c.records → reason_for place xs b ≡ None
     → Passes (λ r. Rest c.profile c.table c.records first c.demand (xs ++ r)) → IsInHead c first xs records m → IsLowest (MessageReason c.table records c.profile m b) (head_told c.demand (bounds_on place xs b))

@@ -1,10 +1,8 @@
 -- One octet on in a nested message.
 use Rattle.std.proofs.Common.{◌≡◌, ℕ, zero, suc, ◌-◌, ◌<◌, ◌≤◌, ◌↔◌, inl, inr, Bool, true, false, List, [], ◌∷◌, ◌++◌, length, length-append, refl, sym, ◌∙◌, ap, subst, arith, append_assoc}
-use Rattle.std.specs.Prelude.{unwrap_or, nat_lt, ◌||◌, ◌&&◌, ◌==◌, not}
+use Rattle.std.specs.Prelude.{unwrap_or, nat_lt, ◌&&◌, ◌==◌, not}
 use Rattle.std.proofs.lemmas.Bool.{eqb-true}
-use Rattle.std.proofs.lemmas.Bool.Decides.{nat_tests}
 use Rattle.ndef_value.specs.Wire.{octets, tnf_of}
-use Rattle.ndef_value.specs.declared.tnf.Tnf.{Tnf}
 use Rattle.ndef_value.specs.declared.profile.Profile.{Profile}
 use Rattle.ndef_piece.specs.declared.spot.Spot.{Spot}
 use Rattle.ndef_piece.specs.declared.head.Head.{Head}
@@ -13,7 +11,7 @@ use Rattle.ndef_piece.specs.Heads.{IsOpen, IsViable, IsWhole, HeadsAreApart}
 use Rattle.ndef_piece.specs.Bounds.{BoundsOfFronts}
 use Rattle.ndef_lang.specs.Leaf.{IsPayload, CompletesLeaf, leaf_lengths}
 use Rattle.ndef_lang.specs.Lengths.{meets}
-use Rattle.ndef_lang.specs.Kind.{kind_of, kind_after}
+use Rattle.ndef_lang.specs.Kind.{kind_after}
 use Rattle.ndef_lang.specs.declared.leaf.Leaf.{Leaf}
 use Rattle.ndef_lang.specs.declared.kind.Kind.{Kind}
 use Rattle.ndef_lang.specs.declared.kind.Kind.TheVariants as kinds
@@ -125,10 +123,6 @@ pub front_more : (law : BoundsOfFronts) (spot : Spot) (xs : List ℕ) → IsOpen
 front_more law spot [] at = tt
 front_more law spot (header ∷ xs) at = front_from spot header xs (at.fields, record { stands = at.stands; rest = at.next ∷ at.rest; spelled = at.spelled }) (law spot header xs at)
 
-pub head_more : (profile : Profile) (table : Table) (records : ℕ) (first : Bool) (demand : Demand) (xs : List ℕ) (b : ℕ) (r : List ℕ)
-    → Rest profile table records first demand ((xs ++ b ∷ []) ++ r) ↔ Rest profile table records first demand (xs ++ (b ∷ r))
-head_more profile table records first demand xs b r = rw append_assoc (λ x. x, λ x. x)
-
 -- no record begins with a refused octet
 pub head_refused : (profile : Profile) (table : Table) (records : ℕ) (first : Bool) (demand : Demand) (xs : List ℕ) (b : ℕ) (r : List ℕ) → IsOpen (spot profile first records) xs → (IsViable (spot profile first records) (xs ++ b ∷ []) → ⊥)
     → Rest profile table records first demand (xs ++ (b ∷ r)) → ⊥
@@ -156,33 +150,6 @@ head_whole apart profile table (suc others) first demand xs b r h some at =
     subst (λ m. IsTyped profile (kind_in table h.tnf) (Later profile table m) h.last demand h.kind_length (unwrap_or h.id_length 0) h.payload_length r ↔ Rest profile table (suc others) first demand (xs ++ (b ∷ r))) n
     (subst (λ g. IsTyped profile (kind_in table g.tnf) (Later profile table others) g.last demand g.kind_length (unwrap_or g.id_length 0) g.payload_length r ↔ Rest profile table (suc others) first demand (xs ++ (b ∷ r))) at.read
     (subst (λ z. IsTyped profile (kind_in table (tnf_of at.fields.tnf)) (Later profile table others) at.fields.last demand at.fields.kind_length (unwrap_or at.fields.id_length 0) at.fields.payload_length r ↔ Rest profile table (suc others) first demand z) e (w.1, w.0)))
-
--- its type, before its first octet
-pub named_as : (profile : Profile) (table : Table) (more : Demand → List ℕ → Type 0) (last : Bool) (demand : Demand) (names : KindReader) (tnf : Tnf) (left id payload : ℕ) (r : List ℕ) → ((s : List ℕ) → length s ≡ left → kind_after names s ≡ kind_of tnf s)
-    → IsTyped profile (λ s. checked table (kind_after names s)) more last demand left id payload r ↔ IsTyped profile (kind_in table tnf) more last demand left id payload r
-named_as profile table more last demand names tnf left id payload r same = (
-  λ x. typed_as profile more last demand (λ s. checked table (kind_after names s)) (kind_in table tnf) left id payload r (λ s l. ap (checked table) (same s l)) x,
-  λ x. typed_as profile more last demand (kind_in table tnf) (λ s. checked table (kind_after names s)) left id payload r (λ s l. ap (checked table) (sym (same s l))) x,
-)
-
--- where a head may stand and another record follows, one may
-pub head_followed : (profile : Profile) (records : ℕ) (first : Bool) (xs : List ℕ) (h : Head) → 0 < records → IsWhole (spot profile first records) xs h → (h.last || nat_lt 0 (records - 1)) ≡ true
-head_followed profile records first xs h some at = by_last h.last refl
-  where
-    not_chunked : (c : Bool) → at.fields.chunked ≡ c → at.fields.chunked ≡ false
-    not_chunked true e = absurd (let x = (at.stands.chunked e).1 in cc)
-    not_chunked false e = e
-
-    by_number : (n : ℕ) → 0 < n → (spot profile first n).last_record ≡ false → nat_lt 0 (n - 1) ≡ true
-    by_number zero h e = absurd (omega arith)
-    by_number (suc zero) h e = cc
-    by_number (suc (suc n)) h e = let l : 0 < suc (suc n) - 1 = omega arith in grind (arith, nat_tests)
-
-    by_last : (last : Bool) → h.last ≡ last → (last || nat_lt 0 (records - 1)) ≡ true
-    by_last true e = refl
-    by_last false e =
-        let f : at.fields.last ≡ false = ap (λ g. g.last) at.read ∙ e in
-        by_number records some (at.stands.followed (not_chunked at.fields.chunked refl) f)
 
 -- ---- joined
 
