@@ -21,6 +21,7 @@ pub mod Octets
 pub mod Opening
 pub mod Parts
 pub mod Places
+pub mod ReadBack
 pub mod ReadingOn
 pub mod Rests
 pub mod Sends

@@ -163,7 +163,10 @@ fn payloads_that_are_not_looked_into(rt: HostRuntime) {
             "{bytes:?}"
         );
         let whole = (*answer).map(|taken| taken as u64);
-        assert!(rt; reads_as::<Opaque>(rt.alloc(), *limits, *bytes, whole), "{bytes:?}");
+        assert!(rt;
+            reads_as::<Opaque>(rt.alloc(), *limits, *bytes, whole),
+            "{bytes:?}"
+        );
     }
 }
 
@@ -311,7 +314,10 @@ fn payloads_of_one_field(rt: HostRuntime) {
             "{bytes:?}"
         );
         let whole = (*answer).map(|taken| taken as u64);
-        assert!(rt; reads_as::<Leaf>(rt.alloc(), *limits, *bytes, whole), "{bytes:?}");
+        assert!(rt;
+            reads_as::<Leaf>(rt.alloc(), *limits, *bytes, whole),
+            "{bytes:?}"
+        );
     }
 }
 

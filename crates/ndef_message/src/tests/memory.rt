@@ -29,11 +29,11 @@ fn use_up(alloc: Global, held: &mut Vec<Vec<u8>>) -> bool {
     false
 }
 
-// Blocks that are let go one by one.
+// Blocks that are let go one by one, small ones first.
 fn spare_blocks(alloc: Global) -> Result<Vec<Vec<u8>>, Fail> {
-    let mut spare: Vec<Vec<u8>> = Vec::with_capacity(alloc, 24)?;
-    for _ in 0..24u8 {
-        spare.push(Vec::with_capacity(alloc, 64)?)?;
+    let mut spare: Vec<Vec<u8>> = Vec::with_capacity(alloc, 12)?;
+    for size in [4096, 4096, 4096, 4096, 64, 64, 64, 64, 32, 32, 32, 32] {
+        spare.push(Vec::with_capacity(alloc, size)?)?;
     }
     Ok(spare)
 }
@@ -53,7 +53,7 @@ fn is_read(alloc: Global, bytes: &[u8]) -> Result<bool, ReadError> {
 
 // Lets blocks go until the message is read; until then each answer is that there is no memory.
 fn reads_at_last(alloc: Global, bytes: &[u8], spare: &mut Vec<Vec<u8>>) -> bool {
-    for _ in 0..24u8 {
+    for _ in 0..13u8 {
         match is_read(alloc, bytes) {
             Ok(whole) => return whole,
             Err(ReadError::NoMemory) => {

@@ -134,7 +134,13 @@ fn gives_the_parts_of_records(rt: HostRuntime) -> Result<(), Fail> {
     assert!(rt; media.id() == b"0".as_slice() && media.payload() == [0x01].as_slice());
     let mut again = SliceSource::new(bytes, &[]);
     let checked = check_message::<Opaque, _>(&mut again, Limits::usual())?;
-    assert!(rt; checked == Checked { records: 2, taken: 24 });
+    assert!(rt;
+        checked
+            == Checked {
+                records: 2,
+                taken: 24
+            }
+    );
     Ok(())
 }
 
