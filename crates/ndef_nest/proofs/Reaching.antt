@@ -1,12 +1,11 @@
 -- What has come of a nested message, one octet on.
 use Rattle.std.proofs.Common.{◌≡◌, ◌≢◌, ℕ, zero, suc, ◌+◌, ◌-◌, ◌<◌, ◌≤◌, Bool, true, false, List, [], ◌∷◌, ◌++◌, length, length-append, refl, sym, ◌∙◌, ap, subst, arith, append_assoc, ◌⊎◌, inl, inr, None, ne_eqb}
-use Rattle.std.specs.Prelude.{unwrap_or}
 use Rattle.std.specs.List.{AllByRecursion}
 use Rattle.std.proofs.lemmas.List.{append-nil}
-use Rattle.ndef_value.specs.Wire.{AreOctets, Piece, Fields, fields, octets, Spells, SpellAll, tnf_of}
+use Rattle.ndef_value.specs.Wire.{Piece, Fields, octets, Spells, SpellAll, tnf_of}
 use Rattle.ndef_piece.specs.declared.head.Head.{Head}
 use Rattle.ndef_piece.specs.declared.spot.Spot.{Spot}
-use Rattle.ndef_piece.specs.Heads.{CanBeSpelled, IsOpen, IsWhole, IsViable, HeadsAreApart}
+use Rattle.ndef_piece.specs.Heads.{IsOpen, IsWhole, IsViable, HeadsAreApart}
 use Rattle.ndef_lang.specs.Language.{Reaches, Passes}
 use Rattle.ndef_lang.specs.Kind.{kind_of, kind_after}
 use Rattle.ndef_lang.specs.Leaf.{LeafReached}
@@ -29,7 +28,8 @@ use Rattle.ndef_nest.specs.Spans.{least, most}
 use Rattle.ndef_nest.specs.RestLaws.{rest_span}
 use Rattle.ndef_nest.specs.Conditions.{HasUri, IsPlace, Place, before, StandsAt}
 use Rattle.ndef_nest.specs.Conditions.Place.{InHead, InType, InId, InPayload}
-use Rattle.ndef_nest.specs.NestedLaws.{kind_at, id_as, id_as_length, id_as_list}
+use Rattle.ndef_nest.specs.OctetLaws.{octets_append}
+use Rattle.ndef_nest.specs.NestedLaws.{piece_of, spells, kind_at}
 use Rattle.ndef_nest.specs.Reached as reached
 use Rattle.ndef_nest.specs.Reached.{IsMessageOf, IsReached, HasCome, IsAsked, AreDone, IsInHead, IsPastHead, IsHeaded, IsInName, IsNamed, IsInBody, IsNew}
 use Rattle.ndef_nest.proofs.Places.{no_overrun, same_piece}
@@ -134,10 +134,6 @@ whole_head c next first xs records m spot b h some e at x = rw e (record {
 
 -- ---- a type
 
-octets_on : (xs : List ℕ) (b : ℕ) → b < 256 → AreOctets xs → AreOctets (xs ++ b ∷ [])
-octets_on [] b small h = (small, tt)
-octets_on (x ∷ xs) b small h = (h.0, octets_on xs b small h.1)
-
 -- more of what follows a head
 past_more : (c : Context) (demand : Demand) (records : ℕ) (done : List Piece) (f : Fields) (more next m : List ℕ) (b : ℕ) → more ++ b ∷ [] ≡ next → IsPastHead c demand records done f more m → IsPastHead c demand records done f next (m ++ b ∷ [])
 past_more c demand records done f more next m b e x = record {
@@ -154,7 +150,7 @@ name_more c old new last left id payload records m b small some same x = record 
   fields = x.fields;
   name = x.name ++ b ∷ [];
   past = past_more c c.demand records x.done x.fields x.name (x.name ++ b ∷ []) m b refl x.past;
-  are_octets = octets_on x.name b small x.are_octets;
+  are_octets = octets_append x.name (b ∷ []) x.are_octets (small, tt);
   left_is = omega (arith, x.left_is, length-append x.name (b ∷ []));
   last_is = x.last_is;
   id_is = x.id_is;
@@ -209,7 +205,7 @@ id_more c leaf last id payload records m b small some x = record {
   id_octets = x.id_octets ++ b ∷ [];
   content = x.content;
   past = past_more c x.demand records x.done x.fields (x.name ++ (x.id_octets ++ x.content)) (x.name ++ ((x.id_octets ++ b ∷ []) ++ x.content)) m b spread x.past;
-  are_octets = (x.are_octets.0, octets_on x.id_octets b small x.are_octets.1, x.are_octets.2);
+  are_octets = (x.are_octets.0, octets_append x.id_octets (b ∷ []) x.are_octets.1 (small, tt), x.are_octets.2);
   name_is = x.name_is;
   id_left = omega (arith, x.id_left, length-append x.id_octets (b ∷ []));
   payload_left = x.payload_left;
@@ -236,7 +232,7 @@ payload_more c old new last id payload records m b small none some step x = reco
   id_octets = x.id_octets;
   content = x.content ++ b ∷ [];
   past = past_more c x.demand records x.done x.fields (x.name ++ (x.id_octets ++ x.content)) (x.name ++ (x.id_octets ++ (x.content ++ b ∷ []))) m b (simp append_assoc) x.past;
-  are_octets = (x.are_octets.0, x.are_octets.1, octets_on x.content b small x.are_octets.2);
+  are_octets = (x.are_octets.0, x.are_octets.1, octets_append x.content (b ∷ []) x.are_octets.2 (small, tt));
   name_is = x.name_is;
   id_left = x.id_left;
   payload_left = omega (arith, x.payload_left, length-append x.content (b ∷ []));
@@ -247,22 +243,6 @@ payload_more c old new last id payload records m b small none some step x = reco
 }
 
 -- ---- a whole record
-
--- the piece of a record
-abbrev piece_of : Fields → (name id content : List ℕ) → Piece
-piece_of f name id content = record { first = f.first; last = f.last; chunked = f.chunked; tnf = f.tnf; kind = name; id = id_as f.id_length id; payload = content }
-
-spells : (f : Fields) (name id content : List ℕ) → CanBeSpelled f → AreOctets name → AreOctets id → AreOctets content → length name ≡ f.kind_length → length id ≡ unwrap_or f.id_length 0 → length content ≡ f.payload_length
-    → Spells (piece_of f name id content) f.short (octets f ++ (name ++ (id ++ content)))
-spells f name id content can a b d k i n =
-    let p = piece_of f name id content in
-    let ids : unwrap_or p.id [] ≡ id = id_as_list f.id_length id i in
-    let same : fields p f.short ≡ f = λ j. record { first = f.first; last = f.last; chunked = f.chunked; short = f.short; tnf = f.tnf; kind_length = k j; payload_length = n j; id_length = id_as_length f.id_length id i j } in
-    record {
-      piece = record { tnf = can.tnf; kind = a; kind_length = omega (arith, k, can.kind); id = rw ids b; id_length = rw ids (omega (arith, i, can.id)); payload = d; payload_length = omega (arith, n, can.payload) };
-      form = rw n can.form;
-      spelled = ap (λ g. octets g ++ (name ++ (id ++ content))) (sym same) ∙ ap (λ z. octets (fields p f.short) ++ (name ++ (z ++ content))) (sym ids);
-    }
 
 spell_on : (done : List Piece) (p : Piece) (short : Bool) (front bytes : List ℕ) → SpellAll done front → Spells p short bytes → SpellAll (done ++ p ∷ []) (front ++ bytes)
 spell_on [] p short front bytes h s = (short, bytes, [], ap (λ z. z ++ bytes) h ∙ sym (append-nil bytes), s, refl)

@@ -40,6 +40,7 @@ use Rattle.ndef_nest.specs.Conditions.{HasUri, IsUriAgain, Place, StandsAt, List
 use Rattle.ndef_nest.specs.Conditions.Place.{InHead, InType, InId, InPayload}
 use Rattle.ndef_nest.specs.Phases.{Completes}
 use Rattle.ndef_nest.specs.HeaderLaws.{header_of, header_parts}
+use Rattle.ndef_nest.specs.HeadLaws.{is_uri_true}
 use Rattle.ndef_nest.specs.NameLaws.{kind_of_name, checked_as, after_name}
 use Rattle.ndef_nest.specs.Reached as reached
 use Rattle.ndef_nest.specs.Reached.{IsAsked, IsMessageOf, IsInHead, IsInName, IsInBody, HasCome, IsReached}
@@ -400,10 +401,6 @@ same_spot profile first left records done n e = λ i. record { profile = profile
 
 -- ---- a type
 
-uri_of : (kind : Kind) → is_uri kind ≡ true → kind ≡ kinds.Uri
-uri_of kinds.Uri e = refl
-uri_of _ e = cc
-
 -- what is known of a type that is half read
 pub record IsHalfRead (f : Fields) (name : List ℕ) (names : KindReader) (last : Bool) (left : ℕ) : Type 0 where
   pub last_is : f.last ≡ last
@@ -415,7 +412,7 @@ pub record IsHalfRead (f : Fields) (name : List ℕ) (names : KindReader) (last 
 -- a type is `U` by this octet
 uri_again : (f : Fields) (name : List ℕ) (names : KindReader) (last : Bool) (left b : ℕ) → IsHalfRead f name names last left → is_uri (kind_after names (b ∷ [])) ≡ true → IsUriAgain (InType f name) b
 uri_again f name names last left b h e =
-    let k = uri_of (kind_after names (b ∷ [])) e in
+    let k = is_uri_true (kind_after names (b ∷ [])) e in
     let n = (after_name names (b ∷ []) kinds.Uri (λ z. cc) k).0 in
     let l : left ≡ 1 = h.missing ∙ sym n in
     let w = kind_of_name (tnf_of f.tnf) (name ++ b ∷ []) kinds.Uri (λ z. cc) (sym (h.kind_is (b ∷ []) (sym l)) ∙ k) in
@@ -432,9 +429,9 @@ uri_is_again f name names last left b h x =
     ap is_uri (h.kind_is (b ∷ []) (sym l) ∙ ap (λ t. kind_of t (name ++ b ∷ [])) x.0 ∙ ap (λ n. kind_of WellKnown (n ++ b ∷ [])) z ∙ ap (λ c. kind_of WellKnown (c ∷ [])) x.2)
 
 -- the first type of a request is `cr`
-collision_name : (table : Table) (profile : Profile) (more : Demand → List ℕ → Type 0) (f : Fields) (name : List ℕ) (names : KindReader) (last : Bool) (left id payload : ℕ) → IsHalfRead f name names last left
+collision_type : (table : Table) (profile : Profile) (more : Demand → List ℕ → Type 0) (f : Fields) (name : List ℕ) (names : KindReader) (last : Bool) (left id payload : ℕ) → IsHalfRead f name names last left
     → Passes (IsTyped profile (λ s. checked table (kind_after names s)) more last demands.Collision left id payload) → length name + left ≡ 2
-collision_name table profile more f name names last left id payload h p =
+collision_type table profile more f name names last left id payload h p =
     let t = p.1 in
     let k = checked_as table (kind_after names t.front) kinds.Collision (λ z. cc) t.allowed in
     let w = kind_of_name (tnf_of f.tnf) (name ++ t.front) kinds.Collision (λ z. cc) (sym (h.kind_is t.front t.count) ∙ k) in
@@ -474,7 +471,7 @@ told_of_name SmartPoster demands.NoUri profile more done f name names last left 
 told_of_name SmartPoster demands.Anything profile more done f name names last left id payload b l h p = absurd l
 told_of_name SmartPoster demands.Collision profile more done f name names last left id payload b l h p = absurd l
 told_of_name Request demands.Collision profile more done f name names last left id payload b l h p =
-    request_name done f name names last left b l h.some (collision_name Request profile more f name names last left id payload h p)
+    request_name done f name names last left b l h.some (collision_type Request profile more f name names last left id payload h p)
 told_of_name Request demands.Anything profile more done f name names last left id payload b l h p = inr (refl, λ other x. l x.1)
 told_of_name Request demands.OneUri profile more done f name names last left id payload b l h p = absurd l
 told_of_name Request demands.NoUri profile more done f name names last left id payload b l h p = absurd l

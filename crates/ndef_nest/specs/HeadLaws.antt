@@ -57,7 +57,7 @@ missing_head tables.Select demands.OneUri tnf kind s e = absurd (cc)
 missing_head tables.SmartPoster demands.Collision tnf kind s e = absurd (cc)
 missing_head tables.Select demands.Collision tnf kind s e = absurd (cc)
 
-is_uri_true : (kind : Kind) → is_uri kind ≡ true → kind ≡ kinds.Uri
+pub is_uri_true : (kind : Kind) → is_uri kind ≡ true → kind ≡ kinds.Uri
 is_uri_true kinds.Uri e = refl
 is_uri_true _ e = cc
 

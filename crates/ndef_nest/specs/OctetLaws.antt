@@ -18,7 +18,7 @@ use Rattle.ndef_nest.specs.Phases.{Completes, CompletesStart, CompletesVersion}
 use Rattle.ndef_nest.specs.HeaderLaws.{bit_below}
 use Rattle.ndef_nest.specs.NestedLaws.{rest_is_nested}
 
-octets_append : (xs ys : List ℕ) → AreOctets xs → AreOctets ys → AreOctets (xs ++ ys)
+pub octets_append : (xs ys : List ℕ) → AreOctets xs → AreOctets ys → AreOctets (xs ++ ys)
 octets_append [] ys h k = k
 octets_append (x ∷ xs) ys h k = (h.0, octets_append xs ys h.1 k)
 
