@@ -1,4 +1,6 @@
-pub mod Back
+pub mod Bounded
+pub mod Chooses
+pub mod Numbers
+pub mod Sessions
 pub mod Outputs
-pub mod Plain
-pub mod Steps
+pub mod Handling

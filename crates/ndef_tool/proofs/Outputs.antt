@@ -1,50 +1,108 @@
--- What was read, and what went out of it.
-use Rattle.std.proofs.Common.{◌≡◌, ◌-◌, ℕ, Bool, false, List, [], ◌∷◌, ◌++◌, Option, Some, None, Result, Ok, Err, refl, sym, ap, ◌∙◌, append-nil}
+-- What is printed, and what of it goes out.
+use Rattle.std.proofs.Common.{◌≡◌, ◌+◌, ◌-◌, ℕ, Bool, true, false, List, [], ◌∷◌, ◌++◌, length, take, Option, Result, Ok, Err, refl, sym, ap, ap₂, ◌∙◌, subst, arith, append-nil, append_assoc}
 use Rattle.std.proofs.lemmas.Bool.{false≢true}
-use Rattle.std.specs.Io.KnownBytes.{Keeps, Consumes}
+use Rattle.std.proofs.Math.Seq.{take-append-add, take-nil}
+use Rattle.std.specs.Io.KnownBytes.{Appends}
+use Rattle.std.proofs.KnownBytes.{Appends-nil, Appends-trans}
 use Rattle.ndef_message.specs.Sending.{Sent, MarksOf}
+use Rattle.ndef_message.specs.declared.message_reading.Read.{Read}
 use Rattle.ndef_message.specs.declared.sending.WriteFault.{WriteFault}
-use Rattle.ndef_tool.specs.Output.{Text, Accepted, blocks, block_of, bytes_of, ending_line, output, IsSession, Ends, GoesOut}
-use Rattle.ndef_tool.specs.Reading.{Reads}
+use Rattle.ndef_tool.specs.Output.{Text, blocks, block_of, bytes_of, ending_line, status_of}
+use Rattle.ndef_tool.specs.Runs.{Ends, status_after}
+use Rattle.ndef_tool.specs.Sessions.{GoesOut, is_writing}
 use Rattle.ndef_tool.specs.declared.choice.Action.{Action}
 use Rattle.ndef_tool.specs.declared.choice.Action.TheVariants.{Check, Encode}
-use Rattle.ndef_tool.specs.declared.reading.Read.{Read}
+use Rattle.ndef_tool.specs.declared.choice.Choice.{Choice}
 use Rattle.ndef_tool.specs.declared.ending.Ending.{Ending}
-use Rattle.ndef_tool.specs.declared.ending.Ending.TheVariants.{Clean, Refused, Reading, Memory}
+use Rattle.ndef_tool.specs.declared.ending.Ending.TheVariants.{Clean, Refused, Reading, Writing, Memory, TooMany}
 use Rattle.ndef_tool.specs.declared.ending.Status.{Status}
+use Rattle.ndef_tool.specs.declared.ending.Status.TheVariants as status
 
--- a look ahead changes nothing of what is read
-pub reads_kept : (a b c : Option (List ℕ)) (failed : Bool) (read : Read) → Keeps a b → Reads b c failed (Ok read) → Reads a c failed (Ok read)
-reads_kept a b c failed read k (clear, taken, consumed, size, plain) = (clear, taken, front a b c k consumed, size, plain)
+-- ---- one message more
+
+pub bytes_more : (reads : List Read) (read : Read) → bytes_of (reads ++ read ∷ []) ≡ bytes_of reads + read.taken
+bytes_more [] read = omega arith
+bytes_more (r ∷ rs) read = let rest = bytes_more rs read in omega (arith, rest)
+
+pub blocks_more : (choice : Choice) (number at : ℕ) (reads : List Read) (read : Read)
+    → blocks choice number at (reads ++ read ∷ []) ≡ blocks choice number at reads ++ block_of choice (number + length reads) (at + bytes_of reads) read
+blocks_more choice number at [] read =
+    let n : number ≡ number + 0 = omega arith in
+    let p : at ≡ at + 0 = omega arith in
+    append-nil (block_of choice number at read) ∙ ap₂ (λ a b. block_of choice a b read) n p
+blocks_more choice number at (r ∷ rs) read =
+    let n : number + 1 + length rs ≡ number + length (r ∷ rs) = omega arith in
+    let p : at + r.taken + bytes_of rs ≡ at + (r.taken + bytes_of rs) = omega arith in
+    let first = block_of choice number at r in
+    let more = blocks choice (number + 1) (at + r.taken) rs in
+    ap (λ t. first ++ t) (blocks_more choice (number + 1) (at + r.taken) rs read ∙ ap₂ (λ a b. more ++ block_of choice a b read) n p)
+    ∙ sym (append_assoc first more (block_of choice (number + length (r ∷ rs)) (at + bytes_of (r ∷ rs)) read))
+
+-- ---- what goes out
+
+-- a text behind one that went out
+pub goes_behind : (a b c : Option (List ℕ)) (old new : Bool) (done text : Text) (r : Result ℕ WriteFault) → old ≡ false → Appends a b done
+    → Sent 0 b c text r → MarksOf old new text r → GoesOut a c new (done ++ text)
+goes_behind a b c old new done text (Ok n) clear d s m =
+    subst (λ (failed : Bool). GoesOut a c failed (done ++ text)) (sym (m.0 ∙ clear)) (Appends-trans a b c done text d s.0)
+goes_behind a b c old new done text (Err f) clear d s m =
+    let front : take (length done + (f.written - 0)) (done ++ text) ≡ done ++ take (f.written - 0) text = take-append-add done text (f.written - 0) in
+    subst (λ (failed : Bool). GoesOut a c failed (done ++ text)) (sym m)
+    (length done + (f.written - 0), subst (Appends a c) (sym front) (Appends-trans a b c done _ d s.0))
+
+-- where nothing is printed
+pub nothing_out : (a : Option (List ℕ)) (failed : Bool) → failed ≡ false → GoesOut a a failed [] × (status.Fault ≡ status_after failed status.Fault)
+nothing_out a false clear = (Appends-nil a, refl)
+nothing_out a true clear = absurd (false≢true (sym clear))
+
+-- a sink that failed stays so
+pub stays_failed : (old new : Bool) (text : Text) (r : Result ℕ WriteFault) → MarksOf old new text r → old ≡ true → new ≡ true
+stays_failed old new text (Ok n) m h = m.0 ∙ h
+stays_failed old new text (Err f) m h = m
+
+-- nothing more goes out
+goes_no_further : (a b c : Option (List ℕ)) (new : Bool) (done : Text) (r : Result ℕ WriteFault) → GoesOut a b true done → Sent 0 b c [] r → MarksOf true new [] r
+    → GoesOut a c new (done ++ [])
+goes_no_further a b c new done r d s m =
+    subst (λ (failed : Bool). GoesOut a c failed (done ++ [])) (sym (stays_failed true new [] r m refl))
+    (d.0, subst (λ t. Appends a c (take d.0 t)) (sym (append-nil done)) (none r s))
   where
-    front : (a b c : Option (List ℕ)) → Keeps a b → Consumes b c taken → Consumes a c taken
-    front None b c k p = tt
-    front (Some x) None c k p = absurd k
-    front (Some x) (Some y) None k p = absurd p
-    front (Some x) (Some y) (Some z) k p = sym k ∙ p
+    none : (r : Result ℕ WriteFault) → Sent 0 b c [] r → Appends a c (take d.0 done)
+    none (Ok n) s = subst (Appends a c) (append-nil (take d.0 done)) (Appends-trans a b c (take d.0 done) [] d.1 s.0)
+    none (Err f) s =
+        subst (Appends a c) (append-nil (take d.0 done)) (Appends-trans a b c (take d.0 done) [] d.1 (subst (Appends b c) (take-nil (f.written - 0)) s.0))
 
-pub one_block : (action : Action) (m : Accepted) → block_of action 1 0 m ≡ blocks action 1 0 (m ∷ [])
-one_block action m = sym (append-nil (block_of action 1 0 m))
+-- the line of an ending behind the blocks
+pub goes_to_end : (a b c : Option (List ℕ)) (middle new : Bool) (done : Text) (action : Action) (base : ℕ) (ending : Ending) (r : Result ℕ WriteFault) → middle ≡ is_writing ending
+    → GoesOut a b middle done → Sent 0 b c (ending_line action base ending) r → MarksOf middle new (ending_line action base ending) r
+    → GoesOut a c new (done ++ ending_line action base ending)
+goes_to_end a b c middle new done Check base Writing r is d s m =
+    goes_no_further a b c new done r (subst (λ (failed : Bool). GoesOut a b failed done) is d) s (subst (λ (failed : Bool). MarksOf failed new [] r) is m)
+goes_to_end a b c middle new done (Encode form size) base Writing r is d s m =
+    goes_no_further a b c new done r (subst (λ (failed : Bool). GoesOut a b failed done) is d) s (subst (λ (failed : Bool). MarksOf failed new [] r) is m)
+goes_to_end a b c middle new done action base Clean r is d s m =
+    goes_behind a b c middle new done _ r is (subst (λ (failed : Bool). GoesOut a b failed done) is d) s m
+goes_to_end a b c middle new done action base (Refused x) r is d s m =
+    goes_behind a b c middle new done _ r is (subst (λ (failed : Bool). GoesOut a b failed done) is d) s m
+goes_to_end a b c middle new done action base Reading r is d s m =
+    goes_behind a b c middle new done _ r is (subst (λ (failed : Bool). GoesOut a b failed done) is d) s m
+goes_to_end a b c middle new done action base Memory r is d s m =
+    goes_behind a b c middle new done _ r is (subst (λ (failed : Bool). GoesOut a b failed done) is d) s m
+goes_to_end a b c middle new done action base TooMany r is d s m =
+    goes_behind a b c middle new done _ r is (subst (λ (failed : Bool). GoesOut a b failed done) is d) s m
 
-pub goes_out : (before after : Option (List ℕ)) (old new : Bool) (text : List ℕ) (r : Result ℕ WriteFault) (st result : Status)
-    → old ≡ false → Sent 0 before after text r → MarksOf old new text r → Ends r st result → GoesOut before after new text st result
-goes_out before after old new text (Ok n) st result clear p m e =
-    (λ _. (p.0, e), λ bad. absurd (false≢true (sym clear ∙ sym m.0 ∙ bad)))
-goes_out before after old new text (Err f) st result clear p m e =
-    (λ good. absurd (false≢true (sym good ∙ m)), λ _. (f.written - 0, p.0, e))
+-- ---- the status
 
--- a refusal comes behind no message, so that its place counts from the start of the input
-ending_same : (before after : Option (List ℕ)) (failed : Bool) (action : Action) (ms : List Accepted) (ending : Ending) → IsSession before after failed ms ending
-    → ending_line action 0 ending ≡ ending_line action (bytes_of ms) ending
-ending_same before after failed Encode ms how h = refl
-ending_same before after failed Check ms Clean h = refl
-ending_same before after failed Check ms Reading h = refl
-ending_same before after failed Check ms Memory h = refl
-ending_same before after failed Check [] (Refused r) h = refl
-ending_same before after failed Check (m ∷ []) (Refused r) h = absurd h
-ending_same before after failed Check (m ∷ n ∷ ms) (Refused r) h = absurd h
+pub usage_status : (old new : Bool) (text : Text) (r : Result ℕ WriteFault) (st result : Status) → old ≡ false → MarksOf old new text r → Ends r st result → result ≡ status_after new st
+usage_status old new text (Ok n) st result clear m e = e ∙ ap (λ (failed : Bool). status_after failed st) (sym (m.0 ∙ clear))
+usage_status old new text (Err f) st result clear m e = e ∙ ap (λ (failed : Bool). status_after failed st) (sym m)
 
-pub output_same : (before after : Option (List ℕ)) (failed : Bool) (action : Action) (ms : List Accepted) (ending : Ending) (text : Text) → IsSession before after failed ms ending
-    → text ≡ blocks action 1 0 ms → text ++ ending_line action 0 ending ≡ output action ms ending
-output_same before after failed action ms how text h e =
-    ap (λ t. t ++ ending_line action 0 how) e ∙ ap (λ t. blocks action 1 0 ms ++ t) (ending_same before after failed action ms how h)
+pub ending_status : (middle new : Bool) (text : Text) (ending : Ending) (r : Result ℕ WriteFault) (result : Status) → middle ≡ is_writing ending → MarksOf middle new text r
+    → Ends r (status_of ending) result → result ≡ status_after new (status_of ending)
+ending_status middle new text Writing (Ok n) result is m e = e ∙ ap (λ (failed : Bool). status_after failed status.Fault) (sym (m.0 ∙ is))
+ending_status middle new text Writing (Err f) result is m e = e ∙ ap (λ (failed : Bool). status_after failed status.Fault) (sym m)
+ending_status middle new text Clean r result is m e = usage_status middle new text r _ result is m e
+ending_status middle new text (Refused x) r result is m e = usage_status middle new text r _ result is m e
+ending_status middle new text Reading r result is m e = usage_status middle new text r _ result is m e
+ending_status middle new text Memory r result is m e = usage_status middle new text r _ result is m e
+ending_status middle new text TooMany r result is m e = usage_status middle new text r _ result is m e

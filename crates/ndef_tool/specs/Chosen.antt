@@ -1,24 +1,116 @@
 -- What the words ask for.
-use Rattle.std.specs.Prelude.{◌≡◌, List, [], Option, Some, None, Result, Ok, Err, codes, if◌then◌else◌, ⊤}
+use Rattle.std.specs.Prelude.{◌≡◌, ◌&&◌, ◌≤◌, ℕ, List, [], ◌∷◌, Option, Some, None, Result, Ok, Err, codes, if◌then◌else◌, ⊤, option_and_then, option_map, nat_lt, nat_le}
+use Rattle.std.specs.Option.{option_map_or, ForSome}
 use Rattle.std.specs.Str.{bytes_eq}
-use Rattle.clap.specs.Words.{Row, Text, fault_of, subcommand_of}
+use Rattle.std.specs.Str.Parse.{digits_value, without_leading_plus}
+use Rattle.std.specs.Prelude.{false}
+use Rattle.clap.specs.ValueTests.{accepts}
+use Rattle.clap.specs.declared.builder.value_parser.ValueParser.TheVariants as vp
+use Rattle.clap.specs.Words.{App, Kinds, Row, Text, first_of, one_of, fault_of, subcommand_of}
+use Rattle.ndef_value.specs.Wire.{LimitValues}
+use Rattle.ndef_value.specs.declared.profile.Profile.{Profile}
+use Rattle.ndef_value.specs.declared.profile.Profile.TheVariants.{Strict, Standard}
+use Rattle.ndef_message.specs.declared.form.Form.{Form}
+use Rattle.ndef_message.specs.declared.form.Form.TheVariants.{Short, Long}
 use Rattle.ndef_tool.specs.CommandLine.{ndef_app}
 use Rattle.ndef_tool.specs.declared.choice.Action.{Action}
 use Rattle.ndef_tool.specs.declared.choice.Action.TheVariants.{Check, Encode}
+use Rattle.ndef_tool.specs.declared.choice.Choice.{Choice}
 use Rattle.ndef_tool.specs.declared.choice.WordsError.{WordsError}
 use Rattle.ndef_tool.specs.declared.choice.WordsError.TheVariants.{Usage, NoMemory}
 
-abbrev pub action_of : Text → Option Action
-action_of name = if bytes_eq name (codes "check") then Some Check
-    else (if bytes_eq name (codes "encode") then Some Encode else None)
+-- ---- numbers
 
--- the action of clap's matches
-abbrev pub chosen_of : Option (Text × List Row) → Option Action
-chosen_of None = None
-chosen_of (Some p) = action_of p.0
+-- the number that a text of decimal digits stands for, where it is below 2^32
+abbrev pub number_in : Text → Option ℕ
+number_in t = if accepts false (vp.Unsigned 0 4294967295) t then Some (digits_value 10 (without_leading_plus t)) else None
 
--- what comes of the words: an action where clap finds no fault in them, and the usage line where it does
-abbrev pub Chooses : List Text → Result Action WordsError → Type 0
-Chooses words (Ok action) = (fault_of ndef_app words ≡ []) × (chosen_of (subcommand_of ndef_app words) ≡ Some action)
-Chooses words (Err Usage) = fault_of ndef_app words ≡ [] → chosen_of (subcommand_of ndef_app words) ≡ None
+-- the number, where it is from 1 to the most
+abbrev pub within : ℕ → ℕ → Option ℕ
+within most n = if nat_lt 0 n && nat_le n most then Some n else None
+
+-- the number of an option that is given, where it is from 1 to the most
+abbrev pub given_number : Text → ℕ → List Row → Option ℕ
+given_number id most rows = option_and_then (within most) (option_and_then number_in (one_of id rows))
+
+-- the same, or the usual one for an option that isn't given
+abbrev pub number_of : Text → ℕ → ℕ → List Row → Option ℕ
+number_of id most usual rows = option_map_or (λ _. given_number id most rows) (first_of id rows) (Some usual)
+
+-- the size of chunks, or none where it isn't given
+abbrev pub chunk_of : List Row → Option (Option ℕ)
+chunk_of rows = option_map_or (λ _. option_map (λ n. Some n) (given_number (codes "chunk") 4294967295 rows))
+    (first_of (codes "chunk") rows) (Some None)
+
+-- ---- words
+
+abbrev pub form_named : Text → Option Form
+form_named name = if bytes_eq name (codes "short") then Some Short
+    else (if bytes_eq name (codes "long") then Some Long else None)
+
+abbrev pub form_of : List Row → Option Form
+form_of rows = option_map_or form_named (first_of (codes "form") rows) (Some Short)
+
+abbrev pub profile_named : Text → Option Profile
+profile_named name = if bytes_eq name (codes "strict") then Some Strict
+    else (if bytes_eq name (codes "standard") then Some Standard else None)
+
+abbrev pub profile_of : List Row → Option Profile
+profile_of rows = option_map_or profile_named (first_of (codes "profile") rows) (Some Strict)
+
+-- ---- a choice
+
+abbrev pub limits_of : List Row → Option LimitValues
+limits_of rows =
+    option_and_then (λ payload.
+    option_and_then (λ records.
+    option_and_then (λ pieces.
+    option_map (λ profile. record { payload = payload; records = records; pieces = pieces; profile = profile })
+    (profile_of rows))
+    (number_of (codes "pieces") 65535 4096 rows))
+    (number_of (codes "records") 65535 1024 rows))
+    (number_of (codes "payload") 4294967295 1048576 rows)
+
+abbrev pub encode_of : List Row → Option Action
+encode_of rows = option_and_then (λ form. option_map (λ chunk. Encode form chunk) (chunk_of rows)) (form_of rows)
+
+-- the action of a subcommand, with its options
+abbrev pub action_of : Text → List Row → Option Action
+action_of name rows = if bytes_eq name (codes "check") then Some Check
+    else (if bytes_eq name (codes "encode") then encode_of rows else None)
+
+-- the choice of a subcommand, with its options
+abbrev pub choice_in : Text → List Row → Option Choice
+choice_in name rows =
+    option_and_then (λ action. option_map (λ limits. record { action = action; limits = limits }) (limits_of rows)) (action_of name rows)
+
+-- the choice of clap's matches
+abbrev pub chosen_of : Option (Text × List Row) → Option Choice
+chosen_of = option_and_then (λ p. choice_in p.0 p.1)
+
+abbrev pub unless_fault : {X : Type 0} → Kinds → Option X → Option X
+unless_fault [] o = o
+unless_fault (k ∷ ks) o = None
+
+-- what the words choose on a command line: nothing where clap finds a fault in them
+abbrev pub choice_by : App → List Text → Option Choice
+choice_by app words = unless_fault (fault_of app words) (chosen_of (subcommand_of app words))
+
+abbrev pub choice_of : List Text → Option Choice
+choice_of words = choice_by ndef_app words
+
+-- what comes of the words: the choice, and the usage line exactly where there is none
+abbrev pub Chooses : List Text → Result Choice WordsError → Type 0
+Chooses words (Ok choice) = choice_of words ≡ Some choice
+Chooses words (Err Usage) = choice_of words ≡ None
 Chooses words (Err NoMemory) = ⊤
+
+-- ---- sizes
+
+-- a size of chunks is at least 1
+abbrev pub HasSizeIfAny : Option ℕ → Type 0
+HasSizeIfAny size = ForSome size (λ n. 1 ≤ n)
+
+abbrev pub HasSize : Action → Type 0
+HasSize Check = ⊤
+HasSize (Encode form size) = HasSizeIfAny size

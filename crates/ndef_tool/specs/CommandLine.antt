@@ -1,6 +1,28 @@
--- The command line: which subcommands there are, in clap's words.
-use Rattle.std.specs.Prelude.{true, codes}
-use Rattle.clap.specs.Words.{App, new_app, with_subcommand}
+-- The command line: which subcommands and options there are, in clap's words.
+use Rattle.std.specs.Prelude.{ℕ, Some, true, codes, pos}
+use Rattle.clap.specs.Words.{App, Rule, Text, new_app, new_rule, with_rule, with_subcommand}
+use Rattle.clap.specs.declared.builder.value_parser.ValueParser.TheVariants as vp
+
+-- a number from 1 to the most
+abbrev pub number_rule : ℕ → Text → Rule
+number_rule most name = record (new_rule name) { long = Some name; parser = Some (vp.Signed (pos 1) (pos most)) }
+
+-- any word
+abbrev pub word_rule : Text → Rule
+word_rule name = record (new_rule name) { long = Some name }
+
+-- the limits
+abbrev pub limits_app : Text → App
+limits_app name = with_rule (with_rule (with_rule (new_app name) (number_rule 4294967295 (codes "payload")))
+    (number_rule 65535 (codes "records"))) (number_rule 65535 (codes "pieces"))
+
+-- .. and the profile
+abbrev pub reading_app : Text → App
+reading_app name = with_rule (limits_app name) (word_rule (codes "profile"))
+
+-- .. and how messages are written
+abbrev pub encode_app : App
+encode_app = with_rule (with_rule (reading_app (codes "encode")) (word_rule (codes "form"))) (number_rule 4294967295 (codes "chunk"))
 
 -- a subcommand is wanted, and none is for help
 abbrev pub empty_app : App
@@ -8,4 +30,4 @@ empty_app = let a = new_app (codes "ndef") in
     record a { top = record a.top { subcommand_required = true; disable_help_flag = true; disable_help_subcommand = true } }
 
 abbrev pub ndef_app : App
-ndef_app = with_subcommand (with_subcommand empty_app (new_app (codes "check")).top) (new_app (codes "encode")).top
+ndef_app = with_subcommand (with_subcommand empty_app (reading_app (codes "check")).top) encode_app.top

@@ -1,6 +1,6 @@
-pub mod Reading
-pub mod ReadsBack
 pub mod CommandLine
 pub mod Chosen
 pub mod Output
+pub mod Blocks
 pub mod Sessions
+pub mod Runs

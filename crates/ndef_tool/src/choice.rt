@@ -1,11 +1,13 @@
 //! What the words ask for.
-ghost use Rattle.std.specs.Prelude.{◌≡◌, map, string_bytes};
-ghost use Rattle.clap.specs.Words.{subcommand_rows_of};
-ghost use Rattle.ndef_tool.specs.Chosen.{Chooses, action_of, chosen_of};
+ghost use Rattle.std.specs.Prelude.{◌≡◌, ◌≤◌, ◌<◌, ◌^◌, map, option_and_then, option_map, string_bytes, IfOk, IfSome};
+ghost use Rattle.clap.specs.Words.{first_of, one_of, rows_of, found_of, subcommand_rows_of};
+ghost use Rattle.ndef_tool.specs.Chosen.{Chooses, HasSize, HasSizeIfAny, action_of, choice_in, chosen_of, chunk_of, form_named, form_of, given_number, limits_of, number_in, number_of, profile_named, profile_of, within};
 
 use crate::command::ndef_command;
 use clap::ArgMatches;
 use clap::error::ErrorKind;
+use ndef_message::Form;
+use ndef_value::{Limits, Profile};
 use std::alloc::Global;
 use thiserror::Error;
 
@@ -14,8 +16,15 @@ use thiserror::Error;
 pub enum Action {
     /// A line is printed.
     Check,
-    /// It is written again.
-    Encode,
+    /// It is written again, in a form, and in chunks where their size is given.
+    Encode(Form, Option<u32>),
+}
+
+/// What the words choose.
+#[derive(Clone, Copy, Debug)]
+pub struct Choice {
+    pub action: Action,
+    pub limits: Limits,
 }
 
 /// Why the words ask for nothing.
@@ -29,33 +38,153 @@ pub enum WordsError {
     NoMemory,
 }
 
-fn action_named(name: &str) -> Option<Action>
-    ensures { result ≡ action_of name.now }
+/// The text of an option, where it is given.
+fn text<'a>(matches: &ArgMatches<'a>, id: &str) -> Option<&'a str>
+    ensures { option_map (λ s. s.now) result ≡ first_of id.now (rows_of (found_of matches.now)) }
+{
+    matches.get_str(id)
+}
+
+fn read(matches: &ArgMatches<'_>, id: &str) -> Option<u32>
+    ensures { result ≡ option_and_then number_in (one_of id.now (rows_of (found_of matches.now))) }
+{
+    matches.get_one::<u32>(id)
+}
+
+fn limited(number: u32, most: u32) -> Option<u32>
+    ensures value { result ≡ within most number }
+    ensures range { IfSome result (λ n. (1 ≤ n) × (n ≤ most)) }
+{
+    if 0 < number && number <= most {
+        Some(number)
+    } else {
+        None
+    }
+}
+
+fn given(matches: &ArgMatches<'_>, id: &str, most: u32) -> Option<u32>
+    ensures value { result ≡ given_number id.now most (rows_of (found_of matches.now)) }
+    ensures range { IfSome result (λ n. (1 ≤ n) × (n ≤ most)) }
+{
+    let number = read(matches, id)?;
+    limited(number, most)
+}
+
+fn number(matches: &ArgMatches<'_>, id: &str, most: u32, usual: u32) -> Option<u32>
+    requires some { 1 ≤ usual }
+    requires most { usual ≤ most }
+    ensures value { result ≡ number_of id.now most usual (rows_of (found_of matches.now)) }
+    ensures range { IfSome result (λ n. (1 ≤ n) × (n ≤ most)) }
+{
+    match text(matches, id) {
+        Some(_) => given(matches, id, most),
+        None => Some(usual),
+    }
+}
+
+fn chunk(matches: &ArgMatches<'_>) -> Option<Option<u32>>
+    ensures value { result ≡ chunk_of (rows_of (found_of matches.now)) }
+    ensures some { IfSome result HasSizeIfAny }
+{
+    match text(matches, "chunk") {
+        Some(_) => Some(Some(given(matches, "chunk", 4294967295)?)),
+        None => Some(None),
+    }
+}
+
+fn form_named(name: &str) -> Option<Form>
+    ensures { result ≡ form_named name.now }
 {
     match name {
-        "check" => Some(Action::Check),
-        "encode" => Some(Action::Encode),
+        "short" => Some(Form::Short),
+        "long" => Some(Form::Long),
         _ => None,
     }
 }
 
-fn chosen(matches: &ArgMatches<'_>) -> Option<Action>
-    ensures { result ≡ chosen_of (subcommand_rows_of matches.now) }
+fn form_given(matches: &ArgMatches<'_>) -> Option<Form>
+    ensures { result ≡ form_of (rows_of (found_of matches.now)) }
 {
-    let (name, _) = matches.subcommand()?;
-    action_named(name)
+    match text(matches, "form") {
+        Some(name) => form_named(name),
+        None => Some(Form::Short),
+    }
+}
+
+fn profile_named(name: &str) -> Option<Profile>
+    ensures { result ≡ profile_named name.now }
+{
+    match name {
+        "strict" => Some(Profile::Strict),
+        "standard" => Some(Profile::Standard),
+        _ => None,
+    }
+}
+
+fn profile_given(matches: &ArgMatches<'_>) -> Option<Profile>
+    ensures { result ≡ profile_of (rows_of (found_of matches.now)) }
+{
+    match text(matches, "profile") {
+        Some(name) => profile_named(name),
+        None => Some(Profile::Strict),
+    }
+}
+
+fn limits_given(matches: &ArgMatches<'_>) -> Option<Limits>
+    ensures { result ≡ limits_of (rows_of (found_of matches.now)) }
+{
+    let payload = number(matches, "payload", 4294967295, 1048576)?;
+    let records = number(matches, "records", 65535, 1024)?;
+    let pieces = number(matches, "pieces", 65535, 4096)?;
+    let profile = profile_given(matches)?;
+    let Ok(limits) = Limits::new(payload, records, pieces) else {
+        return None;
+    };
+    Some(limits.with(profile))
+}
+
+fn action_given(name: &str, matches: &ArgMatches<'_>) -> Option<Action>
+    ensures value { result ≡ action_of name.now (rows_of (found_of matches.now)) }
+    ensures some { IfSome result HasSize }
+{
+    match name {
+        "check" => Some(Action::Check),
+        "encode" => {
+            let form = form_given(matches)?;
+            Some(Action::Encode(form, chunk(matches)?))
+        }
+        _ => None,
+    }
+}
+
+fn choice_given(name: &str, matches: &ArgMatches<'_>) -> Option<Choice>
+    ensures value { result ≡ choice_in name.now (rows_of (found_of matches.now)) }
+    ensures some { IfSome result (λ choice. HasSize choice.action) }
+{
+    let action = action_given(name, matches)?;
+    let limits = limits_given(matches)?;
+    Some(Choice { action, limits })
+}
+
+fn chosen(matches: &ArgMatches<'_>) -> Option<Choice>
+    ensures value { result ≡ chosen_of (subcommand_rows_of matches.now) }
+    ensures some { IfSome result (λ choice. HasSize choice.action) }
+{
+    let (name, matches) = matches.subcommand()?;
+    choice_given(name, matches)
 }
 
 /// What the words choose, of which the first is the program's name.
-pub fn choose(alloc: Global, words: &[String]) -> Result<Action, WordsError>
-    ensures { Chooses (map string_bytes words.now) result }
+pub fn choose(alloc: Global, words: &[String]) -> Result<Choice, WordsError>
+    ensures chosen { Chooses (map string_bytes words.now) result }
+    ensures some { IfOk result (λ choice. HasSize choice.action) }
 {
     let Ok(command) = ndef_command(alloc) else {
         return Err(WordsError::NoMemory);
     };
     match command.try_get_matches_from(words) {
         Ok(matches) => match chosen(&matches) {
-            Some(action) => Ok(action),
+            Some(choice) => Ok(choice),
             None => Err(WordsError::Usage),
         },
         Err(error) => match error.kind() {

@@ -1,11 +1,65 @@
 //! The command line, as `clap` reads it.
-ghost use Rattle.std.specs.Prelude.{◌≡◌, false, IfOk};
-ghost use Rattle.clap.specs.Words.{app_of, new_app};
+ghost use Rattle.std.specs.Prelude.{◌≡◌, ◌<◌, ◌≤◌, false, true, IfOk, pos, ◌≤ℤ◌};
+ghost use Rattle.clap.specs.Words.{app_of, rule_of};
 ghost use Rattle.clap.specs.declared.builder.command.Command.TheViews.{out-Command as fields_of};
-ghost use Rattle.ndef_tool.specs.CommandLine.{empty_app, ndef_app};
+ghost use Rattle.ndef_tool.specs.CommandLine.{number_rule, word_rule, limits_app, reading_app, encode_app, empty_app, ndef_app};
 
-use clap::Command;
+use clap::{Arg, Command, value_parser};
 use std::alloc::{AllocError, Global};
+
+/// An option for a number from 1 to 4294967295.
+fn wide_option<'a>(alloc: Global, name: &'a str) -> Arg<'a>
+    ensures rule { rule_of result ≡ number_rule 4294967295 name.entry.now }
+    ensures local { result.global ≡ false }
+{
+    Arg::new(alloc, name)
+        .long(name)
+        .value_parser(value_parser!(u32).range(1..))
+}
+
+/// An option for a number from 1 to 65535.
+fn small_option<'a>(alloc: Global, name: &'a str) -> Arg<'a>
+    ensures rule { rule_of result ≡ number_rule 65535 name.entry.now }
+    ensures local { result.global ≡ false }
+{
+    Arg::new(alloc, name)
+        .long(name)
+        .value_parser(value_parser!(u32).range(1..=65535))
+}
+
+/// An option for a word.
+fn word_option<'a>(alloc: Global, name: &'a str) -> Arg<'a>
+    ensures rule { rule_of result ≡ word_rule name.entry.now }
+    ensures local { result.global ≡ false }
+{
+    Arg::new(alloc, name).long(name)
+}
+
+fn limits_command<'a>(alloc: Global, name: &'a str) -> Result<Command<'a>, AllocError>
+    ensures app { IfOk result (λ c. app_of c ≡ limits_app name.entry.now) }
+    ensures local { IfOk result (λ c. (fields_of c).has_globals ≡ false) }
+{
+    Command::new(alloc, name)
+        .arg(wide_option(alloc, "payload"))?
+        .arg(small_option(alloc, "records"))?
+        .arg(small_option(alloc, "pieces"))
+}
+
+fn reading_command<'a>(alloc: Global, name: &'a str) -> Result<Command<'a>, AllocError>
+    ensures app { IfOk result (λ c. app_of c ≡ reading_app name.entry.now) }
+    ensures local { IfOk result (λ c. (fields_of c).has_globals ≡ false) }
+{
+    limits_command(alloc, name)?.arg(word_option(alloc, "profile"))
+}
+
+fn encode_command<'a>(alloc: Global) -> Result<Command<'a>, AllocError>
+    ensures app { IfOk result (λ c. app_of c ≡ encode_app) }
+    ensures local { IfOk result (λ c. (fields_of c).has_globals ≡ false) }
+{
+    reading_command(alloc, "encode")?
+        .arg(word_option(alloc, "form"))?
+        .arg(wide_option(alloc, "chunk"))
+}
 
 // No flag and no subcommand for help: words that ask for it print the usage line.
 fn empty_command<'a>(alloc: Global) -> Command<'a>
@@ -18,11 +72,11 @@ fn empty_command<'a>(alloc: Global) -> Command<'a>
         .disable_help_subcommand(true)
 }
 
-/// The subcommands.
+/// The subcommands and their options.
 pub fn ndef_command<'a>(alloc: Global) -> Result<Command<'a>, AllocError>
     ensures { IfOk result (λ c. app_of c ≡ ndef_app) }
 {
     empty_command(alloc)
-        .subcommand(Command::new(alloc, "check"))?
-        .subcommand(Command::new(alloc, "encode"))
+        .subcommand(reading_command(alloc, "check")?)?
+        .subcommand(encode_command(alloc)?)
 }

@@ -1,17 +1,21 @@
 //! How a run of the command ends.
 use ndef_value::Refusal;
 
-/// Why no further message is read.
+/// Why no further message is handled.
 #[derive(Clone, Copy, Debug, PartialEq, Eq)]
 pub enum Ending {
-    /// All that was to be read is read.
+    /// The input is at its end.
     Clean,
-    /// What is there is no message; the place counts from the start of that message.
+    /// What comes next is no message; the place counts from where it begins.
     Refused(Refusal),
     /// The source failed.
     Reading,
+    /// The sink failed.
+    Writing,
     /// A growth was refused.
     Memory,
+    /// Input is left after as many messages as a run handles.
+    TooMany,
 }
 
 /// The status that the process ends with.

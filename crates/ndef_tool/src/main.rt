@@ -1,13 +1,14 @@
 //! The command `ndef`: what stands on standard input is checked, or written again.
 #![tactic(auto)]
 
+mod block;
 mod choice;
 mod command;
 mod ending;
 mod line;
 mod printing;
-mod reading;
 mod running;
+mod session;
 
 use crate::ending::Status;
 use crate::running::run;

@@ -1,7 +1,9 @@
 //! The lines that the command prints.
 ghost use Rattle.std.specs.Prelude.{◌≡◌, ◌+◌, ◌<◌, ◌^◌, ◌≤◌, length};
-ghost use Rattle.ndef_tool.specs.Output.{message_line, refusal_line};
+ghost use Rattle.ndef_tool.specs.Output.{FitsPlace, ending_line, ending_text, message_line, refusal_line};
 
+use crate::choice::Action;
+use crate::ending::Ending;
 use crate::line::Line;
 use ndef_value::Refusal;
 
@@ -23,7 +25,7 @@ pub fn message_line(number: u64, at: u64, records: u64, bytes: u64) -> Line
 }
 
 /// The line of a refusal, behind messages of so many bytes.
-pub fn refusal_line(base: u64, refusal: Refusal) -> Line
+fn refusal_line(base: u64, refusal: Refusal) -> Line
     requires { base + refusal.at < 2 ^ 64 }
     ensures { result ≡ refusal_line base refusal }
 {
@@ -36,4 +38,37 @@ pub fn refusal_line(base: u64, refusal: Refusal) -> Line
     line.push(refusal.reason.name());
     line.push(b"\n");
     line
+}
+
+fn text_line(text: &[u8]) -> Line
+    requires { length text.now ≤ 160 }
+    ensures { result ≡ text.now }
+{
+    let mut line = Line::new();
+    line.push(text);
+    line
+}
+
+fn ending_text(base: u64, ending: Ending) -> Line
+    requires { FitsPlace base ending }
+    ensures { result ≡ ending_text base ending }
+{
+    match ending {
+        Ending::Clean | Ending::Writing => Line::new(),
+        Ending::Refused(refusal) => refusal_line(base, refusal),
+        Ending::Reading => text_line(b"fault: reading\n"),
+        Ending::Memory => text_line(b"fault: memory\n"),
+        Ending::TooMany => text_line(b"fault: more than 10000 messages\n"),
+    }
+}
+
+/// The line of an ending, behind messages of so many bytes, where there is one; `encode` has none.
+pub fn ending_line(action: Action, base: u64, ending: Ending) -> Line
+    requires { FitsPlace base ending }
+    ensures { result ≡ ending_line action base ending }
+{
+    match action {
+        Action::Check => ending_text(base, ending),
+        Action::Encode(_, _) => Line::new(),
+    }
 }

@@ -1,0 +1,47 @@
+-- Messages that are read one after another.
+use Rattle.std.proofs.Common.{◌≡◌, ℕ, Bool, true, List, [], ◌∷◌, ◌++◌, Option, Some, None, Result, Ok, Err, sym, ◌∙◌, subst}
+use Rattle.std.specs.Io.KnownBytes.{Keeps, Consumes}
+use Rattle.std.proofs.KnownBytes.{Keeps-refl}
+use Rattle.ndef_value.specs.Wire.{LimitValues}
+use Rattle.ndef_lang.specs.Language.{Sets, Conditions}
+use Rattle.ndef_message.specs.Readings.{ReadsFrom}
+use Rattle.ndef_message.specs.declared.message_reading.Read.{Read}
+use Rattle.ndef_message.specs.declared.message_reading.ReadError.{ReadError}
+use Rattle.ndef_message.specs.declared.message_reading.ReadError.TheVariants as errors
+use Rattle.ndef_tool.specs.Sessions.{Follow, Stops}
+use Rattle.ndef_tool.specs.declared.ending.Ending.{Ending}
+use Rattle.ndef_tool.specs.declared.ending.Ending.TheVariants.{Clean, Refused, Reading, Writing, Memory, TooMany}
+
+-- a look ahead changes nothing of what is taken
+consumes_kept : (a b c : Option (List ℕ)) (bytes : List ℕ) → Keeps a b → Consumes b c bytes → Consumes a c bytes
+consumes_kept None b c bytes k h = tt
+consumes_kept (Some x) None c bytes k h = absurd k
+consumes_kept (Some x) (Some y) None bytes k h = absurd h
+consumes_kept (Some x) (Some y) (Some z) bytes k h = sym k ∙ h
+
+-- .. nor of what is read
+pub reads_kept : (set : Sets) (holds : Conditions) (limits : LimitValues) (a b c : Option (List ℕ)) (r : Result Read ReadError) → Keeps a b
+    → ReadsFrom set holds limits b c r → ReadsFrom set holds limits a c r
+reads_kept set holds limits a b c (Ok read) k h = (h.0, consumes_kept a b c h.0 k h.1, h.2, h.3)
+reads_kept set holds limits None b c (Err (errors.Refused r)) k h = (h.0, tt, h.2, tt)
+reads_kept set holds limits (Some x) None c (Err (errors.Refused r)) k h = absurd k
+reads_kept set holds limits (Some x) (Some y) c (Err (errors.Refused r)) k h =
+    subst (λ bytes. ReadsFrom set holds limits (Some bytes) c (Err (errors.Refused r))) k h
+reads_kept set holds limits a b c (Err errors.ReadFault) k h = tt
+reads_kept set holds limits a b c (Err errors.NoMemory) k h = (h.0, consumes_kept a b c h.0 k h.1, h.2)
+
+-- one message more
+pub follow_more : (set : Sets) (holds : Conditions) (limits : LimitValues) (a b c : Option (List ℕ)) (reads : List Read) (read : Read) → Follow set holds limits a b reads
+    → ReadsFrom set holds limits b c (Ok read) → Follow set holds limits a c (reads ++ read ∷ [])
+follow_more set holds limits a b c [] read f h = (c, reads_kept set holds limits a b c (Ok read) f h, Keeps-refl c)
+follow_more set holds limits a b c (r ∷ rs) read f h = (f.0, f.1, follow_more set holds limits f.0 b c rs read f.2 h)
+
+-- messages end for the same reason where another sink failed
+pub stops_on : (set : Sets) (holds : Conditions) (limits : LimitValues) (count : ℕ) (a b : Option (List ℕ)) (failed old new : Bool) (ending : Ending) → (old ≡ true → new ≡ true)
+    → Stops set holds limits count a b failed old ending → Stops set holds limits count a b failed new ending
+stops_on set holds limits count a b failed old new Clean on h = h
+stops_on set holds limits count a b failed old new (Refused r) on h = h
+stops_on set holds limits count a b failed old new Reading on h = h
+stops_on set holds limits count a b failed old new Writing on h = (on h.0, h.1)
+stops_on set holds limits count a b failed old new Memory on h = h
+stops_on set holds limits count a b failed old new TooMany on h = h

@@ -1,0 +1,44 @@
+use Rattle.std.proofs.Common.{◌∙◌, [], Ok, Err, refl}
+use Rattle.std.proofs.KnownBytes.{Appends-nil}
+use Rattle.ndef_tool.specs.Output.{output, status_of, usage_line}
+use Rattle.ndef_tool.specs.declared.choice.WordsError.TheVariants.{Usage, NoMemory}
+use Rattle.ndef_tool.specs.declared.ending.Status.TheVariants as status
+use Rattle.ndef_tool.proofs.Handling.{session_ends}
+use Rattle.ndef_tool.proofs.Outputs.{goes_behind, nothing_out, usage_status}
+use Rattle.ndef_tool.proofs.running.run_in.Goals as goal
+
+pub returns-in-Err-NoMemory : goal.returns-in-Err-NoMemory
+returns-in-Err-NoMemory g c = λ clear.
+    let out = nothing_out (g.K.Sink.written c.args.sink.now) (g.K.Sink.has_failed c.args.sink.now) clear in
+    (Err NoMemory, tt, ([], status.Fault, (refl, refl), out.0, out.1))
+
+pub returns-in-Err-Usage : goal.returns-in-Err-Usage
+returns-in-Err-Usage g c = λ clear. (
+  Err Usage,
+  (rw c.in-Err-Usage.field-0-is at c.in-Err-Usage.ensures).chosen,
+  (
+    usage_line,
+    status.Usage,
+    (refl, refl),
+    goes_behind _ _ _ (g.K.Sink.has_failed c.args.sink.now) _ [] usage_line c.send.result clear (Appends-nil _) c.send.ensures.sent c.send.ensures.mark,
+    usage_status (g.K.Sink.has_failed c.args.sink.now) _ usage_line c.send.result status.Usage _ clear c.send.ensures.mark c.end.ensures,
+  ),
+)
+
+pub returns-in-Ok : goal.returns-in-Ok
+returns-in-Ok g c = λ clear.
+    let session = c.handle_messages-session.result in
+    let choice = c.in-Ok.choice in
+    let done = session_ends g.L.Language.set g.L.Language.holds choice _ _ _ _ _ _ (g.K.Sink.has_failed c.handle_messages-session.new.sink) _ session c.as_slice.result.now c.send-in-Ok.result c.end-in-Ok.result
+    (c.handle_messages-session.ensures.handled clear) (c.as_slice.ensures.value ∙ c.ending_line-line.ensures)
+    c.send-in-Ok.ensures.sent c.send-in-Ok.ensures.mark (rw c.status_of.ensures at c.end-in-Ok.ensures) in (
+      Ok choice,
+      c.in-Ok.ensures.chosen,
+      (
+        output choice done.0 session.ending,
+        status_of session.ending,
+        (done.0, session.ending, done.1, refl, refl),
+        done.2,
+        done.3,
+      ),
+    )

@@ -1,0 +1,15 @@
+use Rattle.std.proofs.Common.{◌≡◌, ◌≤◌, ◌-◌, ◌*◌, ◌^◌}
+use Rattle.ndef_tool.proofs.Handling.{SoFar}
+use Rattle.ndef_tool.proofs.session.handle_messages.Given as goal
+
+abbrev pub invariant-loop-read : goal.invariant-loop-read
+invariant-loop-read g l = record {
+  few : l.count ≤ 10000;
+  room : l.at ≤ l.count * 2 ^ 49;
+  mark : g.K.Sink.has_failed l.sink ≡ g.K.Sink.has_failed l.initial.sink;
+  so_far : SoFar g.L.Language.set g.L.Language.holds l.choice (g.S.Source.coming l.initial.source) (g.S.Source.coming l.source)
+      (g.K.Sink.written l.initial.sink) (g.K.Sink.written l.sink) l.count l.at;
+}
+
+abbrev pub decreases-loop-read : goal.decreases-loop-read
+decreases-loop-read g l = 10001 - l.count
