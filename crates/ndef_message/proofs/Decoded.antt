@@ -1,21 +1,21 @@
 -- What a decoder answers to some bytes.
-use Rattle.std.proofs.Common.{◌≡◌, ◌≢◌, ℕ, ◌+◌, ◌-◌, ◌<◌, ◌≤◌, inl, inr, refl, sym, ◌∙◌, ap, subst, arith, Bool, true, false, List, [], ◌∷◌, ◌++◌, length, length-append, take, drop, append_assoc, Option, Some, None, get_or}
+use Rattle.std.proofs.Common.{◌≡◌, ℕ, ◌+◌, ◌<◌, inl, inr, refl, sym, ◌∙◌, ap, subst, arith, true, false, List, [], ◌∷◌, ◌++◌, length, length-append, take, append_assoc, Option, Some, None, get_or}
 use Rattle.std.specs.Prelude.{is_some}
-use Rattle.std.proofs.lemmas.List.{append-nil, take_more, take_all, take-append-drop}
+use Rattle.std.proofs.lemmas.List.{append-nil, take_more}
 use Rattle.ndef_value.specs.Wire.{Item, LimitValues, AreInRange}
 use Rattle.ndef_value.specs.declared.profile.Profile.{Profile}
 use Rattle.ndef_value.specs.declared.refusal.Refusal.{Refusal}
 use Rattle.ndef_lang.specs.declared.kind.Kind.{Kind}
 use Rattle.ndef_lang.specs.Language.{Sets, Conditions}
 use Rattle.ndef_piece.specs.Reading.{Reading}
-use Rattle.ndef_message.specs.Decoding.{Decodes, DecoderKnows, EndsThere, Failed, Wants, event_of, is_failed}
+use Rattle.ndef_message.specs.Decoding.{Decodes, DecoderKnows, Failed, Wants, event_of, is_failed}
 use Rattle.ndef_message.specs.Deep.{Deep, IsDeep, IsViable}
 use Rattle.ndef_message.specs.Feed.{Fronts, answer_of}
-use Rattle.ndef_message.specs.Field.{Field, AtEnd, IsAt}
+use Rattle.ndef_message.specs.Field.{Field, IsAt}
 use Rattle.ndef_message.specs.Format.{FormatLaws}
-use Rattle.ndef_message.specs.Opened.{Opened, opened, unopened, IsBetween, MayGrow}
+use Rattle.ndef_message.specs.Opened.{Opened, unopened, MayGrow}
 use Rattle.ndef_message.specs.Place.{Refuses}
-use Rattle.ndef_message.specs.State.{Matches, Stands, Reached, Knows}
+use Rattle.ndef_message.specs.State.{Matches, Reached, Knows}
 use Rattle.ndef_message.specs.declared.event.Event.{Event}
 use Rattle.ndef_message.specs.declared.event.Event.TheVariants as event
 use Rattle.ndef_message.specs.declared.phase.Place.{Place}

@@ -89,16 +89,6 @@ pub piece_extends : (m : Option Item) (f : Fields) (kind id payload : List ℕ) 
 piece_extends None f kind id payload i = let e = id_there f.id_length id i in rw e refl
 piece_extends (Some m) f kind id payload i = refl
 
--- a piece is that of its parts
-id_back : (i : Option (List ℕ)) → i ≡ id_of (option_map length i) (unwrap_or i [])
-id_back None = refl
-id_back (Some x) = refl
-
-pub piece_back : (p : Piece) (s : Bool) (f : Fields) → fields p s ≡ f → p ≡ piece f p.kind (unwrap_or p.id []) p.payload
-piece_back p s f e =
-    same_parts _ _ _ _ _ _ _ _ _ _ _ _ _ _ (ap (λ f. f.first) e) (ap (λ f. f.last) e) (ap (λ f. f.chunked) e) (ap (λ f. f.tnf) e) refl
-    (id_back p.id ∙ ap (λ n. id_of n (unwrap_or p.id [])) (ap (λ f. f.id_length) e)) refl
-
 pub id_is_long : (p : Piece) (s : Bool) (f : Fields) → fields p s ≡ f → length (unwrap_or p.id []) ≡ unwrap_or f.id_length 0
 id_is_long p s f e = by_id p.id ∙ ap (λ f. unwrap_or f.id_length 0) e
   where

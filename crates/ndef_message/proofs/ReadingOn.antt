@@ -1,10 +1,10 @@
 -- What was read of a source, turn by turn.
-use Rattle.std.proofs.Common.{◌≡◌, ℕ, ◌+◌, ◌-◌, ◌<◌, ◌≤◌, inl, inr, refl, sym, ◌∙◌, ap, subst, arith, Bool, true, false, List, [], ◌∷◌, ◌++◌, length, length-append, take, drop, append_assoc, Option, Some, None, map}
+use Rattle.std.proofs.Common.{◌≡◌, ℕ, ◌+◌, ◌-◌, ◌<◌, ◌≤◌, refl, sym, ◌∙◌, ap, subst, arith, Bool, true, false, List, [], ◌∷◌, ◌++◌, length, length-append, take, drop, append_assoc, Option, Some, None, map}
 use Rattle.std.specs.Prelude.{IfSome, Result, Ok, Err}
 use Rattle.std.specs.Io.KnownBytes.{Consumes}
 use Rattle.std.proofs.Math.Decide.{dec_lt}
-use Rattle.std.proofs.lemmas.List.{append-nil, take-append-drop, take-append-le, take_all, length-take-le}
-use Rattle.std.proofs.Math.Seq.{take-append-add, take-append_seam, drop-append_seam}
+use Rattle.std.proofs.lemmas.List.{append-nil, take-append-drop, take-append-le, take_all}
+use Rattle.std.proofs.Math.Seq.{take-append-add}
 use Rattle.ndef_value.specs.Message.{Gives}
 use Rattle.ndef_value.specs.Wire.{Item, Run, LimitValues, AreInRange, greatest_length, joined, BeginsOnce, all_pieces}
 use Rattle.ndef_value.specs.declared.message.MessageError.{MessageError}
@@ -19,7 +19,7 @@ use Rattle.ndef_message.specs.Deep.{Deep, IsDeep, IsViable}
 use Rattle.ndef_message.specs.Feed.{Fronts, IsAccepted}
 use Rattle.ndef_message.specs.Field.{Field}
 use Rattle.ndef_message.specs.Format.{FormatLaws}
-use Rattle.ndef_message.specs.Opened.{Opened, IsBetween}
+use Rattle.ndef_message.specs.Opened.{Opened}
 use Rattle.ndef_message.specs.Place.{Refuses}
 use Rattle.ndef_message.specs.Readings.{AreSeen, Shown}
 use Rattle.ndef_message.specs.declared.event.Event.TheVariants as event
@@ -38,11 +38,6 @@ module _ (set : Sets) (holds : Conditions) (reach : Kind → ℕ → Profile →
   pub place_is : (failed : Option ℕ) (bytes : List ℕ) (given : List Item) (field : Field) → DecoderKnows set holds reach pass limits place reader phase taken failed o bytes given field → place_of failed taken ≡ length bytes
   place_is None bytes given field d = d.0.0
   place_is (Some at) bytes given field d = d.0.place_is
-
-  pub start_viable : (failed : Option ℕ) (given : List Item) (field : Field) → DecoderKnows set holds reach pass limits place reader phase taken failed o [] given field → IsViable set limits []
-  start_viable None given field ((n, inl s), e) = s.viable
-  start_viable None given field ((n, inr s), e) = absurd (omega (arith, ap length s.split, length-append s.front (s.byte ∷ [])))
-  start_viable (Some at) given field d = d.0.viable
 
 -- ---- places of viable bytes
 

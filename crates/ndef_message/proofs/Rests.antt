@@ -46,9 +46,6 @@ viable_front set limits a b v = (b ++ v.0, subst (IsDeep set limits) (append_ass
 pub deep_viable : (set : Sets) (limits : LimitValues) (a : List ℕ) → IsDeep set limits a → IsViable set limits a
 deep_viable set limits a d = ([], subst (IsDeep set limits) (sym (append-nil a)) d)
 
-pub viable_of : (set : Sets) (limits : LimitValues) (a b c : List ℕ) → c ≡ a ++ b → IsDeep set limits c → IsViable set limits a
-viable_of set limits a b c e d = (b, subst (IsDeep set limits) e d)
-
 module _ (laws : FormatLaws) (limits : LimitValues) where
   -- what completes behind whole pieces
   pub peel : (ps : List Piece) (c d : Before) (given : List Item) (done r : List ℕ) (items : List Item) → Walked limits c ps given d → SpellAll ps done → Rest limits c (done ++ r) items

@@ -1,5 +1,5 @@
 -- What a decoder knows, byte by byte.
-use Rattle.std.proofs.Common.{◌≡◌, ◌≢◌, ℕ, ◌+◌, ◌<◌, ◌≤◌, ◌^◌, inl, inr, refl, sym, ◌∙◌, ap, subst, arith, Bool, true, false, List, [], ◌∷◌, ◌++◌, length, length-append, Option, Some, None}
+use Rattle.std.proofs.Common.{◌≡◌, ◌≢◌, ℕ, ◌+◌, ◌≤◌, ◌^◌, inl, inr, refl, sym, ◌∙◌, ap, subst, arith, Bool, true, false, List, [], ◌∷◌, ◌++◌, length, length-append, Option, None}
 use Rattle.std.specs.Prelude.{Result, Ok, Err, OnErr}
 use Rattle.std.specs.List.{AllByRecursion}
 use Rattle.ndef_value.specs.Wire.{Item, IsShaped, LimitValues, AreInRange}
@@ -8,14 +8,13 @@ use Rattle.ndef_value.specs.declared.refusal.Refusal.{Refusal}
 use Rattle.ndef_lang.specs.declared.kind.Kind.{Kind}
 use Rattle.ndef_lang.specs.Language.{Sets, Conditions}
 use Rattle.ndef_piece.specs.Reading.{Reading}
-use Rattle.ndef_piece.specs.Walk.{Before, spot}
-use Rattle.ndef_message.specs.Decoding.{DecoderKnows, EndsThere, Failed}
-use Rattle.ndef_message.specs.Deep.{Deep, IsDeep, IsViable}
+use Rattle.ndef_message.specs.Decoding.{DecoderKnows, EndsThere}
+use Rattle.ndef_message.specs.Deep.{Deep, IsViable}
 use Rattle.ndef_message.specs.Feed.{answer_of}
-use Rattle.ndef_message.specs.Field.{Field, InHead, InType, InId, InPayload, AtEnd, IsAt, IsProper}
+use Rattle.ndef_message.specs.Field.{Field, InHead, InType, InId, InPayload, AtEnd, IsProper}
 use Rattle.ndef_message.specs.Format.{FormatLaws}
 use Rattle.ndef_message.specs.Opened.{Opened, opened, unopened, item_of, IsBetween, MayGrow, opened_after, HasRoom, WantsMemory}
-use Rattle.ndef_message.specs.State.{Matches, Stands, Stopped, Onward, Knows, is_done}
+use Rattle.ndef_message.specs.State.{Matches, Stands, Onward, Knows, is_done}
 use Rattle.ndef_message.specs.declared.phase.Place.{Place}
 use Rattle.ndef_message.specs.declared.phase.Phase.{Phase}
 use Rattle.ndef_message.specs.declared.phase.Phase.TheVariants as phases
@@ -23,7 +22,6 @@ use Rattle.ndef_message.proofs.Ended.{unended, ended_as, given_shaped, given_sma
 use Rattle.ndef_message.proofs.Feeding.{going}
 use Rattle.ndef_message.proofs.Octets.{not_refused}
 use Rattle.ndef_message.proofs.Opening.{Goes, Suits, kept_on, first_piece}
-use Rattle.ndef_message.proofs.Somewhere.{number_of_some}
 
 -- ---- the field and the phase
 suits : (set : Sets) (holds : Conditions) (reach : Kind → ℕ → Profile → List ℕ → Type 0) (pass : List ℕ → Type 0) (limits : LimitValues) (place : Place) (reader : Reading) (phase : Phase) (field : Field)

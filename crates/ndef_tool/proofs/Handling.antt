@@ -12,10 +12,11 @@ use Rattle.ndef_tool.specs.Runs.{Ends, status_after}
 use Rattle.ndef_tool.specs.Sessions.{Follow, GoesOut, Handles, IsSession}
 use Rattle.ndef_tool.specs.declared.choice.Choice.{Choice}
 use Rattle.ndef_tool.specs.declared.ending.Ending.TheVariants.{Writing}
+use Rattle.ndef_tool.specs.declared.ending.Ending.{Ending}
 use Rattle.ndef_tool.specs.declared.ending.Status.{Status}
 use Rattle.ndef_tool.specs.declared.session.Session.{Session}
 use Rattle.ndef_tool.proofs.Outputs.{blocks_more, bytes_more, ending_status, goes_behind, goes_to_end, stays_failed}
-use Rattle.ndef_tool.proofs.Sessions.{follow_more, stops_on}
+use Rattle.ndef_tool.proofs.Sessions.{follow_more}
 
 -- these were read, and their blocks are written
 pub record SoFar (set : Sets) (holds : Conditions) (choice : Choice) (a b : Option (List ℕ)) (v w : Option (List ℕ)) (count at : ℕ) : Type 0 where
@@ -48,7 +49,7 @@ handled_more set holds choice a b c v w x count at read text s r e sent = record
 pub handled_in_part : (set : Sets) (holds : Conditions) (choice : Choice) (a b c : Option (List ℕ)) (v w x : Option (List ℕ)) (count at : ℕ) (read : Read) (text : Text)
     (source_failed old new : Bool) (f : WriteFault) → SoFar set holds choice a b v w count at → count < 10000 → ReadsFrom set holds choice.limits b c (Ok read)
     → text ≡ block_of choice (count + 1) at read → old ≡ false → Sent 0 w x text (Err f) → new ≡ true
-    → Handles set holds choice a c source_failed v x new (record { at = at + read.taken; ending = Writing })
+    → Handles (IsSession set holds choice.limits a c source_failed new) choice v x new (record { at = at + read.taken; ending = Writing })
 handled_in_part set holds choice a b c v w x count at read text source_failed old new f s small r e clear sent m =
     let all = block_behind choice count at s.reads read text s.number s.place e in
     let out = goes_behind v w x old new (blocks choice 1 0 s.reads) text (Err f) clear s.written sent m in record {
@@ -65,20 +66,14 @@ handled_in_part set holds choice a b c v w x count at read text source_failed ol
     }
 
 -- the line of the ending behind them
-pub session_ends : (set : Sets) (holds : Conditions) (choice : Choice) (a b : Option (List ℕ)) (source_failed : Bool) (v w x : Option (List ℕ)) (middle new : Bool)
-    (session : Session) (line : Text) (r : Result ℕ WriteFault) (result : Status) → Handles set holds choice a b source_failed v w middle session
+pub session_ends : (Old New : List Read → Ending → Type 0) (choice : Choice) (v w x : Option (List ℕ)) (middle new : Bool) (session : Session) (line : Text) (r : Result ℕ WriteFault) (result : Status)
+    → ((reads : List Read) → (middle ≡ true → new ≡ true) → Old reads session.ending → New reads session.ending) → Handles Old choice v w middle session
     → line ≡ ending_line choice.action session.at session.ending → Sent 0 w x line r → MarksOf middle new line r → Ends r (status_of session.ending) result
-    → (reads : List Read) × IsSession set holds choice.limits a b source_failed new reads session.ending × GoesOut v x new (output choice reads session.ending)
-    × (result ≡ status_after new (status_of session.ending))
-session_ends set holds choice a b source_failed v w x middle new session line r result h e sent marks ends =
+    → (reads : List Read) × New reads session.ending × GoesOut v x new (output choice reads session.ending) × (result ≡ status_after new (status_of session.ending))
+session_ends Old New choice v w x middle new session line r result on h e sent marks ends =
     let same : line ≡ ending_line choice.action (bytes_of h.reads) session.ending = e ∙ ap (λ at. ending_line choice.action at session.ending) h.at in (
       h.reads,
-      record {
-        few = h.is.few;
-        between = h.is.between;
-        follow = h.is.follow;
-        stops = stops_on set holds choice.limits _ _ _ source_failed middle new session.ending (stays_failed middle new line r marks) h.is.stops;
-      },
+      on h.reads (stays_failed middle new line r marks) h.is,
       goes_to_end v w x middle new (blocks choice 1 0 h.reads) choice.action (bytes_of h.reads) session.ending r h.mark h.written (rw same at sent) (rw same at marks),
       ending_status middle new line session.ending r result h.mark marks ends,
     )

@@ -4,3 +4,4 @@ pub mod Numbers
 pub mod Sessions
 pub mod Outputs
 pub mod Handling
+pub mod Texts

@@ -14,7 +14,7 @@ use Rattle.ndef_tool.specs.declared.choice.Action.{Action}
 use Rattle.ndef_tool.specs.declared.choice.Action.TheVariants.{Check, Encode}
 use Rattle.ndef_tool.specs.declared.choice.Choice.{Choice}
 use Rattle.ndef_tool.specs.declared.ending.Ending.{Ending}
-use Rattle.ndef_tool.specs.declared.ending.Ending.TheVariants.{Clean, Refused, Reading, Writing, Memory, TooMany}
+use Rattle.ndef_tool.specs.declared.ending.Ending.TheVariants.{Clean, Refused, Hex, Reading, Writing, Memory, TooMany, TooLong}
 use Rattle.ndef_tool.specs.declared.ending.Status.{Status}
 use Rattle.ndef_tool.specs.declared.ending.Status.TheVariants as status
 
@@ -84,6 +84,10 @@ goes_to_end a b c middle new done action base Clean r is d s m =
     goes_behind a b c middle new done _ r is (subst (λ (failed : Bool). GoesOut a b failed done) is d) s m
 goes_to_end a b c middle new done action base (Refused x) r is d s m =
     goes_behind a b c middle new done _ r is (subst (λ (failed : Bool). GoesOut a b failed done) is d) s m
+goes_to_end a b c middle new done action base (Hex x) r is d s m =
+    goes_behind a b c middle new done _ r is (subst (λ (failed : Bool). GoesOut a b failed done) is d) s m
+goes_to_end a b c middle new done action base TooLong r is d s m =
+    goes_behind a b c middle new done _ r is (subst (λ (failed : Bool). GoesOut a b failed done) is d) s m
 goes_to_end a b c middle new done action base Reading r is d s m =
     goes_behind a b c middle new done _ r is (subst (λ (failed : Bool). GoesOut a b failed done) is d) s m
 goes_to_end a b c middle new done action base Memory r is d s m =
@@ -103,6 +107,8 @@ ending_status middle new text Writing (Ok n) result is m e = e ∙ ap (λ (faile
 ending_status middle new text Writing (Err f) result is m e = e ∙ ap (λ (failed : Bool). status_after failed status.Fault) (sym m)
 ending_status middle new text Clean r result is m e = usage_status middle new text r _ result is m e
 ending_status middle new text (Refused x) r result is m e = usage_status middle new text r _ result is m e
+ending_status middle new text (Hex x) r result is m e = usage_status middle new text r _ result is m e
+ending_status middle new text TooLong r result is m e = usage_status middle new text r _ result is m e
 ending_status middle new text Reading r result is m e = usage_status middle new text r _ result is m e
 ending_status middle new text Memory r result is m e = usage_status middle new text r _ result is m e
 ending_status middle new text TooMany r result is m e = usage_status middle new text r _ result is m e

@@ -1,5 +1,5 @@
 -- Messages that are read one after another.
-use Rattle.std.proofs.Common.{◌≡◌, ℕ, Bool, true, List, [], ◌∷◌, ◌++◌, Option, Some, None, Result, Ok, Err, sym, ◌∙◌, subst}
+use Rattle.std.proofs.Common.{◌≡◌, ℕ, Bool, true, false, length, List, [], ◌∷◌, ◌++◌, Option, Some, None, Result, Ok, Err, sym, ◌∙◌, subst}
 use Rattle.std.specs.Io.KnownBytes.{Keeps, Consumes}
 use Rattle.std.proofs.KnownBytes.{Keeps-refl}
 use Rattle.ndef_value.specs.Wire.{LimitValues}
@@ -8,9 +8,10 @@ use Rattle.ndef_message.specs.Readings.{ReadsFrom}
 use Rattle.ndef_message.specs.declared.message_reading.Read.{Read}
 use Rattle.ndef_message.specs.declared.message_reading.ReadError.{ReadError}
 use Rattle.ndef_message.specs.declared.message_reading.ReadError.TheVariants as errors
-use Rattle.ndef_tool.specs.Sessions.{Follow, Stops}
+use Rattle.ndef_tool.specs.Inputs.{ReadsIn}
+use Rattle.ndef_tool.specs.Sessions.{Follow, IsSession, Stops}
 use Rattle.ndef_tool.specs.declared.ending.Ending.{Ending}
-use Rattle.ndef_tool.specs.declared.ending.Ending.TheVariants.{Clean, Refused, Reading, Writing, Memory, TooMany}
+use Rattle.ndef_tool.specs.declared.ending.Ending.TheVariants.{Clean, Refused, Hex, Reading, Writing, Memory, TooMany, TooLong}
 
 -- a look ahead changes nothing of what is taken
 consumes_kept : (a b c : Option (List ℕ)) (bytes : List ℕ) → Keeps a b → Consumes b c bytes → Consumes a c bytes
@@ -37,7 +38,7 @@ follow_more set holds limits a b c [] read f h = (c, reads_kept set holds limits
 follow_more set holds limits a b c (r ∷ rs) read f h = (f.0, f.1, follow_more set holds limits f.0 b c rs read f.2 h)
 
 -- messages end for the same reason where another sink failed
-pub stops_on : (set : Sets) (holds : Conditions) (limits : LimitValues) (count : ℕ) (a b : Option (List ℕ)) (failed old new : Bool) (ending : Ending) → (old ≡ true → new ≡ true)
+stops_on : (set : Sets) (holds : Conditions) (limits : LimitValues) (count : ℕ) (a b : Option (List ℕ)) (failed old new : Bool) (ending : Ending) → (old ≡ true → new ≡ true)
     → Stops set holds limits count a b failed old ending → Stops set holds limits count a b failed new ending
 stops_on set holds limits count a b failed old new Clean on h = h
 stops_on set holds limits count a b failed old new (Refused r) on h = h
@@ -45,3 +46,22 @@ stops_on set holds limits count a b failed old new Reading on h = h
 stops_on set holds limits count a b failed old new Writing on h = (on h.0, h.1)
 stops_on set holds limits count a b failed old new Memory on h = h
 stops_on set holds limits count a b failed old new TooMany on h = h
+stops_on set holds limits count a b failed old new (Hex x) on h = h
+stops_on set holds limits count a b failed old new TooLong on h = h
+
+session_on : (set : Sets) (holds : Conditions) (limits : LimitValues) (a b : Option (List ℕ)) (failed old new : Bool) (reads : List Read) (ending : Ending) → (old ≡ true → new ≡ true)
+    → IsSession set holds limits a b failed old reads ending → IsSession set holds limits a b failed new reads ending
+session_on set holds limits a b failed old new reads ending on s = record {
+  few = s.few;
+  between = s.between;
+  follow = s.follow;
+  stops = stops_on set holds limits (length reads) s.between b failed old new ending on s.stops;
+}
+
+-- .. and so of hexadecimal text
+pub reads_on : (hex : Bool) (set : Sets) (holds : Conditions) (limits : LimitValues) (a b : Option (List ℕ)) (failed old new : Bool) (reads : List Read) (ending : Ending) → (old ≡ true → new ≡ true)
+    → ReadsIn hex set holds limits a b failed old reads ending → ReadsIn hex set holds limits a b failed new reads ending
+reads_on false set holds limits a b failed old new reads how on h = session_on set holds limits a b failed old new reads how on h
+reads_on true set holds limits a b failed old new reads how on (Ok bytes, i, r) =
+    (Ok bytes, i, (r.0, session_on set holds limits (Some bytes) r.0 false old new reads how on r.1))
+reads_on true set holds limits a b failed old new reads how on (Err why, i, p) = (Err why, i, p)

@@ -1,9 +1,8 @@
 -- What the words ask for.
-use Rattle.std.specs.Prelude.{◌≡◌, ◌&&◌, ◌≤◌, ℕ, List, [], ◌∷◌, Option, Some, None, Result, Ok, Err, codes, if◌then◌else◌, ⊤, option_and_then, option_map, nat_lt, nat_le}
+use Rattle.std.specs.Prelude.{◌≡◌, ◌&&◌, ◌≤◌, ℕ, Bool, false, List, [], ◌∷◌, Option, Some, None, Result, Ok, Err, codes, if◌then◌else◌, ⊤, option_and_then, option_map, nat_lt, nat_le}
 use Rattle.std.specs.Option.{option_map_or, ForSome}
 use Rattle.std.specs.Str.{bytes_eq}
 use Rattle.std.specs.Str.Parse.{digits_value, without_leading_plus}
-use Rattle.std.specs.Prelude.{false}
 use Rattle.clap.specs.ValueTests.{accepts}
 use Rattle.clap.specs.declared.builder.value_parser.ValueParser.TheVariants as vp
 use Rattle.clap.specs.Words.{App, Kinds, Row, Text, first_of, one_of, fault_of, subcommand_of}
@@ -18,6 +17,9 @@ use Rattle.ndef_tool.specs.declared.choice.Action.TheVariants.{Check, Encode}
 use Rattle.ndef_tool.specs.declared.choice.Choice.{Choice}
 use Rattle.ndef_tool.specs.declared.choice.WordsError.{WordsError}
 use Rattle.ndef_tool.specs.declared.choice.WordsError.TheVariants.{Usage, NoMemory}
+
+abbrev pub hex_of : List Row → Bool
+hex_of rows = option_map_or (λ t. bytes_eq t (codes "true")) (first_of (codes "hex") rows) false
 
 -- ---- numbers
 
@@ -82,7 +84,7 @@ action_of name rows = if bytes_eq name (codes "check") then Some Check
 -- the choice of a subcommand, with its options
 abbrev pub choice_in : Text → List Row → Option Choice
 choice_in name rows =
-    option_and_then (λ action. option_map (λ limits. record { action = action; limits = limits }) (limits_of rows)) (action_of name rows)
+    option_and_then (λ action. option_map (λ limits. record { action = action; hex = hex_of rows; limits = limits }) (limits_of rows)) (action_of name rows)
 
 -- the choice of clap's matches
 abbrev pub chosen_of : Option (Text × List Row) → Option Choice

@@ -1,7 +1,11 @@
 -- The command line: which subcommands and options there are, in clap's words.
 use Rattle.std.specs.Prelude.{ℕ, Some, true, codes, pos}
 use Rattle.clap.specs.Words.{App, Rule, Text, new_app, new_rule, with_rule, with_subcommand}
+use Rattle.clap.specs.declared.builder.action.ArgAction.TheVariants.{SetTrue}
 use Rattle.clap.specs.declared.builder.value_parser.ValueParser.TheVariants as vp
+
+abbrev pub hex_rule : Rule
+hex_rule = record (new_rule (codes "hex")) { long = Some (codes "hex"); action = Some SetTrue }
 
 -- a number from 1 to the most
 abbrev pub number_rule : ℕ → Text → Rule
@@ -11,9 +15,9 @@ number_rule most name = record (new_rule name) { long = Some name; parser = Some
 abbrev pub word_rule : Text → Rule
 word_rule name = record (new_rule name) { long = Some name }
 
--- the limits
+-- hexadecimal text and the limits
 abbrev pub limits_app : Text → App
-limits_app name = with_rule (with_rule (with_rule (new_app name) (number_rule 4294967295 (codes "payload")))
+limits_app name = with_rule (with_rule (with_rule (with_rule (new_app name) hex_rule) (number_rule 4294967295 (codes "payload")))
     (number_rule 65535 (codes "records"))) (number_rule 65535 (codes "pieces"))
 
 -- .. and the profile

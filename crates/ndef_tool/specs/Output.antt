@@ -1,5 +1,6 @@
 -- What the command prints: a function of the subcommand, of the messages that were read and of the ending.
-use Rattle.std.specs.Prelude.{◌+◌, ◌<◌, ◌^◌, ℕ, List, [], ◌∷◌, ◌++◌, length, codes, decimal, ⊤}
+use Rattle.std.specs.Prelude.{Bool, true, false, ◌+◌, ◌<◌, ◌^◌, ℕ, List, [], ◌∷◌, ◌++◌, length, codes, decimal, ⊤}
+use Rattle.hex.specs.Hex.{encode_lower}
 use Rattle.ndef_value.specs.Reason.{number_of, name_of}
 use Rattle.ndef_value.specs.declared.refusal.Refusal.{Refusal}
 use Rattle.ndef_message.specs.declared.message_reading.Read.{Read}
@@ -8,7 +9,9 @@ use Rattle.ndef_tool.specs.declared.choice.Action.{Action}
 use Rattle.ndef_tool.specs.declared.choice.Action.TheVariants.{Check, Encode}
 use Rattle.ndef_tool.specs.declared.choice.Choice.{Choice}
 use Rattle.ndef_tool.specs.declared.ending.Ending.{Ending}
-use Rattle.ndef_tool.specs.declared.ending.Ending.TheVariants.{Clean, Refused, Reading, Writing, Memory, TooMany}
+use Rattle.ndef_tool.specs.declared.ending.Ending.TheVariants.{Clean, Refused, Hex, Reading, Writing, Memory, TooMany, TooLong}
+use Rattle.ndef_tool.specs.declared.ending.HexFault.{HexFault}
+use Rattle.ndef_tool.specs.declared.ending.HexFault.TheVariants.{Odd, BadDigit}
 use Rattle.ndef_tool.specs.declared.ending.Status.{Status}
 use Rattle.ndef_tool.specs.declared.ending.Status.TheVariants as status
 
@@ -30,14 +33,20 @@ abbrev pub refusal_line : ℕ → Refusal → Text
 refusal_line base r =
     codes "refused at " ++ decimal (base + r.at) ++ codes ": " ++ decimal (number_of r.reason) ++ codes " " ++ name_of r.reason ++ codes "\n"
 
+abbrev pub hex_line : HexFault → Text
+hex_line Odd = codes "hex: odd number of digits\n"
+hex_line (BadDigit place) = codes "hex: bad digit at " ++ decimal place ++ codes "\n"
+
 -- the line of an ending, where it has one
 abbrev pub ending_text : ℕ → Ending → Text
 ending_text base Clean = []
 ending_text base (Refused r) = refusal_line base r
+ending_text base (Hex fault) = hex_line fault
 ending_text base Reading = codes "fault: reading\n"
 ending_text base Writing = []
 ending_text base Memory = codes "fault: memory\n"
 ending_text base TooMany = codes "fault: more than 10000 messages\n"
+ending_text base TooLong = codes "fault: hexadecimal input too long\n"
 
 -- `encode` leaves it out
 abbrev pub ending_line : Action → ℕ → Ending → Text
@@ -52,17 +61,23 @@ FitsPlace base _ = ⊤
 abbrev pub status_of : Ending → Status
 status_of Clean = status.Clean
 status_of (Refused r) = status.Refused
+status_of (Hex fault) = status.Refused
 status_of _ = status.Fault
 
 -- ---- a whole run
 
+-- bytes as they are, or as a line of hexadecimal digits
+abbrev pub shown_in : Bool → List ℕ → Text
+shown_in false bytes = bytes
+shown_in true bytes = encode_lower bytes ++ codes "\n"
+
 -- what is printed of a message, with its number and its place
-abbrev pub block_by : Action → (number at : ℕ) → Read → Text
-block_by Check number at read = message_line number at (length read.message) read.taken
-block_by (Encode form size) number at read = encoded form size read.message
+abbrev pub block_by : Action → (hex : Bool) → (number at : ℕ) → Read → Text
+block_by Check hex number at read = message_line number at (length read.message) read.taken
+block_by (Encode form size) hex number at read = shown_in hex (encoded form size read.message)
 
 abbrev pub block_of : Choice → (number at : ℕ) → Read → Text
-block_of choice number at read = block_by choice.action number at read
+block_of choice number at read = block_by choice.action choice.hex number at read
 
 -- the blocks of the messages, of which the first has this number and this place
 abbrev pub blocks : Choice → (number at : ℕ) → List Read → Text

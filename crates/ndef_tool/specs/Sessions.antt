@@ -33,6 +33,7 @@ Stops set holds limits count before after source_failed sink_failed Reading = so
 Stops set holds limits count before after source_failed sink_failed Writing = (sink_failed ≡ true) × Keeps before after
 Stops set holds limits count before after source_failed sink_failed Memory = (count < 10000) × (source_failed ≡ false)
 Stops set holds limits count before after source_failed sink_failed TooMany = (count ≡ 10000) × (source_failed ≡ false) × Keeps before after × IsOn before
+Stops set holds limits count before after source_failed sink_failed _ = ⊥
 
 -- what is read of the bytes to come: these messages, at most 10000, and then this ending
 pub record IsSession (set : Sets) (holds : Conditions) (limits : LimitValues) (before after : Option (List ℕ)) (source_failed sink_failed : Bool) (reads : List Read) (ending : Ending) : Type 0 where
@@ -53,9 +54,9 @@ is_writing Writing = true
 is_writing _ = false
 
 -- the messages that were read, and their blocks
-pub record Handles (set : Sets) (holds : Conditions) (choice : Choice) (before after : Option (List ℕ)) (source_failed : Bool) (written_before written_after : Option (List ℕ)) (sink_failed : Bool) (session : Session) : Type 0 where
+pub record Handles (IsRead : List Read → Ending → Type 0) (choice : Choice) (written_before written_after : Option (List ℕ)) (sink_failed : Bool) (session : Session) : Type 0 where
   pub reads : List Read
-  pub is : IsSession set holds choice.limits before after source_failed sink_failed reads session.ending
+  pub is : IsRead reads session.ending
   pub at : session.at ≡ bytes_of reads
   pub written : GoesOut written_before written_after sink_failed (blocks choice 1 0 reads)
   pub mark : sink_failed ≡ is_writing session.ending

@@ -1,7 +1,7 @@
 //! What the words ask for.
 ghost use Rattle.std.specs.Prelude.{◌≡◌, ◌≤◌, ◌<◌, ◌^◌, map, option_and_then, option_map, string_bytes, IfOk, IfSome};
 ghost use Rattle.clap.specs.Words.{first_of, one_of, rows_of, found_of, subcommand_rows_of};
-ghost use Rattle.ndef_tool.specs.Chosen.{Chooses, HasSize, HasSizeIfAny, action_of, choice_in, chosen_of, chunk_of, form_named, form_of, given_number, limits_of, number_in, number_of, profile_named, profile_of, within};
+ghost use Rattle.ndef_tool.specs.Chosen.{Chooses, HasSize, HasSizeIfAny, action_of, choice_in, chosen_of, chunk_of, form_named, form_of, given_number, hex_of, limits_of, number_in, number_of, profile_named, profile_of, within};
 
 use crate::command::ndef_command;
 use clap::ArgMatches;
@@ -24,6 +24,8 @@ pub enum Action {
 #[derive(Clone, Copy, Debug)]
 pub struct Choice {
     pub action: Action,
+    /// Input is hexadecimal text, and so is what is written again.
+    pub hex: bool,
     pub limits: Limits,
 }
 
@@ -43,6 +45,15 @@ fn text<'a>(matches: &ArgMatches<'a>, id: &str) -> Option<&'a str>
     ensures { option_map (λ s. s.now) result ≡ first_of id.now (rows_of (found_of matches.now)) }
 {
     matches.get_str(id)
+}
+
+fn hex(matches: &ArgMatches<'_>) -> bool
+    ensures { result ≡ hex_of (rows_of (found_of matches.now)) }
+{
+    match text(matches, "hex") {
+        Some(text) => text == "true",
+        None => false,
+    }
 }
 
 fn read(matches: &ArgMatches<'_>, id: &str) -> Option<u32>
@@ -163,7 +174,11 @@ fn choice_given(name: &str, matches: &ArgMatches<'_>) -> Option<Choice>
 {
     let action = action_given(name, matches)?;
     let limits = limits_given(matches)?;
-    Some(Choice { action, limits })
+    Some(Choice {
+        action,
+        hex: hex(matches),
+        limits,
+    })
 }
 
 fn chosen(matches: &ArgMatches<'_>) -> Option<Choice>

@@ -2,10 +2,19 @@
 ghost use Rattle.std.specs.Prelude.{◌≡◌, ◌<◌, ◌≤◌, false, true, IfOk, pos, ◌≤ℤ◌};
 ghost use Rattle.clap.specs.Words.{app_of, rule_of};
 ghost use Rattle.clap.specs.declared.builder.command.Command.TheViews.{out-Command as fields_of};
-ghost use Rattle.ndef_tool.specs.CommandLine.{number_rule, word_rule, limits_app, reading_app, encode_app, empty_app, ndef_app};
+ghost use Rattle.ndef_tool.specs.CommandLine.{hex_rule, number_rule, word_rule, limits_app, reading_app, encode_app, empty_app, ndef_app};
 
-use clap::{Arg, Command, value_parser};
+use clap::{Arg, ArgAction, Command, value_parser};
 use std::alloc::{AllocError, Global};
+
+fn hex_flag<'a>(alloc: Global) -> Arg<'a>
+    ensures rule { rule_of result ≡ hex_rule }
+    ensures local { result.global ≡ false }
+{
+    Arg::new(alloc, "hex")
+        .long("hex")
+        .action(ArgAction::SetTrue)
+}
 
 /// An option for a number from 1 to 4294967295.
 fn wide_option<'a>(alloc: Global, name: &'a str) -> Arg<'a>
@@ -40,6 +49,7 @@ fn limits_command<'a>(alloc: Global, name: &'a str) -> Result<Command<'a>, Alloc
     ensures local { IfOk result (λ c. (fields_of c).has_globals ≡ false) }
 {
     Command::new(alloc, name)
+        .arg(hex_flag(alloc))?
         .arg(wide_option(alloc, "payload"))?
         .arg(small_option(alloc, "records"))?
         .arg(small_option(alloc, "pieces"))

@@ -1,6 +1,15 @@
 //! How a run of the command ends.
 use ndef_value::Refusal;
 
+/// What is wrong with hexadecimal digits.
+#[derive(Clone, Copy, Debug, PartialEq, Eq)]
+pub enum HexFault {
+    /// Their number is odd.
+    Odd,
+    /// At this place, counted without white space, there is no digit.
+    BadDigit(u64),
+}
+
 /// Why no further message is handled.
 #[derive(Clone, Copy, Debug, PartialEq, Eq)]
 pub enum Ending {
@@ -8,6 +17,8 @@ pub enum Ending {
     Clean,
     /// What comes next is no message; the place counts from where it begins.
     Refused(Refusal),
+    /// The input isn't hexadecimal text.
+    Hex(HexFault),
     /// The source failed.
     Reading,
     /// The sink failed.
@@ -16,6 +27,8 @@ pub enum Ending {
     Memory,
     /// Input is left after as many messages as a run handles.
     TooMany,
+    /// The hexadecimal text is longer than what a run reads.
+    TooLong,
 }
 
 /// The status that the process ends with.

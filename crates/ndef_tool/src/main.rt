@@ -5,6 +5,7 @@ mod block;
 mod choice;
 mod command;
 mod ending;
+mod hexadecimal;
 mod line;
 mod printing;
 mod running;

@@ -1,9 +1,9 @@
 //! The lines that the command prints.
 ghost use Rattle.std.specs.Prelude.{◌≡◌, ◌+◌, ◌<◌, ◌^◌, ◌≤◌, length};
-ghost use Rattle.ndef_tool.specs.Output.{FitsPlace, ending_line, ending_text, message_line, refusal_line};
+ghost use Rattle.ndef_tool.specs.Output.{FitsPlace, ending_line, ending_text, hex_line, message_line, refusal_line};
 
 use crate::choice::Action;
-use crate::ending::Ending;
+use crate::ending::{Ending, HexFault};
 use crate::line::Line;
 use ndef_value::Refusal;
 
@@ -40,6 +40,23 @@ fn refusal_line(base: u64, refusal: Refusal) -> Line
     line
 }
 
+/// The line of a fault of hexadecimal digits.
+fn hex_line(fault: HexFault) -> Line
+    ensures { result ≡ hex_line fault }
+{
+    let mut line = Line::new();
+    line.push(b"hex: ");
+    match fault {
+        HexFault::Odd => line.push(b"odd number of digits"),
+        HexFault::BadDigit(place) => {
+            line.push(b"bad digit at ");
+            line.push_number(place);
+        }
+    }
+    line.push(b"\n");
+    line
+}
+
 fn text_line(text: &[u8]) -> Line
     requires { length text.now ≤ 160 }
     ensures { result ≡ text.now }
@@ -56,9 +73,11 @@ fn ending_text(base: u64, ending: Ending) -> Line
     match ending {
         Ending::Clean | Ending::Writing => Line::new(),
         Ending::Refused(refusal) => refusal_line(base, refusal),
+        Ending::Hex(fault) => hex_line(fault),
         Ending::Reading => text_line(b"fault: reading\n"),
         Ending::Memory => text_line(b"fault: memory\n"),
         Ending::TooMany => text_line(b"fault: more than 10000 messages\n"),
+        Ending::TooLong => text_line(b"fault: hexadecimal input too long\n"),
     }
 }
 

@@ -7,7 +7,7 @@ ghost use Rattle.ndef_message.specs.Sending.{Sent, MarksOf};
 use crate::choice::{WordsError, choose};
 use crate::ending::{Ending, Status};
 use crate::printing::ending_line;
-use crate::session::handle_messages;
+use crate::session::handle;
 use ndef_lang::{Language, OuterLanguage};
 use ndef_message::{Sink, Source, WriteFault, send};
 use std::alloc::Global;
@@ -23,8 +23,9 @@ fn status_of(ending: Ending) -> Status
 {
     match ending {
         Ending::Clean => Status::Clean,
-        Ending::Refused(_) => Status::Refused,
-        Ending::Reading | Ending::Writing | Ending::Memory | Ending::TooMany => Status::Fault,
+        Ending::Refused(_) | Ending::Hex(_) => Status::Refused,
+        Ending::Reading | Ending::Writing | Ending::Memory | Ending::TooMany | Ending::TooLong =>
+            Status::Fault,
     }
 }
 
@@ -53,7 +54,7 @@ fn run_in<L: OuterLanguage, S: Source, K: Sink>(
         Err(WordsError::NoMemory) => Status::Fault,
         Err(WordsError::Usage) => end(send(0, USAGE, sink), Status::Usage),
         Ok(choice) => {
-            let session = handle_messages::<L, S, K>(alloc, &choice, source, sink);
+            let session = handle::<L, S, K>(alloc, &choice, source, sink);
             let line = ending_line(choice.action, session.at, session.ending);
             end(send(0, line.as_slice(), sink), status_of(session.ending))
         }
@@ -62,8 +63,9 @@ fn run_in<L: OuterLanguage, S: Source, K: Sink>(
 
 /// Does what the words ask for, of which the first is the program's name.
 ///
-/// The messages of the source are handled one after another to its end, at most 10000 of them: all
-/// that is printed of one is made before its first byte is written. After a writing fault the status
+/// The messages of the source, or with `--hex` those of the bytes that its text stands for, are
+/// handled one after another to their end, at most 10000 of them: all that is printed of one is made
+/// before its first byte is written. After a writing fault the status
 /// is `Fault`, and a front of the output is written.
 pub fn run<S: Source, K: Sink>(
     alloc: Global,

@@ -1,15 +1,17 @@
 //! The messages of a source, handled one after another.
-ghost use Rattle.std.specs.Prelude.{◌≡◌, ◌≤◌, false};
+ghost use Rattle.std.specs.Prelude.{◌≡◌, ◌≤◌, false, true};
 ghost use Rattle.ndef_message.specs.Readings.{ReadsFrom, is_fault};
 ghost use Rattle.ndef_tool.specs.Chosen.{HasSize};
+ghost use Rattle.ndef_tool.specs.Inputs.{ReadsIn};
 ghost use Rattle.ndef_tool.specs.Output.{FitsPlace};
-ghost use Rattle.ndef_tool.specs.Sessions.{Handles, IsNext, IsShort, IsSmall, LooksAhead};
+ghost use Rattle.ndef_tool.specs.Sessions.{Handles, IsNext, IsSession, IsShort, IsSmall, LooksAhead};
 
 use crate::block::block_for;
 use crate::choice::Choice;
 use crate::ending::Ending;
+use crate::hexadecimal::read_hexadecimal;
 use ndef_lang::OuterLanguage;
-use ndef_message::{Read, ReadError, Sink, Source, SourceFault, read_message, send};
+use ndef_message::{Read, ReadError, Sink, SliceSource, Source, SourceFault, read_message, send};
 use ndef_value::{Limits, messages_are_bounded};
 use std::alloc::Global;
 
@@ -78,7 +80,7 @@ fn read_next<L: OuterLanguage, S: Source>(
 }
 
 /// Reads the messages to their end and writes each one's block before the next is read.
-pub fn handle_messages<L: OuterLanguage, S: Source, K: Sink>(
+fn handle_messages<L: OuterLanguage, S: Source, K: Sink>(
     alloc: Global,
     choice: &Choice,
     source: &mut S,
@@ -86,9 +88,9 @@ pub fn handle_messages<L: OuterLanguage, S: Source, K: Sink>(
 ) -> Session
     requires { HasSize choice.now.action }
     ensures handled { K.has_failed sink.old ≡ false
-        → Handles L.set L.holds choice.now
-        (S.coming source.old) (S.coming source.new) (S.has_failed source.new)
-        (K.written sink.old) (K.written sink.new) (K.has_failed sink.new) result }
+        → Handles (IsSession L.set L.holds choice.now.limits (S.coming source.old) (S.coming source.new)
+        (S.has_failed source.new) (K.has_failed sink.new))
+        choice.now (K.written sink.old) (K.written sink.new) (K.has_failed sink.new) result }
     ensures room { FitsPlace result.at result.ending }
 {
     let mut count = 0;
@@ -108,5 +110,49 @@ pub fn handle_messages<L: OuterLanguage, S: Source, K: Sink>(
             let ending = Ending::Writing;
             return Session { at, ending };
         };
+    }
+}
+
+/// Handles the messages of the bytes that the text of the source stands for.
+fn handle_text<L: OuterLanguage, S: Source, K: Sink>(
+    alloc: Global,
+    choice: &Choice,
+    source: &mut S,
+    sink: &mut K,
+) -> Session
+    requires { HasSize choice.now.action }
+    ensures handled { K.has_failed sink.old ≡ false
+        → Handles (ReadsIn true L.set L.holds choice.now.limits (S.coming source.old) (S.coming source.new)
+        (S.has_failed source.new) (K.has_failed sink.new))
+        choice.now (K.written sink.old) (K.written sink.new) (K.has_failed sink.new) result }
+    ensures room { FitsPlace result.at result.ending }
+{
+    match read_hexadecimal(alloc, source) {
+        Ok(bytes) => {
+            let mut source = SliceSource::new(bytes.as_slice(), &[]);
+            handle_messages::<L, SliceSource<'_>, K>(alloc, choice, &mut source, sink)
+        }
+        Err(ending) => Session { at: 0, ending },
+    }
+}
+
+/// Handles the messages of the source as they are chosen to be read.
+pub fn handle<L: OuterLanguage, S: Source, K: Sink>(
+    alloc: Global,
+    choice: &Choice,
+    source: &mut S,
+    sink: &mut K,
+) -> Session
+    requires { HasSize choice.now.action }
+    ensures handled { K.has_failed sink.old ≡ false
+        → Handles (ReadsIn choice.now.hex L.set L.holds choice.now.limits (S.coming source.old) (S.coming source.new)
+        (S.has_failed source.new) (K.has_failed sink.new))
+        choice.now (K.written sink.old) (K.written sink.new) (K.has_failed sink.new) result }
+    ensures room { FitsPlace result.at result.ending }
+{
+    if choice.hex {
+        handle_text::<L, S, K>(alloc, choice, source, sink)
+    } else {
+        handle_messages::<L, S, K>(alloc, choice, source, sink)
     }
 }

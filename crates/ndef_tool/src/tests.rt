@@ -379,6 +379,89 @@ fn encodes_in_a_form(rt: HostRuntime) -> Result<(), Fail> {
     Ok(())
 }
 
+#[test]
+fn checks_hexadecimal_text(rt: HostRuntime) -> Result<(), Fail> {
+    let alloc = rt.alloc();
+    let table: [(&str, u8, &str); 10] = [
+        (
+            "d00000 D00000\n",
+            0,
+            "message 1 at 0: records 1, bytes 3\nmessage 2 at 3: records 1, bytes 3\n",
+        ),
+        (
+            "\t d\r\n0 0000\n",
+            0,
+            "message 1 at 0: records 1, bytes 3\n",
+        ),
+        ("", 0, ""),
+        (" \n", 0, ""),
+        ("d000001", 1, "hex: odd number of digits\n"),
+        ("d0g", 1, "hex: odd number of digits\n"),
+        ("d0g0", 1, "hex: bad digit at 2\n"),
+        (" d 0\n0 g", 1, "hex: bad digit at 3\n"),
+        ("d00000\x0b\x0b", 1, "hex: bad digit at 6\n"),
+        (
+            "d0000051",
+            1,
+            "message 1 at 0: records 1, bytes 3\nrefused at 3: 2 BeginMissing\n",
+        ),
+    ];
+    for (text, wanted, lines) in table {
+        let (status, out) = ran(alloc, &["ndef", "check", "--hex"], text.as_bytes(), 3)?;
+        assert!(rt; status == wanted && out.as_slice() == lines.as_bytes());
+    }
+    Ok(())
+}
+
+#[test]
+fn encodes_hexadecimal_text(rt: HostRuntime) -> Result<(), Fail> {
+    let alloc = rt.alloc();
+    let hello = "D10108 5402656E 48656C6C6F";
+    let table: [(&[&str], &str, u8, &str); 6] = [
+        (&["ndef", "encode", "--hex"], "c50000000000", 0, "d50000\n"),
+        (
+            &["ndef", "encode", "--hex"],
+            "d00000d50000",
+            0,
+            "d00000\nd50000\n",
+        ),
+        (
+            &["ndef", "encode", "--form", "long", "--hex"],
+            "d50000",
+            0,
+            "c50000000000\n",
+        ),
+        (
+            &["ndef", "encode", "--chunk", "3", "--hex"],
+            hello,
+            0,
+            "b101035402656e36000348656c5600026c6f\n",
+        ),
+        (&["ndef", "encode", "--hex"], "d0g0", 1, ""),
+        (&["ndef", "encode", "--hex"], "d0000051", 1, "d00000\n"),
+    ];
+    for (texts, text, wanted, lines) in table {
+        let (status, out) = ran(alloc, texts, text.as_bytes(), 5)?;
+        assert!(rt; status == wanted && out.as_slice() == lines.as_bytes());
+    }
+    Ok(())
+}
+
+#[test]
+fn reads_16777216_bytes_of_text(rt: HostRuntime) -> Result<(), Fail> {
+    let alloc = rt.alloc();
+    let table = [
+        (16777216, 1, "hex: bad digit at 0\n"),
+        (16777217, 3, "fault: hexadecimal input too long\n"),
+    ];
+    for (count, wanted, lines) in table {
+        let text = vec![in alloc; b'g'; count]?;
+        let (status, out) = ran(alloc, &["ndef", "check", "--hex"], text.as_slice(), 9)?;
+        assert!(rt; status == wanted && out.as_slice() == lines.as_bytes());
+    }
+    Ok(())
+}
+
 // A reader that shows some bytes and then fails.
 #[derive(Drop)]
 struct FailingReader<'a> {
@@ -410,9 +493,14 @@ impl BufRead for FailingReader<'_> {
 #[test]
 fn tells_a_reading_fault(rt: HostRuntime) -> Result<(), Fail> {
     let alloc = rt.alloc();
-    for (name, text) in [("check", "fault: reading\n"), ("encode", "")] {
-        let words = words(alloc, &["ndef", name])?;
-        let mut source = StdSource::new(FailingReader { bytes: &HELLO[..5] });
+    let table: [(&[&str], &[u8], &str); 3] = [
+        (&["ndef", "check"], &HELLO[..5], "fault: reading\n"),
+        (&["ndef", "encode"], &HELLO[..5], ""),
+        (&["ndef", "check", "--hex"], b"d00000", "fault: reading\n"),
+    ];
+    for (texts, bytes, text) in table {
+        let words = words(alloc, texts)?;
+        let mut source = StdSource::new(FailingReader { bytes });
         let mut out = Vec::new(alloc);
         let mut sink = StdSink::new(&mut out);
         let status = run(alloc, words.as_slice(), &mut source, &mut sink);

@@ -1,4 +1,4 @@
-use Rattle.std.proofs.Common.{rules, ◌≡◌, ◌+◌, ◌-◌, ◌<◌, ◌≤◌, ◌++◌, [], length, take, refl, sym, ◌∙◌, ap, subst, arith, length-append, true, false}
+use Rattle.std.proofs.Common.{◌-◌, ◌++◌, [], length, refl, sym, ◌∙◌, subst, arith, length-append, false}
 use Rattle.ndef_value.specs.Wire.{AreInRange}
 use Rattle.ndef_message.specs.Deep.{Deep, IsDeep, IsViable}
 use Rattle.ndef_message.specs.Feed.{IsAccepted}

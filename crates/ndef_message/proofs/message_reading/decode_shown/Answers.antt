@@ -1,4 +1,4 @@
-use Rattle.std.proofs.Common.{◌≡◌, false, sym, ◌∙◌}
+use Rattle.std.proofs.Common.{sym, ◌∙◌}
 use Rattle.ndef_message.proofs.Shows as shows
 use Rattle.ndef_message.proofs.message_reading.decode_shown.Goals as goal
 

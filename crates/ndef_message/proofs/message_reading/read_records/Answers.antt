@@ -1,8 +1,8 @@
-use Rattle.std.proofs.Common.{rules, ◌≡◌, ◌+◌, ◌-◌, ◌<◌, ◌≤◌, ◌++◌, ◌∷◌, [], length, take, refl, sym, ◌∙◌, ap, subst, arith, length-append, true, false}
+use Rattle.std.proofs.Common.{◌≤◌, ◌++◌, ◌∷◌, [], length, take, sym, ◌∙◌, ap, subst, arith, length-append}
 use Rattle.std.specs.Prelude.{is_some}
 use Rattle.std.proofs.lemmas.List.{length-take-le}
 use Rattle.ndef_message.specs.Decoding.{DecoderKnows, Decodes, EndsThere}
-use Rattle.ndef_message.specs.Deep.{Deep, IsDeep, IsViable}
+use Rattle.ndef_message.specs.Deep.{Deep}
 use Rattle.ndef_message.specs.Feed.{IsAccepted}
 use Rattle.ndef_message.specs.Place.{Refuses}
 use Rattle.ndef_message.specs.declared.event.Event.TheVariants as event

@@ -1,8 +1,8 @@
-use Rattle.std.proofs.Common.{rules, ◌≡◌, ◌+◌, ◌<◌, ◌++◌, ◌∷◌, [], length, take, drop, refl, sym, ◌∙◌, ap, subst, arith, Some, None, slice_index, append_assoc, length-append}
+use Rattle.std.proofs.Common.{◌≡◌, ◌+◌, ◌++◌, ◌∷◌, [], take, drop, refl, sym, ◌∙◌, ap, subst, arith, slice_index, append_assoc, length-append}
 use Rattle.std.proofs.Math.Logic.{∥∥₁_map}
 use Rattle.std.proofs.lemmas.List.{take_all, take-append-drop, length-take-le}
 use Rattle.ndef_value.specs.Wire.{AreInRange}
-use Rattle.ndef_message.specs.Decoding.{DecoderKnows, Decodes, EndsThere}
+use Rattle.ndef_message.specs.Decoding.{DecoderKnows, EndsThere}
 use Rattle.ndef_message.specs.Deep.{IsDeep, IsViable}
 use Rattle.ndef_message.specs.Place.{Refuses}
 use Rattle.ndef_message.proofs.Decoded as decoded

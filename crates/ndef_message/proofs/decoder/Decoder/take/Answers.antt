@@ -1,4 +1,4 @@
-use Rattle.std.proofs.Common.{rules, ◌≡◌, ◌≢◌, ◌++◌, ◌∷◌, [], length, refl, sym, ◌∙◌, ap, subst, arith, Some, None}
+use Rattle.std.proofs.Common.{◌++◌, ◌∷◌, [], length, refl, sym, ◌∙◌, ap, subst, arith}
 use Rattle.std.proofs.Math.Logic.{∥∥₁_map}
 use Rattle.ndef_message.specs.Decoding.{EndsThere}
 use Rattle.ndef_message.specs.Deep.{IsViable}

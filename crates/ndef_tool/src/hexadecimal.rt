@@ -1,0 +1,96 @@
+//! Hexadecimal text, read whole.
+ghost use Rattle.std.specs.Prelude.{◌≡◌, ◌≤◌, ◌++◌, codes, false, string_bytes, IfErr, IfOk};
+ghost use Rattle.hex.specs.Hex.{encode_lower};
+ghost use Rattle.ndef_tool.specs.Hexadecimal.{IsDecoded, IsInput, IsText, digits_of, fault_of, is_space, items_of};
+ghost use Rattle.ndef_tool.specs.Output.{FitsPlace};
+ghost use Rattle.ndef_tool.specs.Sessions.{is_writing};
+
+use crate::ending::{Ending, HexFault};
+use hex::FromHexError;
+use ndef_message::Source;
+use ndef_value::{Bytes, NoMemory};
+use std::alloc::Global;
+
+/// The most bytes of text that are read.
+const MOST: usize = 16777216;
+
+/// Reads the text to its end.
+fn read_text<S: Source>(alloc: Global, source: &mut S) -> Result<Vec<u8>, Ending>
+    ensures text { IsText (S.coming source.old) (S.coming source.new) (S.has_failed source.new) (items_of result) }
+{
+    let mut text = Vec::new(alloc);
+    loop {
+        let Ok(bytes) = source.fill() else {
+            return Err(Ending::Reading);
+        };
+        if bytes.is_empty() {
+            return Ok(text);
+        }
+        let count = bytes.len().min(MOST - text.len());
+        if count == 0 {
+            return Err(Ending::TooLong);
+        }
+        let Ok(()) = text.extend_from_slice(&bytes[..count]) else {
+            return Err(Ending::Memory);
+        };
+        source.take(count);
+    }
+}
+
+fn is_space(byte: u8) -> bool
+    ensures { result ≡ is_space byte }
+{
+    byte == b' ' || byte == b'\t' || byte == b'\r' || byte == b'\n'
+}
+
+/// Drops white space.
+fn drop_spaces(text: &mut Vec<u8>)
+    ensures { text.new.items ≡ digits_of text.old.items }
+{
+    text.retain(|byte| !is_space(*byte));
+}
+
+fn fault_of(error: FromHexError) -> HexFault
+    ensures { result ≡ fault_of error }
+{
+    match error {
+        FromHexError::InvalidHexCharacter { index, .. } => HexFault::BadDigit(index as u64),
+        _ => HexFault::Odd,
+    }
+}
+
+/// The bytes that the digits of a text stand for.
+fn decode_text(alloc: Global, text: Vec<u8>) -> Result<Vec<u8>, Ending>
+    ensures { IsDecoded text.items (items_of result) }
+{
+    let mut text = text;
+    drop_spaces(&mut text);
+    match hex::decode(alloc, text.as_slice()) {
+        Ok(bytes) => Ok(bytes),
+        Err(FromHexError::OutOfMemory) => Err(Ending::Memory),
+        Err(error) => Err(Ending::Hex(fault_of(error))),
+    }
+}
+
+/// The bytes that the text of the source stands for.
+pub fn read_hexadecimal<S: Source>(alloc: Global, source: &mut S) -> Result<Vec<u8>, Ending>
+    ensures input { IsInput (S.coming source.old) (S.coming source.new) (S.has_failed source.new) (items_of result) }
+    ensures room { IfErr result (λ ending. FitsPlace 0 ending) }
+    ensures mark { IfErr result (λ ending. is_writing ending ≡ false) }
+{
+    let text = read_text(alloc, source)?;
+    decode_text(alloc, text)
+}
+
+/// The bytes as a line of hexadecimal digits.
+pub fn hexadecimal(alloc: Global, bytes: &Bytes) -> Result<String, NoMemory>
+    ensures { IfOk result (λ text. string_bytes text ≡ encode_lower bytes.now ++ codes "\n") }
+{
+    let Ok(mut text) = hex::encode(alloc, bytes.as_slice()) else {
+        return Err(NoMemory);
+    };
+    let Ok(()) = text.push_str("\n") else {
+        return Err(NoMemory);
+    };
+    Ok(text)
+}
