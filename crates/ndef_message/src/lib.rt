@@ -47,6 +47,3 @@ pub use std_sink::StdSink;
 pub use std_source::StdSource;
 pub use whole_input::check;
 pub use writing::write_message;
-
-#[cfg(test)]
-mod tests;

@@ -1,60 +1,14 @@
-//! Messages whose payloads are looked into, nested ones too, whole, byte by byte and with every cut.
-use ndef_message::{ReadError, SliceSource, Source, check, read_message};
+//! Messages whose payloads are looked into, nested ones too.
+use super::answers::{Answer, is_answered};
+use super::samples::{at, limits, standard, usual};
 use ndef_nest::Typed;
-use ndef_value::{Limits, Profile, Reason, Refusal};
+use ndef_value::{Limits, Reason};
 use std::alloc::Global;
-
-type Answer = Result<usize, Refusal>;
-
-/// The default limits, with some of them changed: bytes of a payload, records.
-fn limits(payload: u32, records: u32) -> Limits {
-    match Limits::new(payload, records, 4096) {
-        Ok(limits) => limits,
-        Err(_) => Limits::usual(),
-    }
-}
-
-fn usual() -> Limits {
-    Limits::usual()
-}
-
-fn standard() -> Limits {
-    Limits::usual().with(Profile::Standard)
-}
-
-fn at(at: u64, reason: Reason) -> Answer {
-    Err(Refusal { at, reason })
-}
-
-/// What is read from the source.
-fn read_from<S: Source>(alloc: Global, limits: Limits, source: &mut S) -> Option<Answer> {
-    match read_message::<Typed, S>(alloc, source, limits) {
-        Ok(read) => Some(Ok(read.taken as usize)),
-        Err(ReadError::Refused(refusal)) => Some(Err(refusal)),
-        Err(_) => None,
-    }
-}
-
-/// The answer, if it is the same whole, byte by byte and with every cut, checked and read.
-fn however_cut(alloc: Global, limits: Limits, bytes: &[u8]) -> Option<Answer> {
-    let answer = check::<Typed>(limits, bytes, &[]);
-    if check::<Typed>(limits, bytes, &[1; 80]) != answer {
-        return None;
-    }
-    for cut in 0..bytes.len() {
-        let cuts = [cut];
-        let read = read_from(alloc, limits, &mut SliceSource::new(bytes, &cuts));
-        if check::<Typed>(limits, bytes, &cuts) != answer || read != Some(answer) {
-            return None;
-        }
-    }
-    Some(answer)
-}
 
 /// Whether each input has its answer.
 fn are_answered(alloc: Global, rows: &[(Limits, &[u8], Answer)]) -> bool {
     for (limits, bytes, answer) in rows {
-        if however_cut(alloc, *limits, *bytes) != Some(*answer) {
+        if !is_answered::<Typed>(alloc, *limits, *bytes, *answer) {
             return false;
         }
     }
@@ -72,7 +26,7 @@ fn smart_posters(rt: HostRuntime) {
             Ok(11),
         ),
         (
-            limits(1048576, 1),
+            limits(1048576, 1, 4096),
             &[
                 0xD1, 0x02, 0x06, 0x53, 0x70, 0xD1, 0x01, 0x02, 0x55, 0x00, 0x61,
             ],
@@ -186,26 +140,26 @@ fn smart_posters(rt: HostRuntime) {
             Ok(11),
         ),
         (
-            limits(4294967295, 1024),
+            limits(4294967295, 1024, 4096),
             &[0xC1, 0x02, 0xFF, 0xFF, 0xFF, 0xFF, 0x53, 0x70, 0xD1],
             at(8, Reason::DoesNotFit),
         ),
         (
-            limits(4294967295, 1024),
+            limits(4294967295, 1024, 4096),
             &[
                 0xC1, 0x02, 0xFF, 0xFF, 0xFF, 0xFF, 0x53, 0x70, 0xC1, 0x01, 0xFF, 0xFF, 0xFF, 0xF8,
             ],
             at(14, Reason::EndOfInput),
         ),
         (
-            limits(4294967295, 1024),
+            limits(4294967295, 1024, 4096),
             &[
                 0xC1, 0x02, 0xFF, 0xFF, 0xFF, 0xFF, 0x53, 0x70, 0xC1, 0x01, 0xFF, 0xFF, 0xFF, 0xF7,
             ],
             at(13, Reason::DoesNotFit),
         ),
         (
-            limits(4294967295, 1024),
+            limits(4294967295, 1024, 4096),
             &[
                 0xC1, 0x02, 0xFF, 0xFF, 0xFF, 0xFF, 0x53, 0x70, 0xC1, 0x01, 0xFF, 0xFF, 0xFF, 0xF9,
             ],
@@ -217,7 +171,7 @@ fn smart_posters(rt: HostRuntime) {
             at(5, Reason::TooManyPieces),
         ),
         (
-            limits(1048576, 1),
+            limits(1048576, 1, 4096),
             &[0xD1, 0x02, 0x06, 0x53, 0x70, 0x91],
             at(5, Reason::TooManyRecords),
         ),
@@ -318,12 +272,12 @@ fn handovers(rt: HostRuntime) {
             at(10, Reason::CollisionMissing),
         ),
         (
-            limits(1048576, 1),
+            limits(1048576, 1, 4096),
             &[0xC1, 0x02, 0x00, 0x00, 0x01, 0x0C, 0x48, 0x72],
             at(7, Reason::DoesNotFit),
         ),
         (
-            limits(1048576, 1),
+            limits(1048576, 1, 4096),
             &[0xC1, 0x02, 0x00, 0x00, 0x01, 0x0B, 0x48, 0x72],
             at(8, Reason::EndOfInput),
         ),

@@ -1,8 +1,8 @@
-//! Worked payloads.
+//! Nested payloads, by themselves.
 ghost use Rattle.std.specs.Prelude.{◌≤◌, ◌<◌, ◌^◌};
 
-use super::*;
 use ndef_lang::{Kind, Language, Leaf};
+use ndef_nest::{Nest, Typed};
 use ndef_value::{Profile, Reason};
 
 /// What comes of the front of a payload.

@@ -1,7 +1,8 @@
 //! Sources, over cuts and over readers.
-use crate::{SliceSource, Source, StdSource};
+use super::streams::SlowReader;
+use ndef_message::{SliceSource, Source, StdSource};
 use std::alloc::Global;
-use std::io::{self, BufRead, Read};
+use std::io::BufRead;
 use std::test::Fail;
 
 const BYTES: [u8; 12] = *b"twelve bytes";
@@ -46,42 +47,11 @@ fn shows_each_two_parts(rt: HostRuntime) -> Result<(), Fail> {
     Ok(())
 }
 
-// A reader that gives some bytes and then fails once.
-#[derive(Drop)]
-struct FailingReader<'a> {
-    bytes: &'a [u8],
-    fails: bool,
-}
-
-impl Read for FailingReader<'_> {
-    fn read(&mut self, buf: &mut [u8]) -> io::Result<usize> {
-        let shown = self.fill_buf()?;
-        let count = shown.len().min(buf.len());
-        buf[..count].copy_from_slice(&shown[..count]);
-        self.consume(count);
-        Ok(count)
-    }
-}
-
-impl BufRead for FailingReader<'_> {
-    fn fill_buf(&mut self) -> io::Result<&[u8]> {
-        if self.bytes.is_empty() && self.fails {
-            self.fails = false;
-            return Err(io::Error::from(io::ErrorKind::Interrupted));
-        }
-        Ok(self.bytes)
-    }
-
-    fn consume(&mut self, amount: usize) {
-        let count = amount.min(self.bytes.len());
-        self.bytes = &self.bytes[count..];
-    }
-}
-
 #[test]
 fn fails_for_good(rt: HostRuntime) -> Result<(), Fail> {
-    let mut source = StdSource::new(FailingReader {
+    let mut source = StdSource::new(SlowReader {
         bytes: &BYTES[..5],
+        most: 5,
         fails: true,
     });
     let count = source.fill()?.len();

@@ -1,44 +1,13 @@
-//! Worked messages and refusals, whole, byte by byte and with every cut.
-use super::reading::reads_as;
-use crate::*;
-use ndef_lang::{Leaf, Opaque, OuterLanguage};
+//! Worked messages and refusals.
+use super::answers::{Answer, is_answered};
+use super::samples::{at, limits, usual};
+use ndef_lang::{Leaf, Opaque};
+use ndef_message::{Checker, Fed};
 use ndef_value::{Limits, Profile, Reason, Refusal};
-
-/// The default limits, with some of them changed: bytes of a payload, records, pieces.
-fn limits(payload: u32, records: u32, pieces: u32) -> Limits {
-    match Limits::new(payload, records, pieces) {
-        Ok(limits) => limits,
-        Err(_) => Limits::usual(),
-    }
-}
-
-/// Usual limits.
-fn usual() -> Limits {
-    Limits::usual()
-}
-
-/// A refusal.
-fn at(at: u64, reason: Reason) -> Result<usize, Refusal> {
-    Err(Refusal { at, reason })
-}
-
-/// The answer, if it is the same whole, byte by byte and with every cut.
-fn however_cut<L: OuterLanguage>(limits: Limits, bytes: &[u8]) -> Option<Result<usize, Refusal>> {
-    let answer = check::<L>(limits, bytes, &[]);
-    if check::<L>(limits, bytes, &[1; 80]) != answer {
-        return None;
-    }
-    for cut in 0..bytes.len() {
-        if check::<L>(limits, bytes, &[cut]) != answer {
-            return None;
-        }
-    }
-    Some(answer)
-}
 
 #[test]
 fn payloads_that_are_not_looked_into(rt: HostRuntime) {
-    let rows: [(Limits, &[u8], Result<usize, Refusal>); 32] = [
+    let rows: [(Limits, &[u8], Answer); 32] = [
         (usual(), &[0xD0, 0x00, 0x00], Ok(3)),
         (
             usual(),
@@ -157,14 +126,8 @@ fn payloads_that_are_not_looked_into(rt: HostRuntime) {
         (usual(), &[0xD8, 0x00, 0x00, 0x00], Ok(4)),
     ];
     for (limits, bytes, answer) in &rows {
-        assert_eq!(rt;
-            however_cut::<Opaque>(*limits, *bytes),
-            Some(*answer),
-            "{bytes:?}"
-        );
-        let whole = (*answer).map(|taken| taken as u64);
         assert!(rt;
-            reads_as::<Opaque>(rt.alloc(), *limits, *bytes, whole),
+            is_answered::<Opaque>(rt.alloc(), *limits, *bytes, *answer),
             "{bytes:?}"
         );
     }
@@ -172,7 +135,7 @@ fn payloads_that_are_not_looked_into(rt: HostRuntime) {
 
 #[test]
 fn payloads_of_one_field(rt: HostRuntime) {
-    let rows: [(Limits, &[u8], Result<usize, Refusal>); 23] = [
+    let rows: [(Limits, &[u8], Answer); 23] = [
         (
             usual(),
             &[0xB1, 0x01, 0x01, 0x54, 0x3F, 0x56, 0x00, 0x3E],
@@ -308,14 +271,8 @@ fn payloads_of_one_field(rt: HostRuntime) {
         (usual(), &[0xD1, 0x01, 0x03, 0x54, 0x80, 0xFE, 0xFF], Ok(7)),
     ];
     for (limits, bytes, answer) in &rows {
-        assert_eq!(rt;
-            however_cut::<Leaf>(*limits, *bytes),
-            Some(*answer),
-            "{bytes:?}"
-        );
-        let whole = (*answer).map(|taken| taken as u64);
         assert!(rt;
-            reads_as::<Leaf>(rt.alloc(), *limits, *bytes, whole),
+            is_answered::<Leaf>(rt.alloc(), *limits, *bytes, *answer),
             "{bytes:?}"
         );
     }

@@ -1,19 +1,15 @@
 //! Messages encoded, and written to a sink that fails.
 ghost use Rattle.std.specs.Prelude.{◌≤◌};
 
-use crate::{
+use super::samples::{HELLO, SELECT};
+use super::streams::FullWriter;
+use ndef_message::{
     Form, Sink, SinkFault, StdSink, WriteFault, encode, encode_chunked, encoded_length,
     write_message,
 };
 use ndef_value::{Message, Record, Tnf};
 use std::alloc::Global;
-use std::io::{self, Write};
 use std::test::Fail;
-
-// A text record that says Hello in English.
-const HELLO: [u8; 12] = [
-    0xD1, 0x01, 0x08, 0x54, 0x02, 0x65, 0x6E, 0x48, 0x65, 0x6C, 0x6C, 0x6F,
-];
 
 const HELLO_LONG: [u8; 15] = [
     0xC1, 0x01, 0x00, 0x00, 0x00, 0x08, 0x54, 0x02, 0x65, 0x6E, 0x48, 0x65, 0x6C, 0x6C, 0x6F,
@@ -61,19 +57,14 @@ fn encodes_whole_records(rt: HostRuntime) -> Result<(), Fail> {
     Ok(())
 }
 
-// A Handover Select and the media record that it names by its id.
 #[test]
 fn encodes_ids(rt: HostRuntime) -> Result<(), Fail> {
     let alloc = rt.alloc();
-    let wanted: &[u8] = &[
-        0x91, 0x02, 0x0A, 0x48, 0x73, 0x12, 0xD1, 0x02, 0x04, 0x61, 0x63, 0x01, 0x01, 0x30, 0x00,
-        0x5A, 0x03, 0x01, 0x01, 0x61, 0x2F, 0x62, 0x30, 0x01,
-    ];
     let mut records = Vec::new(alloc);
-    records.push(Record::new(alloc, Tnf::WellKnown, b"Hs", &[], &wanted[5..15])?)?;
+    records.push(Record::new(alloc, Tnf::WellKnown, b"Hs", &[], &SELECT[5..15])?)?;
     records.push(Record::new(alloc, Tnf::Media, b"a/b", b"0", &[0x01])?)?;
     let message = Message::new(records)?;
-    assert!(rt; encode(alloc, &message, Form::Short)?.as_slice() == wanted);
+    assert!(rt; encode(alloc, &message, Form::Short)?.as_slice() == SELECT.as_slice());
     assert!(rt; encoded_length(&message, Form::Short) == 24);
     assert!(rt; encoded_length(&message, Form::Long) == 30);
     Ok(())
@@ -109,38 +100,28 @@ fn encodes_pieces(rt: HostRuntime) -> Result<(), Fail> {
     Ok(())
 }
 
-// A writer that takes so many bytes in all, two at a time, and then fails.
-#[derive(Drop)]
-struct FullWriter {
-    room: usize,
-}
-
-impl Write for FullWriter {
-    fn write(&mut self, buf: &[u8]) -> io::Result<usize> {
-        if self.room == 0 {
-            return Err(io::Error::from(io::ErrorKind::Interrupted));
-        }
-        let count = buf.len().min(self.room).min(2);
-        self.room -= count;
-        Ok(count)
-    }
-
-    fn flush(&mut self) -> io::Result<()> {
-        Ok(())
-    }
-}
-
 #[test]
 fn counts_what_went_out(rt: HostRuntime) -> Result<(), Fail> {
-    let hello = hello(rt.alloc())?;
+    let alloc = rt.alloc();
+    let hello = hello(alloc)?;
     for room in 0..HELLO.len() {
-        let mut sink = StdSink::new(FullWriter { room });
+        let mut out = Vec::new(alloc);
+        let mut sink = StdSink::new(FullWriter {
+            out: &mut out,
+            room,
+        });
         let fault = write_message(&hello, Form::Short, None, &mut sink).err();
         let written = room as u64;
         assert!(rt; fault == Some(WriteFault { written }));
         assert!(rt; sink.write(&HELLO) == Err(SinkFault));
+        drop(sink);
+        assert!(rt; out.as_slice() == &HELLO[..room]);
     }
-    let mut sink = StdSink::new(FullWriter { room: 12 });
+    let mut out = Vec::new(alloc);
+    let mut sink = StdSink::new(FullWriter {
+        out: &mut out,
+        room: 12,
+    });
     assert!(rt; write_message(&hello, Form::Short, None, &mut sink) == Ok(12));
     Ok(())
 }

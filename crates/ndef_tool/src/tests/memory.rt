@@ -1,14 +1,13 @@
 //! Messages where memory is used up.
-use crate::*;
+use super::samples::HELLO;
 use ndef_lang::Opaque;
+use ndef_message::{
+    Decoder, Event, Form, ReadError, SliceSource, check_message, encode, encode_chunked,
+    read_message,
+};
 use ndef_value::{Limits, Message, Record, Tnf};
 use std::alloc::Global;
 use std::test::Fail;
-
-// A text record that says Hello in English.
-const HELLO: [u8; 12] = [
-    0xD1, 0x01, 0x08, 0x54, 0x02, 0x65, 0x6E, 0x48, 0x65, 0x6C, 0x6C, 0x6F,
-];
 
 const PART: [u8; 40] = [0x41; 40];
 

@@ -1,5 +1,0 @@
-mod checking;
-mod encoding;
-mod memory;
-mod reading;
-mod sources;

@@ -1,0 +1,516 @@
+//! What the command writes and the status that it ends with.
+use super::samples::{CHUNKS, HELLO, TWO};
+use super::streams::{FullWriter, SlowReader};
+use crate::ending::Status;
+use crate::running::run;
+use ndef_message::{Sink, SliceSource, StdSink, StdSource};
+use std::alloc::Global;
+use std::test::Fail;
+
+const LONG: [u8; 6] = [0xC5, 0x00, 0x00, 0x00, 0x00, 0x00];
+
+const USAGE: &str =
+    "usage: ndef show|check|encode [--hex] [--payload N] [--records N] [--pieces N] [--form short|long] [--chunk N] [--profile strict|standard]\n";
+
+fn words(alloc: Global, texts: &[&str]) -> Result<Vec<String>, Fail> {
+    let mut words = Vec::new(alloc);
+    for text in texts {
+        words.push(String::from_str(alloc, text)?)?;
+    }
+    Ok(words)
+}
+
+// What is written, and the status, for bytes that come in two pieces.
+fn ran(alloc: Global, texts: &[&str], bytes: &[u8], cut: usize) -> Result<(u8, Vec<u8>), Fail> {
+    let words = words(alloc, texts)?;
+    let cuts = [cut.min(bytes.len())];
+    let mut source = SliceSource::new(bytes, &cuts);
+    let mut out = Vec::new(alloc);
+    let mut sink = StdSink::new(&mut out);
+    let status = run(alloc, words.as_slice(), &mut source, &mut sink);
+    drop(sink);
+    Ok((status as u8, out))
+}
+
+#[test]
+fn checks_the_table(rt: HostRuntime) -> Result<(), Fail> {
+    let alloc = rt.alloc();
+    let table: [(&[u8], u8, &str); 27] = [
+        (&HELLO, 0, "message 1 at 0: records 1, bytes 12\n"),
+        (
+            &[0xD0, 0x00, 0x00],
+            0,
+            "message 1 at 0: records 1, bytes 3\n",
+        ),
+        (
+            &[0xD8, 0x00, 0x00, 0x00],
+            0,
+            "message 1 at 0: records 1, bytes 4\n",
+        ),
+        (&LONG, 0, "message 1 at 0: records 1, bytes 6\n"),
+        (&CHUNKS, 0, "message 1 at 0: records 1, bytes 12\n"),
+        (&TWO, 0, "message 1 at 0: records 2, bytes 8\n"),
+        (
+            [HELLO, HELLO].as_flattened(),
+            0,
+            "message 1 at 0: records 1, bytes 12\nmessage 2 at 12: records 1, bytes 12\n",
+        ),
+        (
+            &[0xD0, 0x00, 0x00, 0xD0, 0x00, 0x00, 0xD5, 0x01],
+            1,
+            "message 1 at 0: records 1, bytes 3\nmessage 2 at 3: records 1, bytes 3\nrefused at 7: 11 TypeNotEmpty\n",
+        ),
+        (
+            &[0xD0, 0x00, 0x00, 0x51],
+            1,
+            "message 1 at 0: records 1, bytes 3\nrefused at 3: 2 BeginMissing\n",
+        ),
+        (&[], 0, ""),
+        (&HELLO[..11], 1, "refused at 11: 24 EndOfInput\n"),
+        (&[0xD7, 0x00, 0x00], 1, "refused at 0: 1 ReservedTnf\n"),
+        (&[0x51], 1, "refused at 0: 2 BeginMissing\n"),
+        (
+            &[0x91, 0x01, 0x00, 0x41, 0xD1],
+            1,
+            "refused at 4: 3 BeginAgain\n",
+        ),
+        (&[0xD6], 1, "refused at 0: 4 UnchangedOutside\n"),
+        (
+            &[0xB5, 0x00, 0x01, 0x41, 0x55],
+            1,
+            "refused at 4: 5 ChangedInside\n",
+        ),
+        (
+            &[0xB5, 0x00, 0x01, 0x41, 0x5E],
+            1,
+            "refused at 4: 6 IdInside\n",
+        ),
+        (&[0xF5], 1, "refused at 0: 7 ChunkAtEnd\n"),
+        (&[0xB0], 1, "refused at 0: 8 ChunkOfEmpty\n"),
+        (&[0xD5, 0x01], 1, "refused at 1: 11 TypeNotEmpty\n"),
+        (&[0xD1, 0x00], 1, "refused at 1: 12 TypeEmpty\n"),
+        (&[0xD0, 0x01], 1, "refused at 1: 13 EmptyNotEmpty\n"),
+        (&[0xD0, 0x00, 0x01], 1, "refused at 2: 13 EmptyNotEmpty\n"),
+        (
+            &[0xD8, 0x00, 0x00, 0x01],
+            1,
+            "refused at 3: 13 EmptyNotEmpty\n",
+        ),
+        (&[0xC5, 0x00, 0xFF], 1, "refused at 2: 14 PayloadTooLarge\n"),
+        (
+            &[0xC5, 0x00, 0x00, 0x10, 0x00, 0x00],
+            1,
+            "refused at 6: 24 EndOfInput\n",
+        ),
+        (
+            &[0xC5, 0x00, 0x00, 0x10, 0x00, 0x01],
+            1,
+            "refused at 5: 14 PayloadTooLarge\n",
+        ),
+    ];
+    for (bytes, wanted, text) in table {
+        let (status, out) = ran(alloc, &["ndef", "check"], bytes, 0)?;
+        assert!(rt;
+            status == wanted && out.as_slice() == text.as_bytes(),
+            "{text}"
+        );
+    }
+    for cut in 0..HELLO.len() {
+        let (status, out) = ran(alloc, &["ndef", "check"], &HELLO, cut)?;
+        assert!(rt;
+            status == 0 && out.as_slice() == b"message 1 at 0: records 1, bytes 12\n".as_slice()
+        );
+    }
+    Ok(())
+}
+
+#[test]
+fn encodes(rt: HostRuntime) -> Result<(), Fail> {
+    let alloc = rt.alloc();
+    let table: [(&[u8], u8, &[u8]); 8] = [
+        (&HELLO, 0, &HELLO),
+        (&LONG, 0, &[0xD5, 0x00, 0x00]),
+        (&CHUNKS, 0, &[0xD5, 0x00, 0x03, 0x41, 0x42, 0x43]),
+        (&TWO, 0, &TWO),
+        (&[0xD8, 0x00, 0x00, 0x00], 0, &[0xD0, 0x00, 0x00]),
+        (
+            &[0xC5, 0x00, 0x00, 0x00, 0x00, 0x00, 0xD0, 0x00, 0x00, 0x51],
+            1,
+            &[0xD5, 0x00, 0x00, 0xD0, 0x00, 0x00],
+        ),
+        (&[], 0, &[]),
+        (&[0xF5], 1, &[]),
+    ];
+    for (bytes, wanted, text) in table {
+        let (status, out) = ran(alloc, &["ndef", "encode"], bytes, 5)?;
+        assert!(rt; status == wanted && out.as_slice() == text);
+    }
+    Ok(())
+}
+
+// So many of the least message, and what `check` prints of them.
+fn least_messages(alloc: Global, count: u16) -> Result<(Vec<u8>, String), Fail> {
+    let mut bytes = Vec::new(alloc);
+    let mut text = String::new(alloc);
+    for index in 0..count {
+        bytes.extend_from_slice(&[0xD0, 0x00, 0x00])?;
+        let number = u64::from(index) + 1;
+        let at = u64::from(index) * 3;
+        let line = format!(in alloc; "message {number} at {at}: records 1, bytes 3\n")?;
+        text.push_str(line.as_str())?;
+    }
+    Ok((bytes, text))
+}
+
+fn followed(alloc: Global, text: &str, line: &str) -> Result<String, Fail> {
+    let mut all = String::from_str(alloc, text)?;
+    all.push_str(line)?;
+    Ok(all)
+}
+
+#[test]
+fn handles_10000_messages(rt: HostRuntime) -> Result<(), Fail> {
+    let alloc = rt.alloc();
+    let (bytes, text) = least_messages(alloc, 10000)?;
+    let (status, out) = ran(alloc, &["ndef", "check"], bytes.as_slice(), 7)?;
+    assert!(rt; status == 0 && out.as_slice() == text.as_bytes());
+    let words = words(alloc, &["ndef", "check"])?;
+    let mut source = StdSource::new(SlowReader {
+        bytes: bytes.as_slice(),
+        most: 7,
+        fails: true,
+    });
+    let mut out = Vec::new(alloc);
+    let mut sink = StdSink::new(&mut out);
+    let status = run(alloc, words.as_slice(), &mut source, &mut sink);
+    drop(sink);
+    drop(source);
+    let faulty = followed(alloc, text.as_str(), "fault: reading\n")?;
+    assert!(rt; status == Status::Fault && out.as_slice() == faulty.as_bytes());
+    let mut more = bytes.clone()?;
+    more.extend_from_slice(&[0xD0, 0x00, 0x00])?;
+    let (status, out) = ran(alloc, &["ndef", "check"], more.as_slice(), 7)?;
+    let faulty = followed(alloc, text.as_str(), "fault: more than 10000 messages\n")?;
+    assert!(rt; status == 3 && out.as_slice() == faulty.as_bytes());
+    let (status, out) = ran(alloc, &["ndef", "encode"], more.as_slice(), 7)?;
+    assert!(rt; status == 3 && out.as_slice() == bytes.as_slice());
+    Ok(())
+}
+
+#[test]
+fn prints_usage(rt: HostRuntime) -> Result<(), Fail> {
+    let alloc = rt.alloc();
+    let table: [&[&str]; 18] = [
+        &["ndef"],
+        &[],
+        &["ndef", "decode"],
+        &["ndef", "--help"],
+        &["ndef", "help"],
+        &["ndef", "check", "--help"],
+        &["ndef", "check", "extra"],
+        &["ndef", "check", "--payload", "0"],
+        &["ndef", "check", "--payload", "4294967296"],
+        &["ndef", "check", "--payload", "many"],
+        &["ndef", "check", "--records", "0"],
+        &["ndef", "encode", "--records", "65536"],
+        &["ndef", "check", "--pieces", "65536"],
+        &["ndef", "check", "--profile", "loose"],
+        &["ndef", "check", "--form", "short"],
+        &["ndef", "encode", "--form", "middle"],
+        &["ndef", "encode", "--chunk", "0"],
+        &["ndef", "encode", "--chunk"],
+    ];
+    for texts in table {
+        let (status, out) = ran(alloc, texts, &HELLO, 0)?;
+        assert!(rt; status == 2 && out.as_slice() == USAGE.as_bytes());
+    }
+    Ok(())
+}
+
+#[test]
+fn keeps_the_limits(rt: HostRuntime) -> Result<(), Fail> {
+    let alloc = rt.alloc();
+    let table: [(&[&str], &[u8], &str); 12] = [
+        (
+            &["ndef", "check", "--payload", "10"],
+            &[0xD5, 0x00, 0x0B],
+            "refused at 2: 14 PayloadTooLarge\n",
+        ),
+        (
+            &["ndef", "check", "--payload=2"],
+            &[0xB5, 0x00, 0x02, 0x41, 0x42, 0x56, 0x00, 0x01],
+            "refused at 7: 14 PayloadTooLarge\n",
+        ),
+        (
+            &["ndef", "check", "--payload", "1000"],
+            &[0xC5, 0x00, 0x00, 0x00, 0x04],
+            "refused at 4: 14 PayloadTooLarge\n",
+        ),
+        (
+            &["ndef", "check", "--payload", "4294967295"],
+            &[0xC5, 0x00, 0xFF],
+            "refused at 3: 24 EndOfInput\n",
+        ),
+        (
+            &["ndef", "check", "--records", "1"],
+            &TWO,
+            "refused at 0: 10 TooManyRecords\n",
+        ),
+        (
+            &["ndef", "check", "--records", "2"],
+            &TWO,
+            "message 1 at 0: records 2, bytes 8\n",
+        ),
+        (
+            &["ndef", "check", "--pieces", "1"],
+            &[0xB5],
+            "refused at 0: 9 TooManyPieces\n",
+        ),
+        (
+            &["ndef", "check", "--pieces", "2"],
+            &CHUNKS,
+            "refused at 4: 9 TooManyPieces\n",
+        ),
+        (
+            &["ndef", "check", "--pieces", "3"],
+            &CHUNKS,
+            "message 1 at 0: records 1, bytes 12\n",
+        ),
+        (
+            &["ndef", "check", "--profile", "standard"],
+            &[0xD7, 0x00, 0x00],
+            "message 1 at 0: records 1, bytes 3\n",
+        ),
+        (
+            &["ndef", "check", "--profile", "strict"],
+            &[0xD7, 0x00, 0x00],
+            "refused at 0: 1 ReservedTnf\n",
+        ),
+        (
+            &[
+                "ndef",
+                "check",
+                "--records",
+                "65535",
+                "--pieces",
+                "65535",
+                "--payload",
+                "8",
+            ],
+            &HELLO,
+            "message 1 at 0: records 1, bytes 12\n",
+        ),
+    ];
+    for (texts, bytes, text) in table {
+        let (status, out) = ran(alloc, texts, bytes, 2)?;
+        let refused = text.as_bytes()[0] == b'r';
+        assert!(rt; status == u8::from(refused) && out.as_slice() == text.as_bytes());
+    }
+    Ok(())
+}
+
+#[test]
+fn encodes_in_a_form(rt: HostRuntime) -> Result<(), Fail> {
+    let alloc = rt.alloc();
+    let table: [(&[&str], &[u8], &[u8]); 9] = [
+        (
+            &["ndef", "encode", "--form", "long"],
+            &HELLO,
+            &[
+                0xC1, 0x01, 0x00, 0x00, 0x00, 0x08, 0x54, 0x02, 0x65, 0x6E, 0x48, 0x65, 0x6C, 0x6C,
+                0x6F,
+            ],
+        ),
+        (
+            &["ndef", "encode", "--form", "short"],
+            &LONG,
+            &[0xD5, 0x00, 0x00],
+        ),
+        (
+            &["ndef", "encode", "--form", "long"],
+            &[0xD5, 0x00, 0x00],
+            &LONG,
+        ),
+        (
+            &["ndef", "encode", "--chunk", "3"],
+            &HELLO,
+            &[
+                0xB1, 0x01, 0x03, 0x54, 0x02, 0x65, 0x6E, 0x36, 0x00, 0x03, 0x48, 0x65, 0x6C, 0x56,
+                0x00, 0x02, 0x6C, 0x6F,
+            ],
+        ),
+        (
+            &["ndef", "encode", "--form", "long", "--chunk", "4"],
+            &HELLO,
+            &[
+                0xA1, 0x01, 0x00, 0x00, 0x00, 0x04, 0x54, 0x02, 0x65, 0x6E, 0x48, 0x46, 0x00, 0x00,
+                0x00, 0x00, 0x04, 0x65, 0x6C, 0x6C, 0x6F,
+            ],
+        ),
+        (
+            &["ndef", "encode", "--chunk", "1"],
+            &HELLO,
+            &[
+                0xB1, 0x01, 0x01, 0x54, 0x02, 0x36, 0x00, 0x01, 0x65, 0x36, 0x00, 0x01, 0x6E, 0x36,
+                0x00, 0x01, 0x48, 0x36, 0x00, 0x01, 0x65, 0x36, 0x00, 0x01, 0x6C, 0x36, 0x00, 0x01,
+                0x6C, 0x56, 0x00, 0x01, 0x6F,
+            ],
+        ),
+        (&["ndef", "encode", "--chunk", "8"], &HELLO, &HELLO),
+        (&["ndef", "encode", "--chunk", "4294967295"], &HELLO, &HELLO),
+        (
+            &["ndef", "encode", "--profile", "standard"],
+            &[0xD7, 0x00, 0x00],
+            &[0xD5, 0x00, 0x00],
+        ),
+    ];
+    for (texts, bytes, text) in table {
+        let (status, out) = ran(alloc, texts, bytes, 4)?;
+        assert!(rt; status == 0 && out.as_slice() == text);
+    }
+    Ok(())
+}
+
+#[test]
+fn checks_hexadecimal_text(rt: HostRuntime) -> Result<(), Fail> {
+    let alloc = rt.alloc();
+    let table: [(&str, u8, &str); 10] = [
+        (
+            "d00000 D00000\n",
+            0,
+            "message 1 at 0: records 1, bytes 3\nmessage 2 at 3: records 1, bytes 3\n",
+        ),
+        (
+            "\t d\r\n0 0000\n",
+            0,
+            "message 1 at 0: records 1, bytes 3\n",
+        ),
+        ("", 0, ""),
+        (" \n", 0, ""),
+        ("d000001", 1, "hex: odd number of digits\n"),
+        ("d0g", 1, "hex: odd number of digits\n"),
+        ("d0g0", 1, "hex: bad digit at 2\n"),
+        (" d 0\n0 g", 1, "hex: bad digit at 3\n"),
+        ("d00000\x0b\x0b", 1, "hex: bad digit at 6\n"),
+        (
+            "d0000051",
+            1,
+            "message 1 at 0: records 1, bytes 3\nrefused at 3: 2 BeginMissing\n",
+        ),
+    ];
+    for (text, wanted, lines) in table {
+        let (status, out) = ran(alloc, &["ndef", "check", "--hex"], text.as_bytes(), 3)?;
+        assert!(rt; status == wanted && out.as_slice() == lines.as_bytes());
+    }
+    Ok(())
+}
+
+#[test]
+fn encodes_hexadecimal_text(rt: HostRuntime) -> Result<(), Fail> {
+    let alloc = rt.alloc();
+    let hello = "D10108 5402656E 48656C6C6F";
+    let table: [(&[&str], &str, u8, &str); 6] = [
+        (&["ndef", "encode", "--hex"], "c50000000000", 0, "d50000\n"),
+        (
+            &["ndef", "encode", "--hex"],
+            "d00000d50000",
+            0,
+            "d00000\nd50000\n",
+        ),
+        (
+            &["ndef", "encode", "--form", "long", "--hex"],
+            "d50000",
+            0,
+            "c50000000000\n",
+        ),
+        (
+            &["ndef", "encode", "--chunk", "3", "--hex"],
+            hello,
+            0,
+            "b101035402656e36000348656c5600026c6f\n",
+        ),
+        (&["ndef", "encode", "--hex"], "d0g0", 1, ""),
+        (&["ndef", "encode", "--hex"], "d0000051", 1, "d00000\n"),
+    ];
+    for (texts, text, wanted, lines) in table {
+        let (status, out) = ran(alloc, texts, text.as_bytes(), 5)?;
+        assert!(rt; status == wanted && out.as_slice() == lines.as_bytes());
+    }
+    Ok(())
+}
+
+#[test]
+fn reads_16777216_bytes_of_text(rt: HostRuntime) -> Result<(), Fail> {
+    let alloc = rt.alloc();
+    let table = [
+        (16777216, 1, "hex: bad digit at 0\n"),
+        (16777217, 3, "fault: hexadecimal input too long\n"),
+    ];
+    for (count, wanted, lines) in table {
+        let text = vec![in alloc; b'g'; count]?;
+        let (status, out) = ran(alloc, &["ndef", "check", "--hex"], text.as_slice(), 9)?;
+        assert!(rt; status == wanted && out.as_slice() == lines.as_bytes());
+    }
+    Ok(())
+}
+
+#[test]
+fn tells_a_reading_fault(rt: HostRuntime) -> Result<(), Fail> {
+    let alloc = rt.alloc();
+    let table: [(&[&str], &[u8], &str); 3] = [
+        (&["ndef", "check"], &HELLO[..5], "fault: reading\n"),
+        (&["ndef", "encode"], &HELLO[..5], ""),
+        (&["ndef", "check", "--hex"], b"d00000", "fault: reading\n"),
+    ];
+    for (texts, bytes, text) in table {
+        let words = words(alloc, texts)?;
+        let mut source = StdSource::new(SlowReader {
+            bytes,
+            most: 4,
+            fails: true,
+        });
+        let mut out = Vec::new(alloc);
+        let mut sink = StdSink::new(&mut out);
+        let status = run(alloc, words.as_slice(), &mut source, &mut sink);
+        drop(sink);
+        assert!(rt; status == Status::Fault && out.as_slice() == text.as_bytes());
+    }
+    Ok(())
+}
+
+#[test]
+fn tells_a_writing_fault(rt: HostRuntime) -> Result<(), Fail> {
+    let alloc = rt.alloc();
+    let two = [HELLO, HELLO];
+    for room in 0..24 {
+        let words = words(alloc, &["ndef", "encode"])?;
+        let mut source = SliceSource::new(two.as_flattened(), &[]);
+        let mut out = Vec::new(alloc);
+        let mut sink = StdSink::new(FullWriter {
+            out: &mut out,
+            room,
+        });
+        let status = run(alloc, words.as_slice(), &mut source, &mut sink);
+        assert!(rt; sink.write(b"more").is_err());
+        drop(sink);
+        assert!(rt; status == Status::Fault && out.as_slice() == &two.as_flattened()[..room]);
+    }
+    Ok(())
+}
+
+// The line of the ending is cut where the writer fails in it.
+#[test]
+fn tells_a_writing_fault_at_the_end(rt: HostRuntime) -> Result<(), Fail> {
+    let alloc = rt.alloc();
+    let words = words(alloc, &["ndef", "check"])?;
+    let mut source = SliceSource::new(&[0xF5], &[]);
+    let mut out = Vec::new(alloc);
+    let mut sink = StdSink::new(FullWriter {
+        out: &mut out,
+        room: 7,
+    });
+    let status = run(alloc, words.as_slice(), &mut source, &mut sink);
+    drop(sink);
+    assert!(rt; status == Status::Fault && out.as_slice() == b"refused".as_slice());
+    Ok(())
+}

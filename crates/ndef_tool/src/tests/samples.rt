@@ -1,0 +1,42 @@
+//! Messages that several tests use.
+use ndef_value::{Limits, Profile, Reason, Refusal};
+
+/// A text record that says Hello in English.
+pub(super) const HELLO: [u8; 12] = [
+    0xD1, 0x01, 0x08, 0x54, 0x02, 0x65, 0x6E, 0x48, 0x65, 0x6C, 0x6C, 0x6F,
+];
+
+/// A record of the payload ABC in three pieces.
+pub(super) const CHUNKS: [u8; 12] = [
+    0xB5, 0x00, 0x01, 0x41, 0x36, 0x00, 0x01, 0x42, 0x56, 0x00, 0x01, 0x43,
+];
+
+/// Two records without payloads, of the types A and B.
+pub(super) const TWO: [u8; 8] = [0x91, 0x01, 0x00, 0x41, 0x51, 0x01, 0x00, 0x42];
+
+/// A handover select and the media record that it names by its id.
+pub(super) const SELECT: [u8; 24] = [
+    0x91, 0x02, 0x0A, 0x48, 0x73, 0x12, 0xD1, 0x02, 0x04, 0x61, 0x63, 0x01, 0x01, 0x30, 0x00, 0x5A,
+    0x03, 0x01, 0x01, 0x61, 0x2F, 0x62, 0x30, 0x01,
+];
+
+/// The usual limits, but for bytes of a payload, records and pieces.
+pub(super) fn limits(payload: u32, records: u32, pieces: u32) -> Limits {
+    match Limits::new(payload, records, pieces) {
+        Ok(limits) => limits,
+        Err(_) => Limits::usual(),
+    }
+}
+
+pub(super) fn usual() -> Limits {
+    Limits::usual()
+}
+
+pub(super) fn standard() -> Limits {
+    Limits::usual().with(Profile::Standard)
+}
+
+/// A refusal.
+pub(super) fn at<T>(at: u64, reason: Reason) -> Result<T, Refusal> {
+    Err(Refusal { at, reason })
+}

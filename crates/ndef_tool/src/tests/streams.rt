@@ -1,0 +1,59 @@
+//! Readers and writers that are slow, or fail.
+use std::io::{self, BufRead, Read, Write};
+
+/// A reader of at most so many bytes at a time. If it is to fail, it fails once, behind its bytes.
+#[derive(Drop)]
+pub(super) struct SlowReader<'a> {
+    pub(super) bytes: &'a [u8],
+    pub(super) most: usize,
+    pub(super) fails: bool,
+}
+
+impl Read for SlowReader<'_> {
+    fn read(&mut self, buf: &mut [u8]) -> io::Result<usize> {
+        let shown = self.fill_buf()?;
+        let count = shown.len().min(buf.len());
+        buf[..count].copy_from_slice(&shown[..count]);
+        self.consume(count);
+        Ok(count)
+    }
+}
+
+impl BufRead for SlowReader<'_> {
+    fn fill_buf(&mut self) -> io::Result<&[u8]> {
+        if self.bytes.is_empty() && self.fails {
+            self.fails = false;
+            return Err(io::Error::from(io::ErrorKind::Interrupted));
+        }
+        let count = self.bytes.len().min(self.most);
+        Ok(&self.bytes[..count])
+    }
+
+    fn consume(&mut self, amount: usize) {
+        let count = amount.min(self.bytes.len());
+        self.bytes = &self.bytes[count..];
+    }
+}
+
+/// A writer that takes so many bytes in all, two at a time, and then fails.
+#[derive(Drop)]
+pub(super) struct FullWriter<'a> {
+    pub(super) out: &'a mut Vec<u8>,
+    pub(super) room: usize,
+}
+
+impl Write for FullWriter<'_> {
+    fn write(&mut self, buf: &[u8]) -> io::Result<usize> {
+        if self.room == 0 {
+            return Err(io::Error::from(io::ErrorKind::Interrupted));
+        }
+        let count = buf.len().min(self.room).min(2);
+        self.room -= count;
+        self.out.extend_from_slice(&buf[..count])?;
+        Ok(count)
+    }
+
+    fn flush(&mut self) -> io::Result<()> {
+        Ok(())
+    }
+}
