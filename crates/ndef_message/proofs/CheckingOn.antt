@@ -1,7 +1,7 @@
 -- What was checked of a source, turn by turn.
 use Rattle.std.proofs.Common.{◌≡◌, ℕ, inl, inr, refl, sym, ap, subst, arith, List, [], ◌∷◌, ◌++◌, length, length-append, take, Option, Some, None}
 use Rattle.std.specs.Prelude.{IfSome, Result, Ok, Err}
-use Rattle.std.specs.Io.KnownBytes.{Consumes}
+use Rattle.std.proofs.KnownBytes.{Keeps-refl}
 use Rattle.std.proofs.lemmas.List.{length-take-le}
 use Rattle.ndef_value.specs.Wire.{Item, LimitValues, AreInRange}
 use Rattle.ndef_value.specs.declared.profile.Profile.{Profile}
@@ -14,6 +14,7 @@ use Rattle.ndef_message.specs.Deep.{Deep, IsDeep, IsViable}
 use Rattle.ndef_message.specs.Feed.{Fronts, Leads}
 use Rattle.ndef_message.specs.Field.{Field, InHead, IsAt}
 use Rattle.ndef_message.specs.Format.{FormatLaws}
+use Rattle.ndef_message.specs.Sources.{Gave, Supply}
 use Rattle.ndef_message.specs.State.{Reached, Knows}
 use Rattle.ndef_message.specs.declared.message_checking.Checked.{Checked}
 use Rattle.ndef_message.specs.declared.message_checking.CheckError.{CheckError}
@@ -24,7 +25,7 @@ use Rattle.ndef_message.proofs.Answered.{left_over, refused_input}
 use Rattle.ndef_message.proofs.Ended.{unended, ended_as}
 use Rattle.ndef_message.proofs.ReadingOn.{SoFar}
 use Rattle.ndef_message.proofs.Rests.{deep_viable}
-use Rattle.ndef_message.proofs.Shows.{consumed_more}
+use Rattle.ndef_message.proofs.Shows.{gave_more, gave_none}
 
 -- the records that a message ends are its records
 pub deep_given : (laws : FormatLaws) (set : Sets) (holds : Conditions) (reach : Kind → ℕ → Profile → List ℕ → Type 0) (pass : List ℕ → Type 0) (limits : LimitValues) → AreInRange limits
@@ -38,35 +39,12 @@ deep_given laws set holds reach pass limits range place reader phase taken bytes
         ended_as laws set limits range bytes given u.0 (subst (IsAt limits bytes given) u.1 s.at) s.viable
     by_side (inr s) = absurd (s.refused (deep_viable set limits bytes d))
 
--- before the first byte
-pub start : (laws : FormatLaws) (set : Sets) (holds : Conditions) (limits : LimitValues) → AreInRange limits → (reach : Kind → ℕ → Profile → List ℕ → Type 0) (pass : List ℕ → Type 0)
-    (own : LimitValues) → own ≡ limits → (place : Place) (reader : Reading) (phase : Phase) (taken : ℕ) (coming : Option (List ℕ)) (c : Before) (xs : List ℕ)
-    → Knows set holds reach pass own place reader phase taken [] [] (InHead c xs)
-    → SoFar set limits coming coming (Knows set holds reach pass own place reader phase taken) []
-start laws set holds limits range reach pass own same place reader phase taken coming c xs k = by_side k.1
-  where
-    none : (known : Option (List ℕ)) → Consumes known known []
-    none None = tt
-    none (Some ys) = refl
-
-    by_side : Reached set holds reach pass own place reader phase [] [] (InHead c xs) → SoFar set limits coming coming (Knows set holds reach pass own place reader phase taken) []
-    by_side (inl s) =
-        record {
-          bytes = [];
-          consumed = none coming;
-          field = InHead c xs;
-          led = k;
-          viable = subst (λ l. IsViable set l []) same s.viable;
-          unended = λ d. let u = unended laws set limits range [] [] (InHead c xs) (subst (λ l. IsAt l [] [] (InHead c xs)) same s.at) d in let e = u.1 in cc;
-        }
-    by_side (inr s) = absurd (omega (arith, ap length s.split, length-append s.front (s.byte ∷ [])))
-
 -- the message goes on
-pub more : (set : Sets) (limits : LimitValues) (before mid after : Option (List ℕ)) (old new : Fronts) (items : List Item) (s : SoFar set limits before mid old items) (bytes : List ℕ) → Consumes mid after bytes
+pub more : (set : Sets) (limits : LimitValues) (before mid after : Supply) (old new : Fronts) (items : List Item) (s : SoFar set limits before mid old items) (bytes : List ℕ) → Gave mid after bytes
     → IsViable set limits (s.bytes ++ bytes) → ¬ IsDeep set limits (s.bytes ++ bytes) → (k : Leads new (s.bytes ++ bytes)) → SoFar set limits before after new k.0
 more set limits before mid after old new items s bytes c v u k = record {
   bytes = s.bytes ++ bytes;
-  consumed = consumed_more before mid after s.bytes bytes s.consumed c;
+  consumed = gave_more before mid after s.bytes bytes s.consumed c;
   field = k.1;
   led = k.2;
   viable = v;

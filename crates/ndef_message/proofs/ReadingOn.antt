@@ -1,9 +1,10 @@
 -- What was read of a source, turn by turn.
-use Rattle.std.proofs.Common.{◌≡◌, ℕ, ◌+◌, ◌-◌, ◌<◌, ◌≤◌, refl, sym, ◌∙◌, ap, subst, arith, Bool, true, false, List, [], ◌∷◌, ◌++◌, length, length-append, take, drop, append_assoc, Option, Some, None, map}
-use Rattle.std.specs.Prelude.{IfSome, Result, Ok, Err}
+use Rattle.std.proofs.Common.{◌≡◌, ℕ, ◌+◌, ◌-◌, ◌<◌, ◌≤◌, inl, inr, refl, sym, ◌∙◌, ap, subst, arith, Bool, true, false, List, [], ◌∷◌, ◌++◌, length, length-append, take, drop, append_assoc, Option, Some, None, map}
+use Rattle.std.specs.Prelude.{IfSome, Result, Ok, Err, is_some}
+use Rattle.std.proofs.KnownBytes.{Keeps-refl}
 use Rattle.std.specs.Io.KnownBytes.{Consumes}
 use Rattle.std.proofs.Math.Decide.{dec_lt}
-use Rattle.std.proofs.lemmas.List.{append-nil, take-append-drop, take-append-le, take_all}
+use Rattle.std.proofs.lemmas.List.{append-nil, length-take-le, take-append-drop, take-append-le, take_all}
 use Rattle.std.proofs.Math.Seq.{take-append-add}
 use Rattle.ndef_value.specs.Message.{Gives}
 use Rattle.ndef_value.specs.Wire.{Item, Run, LimitValues, AreInRange, greatest_length, joined, BeginsOnce, all_pieces}
@@ -14,20 +15,23 @@ use Rattle.ndef_value.specs.declared.refusal.Refusal.{Refusal}
 use Rattle.ndef_lang.specs.declared.kind.Kind.{Kind}
 use Rattle.ndef_lang.specs.Language.{Sets, Conditions}
 use Rattle.ndef_piece.specs.Reading.{Reading}
+use Rattle.ndef_piece.specs.Walk.{Before}
 use Rattle.ndef_message.specs.Decoding.{DecoderKnows, Decodes, EndsThere}
 use Rattle.ndef_message.specs.Deep.{Deep, IsDeep, IsViable}
 use Rattle.ndef_message.specs.Feed.{Fronts, IsAccepted}
-use Rattle.ndef_message.specs.Field.{Field}
+use Rattle.ndef_message.specs.Field.{Field, InHead, IsAt}
 use Rattle.ndef_message.specs.Format.{FormatLaws}
 use Rattle.ndef_message.specs.Opened.{Opened}
 use Rattle.ndef_message.specs.Place.{Refuses}
 use Rattle.ndef_message.specs.Readings.{AreSeen, Shown}
+use Rattle.ndef_message.specs.Sources.{Counts, Gave, Supply}
+use Rattle.ndef_message.specs.State.{Reached, Knows}
 use Rattle.ndef_message.specs.declared.event.Event.TheVariants as event
 use Rattle.ndef_message.specs.declared.phase.Place.{Place}
 use Rattle.ndef_message.specs.declared.phase.Phase.{Phase}
-use Rattle.ndef_message.proofs.Ended.{viable_bounded}
+use Rattle.ndef_message.proofs.Ended.{viable_bounded, unended}
 use Rattle.ndef_message.proofs.Rests.{viable_front, deep_viable}
-use Rattle.ndef_message.proofs.Shows.{consumed_more}
+use Rattle.ndef_message.proofs.Shows.{gave_more, gave_none}
 
 -- ---- what a decoder has taken
 abbrev pub place_of : Option ℕ → ℕ → ℕ
@@ -38,6 +42,11 @@ module _ (set : Sets) (holds : Conditions) (reach : Kind → ℕ → Profile →
   pub place_is : (failed : Option ℕ) (bytes : List ℕ) (given : List Item) (field : Field) → DecoderKnows set holds reach pass limits place reader phase taken failed o bytes given field → place_of failed taken ≡ length bytes
   place_is None bytes given field d = d.0.0
   place_is (Some at) bytes given field d = d.0.place_is
+
+  pub unfailed : (failed : Option ℕ) (bytes : List ℕ) (given : List Item) (field : Field) → is_some failed ≡ false → DecoderKnows set holds reach pass limits place reader phase taken failed o bytes given field
+      → Knows set holds reach pass limits place reader phase taken bytes given field
+  unfailed None bytes given field e d = d.0
+  unfailed (Some at) bytes given field e d = absurd (cc e)
 
 -- ---- places of viable bytes
 
@@ -114,26 +123,72 @@ ends_viable set limits bytes items false e = e.0
 -- ---- what was read so far
 
 -- the bytes that were consumed, which are viable and no message, led to the decoder's state
-pub record SoFar (set : Sets) (limits : LimitValues) (before now : Option (List ℕ)) (known : Fronts) (items : List Item) : Type 0 where
+pub record SoFar (set : Sets) (limits : LimitValues) (before now : Supply) (known : Fronts) (items : List Item) : Type 0 where
   pub bytes : List ℕ
-  pub consumed : Consumes before now bytes
+  pub consumed : Gave before now bytes
   pub field : Field
   pub led : known bytes items field
   pub viable : IsViable set limits bytes
   pub unended : ¬ IsDeep set limits bytes
 
+-- before the first byte
+pub nothing_taken : (laws : FormatLaws) (set : Sets) (holds : Conditions) (limits : LimitValues) → AreInRange limits → (reach : Kind → ℕ → Profile → List ℕ → Type 0) (pass : List ℕ → Type 0)
+    (own : LimitValues) → own ≡ limits → (place : Place) (reader : Reading) (phase : Phase) (taken : ℕ) (c : Before) (xs : List ℕ)
+    → Knows set holds reach pass own place reader phase taken [] [] (InHead c xs) → IsViable set limits [] × (¬ IsDeep set limits [])
+nothing_taken laws set holds limits range reach pass own same place reader phase taken c xs k = by_side k.1
+  where
+    by_side : Reached set holds reach pass own place reader phase [] [] (InHead c xs) → IsViable set limits [] × (¬ IsDeep set limits [])
+    by_side (inl s) = (
+      subst (λ l. IsViable set l []) same s.viable,
+      λ d. let u = unended laws set limits range [] [] (InHead c xs) (subst (λ l. IsAt l [] [] (InHead c xs)) same s.at) d in let e = u.1 in cc,
+    )
+    by_side (inr s) = absurd (omega (arith, ap length s.split, length-append s.front (s.byte ∷ [])))
+
+pub start : (set : Sets) (limits : LimitValues) (source : Supply) (known : Fronts) (field : Field) → known [] [] field → IsViable set limits [] × (¬ IsDeep set limits []) → SoFar set limits source source known []
+start set limits source known field k none = record {
+  bytes = [];
+  consumed = gave_none source source (Keeps-refl source.coming) refl;
+  field = field;
+  led = k;
+  viable = none.0;
+  unended = none.1;
+}
+
+-- ---- how many were taken
+
+pub so_many : (before after : Supply) (bytes : List ℕ) (n most : ℕ) → Gave before after bytes → n ≡ length bytes → length bytes ≤ most → (n ≤ most) × Counts before.taken after.taken n
+so_many before after bytes n most g e h = (omega arith, λ small. let up = g.1 (omega arith) in omega arith)
+
+-- .. where the source failed then
+pub so_many_before : (before mid after : Supply) (bytes : List ℕ) (most : ℕ) → Gave before mid bytes → after.taken ≡ mid.taken → length bytes ≤ most
+    → (count : ℕ) × (count ≤ most) × Counts before.taken after.taken count
+so_many_before before mid after bytes most g e h = (length bytes, h, λ small. e ∙ g.1 small)
+
+-- a byte is refused: what was read or checked then
+abbrev pub AnswersRefused : Sets → Conditions → LimitValues → (before after : Supply) → Refusal → Type 0
+AnswersRefused set holds limits before after refusal =
+    ((seen : List ℕ) × AreSeen before.coming seen refusal.at × Refuses set holds limits seen refusal × Consumes before.coming after.coming (take refusal.at seen))
+    × ((refusal.at ≤ greatest_length limits) × Counts before.taken after.taken refusal.at)
+
 module _ (laws : FormatLaws) (set : Sets) (limits : LimitValues) where
-  pub short : (before now : Option (List ℕ)) (known : Fronts) (items : List Item) → (s : SoFar set limits before now known items) → length s.bytes ≤ greatest_length limits
+  -- what was seen is refused
+  answers_refused : (holds : Conditions) (before after : Supply) (seen : List ℕ) (refusal : Refusal) → AreSeen before.coming seen refusal.at → Refuses set holds limits seen refusal → Gave before after (take refusal.at seen)
+      → AnswersRefused set holds limits before after refusal
+  answers_refused holds before after seen refusal a r g =
+      let most = viable_bounded laws set limits (take refusal.at seen) r.place.viable in
+      ((seen, a, r, g.0), so_many before after (take refusal.at seen) refusal.at (greatest_length limits) g (sym (length-take-le refusal.at seen r.place.within)) most)
+
+  pub short : (before now : Supply) (known : Fronts) (items : List Item) → (s : SoFar set limits before now known items) → length s.bytes ≤ greatest_length limits
   short before now known items s = viable_bounded laws set limits s.bytes s.viable
 
-  module _ (holds : Conditions) (before mid after : Option (List ℕ)) (old new : Fronts) (no_memory : Bool) (items : List Item) (s : SoFar set limits before mid old items) (bytes : List ℕ) (count : ℕ) (shown : Shown mid after bytes count) where
+  module _ (holds : Conditions) (before mid after : Supply) (old new : Fronts) (no_memory : Bool) (items : List Item) (s : SoFar set limits before mid old items) (bytes : List ℕ) (count : ℕ) (shown : Shown mid after bytes count) where
     -- no record has ended
     pub more : Decodes set holds limits new no_memory s.bytes items s.field bytes count event.More → (t : SoFar set limits before after new items) × (t.bytes ≡ s.bytes ++ bytes)
     more (n, v, u, (next, k)) =
         let e : take count bytes ≡ bytes = take_all count bytes (omega arith) in (
           record {
             bytes = s.bytes ++ bytes;
-            consumed = consumed_more before mid after s.bytes bytes s.consumed (subst (Consumes mid after) e shown.taken);
+            consumed = gave_more before mid after s.bytes bytes s.consumed (subst (Gave mid after) e shown.taken);
             field = next;
             led = k;
             viable = v;
@@ -149,7 +204,7 @@ module _ (laws : FormatLaws) (set : Sets) (limits : LimitValues) where
         let u : EndsThere set limits (s.bytes ++ take count bytes) (items ++ item ∷ []) false = subst (EndsThere set limits (s.bytes ++ take count bytes) (items ++ item ∷ [])) e w in (
           record {
             bytes = s.bytes ++ take count bytes;
-            consumed = consumed_more before mid after s.bytes (take count bytes) s.consumed shown.taken;
+            consumed = gave_more before mid after s.bytes (take count bytes) s.consumed shown.taken;
             field = next;
             led = k;
             viable = u.0;
@@ -160,39 +215,33 @@ module _ (laws : FormatLaws) (set : Sets) (limits : LimitValues) where
 
     -- all of them have
     pub whole : (item : Item) (last : Bool) → Decodes set holds limits new no_memory s.bytes items s.field bytes count (event.Whole item last)
-        → Consumes before after (s.bytes ++ take count bytes) × (length (s.bytes ++ take count bytes) ≤ greatest_length limits)
+        → Gave before after (s.bytes ++ take count bytes) × (length (s.bytes ++ take count bytes) ≤ greatest_length limits)
     whole item last (some, n, w, k) =
-        (consumed_more before mid after s.bytes (take count bytes) s.consumed shown.taken, viable_bounded laws set limits (s.bytes ++ take count bytes) (ends_viable set limits _ _ last w))
+        (gave_more before mid after s.bytes (take count bytes) s.consumed shown.taken, viable_bounded laws set limits (s.bytes ++ take count bytes) (ends_viable set limits _ _ last w))
 
     -- one byte is refused
     pub refused_at : (refusal : Refusal) → count ≡ refusal.at - length s.bytes → refusal.at < length (s.bytes ++ bytes) → Refuses set holds limits (s.bytes ++ bytes) refusal
-        → (seen : List ℕ) × AreSeen before seen refusal.at × Refuses set holds limits seen refusal × Consumes before after (take refusal.at seen)
+        → AnswersRefused set holds limits before after refusal
     refused_at refusal n h r =
         let low = refused_behind set holds limits s.bytes bytes refusal r s.viable in
         let e : take refusal.at (s.bytes ++ bytes) ≡ s.bytes ++ take count bytes =
         ap (λ m. take m (s.bytes ++ bytes)) (let q : refusal.at ≡ length s.bytes + count = omega arith in q) ∙ take-append-add s.bytes bytes count in (
-          s.bytes ++ bytes,
-          seen_more before mid s.bytes bytes refusal.at s.consumed shown.begins h,
-          r,
-          subst (Consumes before after) (sym e) (consumed_more before mid after s.bytes (take count bytes) s.consumed shown.taken),
+        answers_refused holds before after (s.bytes ++ bytes) refusal (seen_more before.coming mid.coming s.bytes bytes refusal.at s.consumed.0 shown.begins h) r
+        (subst (Gave before after) (sym e) (gave_more before mid after s.bytes (take count bytes) s.consumed shown.taken))
         )
 
     -- memory was
-    pub failed : (fault : _) → Decodes set holds limits new no_memory s.bytes items s.field bytes count (event.Failed fault) → Consumes before after s.bytes
+    pub failed : (fault : _) → Decodes set holds limits new no_memory s.bytes items s.field bytes count (event.Failed fault) → Gave before after s.bytes
     failed fault (n, w, k) =
         let e : s.bytes ++ take count bytes ≡ s.bytes = ap (λ m. s.bytes ++ take m bytes) n ∙ append-nil s.bytes in
-        subst (Consumes before after) e (consumed_more before mid after s.bytes (take count bytes) s.consumed shown.taken)
+        subst (Gave before after) e (gave_more before mid after s.bytes (take count bytes) s.consumed shown.taken)
 
   -- the bytes have ended
-  pub ended : (holds : Conditions) (before mid after : Option (List ℕ)) (known : Fronts) (items : List Item) (s : SoFar set limits before mid known items) → Consumes mid after [] → IfSome mid (λ input. input ≡ [])
-      → (refusal : Refusal) → Refuses set holds limits s.bytes refusal
-      → (seen : List ℕ) × AreSeen before seen refusal.at × Refuses set holds limits seen refusal × Consumes before after (take refusal.at seen)
+  pub ended : (holds : Conditions) (before mid after : Supply) (known : Fronts) (items : List Item) (s : SoFar set limits before mid known items) → Gave mid after [] → IfSome mid.coming (λ input. input ≡ [])
+      → (refusal : Refusal) → Refuses set holds limits s.bytes refusal → AnswersRefused set holds limits before after refusal
   ended holds before mid after known items s c f refusal r =
       let low = refused_behind set holds limits s.bytes [] refusal (subst (λ y. Refuses set holds limits y refusal) (sym (append-nil s.bytes)) r) s.viable in
       let w = r.place.within in
-      let e : take refusal.at s.bytes ≡ s.bytes = take_all refusal.at s.bytes (omega arith) in (
-        s.bytes,
-        seen_all before mid s.bytes refusal.at s.consumed f,
-        r,
-        subst (Consumes before after) (append-nil s.bytes ∙ sym e) (consumed_more before mid after s.bytes [] s.consumed c),
-      )
+      let e : take refusal.at s.bytes ≡ s.bytes = take_all refusal.at s.bytes (omega arith) in
+      answers_refused holds before after s.bytes refusal (seen_all before.coming mid.coming s.bytes refusal.at s.consumed.0 f) r
+      (subst (Gave before after) (append-nil s.bytes ∙ sym e) (gave_more before mid after s.bytes [] s.consumed c))

@@ -1,9 +1,10 @@
 //! Checks a message from a source.
 ghost use Rattle.std.specs.Prelude.{◌≡◌, ◌≤◌, ℕ, List, length, IfSome};
 ghost use Rattle.ndef_value.specs.Wire.{Item};
-ghost use Rattle.ndef_message.specs.Checkings.{Looked, ChecksFrom, ChecksInput, is_fault};
+ghost use Rattle.ndef_message.specs.Checkings.{Looked, ChecksFrom, ChecksInput, HasTaken, is_fault};
 ghost use Rattle.ndef_message.specs.Deep.{IsViable};
 ghost use Rattle.ndef_message.specs.Field.{Field};
+ghost use Rattle.ndef_message.specs.Sources.{supply};
 
 use crate::checker::Reading;
 use crate::format::format_laws;
@@ -53,7 +54,7 @@ fn check_shown<L: OuterLanguage, S: Source>(checker: &mut Checker<L>, source: &m
     ensures looked { (front : List ℕ) (given : List Item) (field : Field) → ⟦<Checker<L> as Reading>⟧.reached checker.old front given field
         → IsViable L.set (⟦<Checker<L> as Reading>⟧.limits checker.old) front
         → Looked L.set L.holds (⟦<Checker<L> as Reading>⟧.limits checker.old) (⟦<Checker<L> as Reading>⟧.reached checker.new)
-        (S.coming source.old) (S.coming source.new) (S.has_failed source.new) front given field result }
+        (supply (S.coming source.old) (S.taken source.old)) (supply (S.coming source.new) (S.taken source.new)) (S.has_failed source.new) front given field result }
 {
     let Ok(bytes) = source.fill() else {
         return Look::Fault;
@@ -76,7 +77,7 @@ fn check_bytes<L: OuterLanguage, S: Source>(
     source: &mut S,
     limits: Limits,
 ) -> Result<Checked, CheckError>
-    ensures checks { ChecksFrom L.set L.holds limits (S.coming source.old) (S.coming source.new) result }
+    ensures checks { ChecksFrom L.set L.holds limits (S.coming source.old) (S.coming source.new) result × HasTaken limits (S.taken source.old) (S.taken source.new) result }
     ensures mark { S.has_failed source.new ≡ is_fault result }
 {
     format_laws(&limits);
@@ -111,6 +112,7 @@ pub fn check_message<L: OuterLanguage, S: Source>(
     ensures input { IfSome (S.coming source.old) (λ input. ChecksInput L.set L.holds limits input (S.coming source.new) result) }
     // Whatever the source tells:
     ensures checks { ChecksFrom L.set L.holds limits (S.coming source.old) (S.coming source.new) result }
+    ensures taken { HasTaken limits (S.taken source.old) (S.taken source.new) result }
     ensures mark { S.has_failed source.new ≡ is_fault result }
 {
     check_bytes::<L, S>(source, limits)

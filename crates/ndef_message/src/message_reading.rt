@@ -2,7 +2,8 @@
 ghost use Rattle.std.specs.Prelude.{◌≡◌, ◌≤◌, ℕ, List, false, length, IfSome, IfOk};
 ghost use Rattle.ndef_value.specs.Wire.{Item};
 ghost use Rattle.ndef_message.specs.Field.{Field};
-ghost use Rattle.ndef_message.specs.Readings.{Turned, ReadsFrom, ReadsInput, is_fault};
+ghost use Rattle.ndef_message.specs.Readings.{Turned, ReadsFrom, ReadsInput, HasTaken, is_fault};
+ghost use Rattle.ndef_message.specs.Sources.{supply};
 
 use crate::checker::Reading;
 use crate::decoder::Allocating;
@@ -51,7 +52,8 @@ fn decode_shown<L: OuterLanguage, S: Source>(decoder: &mut Decoder<L>, source: &
     ensures limits { ⟦<Decoder<L> as Reading>⟧.limits decoder.new ≡ ⟦<Decoder<L> as Reading>⟧.limits decoder.old }
     ensures turned { (front : List ℕ) (given : List Item) (field : Field) → ⟦<Decoder<L> as Reading>⟧.reached decoder.old front given field
         → Turned L.set L.holds (⟦<Decoder<L> as Reading>⟧.limits decoder.old) (⟦<Decoder<L> as Reading>⟧.reached decoder.new)
-        (⟦<Decoder<L> as Allocating>⟧.has_failed decoder.old) (S.coming source.old) (S.coming source.new) (S.has_failed source.new) front given field result }
+        (⟦<Decoder<L> as Allocating>⟧.has_failed decoder.old) (supply (S.coming source.old) (S.taken source.old)) (supply (S.coming source.new) (S.taken source.new))
+        (S.has_failed source.new) front given field result }
 {
     let Ok(bytes) = source.fill() else {
         return Turn::Fault;
@@ -70,7 +72,7 @@ fn read_records<L: OuterLanguage, S: Source>(
     source: &mut S,
     limits: Limits,
 ) -> Result<Read, ReadError>
-    ensures reads { ReadsFrom L.set L.holds limits (S.coming source.old) (S.coming source.new) result }
+    ensures reads { ReadsFrom L.set L.holds limits (S.coming source.old) (S.coming source.new) result × HasTaken limits (S.taken source.old) (S.taken source.new) result }
     ensures mark { S.has_failed source.new ≡ is_fault result }
 {
     format_laws(&limits);
@@ -121,6 +123,7 @@ pub fn read_message<L: OuterLanguage, S: Source>(
     ensures input { IfSome (S.coming source.old) (λ input. ReadsInput L.set L.holds limits input (S.coming source.new) result) }
     // Whatever the source tells:
     ensures reads { ReadsFrom L.set L.holds limits (S.coming source.old) (S.coming source.new) result }
+    ensures taken { HasTaken limits (S.taken source.old) (S.taken source.new) result }
     ensures mark { S.has_failed source.new ≡ is_fault result }
 {
     read_records::<L, S>(alloc, source, limits)

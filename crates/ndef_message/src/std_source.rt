@@ -1,7 +1,7 @@
 //! A source over a buffered reader.
 ghost use Rattle.std.specs.Prelude.{◌≡◌, ◌≤◌, ◌+◌, ◌-◌, ◌<◌, true, false, IfSome, IfOk, OnErr, OnOk, length, drop, take, option_map};
 ghost use Rattle.std.specs.Io.KnownBytes.{Keeps};
-ghost use Rattle.ndef_message.specs.Sources.{left_of, Shows, Within, Drops};
+ghost use Rattle.ndef_message.specs.Sources.{left_of, Shows, Within, Drops, Counts};
 
 use crate::source::{Source, SourceFault};
 use std::io::BufRead;
@@ -17,10 +17,13 @@ const ROOM: usize = 512;
 pub struct StdSource<R: BufRead + Drop> {
     reader: R,
     copy: [u8; ROOM],
+    /// Of the copy.
     taken: usize,
     filled: usize,
     /// Taken, but not consumed yet.
     pending: usize,
+    /// All that were ever taken.
+    count: u64,
     /// Nothing was consumed since the reader showed its bytes.
     fresh: bool,
     has_failed: bool,
@@ -68,6 +71,7 @@ impl<R: BufRead + Drop> StdSource<R> {
     /// A source of what the reader shows. Nothing is asked of it yet.
     pub fn new(reader: R) -> StdSource<R>
         ensures coming { ⟦<StdSource<R> as Source>⟧.coming result ≡ R.remaining reader }
+        ensures taken { ⟦<StdSource<R> as Source>⟧.taken result ≡ 0 }
         ensures shown { ⟦<StdSource<R> as Source>⟧.shown result ≡ 0 }
         ensures mark { ⟦<StdSource<R> as Source>⟧.has_failed result ≡ false }
     {
@@ -77,6 +81,7 @@ impl<R: BufRead + Drop> StdSource<R> {
             taken: 0,
             filled: 0,
             pending: 0,
+            count: 0,
             fresh: false,
             has_failed: false,
         }
@@ -94,6 +99,7 @@ impl<R: BufRead + Drop> StdSource<R> {
             taken: _,
             filled: _,
             pending: _,
+            count: _,
             fresh: _,
             has_failed: _,
         } = self;
@@ -111,6 +117,7 @@ impl<R: BufRead + Drop> StdSource<R> {
         ensures unmarked { OnOk result (self.new.has_failed ≡ false) }
         ensures fails { OnErr result (self.new.has_failed ≡ true) }
         ensures empty { OnErr result (self.new.filled ≡ 0) }
+        ensures count { self.new.count ≡ self.old.count }
     {
         let pending = self.pending;
         self.pending = 0;
@@ -141,6 +148,8 @@ impl<R: BufRead + Drop> StdSource<R> {
 impl<R: BufRead + Drop> Source for StdSource<R> {
     ghost coming = { λ s. left_of (R.remaining s.reader) (R.consumable_len s.reader) s.fresh s.filled s.pending };
 
+    ghost taken = { λ s. s.count };
+
     ghost shown = { λ s. s.filled - s.taken };
 
     ghost has_failed = { λ s. s.has_failed };
@@ -153,12 +162,14 @@ impl<R: BufRead + Drop> Source for StdSource<R> {
     fn take(&mut self, count: usize)
         requires { count ≤ ⟦<StdSource<R> as Source>⟧.shown self.old }
         ensures bytes { Drops (⟦<StdSource<R> as Source>⟧.coming self.old) (⟦<StdSource<R> as Source>⟧.coming self.new) count }
+        ensures taken { Counts self.old.count self.new.count count }
         ensures shown { ⟦<StdSource<R> as Source>⟧.shown self.new ≡ ⟦<StdSource<R> as Source>⟧.shown self.old - count }
         ensures mark { ⟦<StdSource<R> as Source>⟧.has_failed self.new ≡ ⟦<StdSource<R> as Source>⟧.has_failed self.old }
         // The reader then stands behind all that was taken.
         ensures behind { self.old.fresh ≡ true → self.old.pending ≡ 0 → self.new.pending ≡ 0 }
     {
         self.taken += count;
+        self.count = self.count.saturating_add(count as u64);
         if self.fresh {
             self.fresh = false;
             self.reader.consume(count);
@@ -181,6 +192,7 @@ impl<R: BufRead + Drop> Drop for StdSource<R> {
             taken: _,
             filled: _,
             pending: _,
+            count: _,
             fresh: _,
             has_failed: _,
         } = self;
