@@ -64,6 +64,13 @@ status_of (Refused r) = status.Refused
 status_of (Hex fault) = status.Refused
 status_of _ = status.Fault
 
+-- the number with which the process ends
+abbrev pub number_of_status : Status → ℕ
+number_of_status status.Clean = 0
+number_of_status status.Refused = 1
+number_of_status status.Usage = 2
+number_of_status status.Fault = 3
+
 -- ---- a whole run
 
 -- bytes as they are, or as a line of hexadecimal digits

@@ -1,6 +1,10 @@
 //! The command `ndef`: what stands on standard input is checked, or written again.
 #![tactic(auto)]
 
+ghost use Rattle.std.specs.Prelude.{◌≡◌};
+ghost use Rattle.std.specs.Process.{exit_status};
+ghost use Rattle.ndef_tool.specs.Output.{number_of_status};
+
 mod block;
 mod choice;
 mod command;
@@ -17,7 +21,10 @@ use ndef_message::{StdSink, StdSource};
 use std::io::{BufReader, BufWriter, Write};
 use std::process::ExitCode;
 
-fn code(status: Status) -> ExitCode {
+/// The status as the process ends with it.
+fn code(status: Status) -> ExitCode
+    ensures { exit_status result ≡ number_of_status status }
+{
     ExitCode::from(status as u8)
 }
 

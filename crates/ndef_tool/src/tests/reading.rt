@@ -99,3 +99,19 @@ fn tells_a_source_that_fails(rt: HostRuntime) {
         assert!(rt; checked == Err(CheckError::ReadFault));
     }
 }
+
+#[test]
+fn says_what_went_wrong(rt: HostRuntime) -> Result<(), Fail> {
+    let alloc = rt.alloc();
+    let refusal = Refusal {
+        at: 11,
+        reason: Reason::EndOfInput,
+    };
+    let read = format!(in alloc; "{}", ReadError::Refused(refusal))?;
+    assert!(rt; read.as_str() == "refused at 11: 24 EndOfInput");
+    let checked = format!(in alloc; "{}", CheckError::Refused(refusal))?;
+    assert!(rt; checked.as_str() == "refused at 11: 24 EndOfInput");
+    let faults = format!(in alloc; "{}, {}", ReadError::ReadFault, ReadError::NoMemory)?;
+    assert!(rt; faults.as_str() == "reading failed, no memory");
+    Ok(())
+}
