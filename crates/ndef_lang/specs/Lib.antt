@@ -7,6 +7,7 @@ pub mod FixedLaws
 pub mod HandoverError
 pub mod HandoverErrorLaws
 pub mod Kind
+pub mod KindLaws
 pub mod Language
 pub mod Leaf
 pub mod LeafLaws

@@ -4,7 +4,7 @@ ghost use Rattle.ndef_lang.specs.Place.{IsRefused, OneRefusal};
 
 use super::kind::Kind;
 use super::language::Language;
-use ndef_value::{Profile, Reason, Refusal};
+use ndef_value::{Profile, Reason, Refusal, ranks_are_apart};
 
 /// Where and why a whole payload is no payload of the kind; none where it is one.
 ///
@@ -47,4 +47,6 @@ pub fn refusal_of<L: Language>(
 /// A list of octets that is no payload of a kind is refused at one place, for one reason.
 pub fn one_refusal<L: Language>()
     ensures { (kind : Kind) (records : ℕ) (profile : Profile) → OneRefusal (L.set kind records profile) (L.holds kind records profile) }
-{}
+{
+    ranks_are_apart();
+}

@@ -4,6 +4,8 @@ use Rattle.std.specs.Prelude.{nat_lt}
 use Rattle.std.specs.List.{flat_map, AllByRecursion}
 use Rattle.std.specs.Option.{ForSome}
 use Rattle.std.proofs.lemmas.Bool.{ltb-true}
+use Rattle.ndef_value.specs.ListLaws.{octets_back, octets_front}
+use Rattle.ndef_value.specs.TnfLaws.{same_tnf, code_below, read_code, changed_code}
 use Rattle.ndef_value.specs.Wire.{code, tnf_of, IsRead, HasShape, Piece, IsPiece, Follow, FitsForm, SpellAll, Run, IsRun, joined, pieces, payload_of, Item, IsItem, IsShaped, BeginsOnce, EndsOnce, all_pieces, AreOctets, is_nil}
 use Rattle.ndef_value.specs.declared.tnf.Tnf.{Tnf}
 use Rattle.ndef_value.specs.declared.tnf.Tnf.TheVariants.{Empty, WellKnown, Media, AbsoluteUri, External, Unknown, Unchanged}
@@ -13,33 +15,8 @@ use Rattle.ndef_message.specs.declared.form.Form.{Form}
 use Rattle.ndef_message.specs.declared.form.Form.TheVariants.{Short, Long}
 use Rattle.ndef_message.specs.Cut.{first_piece, later_piece, later_pieces, later_parts, first_part, none_left, cut_run, cut_runs, cut}
 use Rattle.ndef_message.specs.Written.{written_piece, is_short, WrittenIsSpelled, PiecesAreSpelled}
-use Rattle.ndef_message.proofs.CutSplits.{joined_parts, IsSplit, is_split, octets-append}
+use Rattle.ndef_message.proofs.CutSplits.{joined_parts, IsSplit, is_split}
 use Rattle.ndef_message.proofs.WrittenPieces.{same_id}
-
-same_tnf : (t : Tnf) → tnf_of (code t) ≡ t
-same_tnf Empty = refl
-same_tnf WellKnown = refl
-same_tnf Media = refl
-same_tnf AbsoluteUri = refl
-same_tnf External = refl
-same_tnf Unknown = refl
-same_tnf Unchanged = refl
-
-code_below : (t : Tnf) → code t < 7
-code_below Empty = omega arith
-code_below WellKnown = omega arith
-code_below Media = omega arith
-code_below AbsoluteUri = omega arith
-code_below External = omega arith
-code_below Unknown = omega arith
-code_below Unchanged = omega arith
-
-read_code : (profile : Profile) (n : ℕ) → n < 7 → IsRead profile n
-read_code Strict n h = h
-read_code Standard n h = omega arith
-
-changed_code : (t : Tnf) → t ≢ Unchanged → code t ≢ 6
-changed_code t d e = d (sym (same_tnf t) ∙ ap tnf_of e)
 
 empty_payload : (t : Tnf) (kind id payload : ℕ) → code t ≡ 0 → HasShape t kind id payload → payload ≡ 0
 empty_payload t kind id payload e h = (subst (λ u. HasShape u kind id payload) (sym (same_tnf t) ∙ ap tnf_of e) h).2
@@ -110,15 +87,14 @@ ends-run p (q ∷ ps) e = (e, ends-run (later_piece (none_left ps && true) (not 
 later_are_pieces : (last : Bool) (ps : List (List ℕ)) → AreOctets (joined_parts ps) → length (joined_parts ps) < 2 ^ 32 → AllByRecursion IsPiece (later_pieces last ps)
 later_are_pieces last [] a h = tt
 later_are_pieces last (p ∷ ps) a h =
-    let octets = octets-append p (joined_parts ps) a in
     let size = length-append p (joined_parts ps) in (
-      record { tnf = omega arith; kind = tt; kind_length = omega arith; id = tt; id_length = omega arith; payload = octets.0; payload_length = omega (arith, h, size) },
-      later_are_pieces last ps octets.1 (omega (arith, h, size)),
+      record { tnf = omega arith; kind = tt; kind_length = omega arith; id = tt; id_length = omega arith; payload = octets_front p (joined_parts ps) a; payload_length = omega (arith, h, size) },
+      later_are_pieces last ps (octets_back p (joined_parts ps) a) (omega (arith, h, size)),
     )
 
 are_pieces : (first last : Bool) (m : Item) (part : List ℕ) (later : List (List ℕ)) → IsItem m → IsSplit m.payload part later → AllByRecursion IsPiece (pieces (run_of first last m part later))
 are_pieces first last m part later i s =
-    let octets = octets-append part (joined_parts later) (subst AreOctets (sym s.joined) i.payload) in
+    let octets = subst AreOctets (sym s.joined) i.payload in
     let size = sym (length-append part (joined_parts later)) ∙ ap length s.joined in
     let small = i.lengths.payload in
     let c = code_below m.tnf in (
@@ -128,10 +104,10 @@ are_pieces first last m part later i s =
         kind_length = i.lengths.kind;
         id = subst AreOctets (sym (same_id m.id)) i.id;
         id_length = subst (λ x. length x < 256) (sym (same_id m.id)) i.lengths.id;
-        payload = octets.0;
+        payload = octets_front part (joined_parts later) octets;
         payload_length = omega (arith, small, size);
       },
-      later_are_pieces last later octets.1 (omega (arith, small, size)),
+      later_are_pieces last later (octets_back part (joined_parts later) octets) (omega (arith, small, size)),
     )
 
 -- ---- messages

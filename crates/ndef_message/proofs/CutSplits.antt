@@ -39,10 +39,6 @@ is_split (Some size) payload h = record {
       none_left-all_parts size (drop size payload) (h size refl) ∙ ap (λ k. k == 0) n;
 }
 
-pub octets-append : (xs ys : List ℕ) → AreOctets (xs ++ ys) → AreOctets xs × AreOctets ys
-octets-append [] ys a = (tt, a)
-octets-append (x ∷ xs) ys a = let rest = octets-append xs ys a.1 in ((a.0, rest.0), rest.1)
-
 -- ---- the law
 
 length-parts : (count size : ℕ) (rest : List ℕ) → length (parts count size rest) ≡ count

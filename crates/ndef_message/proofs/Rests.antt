@@ -9,7 +9,7 @@ use Rattle.ndef_piece.specs.Walk.{Before, start, spot, ended, after, Walked}
 use Rattle.ndef_piece.specs.Rest.{Rest}
 use Rattle.ndef_message.specs.Deep.{IsMember, IsDeep, IsViable}
 use Rattle.ndef_message.specs.Format.{FormatLaws}
-use Rattle.ndef_message.proofs.Parts.{same_body}
+use Rattle.ndef_value.specs.PieceLaws.{same_body}
 
 -- ---- pieces behind pieces
 pub spell_append : (ps qs : List Piece) (x y : List ℕ) → SpellAll ps x → SpellAll qs y → SpellAll (ps ++ qs) (x ++ y)

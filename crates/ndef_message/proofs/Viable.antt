@@ -4,6 +4,8 @@ use Rattle.std.specs.Prelude.{unwrap_or, is_some}
 use Rattle.std.specs.List.{AllByRecursion}
 use Rattle.std.proofs.lemmas.List.{append-nil}
 use Rattle.std.proofs.lemmas.Bool.{false≢true}
+use Rattle.ndef_lang.specs.KindLaws.{is_other}
+use Rattle.ndef_value.specs.ListLaws.{split_append, octets_append, zeros, zeros_length, zeros_octets}
 use Rattle.ndef_value.specs.Wire.{Item, Piece, Fields, AreOctets, LimitValues, AreInRange, SpellAll, HasShape, fields, octets, body, tnf_of}
 use Rattle.ndef_value.specs.declared.profile.Profile.{Profile}
 use Rattle.ndef_value.specs.declared.tnf.Tnf.{Tnf}
@@ -20,33 +22,17 @@ use Rattle.ndef_message.specs.Deep.{IsMember, IsDeep, IsViable}
 use Rattle.ndef_message.specs.Field.{part_octets, record_so_far, IsPart}
 use Rattle.ndef_message.specs.Payload.{completes, most_left, CanComplete}
 use Rattle.ndef_message.specs.Format.{FormatLaws}
-use Rattle.ndef_message.proofs.Lists.{split_append, zeros, zeros_length, zeros_octets, octets_append}
 use Rattle.ndef_message.proofs.Rests.{behind, before_rest}
 use Rattle.ndef_message.proofs.Bodies.{nothing, Finished, need_body, build_body}
 
 -- ---- types that no kind has
-only_other : (k : Kind) → (k ≢ Other → ⊥) → k ≡ Other
-only_other Other h = refl
-only_other Text h = absurd (h (λ e. cc))
-only_other Uri h = absurd (h (λ e. cc))
-only_other SmartPoster h = absurd (h (λ e. cc))
-only_other Request h = absurd (h (λ e. cc))
-only_other Select h = absurd (h (λ e. cc))
-only_other Carrier h = absurd (h (λ e. cc))
-only_other Action h = absurd (h (λ e. cc))
-only_other Size h = absurd (h (λ e. cc))
-only_other MediaType h = absurd (h (λ e. cc))
-only_other Alternative h = absurd (h (λ e. cc))
-only_other Collision h = absurd (h (λ e. cc))
-only_other Error h = absurd (h (λ e. cc))
-
 no_zero : (xs ys : List ℕ) → AllByRecursion (λ b. 0 < b) (xs ++ 0 ∷ ys) → ⊥
 no_zero [] ys a = let h = a.0 in absurd (omega arith)
 no_zero (x ∷ xs) ys a = no_zero xs ys a.1
 
 pub zero_is_other : (laws : FormatLaws) (tnf : Tnf) (xs ys : List ℕ) → kind_of tnf (xs ++ 0 ∷ ys) ≡ Other
 zero_is_other laws tnf xs ys =
-    only_other (kind_of tnf (xs ++ 0 ∷ ys)) (λ h. let n = laws.names tnf (xs ++ 0 ∷ ys) h in
+    is_other (kind_of tnf (xs ++ 0 ∷ ys)) (λ h. let n = laws.names tnf (xs ++ 0 ∷ ys) h in
     no_zero xs ys (subst (AllByRecursion (λ b. 0 < b)) (sym n.1) (laws.short (kind_of tnf (xs ++ 0 ∷ ys))).1))
 
 pub nil_is_other : (tnf : Tnf) → kind_of tnf [] ≡ Other
@@ -59,6 +45,7 @@ nil_is_other Unknown = refl
 nil_is_other Unchanged = refl
 
 padded_is_other : (laws : FormatLaws) (tnf : Tnf) (xs : List ℕ) (n : ℕ) → (0 < n) ⊎ (xs ≡ []) → kind_of tnf (xs ++ zeros n) ≡ Other
+unfolding zeros
 padded_is_other laws tnf xs zero (inl h) = absurd (omega arith)
 padded_is_other laws tnf xs zero (inr h) = rw h (nil_is_other tnf)
 padded_is_other laws tnf xs (suc n) h = zero_is_other laws tnf xs (zeros n)

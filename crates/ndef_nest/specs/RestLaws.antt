@@ -21,7 +21,8 @@ use Rattle.ndef_nest.specs.declared.demand.Demand.TheVariants as demands
 use Rattle.ndef_nest.specs.Nested.{kind_in}
 use Rattle.ndef_nest.specs.Demands.{Allows, after, is_met, suits, Tail, IsRecord, Rest, spot}
 use Rattle.ndef_nest.specs.Spans.{PassesAt, IsSpan, least, most}
-use Rattle.ndef_nest.specs.BodyLaws.{zeros, zeros_length, zeros_octets, TypedLength, typed_lengths}
+use Rattle.ndef_value.specs.ListLaws.{zeros, zeros_length, zeros_octets}
+use Rattle.ndef_nest.specs.BodyLaws.{TypedLength, typed_lengths}
 use Rattle.ndef_nest.specs.NameLaws.{checked_as, kind_of_name}
 
 -- the octets of PAYLOAD_LENGTH, and of ID_LENGTH

@@ -12,7 +12,8 @@ use Rattle.ndef_piece.proofs.Guards.{and_false, skip}
 use Rattle.ndef_piece.proofs.Sorts.{empty_lengths}
 use Rattle.ndef_piece.proofs.Sizes.{width_of}
 use Rattle.ndef_piece.proofs.Lengths.{within, length_octets}
-use Rattle.ndef_piece.proofs.Stages.{header, parts, length_part, at_header, at_kind, at_length, at_id, stage}
+use Rattle.ndef_piece.specs.HeaderLaws.{header, parts}
+use Rattle.ndef_piece.proofs.Stages.{length_part, at_header, at_kind, at_length, at_id, stage}
 
 -- each octet of the number 0 is 0
 pub zero_octet : (short : Bool) (ls m : List ℕ) (b : ℕ) → payload_length_octets short 0 ≡ ls ++ b ∷ m → b ≡ 0

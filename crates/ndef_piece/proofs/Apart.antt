@@ -10,10 +10,9 @@ use Rattle.ndef_piece.specs.declared.head_reader.Step.TheVariants as steps
 use Rattle.ndef_piece.specs.Header.{is_set, tnf_number, size}
 use Rattle.ndef_piece.specs.Heads.{head, CanBeSpelled, HeadsAreApart, HeadersTell, Begins, IsOpen, IsWhole, IsViable}
 use Rattle.ndef_piece.specs.Reading.{OneAnswer}
-use Rattle.ndef_piece.proofs.Lists.{cut_alike}
+use Rattle.ndef_value.specs.ListLaws.{cut_alike}
 use Rattle.ndef_piece.proofs.ReadBack.{read_back}
-use Rattle.ndef_piece.proofs.Sizes.{octets_size}
-use Rattle.ndef_piece.proofs.Stages.{header, parts}
+use Rattle.ndef_piece.specs.HeaderLaws.{octets_size, header, parts}
 
 -- ---- heads with one header octet
 
@@ -50,7 +49,7 @@ same_head h g a b e =
 same_size : (h g : Fields) → CanBeSpelled h → CanBeSpelled g → (x y : List ℕ) → octets h ++ x ≡ octets g ++ y → length (octets h) ≡ length (octets g)
 same_size h g a b x y e =
     let f : header h ≡ header g = cc in
-    octets_size h a ∙ ap size f ∙ sym (octets_size g b)
+    octets_size h a.tnf ∙ ap size f ∙ sym (octets_size g b.tnf)
 
 -- the fields, one by one
 abbrev make : Bool → Bool → Bool → Bool → ℕ → ℕ → ℕ → Option ℕ → Fields
@@ -84,7 +83,7 @@ open_not_past at (x ∷ xs) o g m l e =
     let s = o.spelled in
     let a : header o.fields ≡ x = cc in
     let b : header g ≡ x = cc in
-    let n : length (octets o.fields) ≡ length (octets g) = octets_size o.fields o.stands.spelled ∙ ap size (a ∙ sym b) ∙ sym (octets_size g l) in
+    let n : length (octets o.fields) ≡ length (octets g) = octets_size o.fields o.stands.spelled.tnf ∙ ap size (a ∙ sym b) ∙ sym (octets_size g l.tnf) in
     sizes (length (octets o.fields)) (length (octets g)) (length (x ∷ xs)) (length m) (length (o.next ∷ o.rest)) n
     (ap length s ∙ length-append (x ∷ xs) (o.next ∷ o.rest)) (ap length e ∙ length-append (octets g) m) (more o.rest)
   where

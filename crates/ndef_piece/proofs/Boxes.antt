@@ -19,9 +19,10 @@ use Rattle.ndef_piece.specs.declared.head_reader.Step.TheVariants as steps
 use Rattle.ndef_piece.proofs.Sorts.{empty, named, unnamed, sort}
 use Rattle.ndef_piece.proofs.Guards.{and_false}
 use Rattle.ndef_piece.proofs.Lengths.{octet_count, within, has, fits_form, length_octets}
-use Rattle.ndef_piece.proofs.Stages.{header, parts, length_part, at_header, at_kind, at_length, at_id, stage}
-use Rattle.ndef_piece.proofs.Sizes.{width_of, octets_size}
-use Rattle.ndef_piece.proofs.Lists.{front_in, octets_front}
+use Rattle.ndef_piece.specs.HeaderLaws.{octets_size, header, parts}
+use Rattle.ndef_piece.proofs.Stages.{length_part, at_header, at_kind, at_length, at_id, stage}
+use Rattle.ndef_piece.proofs.Sizes.{width_of}
+use Rattle.ndef_value.specs.ListLaws.{front_in, octets_front}
 use Rattle.ndef_piece.proofs.Sorts.{empty_lengths}
 use Rattle.ndef_piece.proofs.Apart.{alike, only_head}
 
@@ -194,7 +195,7 @@ sound spot h f xs t b kind payload =
     let eh : header f ≡ header h = cc in
     let a = alike f h s.spelled.tnf t eh in
     let p = parts h t in
-    let n : length (octets f) ≡ size (header h) = octets_size f s.spelled ∙ ap size eh in
+    let n : length (octets f) ≡ size (header h) = octets_size f s.spelled.tnf ∙ ap size eh in
     let v = unwrap_or f.id_length 0 in
     let z : f.tnf ≡ 0 → v ≡ 0 = λ z. (rw z at s.shape).1 in
     let id = subst (λ i. IsIn v (id_range h.tnf i)) a.id (subst (λ t. IsIn v (id_range t (is_some f.id_length))) a.tnf (id_in f.tnf f.id_length s.spelled.id z)) in
@@ -325,7 +326,7 @@ open_fits spot [] o = omega arith
 open_fits spot (x ∷ xs) o =
     let e = o.spelled in
     let f : header o.fields ≡ x = cc in
-    let n : length (octets o.fields) ≡ size x = octets_size o.fields o.stands.spelled ∙ ap size f in
+    let n : length (octets o.fields) ≡ size x = octets_size o.fields o.stands.spelled.tnf ∙ ap size f in
     less (length (x ∷ xs)) (size x) (length (octets o.fields)) (length (o.next ∷ o.rest)) n (ap length e ∙ length-append (x ∷ xs) (o.next ∷ o.rest))
   where
     less : (a b n m : ℕ) → n ≡ b → n ≡ a + m → a ≤ b

@@ -1,5 +1,4 @@
 mod Guards
-mod Lists
 mod HeaderOctet
 mod Sorts
 mod Lengths

@@ -6,11 +6,10 @@ use Rattle.ndef_value.specs.Wire.{Piece, IsPiece, IsLater, IsRead, FitsForm, Fie
 use Rattle.ndef_piece.specs.declared.spot.Spot.{Spot}
 use Rattle.ndef_piece.specs.Heads.{head, MayStand, CanBeSpelled, IsOpen}
 use Rattle.ndef_piece.specs.Pieces.{Stands, HeadsOfPieces, PiecesOfHeads, HeadsOfBytes, LengthsOfPieces}
-use Rattle.ndef_piece.proofs.Stages.{header}
-use Rattle.ndef_piece.proofs.Lists.{split_append}
+use Rattle.ndef_piece.specs.HeaderLaws.{octets_size, header}
+use Rattle.ndef_value.specs.ListLaws.{split_append}
 use Rattle.ndef_piece.proofs.Apart.{heads_are_apart}
-use Rattle.ndef_value.proofs.Unique.{read_by_all}
-use Rattle.ndef_piece.proofs.Sizes.{octets_size}
+use Rattle.ndef_value.specs.TnfLaws.{read_by_all}
 use Rattle.ndef_piece.specs.Header.{size}
 use Rattle.std.proofs.lemmas.List.{append-nil, length-replicate, nil_from_length}
 
@@ -81,7 +80,7 @@ past_open spot g [] m b o l e = cc
 past_open spot g (x ∷ xs) m b o l e =
     let s = o.spelled in
     let f : header o.fields ≡ header g = cc in
-    let n = octets_size o.fields o.stands.spelled ∙ ap size f ∙ sym (octets_size g l) in
+    let n = octets_size o.fields o.stands.spelled.tnf ∙ ap size f ∙ sym (octets_size g l.tnf) in
     nil_from_length m (omega (arith, n, ap length s, ap length e, length-append (x ∷ xs) (o.next ∷ o.rest), length-append (x ∷ xs) (b ∷ []), length-append (octets g) m))
 
 pub heads_of_bytes : HeadsOfBytes

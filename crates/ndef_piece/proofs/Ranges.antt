@@ -9,7 +9,7 @@ use Rattle.ndef_piece.specs.Bounds.{IsIn}
 use Rattle.ndef_piece.specs.Heads.{MayStand, IsOpen, IsWhole, Begins, IsRange}
 use Rattle.ndef_piece.specs.Ranges.{range_of}
 use Rattle.ndef_piece.proofs.Apart.{only_head}
-use Rattle.ndef_value.proofs.Unique.{read_by_all}
+use Rattle.ndef_value.specs.TnfLaws.{read_by_all}
 use Rattle.ndef_piece.proofs.Boxes.{open_bounds}
 
 -- a last piece in the long form, unknown or unchanged

@@ -13,7 +13,8 @@ use Rattle.ndef_piece.specs.Header.{is_set, tnf_number, width}
 use Rattle.ndef_piece.specs.Conditions.{least_from}
 use Rattle.ndef_piece.specs.Ranges.{length_front}
 use Rattle.ndef_piece.proofs.Lengths.{octet_count, length_octets, whole_number}
-use Rattle.ndef_piece.proofs.Stages.{header, parts, length_part}
+use Rattle.ndef_piece.specs.HeaderLaws.{header, parts}
+use Rattle.ndef_piece.proofs.Stages.{length_part}
 use Rattle.ndef_piece.proofs.Sizes.{width_of}
 
 -- the octets of the payload length stand after the type length

@@ -9,7 +9,7 @@ use Rattle.ndef_piece.specs.declared.spot.Spot.{Spot}
 use Rattle.ndef_piece.specs.Heads.{MayStand}
 use Rattle.ndef_piece.specs.Header.{tnf_number}
 use Rattle.ndef_piece.specs.Conditions.{is_strict, reason_for}
-use Rattle.ndef_piece.proofs.HeaderOctet.{Parts}
+use Rattle.ndef_piece.specs.HeaderLaws.{Parts}
 use Rattle.ndef_piece.proofs.Sorts.{empty, named, unnamed, sort}
 use Rattle.ndef_piece.proofs.Guards.{and_false, skip}
 

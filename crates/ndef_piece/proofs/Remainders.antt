@@ -5,7 +5,7 @@ use Rattle.ndef_value.specs.Wire.{all_pieces, Piece, IsPiece, Item, Fields, fiel
 use Rattle.ndef_piece.specs.Heads.{MayStand, IsOpen, IsViable}
 use Rattle.ndef_piece.specs.Walk.{extended, Before, spot, ended, after, Walk}
 use Rattle.ndef_piece.specs.Rest.{RestsCanFollow, Rest, RestsAreFlat, RestsEnd, RestsPastHeads, RestsWithinHeads}
-use Rattle.ndef_piece.proofs.Lists.{split_append}
+use Rattle.ndef_value.specs.ListLaws.{split_append}
 use Rattle.ndef_piece.proofs.PieceHeads.{zero_piece, zero_head, zero_fits, heads_of_pieces, pieces_of_heads}
 use Rattle.ndef_piece.proofs.Apart.{heads_are_apart, open_not_past}
 use Rattle.ndef_piece.proofs.Walks.{walks_are_messages}

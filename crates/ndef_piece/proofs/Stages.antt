@@ -1,18 +1,9 @@
 -- Where the next octet of a head stands.
-use Rattle.std.proofs.Common.{◌≡◌, ℕ, ◌<◌, inl, inr, refl, sym, ◌∙◌, ap, List, [], ◌∷◌, ◌++◌, Option, Some, None}
-use Rattle.std.specs.Prelude.{is_some}
-use Rattle.ndef_value.specs.Wire.{Fields, octets, header_octet, payload_length_octets, id_length_octets}
-use Rattle.ndef_piece.proofs.HeaderOctet.{Parts, parts_of}
-use Rattle.ndef_piece.proofs.Lists.{split_append}
+use Rattle.std.proofs.Common.{◌≡◌, ℕ, inl, inr, refl, sym, ◌∙◌, ap, List, [], ◌∷◌, ◌++◌, Option, Some, None}
+use Rattle.ndef_value.specs.Wire.{Fields, octets, payload_length_octets, id_length_octets}
+use Rattle.ndef_piece.specs.HeaderLaws.{header}
+use Rattle.ndef_value.specs.ListLaws.{split_append}
 use Rattle.std.proofs.lemmas.List.{append-nil}
-
--- the header octet of a head
-abbrev pub header : Fields → ℕ
-header h = header_octet h.first h.last h.chunked h.short (is_some h.id_length) h.tnf
-
--- the parts of its header octet
-pub parts : (h : Fields) → h.tnf < 8 → Parts (header h) h.first h.last h.chunked h.short (is_some h.id_length) h.tnf
-parts h t = parts_of h.first h.last h.chunked h.short (is_some h.id_length) h.tnf t
 
 -- its octets of PAYLOAD_LENGTH
 abbrev pub length_part : Fields → List ℕ

@@ -13,10 +13,10 @@ use Rattle.ndef_piece.specs.Header.{size}
 use Rattle.ndef_piece.specs.Conditions.{reason_for}
 use Rattle.ndef_piece.specs.Ranges.{range_of}
 use Rattle.ndef_piece.specs.Reading.{Reading, IsAnswer, IsSound}
-use Rattle.ndef_piece.proofs.Stages.{header}
+use Rattle.ndef_piece.specs.HeaderLaws.{octets_size, header}
 use Rattle.ndef_piece.proofs.Allowed.{refused}
 use Rattle.ndef_piece.proofs.Takes.{taken}
-use Rattle.ndef_piece.proofs.Sizes.{octets_size, size_small}
+use Rattle.ndef_piece.proofs.Sizes.{size_small}
 use Rattle.ndef_piece.proofs.Ranges.{any_head, any_stands, open_range, whole_range}
 
 -- nothing taken is open
@@ -32,7 +32,7 @@ open_start spot = record {
 -- an open front has fewer than 7 octets
 pub open_short : (spot : Spot) (xs : List ℕ) → IsOpen spot xs → length xs < 7
 open_short spot xs o =
-    let e = octets_size o.fields o.stands.spelled in
+    let e = octets_size o.fields o.stands.spelled.tnf in
     let s = size_small (header o.fields) in
     omega (arith, e, s, ap length o.spelled, length-append xs (o.next ∷ o.rest))
 
@@ -53,7 +53,7 @@ answered spot xs b answer o below none more whole =
           let f : octets v.0 ≡ xs ++ b ∷ [] = e ∙ append-nil (xs ++ b ∷ []) in
           subst (IsAnswer spot xs b) (sym (whole v.0 v.1.stands.spelled f)) (record { fields = v.0; stands = v.1.stands; spelled = f; read = refl })
       | y ∷ r ↦ λ e.
-          let n = octets_size v.0 v.1.stands.spelled in
+          let n = octets_size v.0 v.1.stands.spelled.tnf in
           let f = first_octet v.0 xs (y ∷ r) b e in
           let m = ap length e in
           let k = length-append (xs ++ b ∷ []) (y ∷ r) in

@@ -15,12 +15,13 @@ use Rattle.ndef_piece.specs.Reading.{ConditionsAreExact}
 use Rattle.ndef_piece.proofs.HeaderOctet.{octet_of_parts}
 use Rattle.ndef_piece.proofs.Guards.{false_of_and, same_flag, skipped}
 use Rattle.ndef_piece.proofs.Sorts.{empty, named, unnamed, sort, other_payload, empty_lengths}
-use Rattle.ndef_piece.proofs.Lists.{octets_front}
+use Rattle.ndef_value.specs.ListLaws.{octets_front}
 use Rattle.ndef_piece.proofs.Sizes.{width_of}
-use Rattle.ndef_value.proofs.Octets.{AreOctets-append}
+use Rattle.ndef_value.specs.ListLaws.{octets_append}
 use Rattle.std.proofs.lemmas.List.{append-nil}
 use Rattle.ndef_piece.proofs.Lengths.{octet_count, has, fits_form, least_below, length_octets}
-use Rattle.ndef_piece.proofs.Stages.{header, parts, length_part, at_header, at_kind, at_length, at_id, stage}
+use Rattle.ndef_piece.specs.HeaderLaws.{header, parts}
+use Rattle.ndef_piece.proofs.Stages.{length_part, at_header, at_kind, at_length, at_id, stage}
 use Rattle.ndef_piece.proofs.Allowed.{allowed, zero_octet, in_length, past_length}
 
 -- ---- the header octet
@@ -206,7 +207,7 @@ length_taken : (spot : Spot) (h : Fields) (ls m : List ℕ) (a b : ℕ) → MayS
 length_taken spot h ls m a b s below e none =
     let l = length_octets h.short h.payload_length s.spelled.form in
     let o : AreOctets (ls ++ a ∷ m) = subst AreOctets e l.1 in
-    let o' : AreOctets (ls ++ b ∷ []) = AreOctets-append ls (b ∷ []) (octets_front ls (a ∷ m) o) (below, tt) in
+    let o' : AreOctets (ls ++ b ∷ []) = octets_append ls (b ∷ []) (octets_front ls (a ∷ m) o) (below, tt) in
     let n : length (ls ++ b ∷ []) ≤ octet_count h.short = omega (arith, length-append ls (a ∷ m), length-append ls (b ∷ []), ap length e, l.0) in
     let none' = rw (in_length h ls m a s.spelled e, (parts h s.spelled.tnf).tnf, width_of h s.spelled.tnf) at none in
     let r1 = skipped _ _ _ none' in

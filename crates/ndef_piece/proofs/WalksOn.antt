@@ -6,7 +6,7 @@ use Rattle.std.proofs.lemmas.Bool.{cases_Bool, true≢false, false≢true}
 use Rattle.ndef_value.specs.Wire.{Piece, Item, HasShape, IsInitial, tnf_of, LimitValues}
 use Rattle.ndef_value.specs.declared.profile.Profile.{Profile}
 use Rattle.ndef_piece.specs.Walk.{Before, inside, Walk, RunsGoOn, WalksCanEnd}
-use Rattle.ndef_value.proofs.Unique.{read_by_all}
+use Rattle.ndef_value.specs.TnfLaws.{read_by_all}
 
 -- ---- the payload of an open run
 

@@ -1,4 +1,5 @@
 pub mod Header
+pub mod HeaderLaws
 pub mod Heads
 pub mod Conditions
 pub mod Ranges

@@ -4,36 +4,10 @@ use Rattle.std.specs.Prelude.{unwrap_or, nat_lt}
 use Rattle.std.specs.List.{flat_map, AllByRecursion}
 use Rattle.std.proofs.lemmas.List.{append-nil}
 use Rattle.std.proofs.lemmas.Bool.{ltb-true}
-use Rattle.ndef_value.specs.Wire.{code, tnf_of, IsRead, Piece, IsPiece, octets, fields, body, FitsForm, SpellAll, Run, IsRun, joined, Item, IsItem, IsShaped, BeginsOnce, EndsOnce, all_pieces, AreOctets, written_id, whole_piece, whole_pieces, is_nil, canonical, CanonicalIsFlat}
+use Rattle.ndef_value.specs.TnfLaws.{same_tnf, code_below, read_code, changed_code}
+use Rattle.ndef_value.specs.Wire.{code, Piece, IsPiece, octets, fields, body, FitsForm, SpellAll, Run, IsRun, joined, Item, IsItem, IsShaped, BeginsOnce, EndsOnce, all_pieces, AreOctets, written_id, whole_piece, whole_pieces, is_nil, canonical, CanonicalIsFlat}
 use Rattle.ndef_value.specs.declared.tnf.Tnf.{Tnf}
-use Rattle.ndef_value.specs.declared.tnf.Tnf.TheVariants.{Empty, WellKnown, Media, AbsoluteUri, External, Unknown, Unchanged}
 use Rattle.ndef_value.specs.declared.profile.Profile.{Profile}
-use Rattle.ndef_value.specs.declared.profile.Profile.TheVariants.{Strict, Standard}
-
-same_tnf : (t : Tnf) → tnf_of (code t) ≡ t
-same_tnf Empty = refl
-same_tnf WellKnown = refl
-same_tnf Media = refl
-same_tnf AbsoluteUri = refl
-same_tnf External = refl
-same_tnf Unknown = refl
-same_tnf Unchanged = refl
-
-code_below : (t : Tnf) → code t < 7
-code_below Empty = omega arith
-code_below WellKnown = omega arith
-code_below Media = omega arith
-code_below AbsoluteUri = omega arith
-code_below External = omega arith
-code_below Unknown = omega arith
-code_below Unchanged = omega arith
-
-read_code : (profile : Profile) (n : ℕ) → n < 7 → IsRead profile n
-read_code Strict n h = h
-read_code Standard n h = omega arith
-
-changed_code : (t : Tnf) → t ≢ Unchanged → code t ≢ 6
-changed_code t d e = d (sym (same_tnf t) ∙ ap tnf_of e)
 
 same_id : (id : List ℕ) → unwrap_or (written_id id) [] ≡ id
 same_id [] = refl

@@ -1,13 +1,15 @@
 -- A byte string spells at most one message, and no spelling begins another.
 use Rattle.std.proofs.Common.{◌≡◌, ℕ, ◌+◌, ◌*◌, ◌/◌, ◌%◌, ◌^◌, ◌<◌, Bool, true, false, refl, sym, ◌∙◌, ap, arith, List, [], ◌∷◌, ◌++◌, length, map, Option, Some, None, append_assoc}
-use Rattle.std.specs.Prelude.{is_some, unwrap_or}
+use Rattle.std.specs.Prelude.{is_some}
 use Rattle.std.specs.Option.{option_map}
 use Rattle.std.specs.List.{AllByRecursion}
 use Rattle.std.specs.Int.{w32, to_be_bytes}
 use Rattle.std.proofs.lemmas.List.{append-nil}
-use Rattle.ndef_value.specs.Wire.{bit, header_octet, payload_length_octets, id_length_octets, octets, fields, body, Piece, Spells, Run, Follow, IsRun, IsRead, all_pieces, joined, EndsOnce, SpellAll, OneMeaning, StrictIsRead}
+use Rattle.ndef_value.specs.PieceLaws.{same_body, same_fields}
+use Rattle.ndef_value.specs.TnfLaws.{read_by_all}
+use Rattle.ndef_value.specs.Wire.{bit, header_octet, payload_length_octets, id_length_octets, octets, fields, body, Piece, Spells, Run, Follow, IsRun, all_pieces, joined, EndsOnce, SpellAll, OneMeaning, StrictIsRead}
 use Rattle.ndef_value.specs.declared.profile.Profile.{Profile}
-use Rattle.ndef_value.specs.declared.profile.Profile.TheVariants.{Strict, Standard}
+use Rattle.ndef_value.specs.declared.profile.Profile.TheVariants.{Strict}
 
 -- ---- the header octet
 bit_small : (b : Bool) → bit b < 2
@@ -57,59 +59,26 @@ same_id_length None (Some b) s x y e = cc
 same_id_length (Some a) None s x y e = cc
 same_id_length (Some a) (Some b) s x y e = ((let f : a ≡ b = cc in ap Some f), cc)
 
-cut_alike : (xs ys a b : List ℕ) → length xs ≡ length ys → xs ++ a ≡ ys ++ b → (xs ≡ ys) × (a ≡ b)
-cut_alike [] [] a b n e = (refl, e)
-cut_alike [] (y ∷ ys) a b n e = absurd (omega arith)
-cut_alike (x ∷ xs) [] a b n e = absurd (omega arith)
-cut_alike (x ∷ xs) (y ∷ ys) a b n e =
-    let f : xs ++ a ≡ ys ++ b = cc in
-    let w = cut_alike xs ys a b (omega arith) f in
-    ((let g : x ≡ y = cc in let h = w.0 in cc), w.1)
-
 -- ---- the pieces
-same_id : (i j : Option (List ℕ)) → is_some (option_map length i) ≡ is_some (option_map length j) → unwrap_or i [] ≡ unwrap_or j [] → i ≡ j
-same_id None None s e = refl
-same_id None (Some b) s e = cc
-same_id (Some a) None s e = cc
-same_id (Some a) (Some b) s e = ap Some e
 
-id_long : (i j : Option (List ℕ)) → option_map length i ≡ option_map length j → length (unwrap_or i []) ≡ length (unwrap_or j [])
-id_long None None e = refl
-id_long None (Some b) e = cc
-id_long (Some a) None e = cc
-id_long (Some a) (Some b) e = cc
-
-abbrev make : Bool → Bool → Bool → ℕ → List ℕ → Option (List ℕ) → List ℕ → Piece
-make first last chunked tnf kind id payload = record { first = first; last = last; chunked = chunked; tnf = tnf; kind = kind; id = id; payload = payload }
-
-same_parts : (a a' b b' c c' : Bool) (t t' : ℕ) (k k' : List ℕ) (i i' : Option (List ℕ)) (n n' : List ℕ) → a ≡ a' → b ≡ b' → c ≡ c' → t ≡ t' → k ≡ k' → i ≡ i' → n ≡ n'
-    → make a b c t k i n ≡ make a' b' c' t' k' i' n'
-same_parts a a' b b' c c' t t' k k' i i' n n' e1 e2 e3 e4 e5 e6 e7 = rw (e1, e2, e3, e4, e5, e6, e7) refl
-
-same_piece : (p q : Piece) → p.first ≡ q.first → p.last ≡ q.last → p.chunked ≡ q.chunked → p.tnf ≡ q.tnf → p.kind ≡ q.kind → p.id ≡ q.id → p.payload ≡ q.payload → p ≡ q
-same_piece p q e1 e2 e3 e4 e5 e6 e7 = same_parts _ _ _ _ _ _ _ _ _ _ _ _ _ _ e1 e2 e3 e4 e5 e6 e7
-
-laid : (h k : ℕ) (l i t d n x : List ℕ) → ((h ∷ k ∷ (l ++ i)) ++ (t ++ (d ++ n))) ++ x ≡ h ∷ k ∷ (l ++ (i ++ (t ++ (d ++ (n ++ x)))))
-laid h k l i t d n x = simp append_assoc
+laid : (h k : ℕ) (l i b x : List ℕ) → ((h ∷ k ∷ (l ++ i)) ++ b) ++ x ≡ h ∷ k ∷ (l ++ (i ++ (b ++ x)))
+laid h k l i b x = simp append_assoc
 
 -- two spelled pieces at the front of the same bytes are one
 piece_once : (p q : Piece) (s t : Bool) (f g x y : List ℕ) → Spells p s f → Spells q t g → f ++ x ≡ g ++ y → (p ≡ q) × (x ≡ y)
 piece_once p q s t f g x y a b e =
-    let front = λ (p : Piece) (s : Bool) (x : List ℕ). payload_length_octets s (length p.payload) ++ (id_length_octets (option_map length p.id) ++ (p.kind ++ (unwrap_or p.id [] ++ (p.payload ++ x)))) in
-    let lay = λ (p : Piece) (s : Bool) (x : List ℕ). header_octet p.first p.last p.chunked s (is_some (option_map length p.id)) p.tnf ∷ length p.kind ∷ front p s x in
-    let regroup = λ (p : Piece) (s : Bool) (x : List ℕ). (let r : (octets (fields p s) ++ body p) ++ x ≡ lay p s x = laid _ _ (payload_length_octets s (length p.payload)) (id_length_octets (option_map length p.id)) p.kind (unwrap_or p.id []) p.payload x in r) in
+    let behind = λ (p : Piece) (s : Bool) (x : List ℕ). payload_length_octets s (length p.payload) ++ (id_length_octets (option_map length p.id) ++ (body p ++ x)) in
+    let lay = λ (p : Piece) (s : Bool) (x : List ℕ). header_octet p.first p.last p.chunked s (is_some (option_map length p.id)) p.tnf ∷ length p.kind ∷ behind p s x in
+    let regroup = λ (p : Piece) (s : Bool) (x : List ℕ). (let r : (octets (fields p s) ++ body p) ++ x ≡ lay p s x = laid _ _ (payload_length_octets s (length p.payload)) (id_length_octets (option_map length p.id)) (body p) x in r) in
     let whole : lay p s x ≡ lay q t y = sym (regroup p s x) ∙ ap (λ z. z ++ x) (sym a.spelled) ∙ e ∙ ap (λ z. z ++ y) b.spelled ∙ regroup q t y in
     let w1 : header_octet p.first p.last p.chunked s (is_some (option_map length p.id)) p.tnf ≡ header_octet q.first q.last q.chunked t (is_some (option_map length q.id)) q.tnf = cc in
     let w2 : length p.kind ≡ length q.kind = cc in
-    let w3 : front p s x ≡ front q t y = cc in
+    let w3 : behind p s x ≡ behind q t y = cc in
     let h = same_header _ _ _ _ _ _ _ _ _ _ _ _ a.piece.tnf b.piece.tnf w1 in
-    let w4 : front p s x ≡ front q s y = w3 ∙ ap (λ u. front q u y) (sym h.3) in
+    let w4 : behind p s x ≡ behind q s y = w3 ∙ ap (λ u. behind q u y) (sym h.3) in
     let l = same_length s (length p.payload) (length q.payload) a.piece.payload_length b.piece.payload_length _ _ w4 in
     let i = same_id_length (option_map length p.id) (option_map length q.id) h.4 _ _ l.1 in
-    let k = cut_alike p.kind q.kind _ _ w2 i.1 in
-    let d = cut_alike (unwrap_or p.id []) (unwrap_or q.id []) _ _ (id_long p.id q.id i.0) k.1 in
-    let n = cut_alike p.payload q.payload _ _ l.0 d.1 in
-    (same_piece p q h.0 h.1 h.2 h.5 k.0 (same_id p.id q.id h.4 d.0) n.0, n.1)
+    same_body p q s x y (same_fields _ _ _ _ _ _ s _ _ _ _ _ _ _ _ h.0 h.1 h.2 h.5 w2 l.0 i.0) i.1
 
 clash : (x : Bool) → x ≡ true → x ≡ false → ⊥
 clash true e f = cc
@@ -175,10 +144,6 @@ one_meaning p q m n front whole rest a b e =
     (sym x.message.items ∙ ap (map joined) (runs_once p q a.0 b.0 x.message.each_run y.message.each_run w.0) ∙ y.message.items, w.1)
 
 -- ---- profiles
-
-pub read_by_all : (profile : Profile) (n : ℕ) → IsRead Strict n → IsRead profile n
-read_by_all Strict n h = h
-read_by_all Standard n h = omega arith
 
 strict_runs : (profile : Profile) (rs : List Run) → AllByRecursion (IsRun Strict) rs → AllByRecursion (IsRun profile) rs
 strict_runs profile [] a = tt

@@ -1,3 +1,6 @@
+pub mod ListLaws
+pub mod PieceLaws
+pub mod TnfLaws
 pub mod Wire
 pub mod Message
 pub mod Reason

@@ -1,9 +1,8 @@
 -- The header octet and its parts.
-use Rattle.std.proofs.Common.{◌≡◌, ℕ, ◌+◌, ◌*◌, ◌/◌, ◌%◌, ◌<◌, Bool, true, false, length, Option, Some, None, refl, ◌∙◌, ap, arith}
+use Rattle.std.proofs.Common.{◌≡◌, ℕ, ◌+◌, ◌*◌, ◌/◌, ◌%◌, ◌<◌, Bool, true, false, cond, length, length-append, Option, Some, None, refl, ◌∙◌, ap, arith}
 use Rattle.std.specs.Prelude.{◌==◌, is_some}
-use Rattle.ndef_value.specs.Wire.{Fields, octets, bit, header_octet}
+use Rattle.ndef_value.specs.Wire.{Fields, bit, header_octet, id_length_octets, octets, payload_length_octets}
 use Rattle.ndef_piece.specs.Header.{is_set, tnf_number, size}
-use Rattle.ndef_nest.specs.RestLaws.{head_size, width, id_width}
 
 -- a flag as a digit
 pub bit_below : (b : Bool) → bit b < 2
@@ -54,19 +53,30 @@ parts_of b e c s i t u = record {
   tnf = at_tnf (bit b) (bit e) (bit c) (bit s) (bit i) t u;
 }
 
--- NDEF 1.0, record layout: the header octet of a head
-abbrev pub header_of : Fields → ℕ
-header_of f = header_octet f.first f.last f.chunked f.short (is_some f.id_length) f.tnf
+-- the header octet of a head
+abbrev pub header : Fields → ℕ
+header h = header_octet h.first h.last h.chunked h.short (is_some h.id_length) h.tnf
 
-pub header_parts : (f : Fields) → f.tnf < 8 → Parts (header_of f) f.first f.last f.chunked f.short (is_some f.id_length) f.tnf
-header_parts f h = parts_of f.first f.last f.chunked f.short (is_some f.id_length) f.tnf h
+-- the parts of its header octet
+pub parts : (h : Fields) → h.tnf < 8 → Parts (header h) h.first h.last h.chunked h.short (is_some h.id_length) h.tnf
+parts h t = parts_of h.first h.last h.chunked h.short (is_some h.id_length) h.tnf t
+
+-- ---- sizes
+
+-- the octets of PAYLOAD_LENGTH
+length_size : (short : Bool) (n : ℕ) → length (payload_length_octets short n) ≡ cond short 1 4
+length_size true n = refl
+length_size false n = refl
+
+-- and of ID_LENGTH
+id_size : (o : Option ℕ) → length (id_length_octets o) ≡ cond (is_some o) 1 0
+id_size None = refl
+id_size (Some d) = refl
+
+pub flags_size : (h : Fields) → length (octets h) ≡ 2 + cond h.short 1 4 + cond (is_some h.id_length) 1 0
+flags_size h =
+    omega (arith, length-append (payload_length_octets h.short h.payload_length) (id_length_octets h.id_length), length_size h.short h.payload_length, id_size h.id_length)
 
 -- a header octet tells the size of the head
-pub size_of : (f : Fields) → f.tnf < 8 → length (octets f) ≡ size (header_of f)
-size_of f h = let p = header_parts f h in head_size f ∙ by_parts f.short f.id_length p.short p.id_there
-  where
-    by_parts : (s : Bool) (i : Option ℕ) → is_set 4 (header_of f) ≡ s → is_set 3 (header_of f) ≡ is_some i → 2 + width s + id_width i ≡ size (header_of f)
-    by_parts true None e g = rw (e, g) refl
-    by_parts true (Some n) e g = rw (e, g) refl
-    by_parts false None e g = rw (e, g) refl
-    by_parts false (Some n) e g = rw (e, g) refl
+pub octets_size : (h : Fields) → h.tnf < 8 → length (octets h) ≡ size (header h)
+octets_size h t = let p = parts h t in rw (p.short, p.id_there) (flags_size h)

@@ -1,5 +1,5 @@
--- Lists that begin alike.
-use Rattle.std.proofs.Common.{◌≡◌, ℕ, ◌≤◌, ◌⊎◌, inl, inr, refl, sym, arith, List, [], ◌∷◌, ◌++◌, length}
+-- Lists that begin alike, and lists of octets.
+use Rattle.std.proofs.Common.{◌≡◌, ℕ, zero, suc, ◌≤◌, ◌⊎◌, inl, inr, refl, sym, arith, List, [], ◌∷◌, ◌++◌, length}
 use Rattle.ndef_value.specs.Wire.{AreOctets}
 
 -- one list ends inside the other, or at its end
@@ -16,13 +16,13 @@ split_append (x ∷ p) q (y ∷ l) r e =
     ]
 
 -- a front that isn't longer than the first part lies in it
-pub front_in : (p q l r : List ℕ) → p ++ q ≡ l ++ r → length l ≤ length p → (m : List ℕ) × (p ≡ l ++ m)
-front_in p q [] r e n = (p, refl)
+pub front_in : (p q l r : List ℕ) → p ++ q ≡ l ++ r → length l ≤ length p → (m : List ℕ) × (p ≡ l ++ m) × (r ≡ m ++ q)
+front_in p q [] r e n = (p, refl, sym e)
 front_in [] q (y ∷ l) r e n = absurd (omega arith)
 front_in (x ∷ p) q (y ∷ l) r e n =
     let et : p ++ q ≡ l ++ r = cc in
     let w = front_in p q l r et (omega arith) in
-    (w.0, (let ex : x ≡ y = cc in let ew = w.1 in cc))
+    (w.0, (let ex : x ≡ y = cc in let ew = w.1 in cc), w.2)
 
 -- fronts of one length are alike, and so is what follows them
 pub cut_alike : (xs ys a b : List ℕ) → length xs ≡ length ys → xs ++ a ≡ ys ++ b → (xs ≡ ys) × (a ≡ b)
@@ -37,3 +37,26 @@ cut_alike (x ∷ xs) (y ∷ ys) a b n e =
 pub octets_front : (xs ys : List ℕ) → AreOctets (xs ++ ys) → AreOctets xs
 octets_front [] ys p = tt
 octets_front (x ∷ xs) ys p = (p.0, octets_front xs ys p.1)
+
+pub octets_back : (xs ys : List ℕ) → AreOctets (xs ++ ys) → AreOctets ys
+octets_back [] ys p = p
+octets_back (x ∷ xs) ys p = octets_back xs ys p.1
+
+pub octets_append : (xs ys : List ℕ) → AreOctets xs → AreOctets ys → AreOctets (xs ++ ys)
+octets_append [] ys p q = q
+octets_append (x ∷ xs) ys p q = (p.0, octets_append xs ys p.1 q)
+
+-- so many 0 octets
+unfoldable pub zeros : ℕ → List ℕ
+zeros zero = []
+zeros (suc n) = 0 ∷ zeros n
+
+pub zeros_length : (n : ℕ) → length (zeros n) ≡ n
+unfolding zeros
+zeros_length zero = refl
+zeros_length (suc n) = omega (arith, zeros_length n)
+
+pub zeros_octets : (n : ℕ) → AreOctets (zeros n)
+unfolding zeros
+zeros_octets zero = tt
+zeros_octets (suc n) = (omega arith, zeros_octets n)
