@@ -65,8 +65,8 @@ fn run_in<L: OuterLanguage, S: Source, K: Sink>(
 ///
 /// The messages of the source, or with `--hex` those of the bytes that its text stands for, are
 /// handled one after another to their end, at most 10000 of them: all that is printed of one is made
-/// before its first byte is written. After a writing fault the status
-/// is `Fault`, and a front of the output is written.
+/// before its first byte is written. After a writing fault the status is `Fault`, and a front of the
+/// output is written.
 pub fn run<S: Source, K: Sink>(
     alloc: Global,
     words: &[String],

@@ -11,23 +11,6 @@ fn item(alloc: Global, payload: &[u8]) -> Result<Record, Fail> {
     Ok(Record::new(alloc, Tnf::WellKnown, b"T", b"", payload)?)
 }
 
-// Takes all memory that there is, in blocks from the largest to the least. An allocator without an
-// end, as under `rt try`, leaves some.
-fn use_up(alloc: Global, held: &mut Vec<Vec<u8>>) -> bool {
-    let mut size: usize = 1 << 46;
-    for _ in 0..70000 {
-        let mut block: Vec<u8> = Vec::new(alloc);
-        if block.try_reserve(size).is_ok() {
-            let _ = held.push(block);
-        } else if size == 1 {
-            return true;
-        } else {
-            size /= 2;
-        }
-    }
-    false
-}
-
 #[test]
 fn makes_names(rt: HostRuntime) -> Result<(), Fail> {
     let alloc = rt.alloc();
@@ -127,39 +110,5 @@ fn names_reasons(rt: HostRuntime) -> Result<(), Fail> {
     };
     let text = format!(in rt.alloc(); "{refusal}")?;
     assert!(rt; text.as_str() == "refused at 11: 24 EndOfInput");
-    Ok(())
-}
-
-// Once memory is used up, as many growths of 200 bytes succeed as blocks of 200 bytes are let go.
-#[test]
-fn refuses_each_growth(rt: HostRuntime) -> Result<(), Fail> {
-    let alloc = rt.alloc();
-    let part = &LETTERS[..200];
-    let mut name = Name::from_slice(alloc, &LETTERS[..32])?;
-    let mut bytes = Bytes::from_slice(alloc, b"kept")?;
-    let mut spare: Vec<Vec<u8>> = Vec::with_capacity(alloc, 3)?;
-    for _ in 0..3u8 {
-        spare.push(Vec::with_capacity(alloc, 200)?)?;
-    }
-    let mut held = Vec::with_capacity(alloc, 65536)?;
-    let used_up = use_up(alloc, &mut held);
-    let inline = Name::from_slice(alloc, &LETTERS[..32]).is_ok();
-    let named = Name::from_slice(alloc, &LETTERS[..33]).err();
-    let pushed = name.push(0x41).is_err();
-    let copied = Bytes::from_slice(alloc, b"T").is_err();
-    let extended = bytes.extend(part).is_err();
-    let mut refused = true;
-    for _ in 0..3u8 {
-        let error = Record::new(alloc, Tnf::Media, part, part, part).err();
-        refused = refused && error == Some(RecordError::NoMemory);
-        let _ = spare.pop();
-    }
-    let made = Record::new(alloc, Tnf::Media, part, part, part).is_ok();
-    drop(held);
-    assert!(rt; used_up, "memory has no end here");
-    assert!(rt; inline && named == Some(NameError::NoMemory));
-    assert!(rt; pushed && name.as_slice() == &LETTERS[..32]);
-    assert!(rt; copied && extended && bytes.as_slice() == b"kept".as_slice());
-    assert!(rt; refused && made);
     Ok(())
 }

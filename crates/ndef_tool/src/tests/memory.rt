@@ -1,15 +1,15 @@
-//! Messages where memory is used up.
+//! Values and messages where memory is used up.
 use super::samples::HELLO;
 use ndef_lang::Opaque;
 use ndef_message::{
     Decoder, Event, Form, ReadError, SliceSource, check_message, encode, encode_chunked,
     read_message,
 };
-use ndef_value::{Limits, Message, Record, Tnf};
+use ndef_value::{Bytes, Limits, Message, Name, NameError, Record, RecordError, Tnf};
 use std::alloc::Global;
 use std::test::Fail;
 
-const PART: [u8; 40] = [0x41; 40];
+const LETTERS: [u8; 200] = [0x41; 200];
 
 // Takes all memory that there is, in blocks from the largest to the least. An allocator without an
 // end, as under `rt try`, leaves some.
@@ -28,6 +28,40 @@ fn use_up(alloc: Global, held: &mut Vec<Vec<u8>>) -> bool {
     false
 }
 
+// Once memory is used up, as many growths of 200 bytes succeed as blocks of 200 bytes are let go.
+#[test]
+fn refuses_each_growth_of_a_value(rt: HostRuntime) -> Result<(), Fail> {
+    let alloc = rt.alloc();
+    let part: &[u8] = &LETTERS;
+    let mut name = Name::from_slice(alloc, &LETTERS[..32])?;
+    let mut bytes = Bytes::from_slice(alloc, b"kept")?;
+    let mut spare: Vec<Vec<u8>> = Vec::with_capacity(alloc, 3)?;
+    for _ in 0..3u8 {
+        spare.push(Vec::with_capacity(alloc, 200)?)?;
+    }
+    let mut held = Vec::with_capacity(alloc, 65536)?;
+    let used_up = use_up(alloc, &mut held);
+    let inline = Name::from_slice(alloc, &LETTERS[..32]).is_ok();
+    let named = Name::from_slice(alloc, &LETTERS[..33]).err();
+    let pushed = name.push(0x41).is_err();
+    let copied = Bytes::from_slice(alloc, b"T").is_err();
+    let extended = bytes.extend(part).is_err();
+    let mut refused = true;
+    for _ in 0..3u8 {
+        let error = Record::new(alloc, Tnf::Media, part, part, part).err();
+        refused = refused && error == Some(RecordError::NoMemory);
+        let _ = spare.pop();
+    }
+    let made = Record::new(alloc, Tnf::Media, part, part, part).is_ok();
+    drop(held);
+    assert!(rt; used_up, "memory has no end here");
+    assert!(rt; inline && named == Some(NameError::NoMemory));
+    assert!(rt; pushed && name.as_slice() == &LETTERS[..32]);
+    assert!(rt; copied && extended && bytes.as_slice() == b"kept".as_slice());
+    assert!(rt; refused && made);
+    Ok(())
+}
+
 // Blocks that are let go one by one, small ones first.
 fn spare_blocks(alloc: Global) -> Result<Vec<Vec<u8>>, Fail> {
     let mut spare: Vec<Vec<u8>> = Vec::with_capacity(alloc, 12)?;
@@ -39,8 +73,9 @@ fn spare_blocks(alloc: Global) -> Result<Vec<Vec<u8>>, Fail> {
 
 // A message with a type, an id and a payload that aren't kept inline.
 fn wide_message(alloc: Global) -> Result<Message, Fail> {
+    let part = &LETTERS[..40];
     let mut records = Vec::new(alloc);
-    records.push(Record::new(alloc, Tnf::Media, &PART, &PART, &PART)?)?;
+    records.push(Record::new(alloc, Tnf::Media, part, part, part)?)?;
     Ok(Message::new(records)?)
 }
 
@@ -95,7 +130,7 @@ fn fails_for_good(alloc: Global) -> bool {
 }
 
 #[test]
-fn refuses_each_growth(rt: HostRuntime) -> Result<(), Fail> {
+fn refuses_each_growth_of_a_message(rt: HostRuntime) -> Result<(), Fail> {
     let alloc = rt.alloc();
     let wide = wide_message(alloc)?;
     let bytes = encode(alloc, &wide, Form::Short)?;
