@@ -22,6 +22,7 @@ pub mod Opening
 pub mod Parts
 pub mod Places
 pub mod ReadBack
+pub mod Reached
 pub mod ReadingOn
 pub mod Rests
 pub mod Sends
