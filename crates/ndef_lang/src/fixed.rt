@@ -1,5 +1,5 @@
 //! Payloads of a fixed length.
-ghost use Rattle.std.specs.Prelude.{◌≡◌, ℕ, List, [], ◌∷◌, ◌↔◌};
+ghost use Rattle.std.specs.Prelude.{◌≡◌, [], ◌∷◌};
 ghost use Rattle.ndef_value.specs.declared.reason.Reason.TheVariants.{DoesNotFit};
 ghost use Rattle.ndef_lang.specs.Language.{Follows, NoReason};
 ghost use Rattle.ndef_lang.specs.Octets.{AreOctetsOf};

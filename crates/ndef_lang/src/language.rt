@@ -1,5 +1,5 @@
 //! What a payload language is.
-ghost use Rattle.std.specs.Prelude.{◌≡◌, ℕ, ◌^◌, ◌<◌, ◌≤◌, Bool, List, [], ◌∷◌, ◌++◌, ◌↔◌, IsTrue};
+ghost use Rattle.std.specs.Prelude.{◌≡◌, ℕ, ◌^◌, ◌<◌, ◌≤◌, Bool, List, [], ◌∷◌, ◌↔◌, IsTrue};
 ghost use Rattle.ndef_value.specs.Wire.{AreOctets};
 ghost use Rattle.ndef_lang.specs.Language.{Sets, Conditions, Passes, PassesBetween, Follows, Reaches, IsLowest};
 

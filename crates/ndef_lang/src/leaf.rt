@@ -1,5 +1,5 @@
 //! One of the leaves, chosen by the kind.
-ghost use Rattle.std.specs.Prelude.{◌≡◌, ℕ, List, [], ◌∷◌, ◌↔◌};
+ghost use Rattle.std.specs.Prelude.{◌≡◌, ℕ, List, [], ◌∷◌};
 ghost use Rattle.ndef_lang.specs.Language.{Follows, Reaches, Passes, IsLowest};
 ghost use Rattle.ndef_lang.specs.Leaf.{IsPayload, PayloadReason, CompletesLeaf, LeafReached, leaf_told, leaf_lengths};
 

@@ -1,5 +1,5 @@
 //! Payloads of Text records.
-ghost use Rattle.std.specs.Prelude.{◌≡◌, ℕ, List, [], ◌∷◌, ◌↔◌};
+ghost use Rattle.std.specs.Prelude.{◌≡◌, ℕ, List, [], ◌∷◌};
 ghost use Rattle.ndef_value.specs.declared.reason.Reason.TheVariants.{DoesNotFit};
 ghost use Rattle.ndef_lang.specs.Language.{Follows, Reaches, Passes, IsLowest};
 ghost use Rattle.ndef_lang.specs.Octets.{Octets};

@@ -1,5 +1,5 @@
 //! The checker of a message, byte by byte.
-ghost use Rattle.std.specs.Prelude.{◌≡◌, ◌≢◌, ◌+◌, ◌≤◌, ◌++◌, ◌∷◌, [], ℕ, List, length, None};
+ghost use Rattle.std.specs.Prelude.{◌≡◌, ◌+◌, ◌≤◌, ◌++◌, ◌∷◌, [], ℕ, List, length, None};
 ghost use Rattle.ndef_value.specs.Wire.{Item, greatest_length};
 ghost use Rattle.ndef_message.specs.Field.{Field};
 ghost use Rattle.ndef_message.specs.Feed.{Feeds, Ends, IsAccepted, answer_of};

@@ -1,5 +1,4 @@
 //! The payloads of the records of a message, by the kinds of their types.
-ghost use Rattle.std.specs.Prelude.{◌≡◌, List, ℕ};
 
 use crate::nest::Nest;
 use ndef_lang::{Kind, Language, Leaf, OuterLanguage};

@@ -1,5 +1,5 @@
 //! What the words ask for.
-ghost use Rattle.std.specs.Prelude.{◌≡◌, ◌≤◌, ◌<◌, ◌^◌, map, option_and_then, option_map, string_bytes, IfOk, IfSome};
+ghost use Rattle.std.specs.Prelude.{◌≡◌, ◌≤◌, ◌<◌, map, option_and_then, option_map, string_bytes, IfOk, IfSome};
 ghost use Rattle.clap.specs.Words.{first_of, one_of, rows_of, found_of, subcommand_rows_of};
 ghost use Rattle.ndef_tool.specs.Chosen.{Chooses, HasSize, HasSizeIfAny, action_of, choice_in, chosen_of, chunk_of, form_named, form_of, given_number, hex_of, limits_of, number_in, number_of, profile_named, profile_of, within};
 

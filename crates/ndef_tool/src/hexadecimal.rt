@@ -1,5 +1,5 @@
 //! Hexadecimal text, read whole.
-ghost use Rattle.std.specs.Prelude.{◌≡◌, ◌≤◌, ◌++◌, codes, false, string_bytes, IfErr, IfOk};
+ghost use Rattle.std.specs.Prelude.{◌≡◌, ◌++◌, codes, false, string_bytes, IfErr, IfOk};
 ghost use Rattle.hex.specs.Hex.{encode_lower};
 ghost use Rattle.ndef_tool.specs.Hexadecimal.{IsDecoded, IsInput, IsText, digits_of, fault_of, is_space, items_of};
 ghost use Rattle.ndef_tool.specs.Output.{FitsPlace};

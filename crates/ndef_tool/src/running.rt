@@ -1,8 +1,7 @@
 //! The command, over any source and sink.
 ghost use Rattle.std.specs.Prelude.{◌≡◌, false, map, string_bytes};
-ghost use Rattle.ndef_tool.specs.Output.{FitsPlace, ending_line, status_of};
+ghost use Rattle.ndef_tool.specs.Output.{ending_line, status_of};
 ghost use Rattle.ndef_tool.specs.Runs.{Ends, Runs};
-ghost use Rattle.ndef_message.specs.Sending.{Sent, MarksOf};
 
 use crate::choice::{WordsError, choose};
 use crate::ending::{Ending, Status};

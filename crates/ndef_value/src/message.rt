@@ -1,5 +1,5 @@
 //! A message.
-ghost use Rattle.std.specs.Prelude.{◌≡◌, ◌≤◌, length, slice_get, option_map, IfSome};
+ghost use Rattle.std.specs.Prelude.{◌≡◌, length, slice_get, option_map};
 ghost use Rattle.std.specs.List.{AllByRecursion};
 ghost use Rattle.ndef_value.specs.Wire.{IsItem, AreItems};
 ghost use Rattle.ndef_value.specs.Message.{Gives};

@@ -1,5 +1,5 @@
 //! A record.
-ghost use Rattle.std.specs.Prelude.{◌≡◌, ◌≢◌, ◌↔◌, IfOk, IsErrOf, IsTrue, length};
+ghost use Rattle.std.specs.Prelude.{◌≡◌, ◌↔◌, IfOk, IsErrOf, IsTrue};
 ghost use Rattle.ndef_value.specs.Wire.{IsShaped, HasLengths, IsItem};
 
 use crate::{Bytes, Name, Tnf};
