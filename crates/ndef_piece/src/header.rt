@@ -6,15 +6,19 @@ ghost use Rattle.ndef_piece.specs.Header.{is_set, size, tnf_number, width};
 use crate::Head;
 use ndef_value::Tnf;
 
-/// Places of the flags MB, ME, CF, SR and IL, bit 0 being the lowest.
+/// The place of the flag MB, bit 0 being the lowest.
 pub(crate) const BEGIN: u32 = 7;
 
+/// The place of ME.
 pub(crate) const END: u32 = 6;
 
+/// The place of CF.
 pub(crate) const CHUNK: u32 = 5;
 
+/// The place of SR.
 pub(crate) const SHORT: u32 = 4;
 
+/// The place of IL.
 pub(crate) const ID_THERE: u32 = 3;
 
 /// Whether a bit of an octet is set.

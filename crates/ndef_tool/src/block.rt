@@ -22,6 +22,7 @@ pub enum Block {
 }
 
 impl Block {
+    /// Its bytes.
     pub fn as_slice(&self) -> &[u8]
         ensures { result.now ≡ text_of self.now }
     {

@@ -47,6 +47,7 @@ fn text<'a>(matches: &ArgMatches<'a>, id: &str) -> Option<&'a str>
     matches.get_str(id)
 }
 
+/// Whether `--hex` is given.
 fn hex(matches: &ArgMatches<'_>) -> bool
     ensures { result ≡ hex_of (rows_of (found_of matches.now)) }
 {
@@ -56,12 +57,14 @@ fn hex(matches: &ArgMatches<'_>) -> bool
     }
 }
 
+/// The number of an option, as clap has read it, where it is given.
 fn read(matches: &ArgMatches<'_>, id: &str) -> Option<u32>
     ensures { result ≡ option_and_then number_in (one_of id.now (rows_of (found_of matches.now))) }
 {
     matches.get_one::<u32>(id)
 }
 
+/// The number, if it is from 1 to `most`.
 fn limited(number: u32, most: u32) -> Option<u32>
     ensures value { result ≡ within most number }
     ensures range { IfSome result (λ n. (1 ≤ n) × (n ≤ most)) }
@@ -73,6 +76,7 @@ fn limited(number: u32, most: u32) -> Option<u32>
     }
 }
 
+/// The number of an option that is given, if it is from 1 to `most`.
 fn given(matches: &ArgMatches<'_>, id: &str, most: u32) -> Option<u32>
     ensures value { result ≡ given_number id.now most (rows_of (found_of matches.now)) }
     ensures range { IfSome result (λ n. (1 ≤ n) × (n ≤ most)) }
@@ -81,6 +85,7 @@ fn given(matches: &ArgMatches<'_>, id: &str, most: u32) -> Option<u32>
     limited(number, most)
 }
 
+/// The number of an option, or the usual one where it is not given.
 fn number(matches: &ArgMatches<'_>, id: &str, most: u32, usual: u32) -> Option<u32>
     requires some { 1 ≤ usual }
     requires most { usual ≤ most }
@@ -93,6 +98,7 @@ fn number(matches: &ArgMatches<'_>, id: &str, most: u32, usual: u32) -> Option<u
     }
 }
 
+/// The size of `--chunk`, or none where it is not given.
 fn chunk(matches: &ArgMatches<'_>) -> Option<Option<u32>>
     ensures value { result ≡ chunk_of (rows_of (found_of matches.now)) }
     ensures some { IfSome result HasSizeIfAny }
@@ -103,6 +109,7 @@ fn chunk(matches: &ArgMatches<'_>) -> Option<Option<u32>>
     }
 }
 
+/// The form of this name.
 fn form_named(name: &str) -> Option<Form>
     ensures { result ≡ form_named name.now }
 {
@@ -113,6 +120,7 @@ fn form_named(name: &str) -> Option<Form>
     }
 }
 
+/// The form of `--form`, or the short one where it is not given.
 fn form_given(matches: &ArgMatches<'_>) -> Option<Form>
     ensures { result ≡ form_of (rows_of (found_of matches.now)) }
 {
@@ -122,6 +130,7 @@ fn form_given(matches: &ArgMatches<'_>) -> Option<Form>
     }
 }
 
+/// The profile of this name.
 fn profile_named(name: &str) -> Option<Profile>
     ensures { result ≡ profile_named name.now }
 {
@@ -132,6 +141,7 @@ fn profile_named(name: &str) -> Option<Profile>
     }
 }
 
+/// The profile of `--profile`, or the strict one where it is not given.
 fn profile_given(matches: &ArgMatches<'_>) -> Option<Profile>
     ensures { result ≡ profile_of (rows_of (found_of matches.now)) }
 {
@@ -141,6 +151,7 @@ fn profile_given(matches: &ArgMatches<'_>) -> Option<Profile>
     }
 }
 
+/// The limits that the options give.
 fn limits_given(matches: &ArgMatches<'_>) -> Option<Limits>
     ensures { result ≡ limits_of (rows_of (found_of matches.now)) }
 {
@@ -154,6 +165,7 @@ fn limits_given(matches: &ArgMatches<'_>) -> Option<Limits>
     Some(limits.with(profile))
 }
 
+/// What the subcommand of this name does.
 fn action_given(name: &str, matches: &ArgMatches<'_>) -> Option<Action>
     ensures value { result ≡ action_of name.now (rows_of (found_of matches.now)) }
     ensures some { IfSome result HasSize }
@@ -168,6 +180,7 @@ fn action_given(name: &str, matches: &ArgMatches<'_>) -> Option<Action>
     }
 }
 
+/// What the subcommand of this name and its options choose.
 fn choice_given(name: &str, matches: &ArgMatches<'_>) -> Option<Choice>
     ensures value { result ≡ choice_in name.now (rows_of (found_of matches.now)) }
     ensures some { IfSome result (λ choice. HasSize choice.action) }
@@ -181,6 +194,7 @@ fn choice_given(name: &str, matches: &ArgMatches<'_>) -> Option<Choice>
     })
 }
 
+/// What clap's matches choose.
 fn chosen(matches: &ArgMatches<'_>) -> Option<Choice>
     ensures value { result ≡ chosen_of (subcommand_rows_of matches.now) }
     ensures some { IfSome result (λ choice. HasSize choice.action) }

@@ -7,6 +7,7 @@ ghost use Rattle.ndef_tool.specs.CommandLine.{hex_rule, number_rule, word_rule, 
 use clap::{Arg, ArgAction, Command, value_parser};
 use std::alloc::{AllocError, Global};
 
+/// The flag `--hex`.
 fn hex_flag<'a>(alloc: Global) -> Arg<'a>
     ensures rule { rule_of result ≡ hex_rule }
     ensures local { result.global ≡ false }
@@ -44,6 +45,7 @@ fn word_option<'a>(alloc: Global, name: &'a str) -> Arg<'a>
     Arg::new(alloc, name).long(name)
 }
 
+/// A subcommand with the flag and the limits.
 fn limits_command<'a>(alloc: Global, name: &'a str) -> Result<Command<'a>, AllocError>
     ensures app { IfOk result (λ c. app_of c ≡ limits_app name.entry.now) }
     ensures local { IfOk result (λ c. (fields_of c).has_globals ≡ false) }
@@ -55,6 +57,7 @@ fn limits_command<'a>(alloc: Global, name: &'a str) -> Result<Command<'a>, Alloc
         .arg(small_option(alloc, "pieces"))
 }
 
+/// A subcommand with all that reading takes.
 fn reading_command<'a>(alloc: Global, name: &'a str) -> Result<Command<'a>, AllocError>
     ensures app { IfOk result (λ c. app_of c ≡ reading_app name.entry.now) }
     ensures local { IfOk result (λ c. (fields_of c).has_globals ≡ false) }
@@ -62,6 +65,7 @@ fn reading_command<'a>(alloc: Global, name: &'a str) -> Result<Command<'a>, Allo
     limits_command(alloc, name)?.arg(word_option(alloc, "profile"))
 }
 
+/// The subcommand `encode`.
 fn encode_command<'a>(alloc: Global) -> Result<Command<'a>, AllocError>
     ensures app { IfOk result (λ c. app_of c ≡ encode_app) }
     ensures local { IfOk result (λ c. (fields_of c).has_globals ≡ false) }
@@ -71,7 +75,7 @@ fn encode_command<'a>(alloc: Global) -> Result<Command<'a>, AllocError>
         .arg(wide_option(alloc, "chunk"))
 }
 
-// No flag and no subcommand for help: words that ask for it print the usage line.
+/// No flag and no subcommand for help: words that ask for it print the usage line.
 fn empty_command<'a>(alloc: Global) -> Command<'a>
     ensures app { app_of result ≡ empty_app }
     ensures local { (fields_of result).has_globals ≡ false }

@@ -37,6 +37,7 @@ fn read_text<S: Source>(alloc: Global, source: &mut S) -> Result<Vec<u8>, Ending
     }
 }
 
+/// Whether a byte is white space in hexadecimal text.
 fn is_space(byte: u8) -> bool
     ensures { result ≡ is_space byte }
 {
@@ -50,6 +51,7 @@ fn drop_spaces(text: &mut Vec<u8>)
     text.retain(|byte| !is_space(*byte));
 }
 
+/// What is wrong with the digits.
 fn fault_of(error: FromHexError) -> HexFault
     ensures { result ≡ fault_of error }
 {

@@ -57,6 +57,7 @@ fn hex_line(fault: HexFault) -> Line
     line
 }
 
+/// A line of this text.
 fn text_line(text: &[u8]) -> Line
     requires { length text.now ≤ 160 }
     ensures { result ≡ text.now }
@@ -66,6 +67,7 @@ fn text_line(text: &[u8]) -> Line
     line
 }
 
+/// The line that tells an ending, where one does.
 fn ending_text(base: u64, ending: Ending) -> Line
     requires { FitsPlace base ending }
     ensures { result ≡ ending_text base ending }

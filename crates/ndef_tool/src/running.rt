@@ -14,9 +14,11 @@ use std::alloc::Global;
 /// The language of the payloads that messages have.
 type Payloads = ndef_lang::Opaque;
 
+/// What is printed where the words don't parse.
 const USAGE: &[u8] =
     b"usage: ndef show|check|encode [--hex] [--payload N] [--records N] [--pieces N] [--form short|long] [--chunk N] [--profile strict|standard]\n";
 
+/// The status of an ending.
 fn status_of(ending: Ending) -> Status
     ensures { result ≡ status_of ending }
 {
@@ -28,6 +30,7 @@ fn status_of(ending: Ending) -> Status
     }
 }
 
+/// The status, unless the last line couldn't be written.
 fn end(written: Result<u64, WriteFault>, status: Status) -> Status
     ensures { Ends written status result }
 {

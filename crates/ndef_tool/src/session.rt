@@ -26,6 +26,7 @@ pub struct Session {
     pub ending: Ending,
 }
 
+/// Whether no bytes are to come.
 fn is_at_end<S: Source>(source: &mut S) -> Result<bool, SourceFault>
     ensures { LooksAhead (S.coming source.old) (S.coming source.new) (S.has_failed source.new) result }
 {
@@ -36,6 +37,7 @@ fn is_at_end<S: Source>(source: &mut S) -> Result<bool, SourceFault>
     Ok(false)
 }
 
+/// Reads a message. It has so few bytes that those of 10000 messages can be added up.
 fn read_bounded<L: OuterLanguage, S: Source>(
     alloc: Global,
     limits: Limits,

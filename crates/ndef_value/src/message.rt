@@ -36,7 +36,7 @@ pub enum MessageError {
     TooMany(Vec<Record>),
 }
 
-// Each record of a list is one: its parts go together.
+/// Each record of a list is one: its parts go together.
 fn are_items(records: &[Record])
     ensures { AllByRecursion IsItem records.now }
 {

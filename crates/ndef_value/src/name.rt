@@ -8,6 +8,7 @@ use std::alloc::Global;
 use std::marker::Model;
 use thiserror::Error;
 
+/// The bytes that a name holds without memory.
 const INLINE: usize = 32;
 
 /// 0 to 255 bytes, up to 32 of them inline: so many a piece can give its type or its id.

@@ -43,6 +43,7 @@ pub enum RecordError {
     NoMemory,
 }
 
+/// Whether the parts go together.
 fn is_shaped(tnf: Tnf, kind: &[u8], id: &[u8], payload: &[u8]) -> bool
     ensures { IsTrue result ↔ IsShaped (record { tnf = tnf; kind = kind.now; id = id.now; payload = payload.now }) }
 {
@@ -54,6 +55,7 @@ fn is_shaped(tnf: Tnf, kind: &[u8], id: &[u8], payload: &[u8]) -> bool
     }
 }
 
+/// Whether each part is as long as a head can tell.
 fn has_lengths(tnf: Tnf, kind: &[u8], id: &[u8], payload: &[u8]) -> bool
     ensures { IsTrue result ↔ HasLengths (record { tnf = tnf; kind = kind.now; id = id.now; payload = payload.now }) }
 {
