@@ -154,6 +154,7 @@ module _ (set : Sets) (holds : Conditions) (reach : Kind → ℕ → Profile →
     pub place_is : place ≡ numbers c
     pub speaks : SpeaksIf set reach pass limits c.begun
 
+  -- some bytes led to a whole head
   pub record SomeWhole (h : Head) : Type 0 where
     pub bytes : List ℕ
     pub given : List Item
@@ -161,6 +162,7 @@ module _ (set : Sets) (holds : Conditions) (reach : Kind → ℕ → Profile →
     pub fields : Fields
     pub whole : WholeHead h bytes given before fields
 
+  -- some bytes led here
   pub record Led : Type 0 where
     pub bytes : List ℕ
     pub given : List Item

@@ -50,6 +50,7 @@ bounds_of spot header xs = record {
   payload = range_of spot (header ∷ xs);
 }
 
+-- .. where some octets are there
 abbrev pub front_bounds : Spot → List ℕ → Option Bounds
 front_bounds spot [] = None
 front_bounds spot (header ∷ xs) = Some (bounds_of spot header xs)
@@ -68,8 +69,10 @@ bounds_at h = record {
 
 -- ---- laws
 
+-- The bounds after some octets are those of the heads that go on with them.
 abbrev pub BoundsOfFronts : Type 0
 BoundsOfFronts = (spot : Spot) (header : ℕ) (xs : List ℕ) → IsOpen spot (header ∷ xs) → AreBounds spot (header ∷ xs) (bounds_of spot header xs)
 
+-- The bounds of a whole head are its lengths.
 abbrev pub BoundsOfHeads : Type 0
 BoundsOfHeads = (spot : Spot) (xs : List ℕ) (h : Head) → IsWhole spot xs h → AreBounds spot xs (bounds_at h)

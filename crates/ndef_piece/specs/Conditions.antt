@@ -28,14 +28,17 @@ field [] = HeaderOctet
 field (header ∷ []) = TypeLength
 field (header ∷ kind ∷ xs) = if nat_lt (length xs) (width header) then PayloadLength else IdLength
 
+-- the octet stands in the header
 abbrev pub in_header : Field → Bool
 in_header HeaderOctet = true
 in_header _ = false
 
+-- .. in TYPE_LENGTH
 abbrev pub in_type_length : Field → Bool
 in_type_length TypeLength = true
 in_type_length _ = false
 
+-- .. in PAYLOAD_LENGTH
 abbrev pub in_payload_length : Field → Bool
 in_payload_length PayloadLength = true
 in_payload_length _ = false
@@ -92,6 +95,7 @@ abbrev pub lowest : List (Reason × Bool) → Option Reason
 lowest [] = None
 lowest (c ∷ cs) = if c.1 then Some c.0 else lowest cs
 
+-- why an octet behind these is refused, if it is
 abbrev pub reason_for : Spot → List ℕ → ℕ → Option Reason
 reason_for spot xs b = lowest (conditions spot xs b)
 

@@ -4,6 +4,7 @@ use Rattle.ndef_tool.specs.Output.{Text}
 use Rattle.ndef_tool.specs.declared.block.Block.{Block}
 use Rattle.ndef_tool.specs.declared.block.Block.TheVariants.{Line, Bytes, Text as Digits}
 
+-- the bytes of a block
 abbrev pub text_of : Block → Text
 text_of (Line line) = line
 text_of (Bytes bytes) = bytes

@@ -18,6 +18,7 @@ use Rattle.ndef_tool.specs.declared.choice.Choice.{Choice}
 use Rattle.ndef_tool.specs.declared.choice.WordsError.{WordsError}
 use Rattle.ndef_tool.specs.declared.choice.WordsError.TheVariants.{Usage, NoMemory}
 
+-- whether the flag is set
 abbrev pub hex_of : List Row → Bool
 hex_of rows = option_map_or (λ t. bytes_eq t (codes "true")) (first_of (codes "hex") rows) false
 
@@ -46,22 +47,27 @@ chunk_of rows = option_map_or (λ _. option_map (λ n. Some n) (given_number (co
 
 -- ---- words
 
+-- the form of this name
 abbrev pub form_named : Text → Option Form
 form_named name = if bytes_eq name (codes "short") then Some Short
     else (if bytes_eq name (codes "long") then Some Long else None)
 
+-- the form that is given, or the short one
 abbrev pub form_of : List Row → Option Form
 form_of rows = option_map_or form_named (first_of (codes "form") rows) (Some Short)
 
+-- the profile of this name
 abbrev pub profile_named : Text → Option Profile
 profile_named name = if bytes_eq name (codes "strict") then Some Strict
     else (if bytes_eq name (codes "standard") then Some Standard else None)
 
+-- the profile that is given, or the strict one
 abbrev pub profile_of : List Row → Option Profile
 profile_of rows = option_map_or profile_named (first_of (codes "profile") rows) (Some Strict)
 
 -- ---- a choice
 
+-- the limits that are given
 abbrev pub limits_of : List Row → Option LimitValues
 limits_of rows =
     option_and_then (λ payload.
@@ -73,6 +79,7 @@ limits_of rows =
     (number_of (codes "records") 65535 1024 rows))
     (number_of (codes "payload") 4294967295 1048576 rows)
 
+-- what encode does
 abbrev pub encode_of : List Row → Option Action
 encode_of rows = option_and_then (λ form. option_map (λ chunk. Encode form chunk) (chunk_of rows)) (form_of rows)
 
@@ -90,6 +97,7 @@ choice_in name rows =
 abbrev pub chosen_of : Option (Text × List Row) → Option Choice
 chosen_of = option_and_then (λ p. choice_in p.0 p.1)
 
+-- nothing, where clap finds a fault
 abbrev pub unless_fault : {X : Type 0} → Kinds → Option X → Option X
 unless_fault [] o = o
 unless_fault (k ∷ ks) o = None
@@ -98,6 +106,7 @@ unless_fault (k ∷ ks) o = None
 abbrev pub choice_by : App → List Text → Option Choice
 choice_by app words = unless_fault (fault_of app words) (chosen_of (subcommand_of app words))
 
+-- .. by the subcommands and options of ndef
 abbrev pub choice_of : List Text → Option Choice
 choice_of words = choice_by ndef_app words
 
@@ -113,6 +122,7 @@ Chooses words (Err NoMemory) = ⊤
 abbrev pub HasSizeIfAny : Option ℕ → Type 0
 HasSizeIfAny size = ForSome size (λ n. 1 ≤ n)
 
+-- .. of an action
 abbrev pub HasSize : Action → Type 0
 HasSize Check = ⊤
 HasSize (Encode form size) = HasSizeIfAny size

@@ -4,6 +4,7 @@ use Rattle.clap.specs.Words.{App, Rule, Text, new_app, new_rule, with_rule, with
 use Rattle.clap.specs.declared.builder.action.ArgAction.TheVariants.{SetTrue}
 use Rattle.clap.specs.declared.builder.value_parser.ValueParser.TheVariants as vp
 
+-- the flag for hexadecimal text
 abbrev pub hex_rule : Rule
 hex_rule = record (new_rule (codes "hex")) { long = Some (codes "hex"); action = Some SetTrue }
 
@@ -33,5 +34,6 @@ abbrev pub empty_app : App
 empty_app = let a = new_app (codes "ndef") in
     record a { top = record a.top { subcommand_required = true; disable_help_flag = true; disable_help_subcommand = true } }
 
+-- all of it
 abbrev pub ndef_app : App
 ndef_app = with_subcommand (with_subcommand empty_app (reading_app (codes "check")).top) encode_app.top

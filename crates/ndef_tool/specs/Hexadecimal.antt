@@ -11,6 +11,7 @@ use Rattle.ndef_tool.specs.declared.ending.Ending.TheVariants.{Hex, Reading, Mem
 use Rattle.ndef_tool.specs.declared.ending.HexFault.{HexFault}
 use Rattle.ndef_tool.specs.declared.ending.HexFault.TheVariants.{Odd, BadDigit}
 
+-- the bytes of a vector, if there is one
 abbrev pub items_of : {E : Type 0} → Result (Vec ℕ Global) E → Result (List ℕ) E
 items_of (Ok bytes) = Ok bytes.items
 items_of (Err e) = Err e
@@ -19,6 +20,7 @@ items_of (Err e) = Err e
 abbrev pub is_space : ℕ → Bool
 is_space byte = byte == 32 || byte == 9 || byte == 13 || byte == 10
 
+-- the text without white space
 abbrev pub digits_of : List ℕ → List ℕ
 digits_of text = filter (λ byte. not (is_space byte)) text
 

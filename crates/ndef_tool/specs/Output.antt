@@ -15,14 +15,17 @@ use Rattle.ndef_tool.specs.declared.ending.HexFault.TheVariants.{Odd, BadDigit}
 use Rattle.ndef_tool.specs.declared.ending.Status.{Status}
 use Rattle.ndef_tool.specs.declared.ending.Status.TheVariants as status
 
+-- what is printed, in bytes
 abbrev pub Text : Type 0
 Text = List ℕ
 
 -- ---- lines
 
+-- for words that don't parse
 abbrev pub usage_line : Text
 usage_line = codes "usage: ndef show|check|encode [--hex] [--payload N] [--records N] [--pieces N] [--form short|long] [--chunk N] [--profile strict|standard]\n"
 
+-- for a message
 abbrev pub message_line : (number at records bytes : ℕ) → Text
 message_line number at records bytes =
     codes "message " ++ decimal number ++ codes " at " ++ decimal at ++ codes ": records " ++ decimal records
@@ -33,6 +36,7 @@ abbrev pub refusal_line : ℕ → Refusal → Text
 refusal_line base r =
     codes "refused at " ++ decimal (base + r.at) ++ codes ": " ++ decimal (number_of r.reason) ++ codes " " ++ name_of r.reason ++ codes "\n"
 
+-- for digits that aren't hexadecimal text
 abbrev pub hex_line : HexFault → Text
 hex_line Odd = codes "hex: odd number of digits\n"
 hex_line (BadDigit place) = codes "hex: bad digit at " ++ decimal place ++ codes "\n"
@@ -58,6 +62,7 @@ abbrev pub FitsPlace : ℕ → Ending → Type 0
 FitsPlace base (Refused r) = base + r.at < 2 ^ 64
 FitsPlace base _ = ⊤
 
+-- the status of an ending
 abbrev pub status_of : Ending → Status
 status_of Clean = status.Clean
 status_of (Refused r) = status.Refused
@@ -83,6 +88,7 @@ abbrev pub block_by : Action → (hex : Bool) → (number at : ℕ) → Read →
 block_by Check hex number at read = message_line number at (length read.message) read.taken
 block_by (Encode form size) hex number at read = shown_in hex (encoded form size read.message)
 
+-- .. as it was chosen
 abbrev pub block_of : Choice → (number at : ℕ) → Read → Text
 block_of choice number at read = block_by choice.action choice.hex number at read
 
@@ -91,9 +97,11 @@ abbrev pub blocks : Choice → (number at : ℕ) → List Read → Text
 blocks choice number at [] = []
 blocks choice number at (read ∷ reads) = block_of choice number at read ++ blocks choice (number + 1) (at + read.taken) reads
 
+-- the bytes of all messages
 abbrev pub bytes_of : List Read → ℕ
 bytes_of [] = 0
 bytes_of (read ∷ reads) = read.taken + bytes_of reads
 
+-- all that is printed
 abbrev pub output : Choice → List Read → Ending → Text
 output choice reads ending = blocks choice 1 0 reads ++ ending_line choice.action (bytes_of reads) ending

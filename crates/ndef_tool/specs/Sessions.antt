@@ -49,6 +49,7 @@ abbrev pub GoesOut : (before after : Option (List ℕ)) → Bool → Text → Ty
 GoesOut before after false text = Appends before after text
 GoesOut before after true text = (n : ℕ) × Appends before after (take n text)
 
+-- the sink failed
 abbrev pub is_writing : Ending → Bool
 is_writing Writing = true
 is_writing _ = false
@@ -63,6 +64,7 @@ pub record Handles (IsRead : List Read → Ending → Type 0) (choice : Choice) 
 
 -- ---- step by step
 
+-- whether the source is at its end, and nothing is taken
 abbrev pub LooksAhead : {E : Type 0} → (before after : Option (List ℕ)) → Bool → Result Bool E → Type 0
 LooksAhead before after failed (Ok true) = (failed ≡ false) × Keeps before after × IsAtEnd before
 LooksAhead before after failed (Ok false) = (failed ≡ false) × Keeps before after × IsOn before
@@ -79,6 +81,7 @@ IsSmall (Ok read) = read.taken < 2 ^ 49
 IsSmall (Err (errors.Refused refusal)) = refusal.at < 2 ^ 49
 IsSmall (Err _) = ⊤
 
+-- .. or to the next ending
 abbrev pub IsShort : Result Read Ending → Type 0
 IsShort (Ok read) = read.taken < 2 ^ 49
 IsShort (Err (Refused refusal)) = refusal.at < 2 ^ 49

@@ -55,6 +55,7 @@ pub record Fields : Type 0 where
   pub payload_length : ℕ
   pub id_length : Option ℕ
 
+-- NDEF 1.0, record layout: a flag, as a bit
 abbrev pub bit : Bool → ℕ
 bit false = 0
 bit true = 1
@@ -97,6 +98,7 @@ pub record Piece : Type 0 where
   pub id : Option (List ℕ)
   pub payload : List ℕ
 
+-- numbers of 8 bits
 abbrev pub AreOctets : List ℕ → Type 0
 AreOctets = AllByRecursion (λ b. b < 256)
 
@@ -140,6 +142,7 @@ pub record Run : Type 0 where
   pub initial : Piece
   pub later : List Piece
 
+-- all of its pieces
 abbrev pub pieces : Run → List Piece
 pieces r = r.initial ∷ r.later
 
@@ -161,6 +164,7 @@ abbrev pub Follow : Bool → List Piece → Type 0
 Follow chunked [] = chunked ≡ false
 Follow chunked (p ∷ ps) = (chunked ≡ true) × IsLater p × Follow p.chunked ps
 
+-- NDEF 1.0, chunked payloads: an initial piece, and what follows it
 pub record IsRun (profile : Profile) (r : Run) : Type 0 where
   pub initial : IsInitial profile r.initial
   pub follow : Follow r.initial.chunked r.later
@@ -174,9 +178,11 @@ pub record Item : Type 0 where
   pub id : List ℕ
   pub payload : List ℕ
 
+-- NDEF 1.0, chunked payloads: the payloads of the pieces, joined
 abbrev pub payload_of : List Piece → List ℕ
 payload_of = flat_map (λ p. p.payload)
 
+-- NDEF 1.0, chunked payloads: the record that a run means
 abbrev pub joined : Run → Item
 joined r = record {
   tnf = tnf_of r.initial.tnf;
@@ -185,6 +191,7 @@ joined r = record {
   payload = payload_of (pieces r);
 }
 
+-- NDEF 1.0, TNF: the parts of a record go together
 pub record IsShaped (m : Item) : Type 0 where
   pub changed : m.tnf ≢ Unchanged
   pub shape : HasShape m.tnf (length m.kind) (length m.id) (length m.payload)
@@ -200,6 +207,7 @@ EndsOnce [] = ⊥
 EndsOnce (p ∷ []) = p.last ≡ true
 EndsOnce (p ∷ q ∷ ps) = (p.last ≡ false) × EndsOnce (q ∷ ps)
 
+-- the pieces of all runs
 abbrev pub all_pieces : List Run → List Piece
 all_pieces = flat_map pieces
 
@@ -222,6 +230,7 @@ pub record FlatBy (profile : Profile) (runs : List Run) (m : List Item) (bytes :
   pub message : IsMessage profile runs m
   pub spelled : SpellAll (all_pieces runs) bytes
 
+-- NDEF 1.0, messages: these bytes spell a message of these records
 abbrev pub Flat : Profile → List Item → List ℕ → Type 0
 Flat profile m bytes = (runs : List Run) × FlatBy profile runs m bytes
 
@@ -257,10 +266,12 @@ abbrev pub whole_piece : (first last : Bool) → Item → Piece
 whole_piece first last m =
     record { first = first; last = last; chunked = false; tnf = code m.tnf; kind = m.kind; id = written_id m.id; payload = m.payload }
 
+-- there are no more records
 abbrev pub is_nil : List Item → Bool
 is_nil [] = true
 is_nil (m ∷ ms) = false
 
+-- .. and of each record
 abbrev pub whole_pieces : (first : Bool) → List Item → List Piece
 whole_pieces first [] = []
 whole_pieces first (m ∷ ms) = whole_piece first (is_nil ms) m ∷ whole_pieces false ms
@@ -278,6 +289,7 @@ pub record LimitValues : Type 0 where
   pub pieces : ℕ
   pub profile : Profile
 
+-- limits that may be set
 pub record AreInRange (limits : LimitValues) : Type 0 where
   pub payload : (1 ≤ limits.payload) × (limits.payload < 2 ^ 32)
   pub records : (1 ≤ limits.records) × (limits.records < 2 ^ 16)
