@@ -1,10 +1,10 @@
 -- What was read of a source, turn by turn.
-use Rattle.std.proofs.Common.{◌≡◌, ℕ, ◌+◌, ◌-◌, ◌<◌, ◌≤◌, inl, inr, refl, sym, ◌∙◌, ap, subst, arith, Bool, true, false, List, [], ◌∷◌, ◌++◌, length, length-append, take, drop, append_assoc, Option, Some, None, map}
+use Rattle.std.proofs.Common.{◌≡◌, ℕ, ◌+◌, ◌-◌, ◌<◌, ◌≤◌, inl, inr, refl, sym, ◌∙◌, ap, subst, arith, Bool, true, false, List, [], ◌∷◌, ◌++◌, length, length-append, take, append_assoc, Option, Some, None, map}
 use Rattle.std.specs.Prelude.{IfSome, Result, Ok, Err, is_some}
 use Rattle.std.proofs.KnownBytes.{Keeps-refl}
 use Rattle.std.specs.Io.KnownBytes.{Consumes}
 use Rattle.std.proofs.Math.Decide.{dec_lt}
-use Rattle.std.proofs.lemmas.List.{append-nil, length-take-le, take-append-drop, take-append-le, take_all}
+use Rattle.std.proofs.lemmas.List.{append-nil, length-take-le, take-append-le, take_all}
 use Rattle.std.proofs.Math.Seq.{take-append-add}
 use Rattle.ndef_value.specs.Message.{Gives}
 use Rattle.ndef_value.specs.Wire.{Item, Run, LimitValues, AreInRange, greatest_length, joined, BeginsOnce, all_pieces}
@@ -36,7 +36,7 @@ use Rattle.ndef_message.specs.declared.phase.Place.{Place}
 use Rattle.ndef_message.specs.declared.phase.Phase.{Phase}
 use Rattle.ndef_message.proofs.Ended.{viable_bounded, unended}
 use Rattle.ndef_message.proofs.Reached.{StateReached, CheckerReached, DecoderReached}
-use Rattle.ndef_message.proofs.Rests.{viable_front, deep_viable}
+use Rattle.ndef_message.proofs.Rests.{viable_take, deep_viable}
 use Rattle.ndef_message.proofs.Shows.{gave_more, gave_none}
 
 -- ---- what a decoder has taken
@@ -66,7 +66,7 @@ accepted_whole set limits bytes count a v = by_length (dec_lt count (length byte
   where
     by_length : Dec (count < length bytes) → count ≡ length bytes
     by_length (yes h) =
-        absurd (a.most h (viable_front set limits (take (count + 1) bytes) (drop (count + 1) bytes) (subst (IsViable set limits) (sym (take-append-drop (count + 1) bytes)) v)))
+        absurd (a.most h (viable_take set limits bytes (count + 1) v))
     by_length (no h) = let w = a.within in omega arith
 
 -- .. and are refused behind them
@@ -78,7 +78,7 @@ refused_behind set holds limits front more refusal r v = by_length (dec_lt refus
         let e : take (refusal.at + 1) (front ++ more) ≡ take (refusal.at + 1) front = take-append-le (refusal.at + 1) front more (omega arith) in
         let u = r.place.stops (omega (arith, length-append front more)) in
         absurd (u (subst (IsViable set limits) (sym e)
-        (viable_front set limits (take (refusal.at + 1) front) (drop (refusal.at + 1) front) (subst (IsViable set limits) (sym (take-append-drop (refusal.at + 1) front)) v))))
+        (viable_take set limits front (refusal.at + 1) v)))
     by_length (no h) = omega arith
 
 -- ---- a front was consumed, and what follows it is seen
