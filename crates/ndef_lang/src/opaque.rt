@@ -1,5 +1,4 @@
 //! Payloads that aren't looked into.
-
 ghost use Rattle.ndef_value.specs.Wire.{AreOctets};
 ghost use Rattle.ndef_value.specs.declared.reason.Reason.TheVariants.{DoesNotFit};
 ghost use Rattle.ndef_lang.specs.Language.{NoReason};
