@@ -1,4 +1,3 @@
-pub mod Octets
 pub mod Unique
 pub mod Canonical
 pub mod Bounds

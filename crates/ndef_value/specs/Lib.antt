@@ -1,4 +1,5 @@
 pub mod ListLaws
+pub mod SliceLaws
 pub mod PieceLaws
 pub mod TnfLaws
 pub mod Wire

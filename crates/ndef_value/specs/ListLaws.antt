@@ -1,5 +1,6 @@
 -- Lists that begin alike, and lists of octets.
-use Rattle.std.proofs.Common.{◌≡◌, ℕ, zero, suc, ◌≤◌, ◌⊎◌, inl, inr, refl, sym, arith, List, [], ◌∷◌, ◌++◌, length}
+use Rattle.std.proofs.Common.{◌≡◌, ℕ, zero, suc, ◌≤◌, ◌⊎◌, inl, inr, refl, sym, subst, arith, List, [], ◌∷◌, ◌++◌, length, take, drop}
+use Rattle.std.proofs.lemmas.List.{take-append-drop}
 use Rattle.ndef_value.specs.Wire.{AreOctets}
 
 -- one list ends inside the other, or at its end
@@ -45,6 +46,9 @@ octets_back (x ∷ xs) ys p = octets_back xs ys p.1
 pub octets_append : (xs ys : List ℕ) → AreOctets xs → AreOctets ys → AreOctets (xs ++ ys)
 octets_append [] ys p q = q
 octets_append (x ∷ xs) ys p q = (p.0, octets_append xs ys p.1 q)
+
+pub octets_taken : (n : ℕ) (xs : List ℕ) → AreOctets xs → AreOctets (take n xs)
+octets_taken n xs p = octets_front (take n xs) (drop n xs) (subst AreOctets (sym (take-append-drop n xs)) p)
 
 -- so many 0 octets
 unfoldable pub zeros : ℕ → List ℕ

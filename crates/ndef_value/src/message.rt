@@ -68,6 +68,14 @@ impl Message {
         self.records.len()
     }
 
+    /// The records, 1 to 65535 of them.
+    pub fn records(&self) -> &[Record]
+        ensures value { result.now ≡ self.now }
+        ensures items { AreItems self.now }
+    {
+        self.records.as_slice()
+    }
+
     /// The record at a place, counted from 0.
     pub fn get(&self, index: usize) -> Option<&Record>
         ensures value { option_map (λ r. r.now) result ≡ slice_get self.now index }

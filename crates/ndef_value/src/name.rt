@@ -1,5 +1,5 @@
 //! A type name or an id.
-ghost use Rattle.std.specs.Prelude.{◌≡◌, ◌<◌, ◌≤◌, ◌↔◌, [], ◌∷◌, ◌++◌, length, IsOk, IfOk, OnOk, OnErr, IsErrOf};
+ghost use Rattle.std.specs.Prelude.{◌≡◌, ◌+◌, ◌<◌, ◌≤◌, ◌↔◌, [], ◌∷◌, ◌++◌, length, IsOk, IfOk, OnOk, OnErr, IsErrOf};
 ghost use Rattle.ndef_value.specs.Wire.{AreOctets};
 
 use crate::NoMemory;
@@ -76,6 +76,22 @@ impl Name {
             Ok(()) => Ok(()),
             Err(_) => Err(NoMemory),
         }
+    }
+
+    /// Appends the bytes, up to 32 bytes in all without memory. On `NoMemory` nothing has changed.
+    pub fn extend(&mut self, bytes: &[u8]) -> Result<(), NoMemory>
+        requires { length self.old + length bytes.now ≤ 255 }
+        ensures ok { OnOk result (self.new ≡ self.old ++ bytes.now) }
+        ensures err { OnErr result (self.new ≡ self.old) }
+        ensures inline { length self.old + length bytes.now ≤ 32 → IsOk result }
+    {
+        if bytes.len() == 1 {
+            return self.push(bytes[0]);
+        }
+        let Ok(()) = self.bytes.extend_from_slice(bytes) else {
+            return Err(NoMemory);
+        };
+        Ok(())
     }
 
     /// The bytes.

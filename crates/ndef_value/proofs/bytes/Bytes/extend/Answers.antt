@@ -1,7 +1,7 @@
 use Rattle.ndef_value.specs.ListLaws.{octets_append}
-use Rattle.ndef_value.proofs.Octets.{AreOctets-each}
+use Rattle.ndef_value.specs.SliceLaws.{each_octet}
 use Rattle.ndef_value.proofs.bytes.Bytes.extend.Goals as goal
 
 pub invariant_of-self-2 : goal.invariant_of-self-2
 invariant_of-self-2 c =
-    rw c.in-Ok.ensures.items (octets_append _ _ c.self.invariant (AreOctets-each _ c.type_inv.bytes))
+    rw c.in-Ok.ensures.items (octets_append _ _ c.self.invariant (each_octet _ c.type_inv.bytes))

@@ -1,0 +1,35 @@
+-- What a slice's pattern or range leaves of a list, and its octets.
+use Rattle.std.proofs.Common.{◌≡◌, ℕ, zero, suc, ◌-◌, ◌<◌, ◌≤◌, List, [], ◌∷◌, length, get_or, take, drop, sym, subst, ap, arith, length-drop, Fits, w8}
+use Rattle.std.proofs.lemmas.List.{take_all}
+use Rattle.ndef_value.specs.Wire.{AreOctets}
+
+-- a list is octets where each of its elements is one
+pub each_octet : (s : List ℕ) → ((k : ℕ) → Fits w8 (get_or s k 0)) → AreOctets s
+each_octet [] h = tt
+each_octet (x ∷ s) h = (omega (arith, h 0), each_octet s (λ k. h (suc k)))
+
+pub octet_at : (s : List ℕ) (k : ℕ) → AreOctets s → get_or s k 0 < 256
+octet_at [] k h = omega arith
+octet_at (x ∷ s) zero h = h.0
+octet_at (x ∷ s) (suc k) h = octet_at s k h.1
+
+octets_drop : (n : ℕ) (s : List ℕ) → AreOctets s → AreOctets (drop n s)
+octets_drop zero s h = h
+octets_drop (suc n) [] h = tt
+octets_drop (suc n) (x ∷ s) h = octets_drop n s h.1
+
+-- what a pattern leaves behind n elements, and what a range from n on is
+abbrev pub behind : ℕ → List ℕ → List ℕ
+behind n s = take (length s - n) (drop n s)
+
+pub behind_drop : (n : ℕ) (s : List ℕ) → behind n s ≡ drop n s
+behind_drop n s = take_all (length s - n) (drop n s) (omega (arith, length-drop n s))
+
+pub octets_behind : (n : ℕ) (s : List ℕ) → AreOctets s → AreOctets (behind n s)
+octets_behind n s h = subst AreOctets (sym (behind_drop n s)) (octets_drop n s h)
+
+-- the first two elements and the rest
+pub cut_two : (s : List ℕ) → 2 ≤ length s → get_or s 0 0 ∷ get_or s 1 0 ∷ behind 2 s ≡ s
+cut_two [] h = absurd (omega arith)
+cut_two (x ∷ []) h = absurd (omega arith)
+cut_two (x ∷ y ∷ s) h = ap (λ t. x ∷ y ∷ t) (behind_drop 2 (x ∷ y ∷ s))
