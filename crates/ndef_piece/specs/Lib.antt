@@ -10,3 +10,4 @@ pub mod Pieces
 pub mod Walk
 pub mod Fronts
 pub mod Rest
+pub mod Whole

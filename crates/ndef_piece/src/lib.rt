@@ -1,5 +1,5 @@
 //! The heads of NDEF pieces: read octet by octet up to the first that no head goes on with, and
-//! written (NFC Forum, NDEF 1.0). Nothing here takes memory.
+//! written; and whole pieces at the front of a slice (NFC Forum, NDEF 1.0). Nothing here takes memory.
 #![tactic(auto)]
 
 mod bounds;
@@ -10,6 +10,7 @@ mod header;
 mod laws;
 mod payload_length;
 mod spot;
+mod whole;
 mod write;
 
 pub use bounds::Bounds;
@@ -21,6 +22,7 @@ pub use laws::{
     lengths_are_independent, messages_are_read_by_heads, messages_are_walks,
 };
 pub use spot::Spot;
+pub use whole::{WholePiece, whole_piece};
 pub use write::write_head;
 
 #[cfg(test)]

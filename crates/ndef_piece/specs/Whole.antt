@@ -1,0 +1,34 @@
+-- A whole piece at the front of some bytes.
+use Rattle.std.specs.Prelude.{◌≡◌, ℕ, Bool, List, ◌++◌, Some, None, if◌then◌else◌}
+use Rattle.ndef_value.specs.Wire.{Piece, Spells}
+use Rattle.ndef_piece.specs.Header.{is_set, tnf_number}
+use Rattle.ndef_piece.specs.declared.whole.WholePiece.{WholePiece}
+
+-- NDEF 1.0, record layout: the piece that a header octet and these parts make
+abbrev pub piece_of : ℕ → (kind id payload : List ℕ) → Piece
+piece_of header kind id payload = record {
+  first = is_set 7 header;
+  last = is_set 6 header;
+  chunked = is_set 5 header;
+  tnf = tnf_number header;
+  kind = kind;
+  id = if is_set 3 header then Some id else None;
+  payload = payload;
+}
+
+-- .. the piece that is shown by its parts
+abbrev pub shown : WholePiece → Piece
+shown w = piece_of w.header w.kind.now w.id.now w.payload.now
+
+-- NDEF 1.0, record layout: the bytes are the octets of the piece, and then these
+pub record IsSplit (p : Piece) (short : Bool) (rest bytes : List ℕ) : Type 0 where
+  pub front : List ℕ
+  pub spells : Spells p short front
+  pub joined : bytes ≡ front ++ rest
+
+-- NDEF 1.0, record layout: the bytes begin with the octets of a piece
+pub record BeginWithPiece (bytes : List ℕ) : Type 0 where
+  pub piece : Piece
+  pub short : Bool
+  pub rest : List ℕ
+  pub split : IsSplit piece short rest bytes

@@ -1,0 +1,112 @@
+//! A whole piece at the front of a slice, its parts left where they are.
+ghost use Rattle.std.specs.Prelude.{◌≡◌, ◌+◌, ◌^◌, ◌<◌, ◌++◌, false, true, length, IfNone, IfSome, Some, None, [], if◌then◌else◌};
+ghost use Rattle.ndef_value.specs.Wire.{FitsForm, id_length_octets, payload_length_octets, tnf_of};
+ghost use Rattle.ndef_piece.specs.Header.{is_set, tnf_number, width};
+ghost use Rattle.ndef_piece.specs.Whole.{BeginWithPiece, IsSplit, shown};
+
+use crate::header::{CHUNK, ID_THERE, SHORT, header_tnf, is_set};
+use ndef_value::Tnf;
+
+/// A whole piece (NDEF 1.0, record layout), its parts being slices of the bytes that spell it, and
+/// what follows it there.
+#[derive(Clone, Copy, Debug)]
+pub struct WholePiece<'a> {
+    /// The header octet, which tells the reserved type name format 7 too.
+    pub header: u8,
+    /// TYPE.
+    pub kind: &'a [u8],
+    /// ID, empty where IL is clear.
+    pub id: &'a [u8],
+    /// PAYLOAD, of this piece alone.
+    pub payload: &'a [u8],
+    /// The bytes behind the piece.
+    pub rest: &'a [u8],
+}
+
+/// PAYLOAD_LENGTH at the front of the bytes, and what follows it.
+fn payload_length_at(header: u8, bytes: &[u8]) -> Option<(u32, &[u8])>
+    ensures small { IfSome result (λ r. r.0 < 2 ^ 32) }
+    ensures form { IfSome result (λ r. FitsForm (is_set 4 header) r.0) }
+    ensures joined { IfSome result (λ r. bytes.now ≡ payload_length_octets (is_set 4 header) r.0 ++ r.1.now) }
+    ensures none { IfNone result (length bytes.now < width header) }
+{
+    if is_set(SHORT, header) {
+        let [length, rest @ ..] = bytes else {
+            return None;
+        };
+        Some((u32::from(*length), rest))
+    } else {
+        let [a, b, c, d, rest @ ..] = bytes else {
+            return None;
+        };
+        Some((u32::from_be_bytes([*a, *b, *c, *d]), rest))
+    }
+}
+
+/// ID_LENGTH at the front of the bytes, 0 where IL is clear, and what follows it.
+fn id_length_at(header: u8, bytes: &[u8]) -> Option<(u8, &[u8])>
+    ensures joined { IfSome result (λ r. bytes.now
+        ≡ id_length_octets (if is_set 3 header then Some r.0 else None) ++ r.1.now) }
+    ensures clear { is_set 3 header ≡ false → IfSome result (λ r. r.0 ≡ 0) }
+    ensures none { IfNone result ((is_set 3 header ≡ true) × (length bytes.now ≡ 0)) }
+{
+    if !is_set(ID_THERE, header) {
+        return Some((0, bytes));
+    }
+    let [length, rest @ ..] = bytes else {
+        return None;
+    };
+    Some((*length, rest))
+}
+
+/// So many bytes at the front, and what follows them.
+fn cut(bytes: &[u8], count: usize) -> Option<(&[u8], &[u8])>
+    ensures length { IfSome result (λ r. length r.0.now ≡ count) }
+    ensures joined { IfSome result (λ r. bytes.now ≡ r.0.now ++ r.1.now) }
+    ensures none { IfNone result (length bytes.now < count) }
+{
+    if bytes.len() < count {
+        return None;
+    }
+    Some(bytes.split_at(count))
+}
+
+/// The piece at the front of the bytes, or none where they don't hold a whole one (NDEF 1.0, record
+/// layout). Any header octet will do: whether the piece may stand in a message isn't asked.
+pub fn whole_piece(bytes: &[u8]) -> Option<WholePiece<'_>>
+    ensures piece { IfSome result (λ w. IsSplit (shown w) (is_set 4 w.header) w.rest.now bytes.now) }
+    ensures no_id { IfSome result (λ w. is_set 3 w.header ≡ false → w.id.now ≡ []) }
+    ensures none { IfNone result (¬ BeginWithPiece bytes.now) }
+{
+    let [header, kind_length, rest @ ..] = bytes else {
+        return None;
+    };
+    let (payload_length, rest) = payload_length_at(*header, rest)?;
+    let (id_length, rest) = id_length_at(*header, rest)?;
+    let (kind, rest) = cut(rest, usize::from(*kind_length))?;
+    let (id, rest) = cut(rest, usize::from(id_length))?;
+    let (payload, rest) = cut(rest, payload_length as usize)?;
+    Some(WholePiece {
+        header: *header,
+        kind,
+        id,
+        payload,
+        rest,
+    })
+}
+
+impl WholePiece<'_> {
+    /// The type name format (NDEF 1.0, TNF), the reserved 7 being read as Unknown.
+    pub fn tnf(&self) -> Tnf
+        ensures { result ≡ tnf_of (tnf_number self.now.header) }
+    {
+        header_tnf(self.header)
+    }
+
+    /// CF: whether another piece of its record follows.
+    pub fn is_chunked(&self) -> bool
+        ensures { result ≡ is_set 5 self.now.header }
+    {
+        is_set(CHUNK, self.header)
+    }
+}
