@@ -5,4 +5,6 @@ pub mod Reasons
 pub mod TextLemmas
 pub mod UriLemmas
 pub mod Utf16Lemmas
+pub mod Utf16Whole
 pub mod Utf8Lemmas
+pub mod Utf8Whole

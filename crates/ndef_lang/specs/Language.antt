@@ -1,5 +1,5 @@
 -- What the laws of a payload language say.
-use Rattle.std.specs.Prelude.{◌≡◌, ℕ, ◌≤◌, List, ◌++◌, length, ◌↔◌, ◌⊎◌}
+use Rattle.std.specs.Prelude.{◌≡◌, ℕ, ◌+◌, ◌-◌, ◌<◌, ◌≤◌, List, ◌++◌, length, take, ◌↔◌, ◌⊎◌}
 use Rattle.ndef_value.specs.Reason.{rank_of}
 use Rattle.ndef_value.specs.declared.profile.Profile.{Profile}
 use Rattle.ndef_value.specs.declared.reason.Reason.{Reason}
@@ -32,6 +32,24 @@ Follows old new octets = (r : List ℕ) → new r ↔ old (octets ++ r)
 -- what was reached by a list is reached by it and these octets
 abbrev pub Reaches : (old new : List ℕ → Type 0) → List ℕ → Type 0
 Reaches old new octets = (s : List ℕ) → old s → new (s ++ octets)
+
+-- what passes behind these octets
+abbrev pub Behind : (List ℕ → Type 0) → List ℕ → List ℕ → Type 0
+Behind future octets r = future (octets ++ r)
+
+-- So many of these octets were stepped, and one more where that isn't all of them. Before them some list of lo to hi octets
+-- passed; behind so many one of what is left of that still does, and so behind fewer. Behind one more none does.
+pub record StepsAll (old new : List ℕ → Type 0) (bytes : List ℕ) (lo hi count : ℕ) : Type 0 where
+  pub within : count ≤ length bytes
+  pub stepped : Follows old new (take (count + 1) bytes)
+  pub fits : PassesBetween (Behind old (take count bytes)) (lo - count) (hi - count)
+  pub refused : count < length bytes → PassesBetween new (lo - (count + 1)) (hi - (count + 1)) → ⊥
+
+-- So many of these octets were stepped; where some list passed before them, one of what is left of its length passes behind them.
+pub record StepsFront (old new : List ℕ → Type 0) (bytes : List ℕ) (count : ℕ) : Type 0 where
+  pub within : count ≤ length bytes
+  pub stepped : Follows old new (take count bytes)
+  pub fits : (lo hi : ℕ) → count ≤ lo → PassesBetween old lo hi → PassesBetween new (lo - count) (hi - count)
 
 -- of the reasons that hold the one that is tried first
 pub record IsLowest (holds : Reason → Type 0) (reason : Reason) : Type 0 where

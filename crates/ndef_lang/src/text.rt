@@ -1,7 +1,7 @@
 //! Payloads of Text records.
-ghost use Rattle.std.specs.Prelude.{◌≡◌, ℕ, List, [], ◌∷◌};
+ghost use Rattle.std.specs.Prelude.{◌≡◌, ℕ, List, [], ◌∷◌, take};
 ghost use Rattle.ndef_value.specs.declared.reason.Reason.TheVariants.{DoesNotFit};
-ghost use Rattle.ndef_lang.specs.Language.{Follows, Reaches, Passes, IsLowest};
+ghost use Rattle.ndef_lang.specs.Language.{Follows, Reaches, StepsFront, Passes, IsLowest};
 ghost use Rattle.ndef_lang.specs.Octets.{Octets};
 ghost use Rattle.ndef_lang.specs.Text.{IsText, IsTextIn, IsCodeOctet, CompletesText, TextReached, UpToCode, TextReason, text_told, text_lengths};
 
@@ -76,6 +76,19 @@ impl TextLang {
         }
     }
 
+    /// Takes whole characters at the front of what comes of a UTF-16 text; answers how many octets.
+    fn take_front(&mut self, bytes: &[u8]) -> usize
+        ensures front { StepsFront (CompletesText self.old) (CompletesText self.new) bytes.now result }
+        ensures reached { Reaches (TextReached self.old) (TextReached self.new) (take result bytes.now) }
+    {
+        let TextLang::InUtf16(mut text) = *self else {
+            return 0;
+        };
+        let count = text.take_front(bytes);
+        *self = TextLang::InUtf16(text);
+        count
+    }
+
     /// How many octets complete a payload.
     pub(crate) fn lengths(self) -> Lengths
         ensures { result ≡ text_lengths self }
@@ -131,6 +144,29 @@ impl Language for TextLang {
 
     fn step(&mut self, byte: u8) {
         *self = self.after(byte);
+    }
+
+    fn step_all(&mut self, bytes: &[u8], lo: u64, hi: u64) -> usize {
+        let mut at = 0;
+        while at < bytes.len() {
+            if let TextLang::InUtf8(mut text) = *self {
+                let before = at as u64;
+                let more = text.take(&bytes[at..], lo - before, hi - before);
+                *self = TextLang::InUtf8(text);
+                return at + more;
+            }
+            at += self.take_front(&bytes[at..]);
+            if at == bytes.len() {
+                return at;
+            }
+            self.step(bytes[at]);
+            let taken = at as u64 + 1;
+            if !self.fits(lo - taken, hi - taken) {
+                return at;
+            }
+            at += 1;
+        }
+        at
     }
 
     fn fits(&self, lo: u64, hi: u64) -> bool {
