@@ -1,7 +1,9 @@
+pub mod Contents
 pub mod HeadBounds
 pub mod Places
 pub mod Ranges
 pub mod Reaching
 pub mod Reasons
+pub mod Slices
 pub mod Steps
 pub mod TypedReasons

@@ -1,8 +1,9 @@
-//! A nested message, read octet by octet.
-ghost use Rattle.std.specs.Prelude.{◌≡◌, ◌≤◌, ◌<◌, ◌-◌, ◌↔◌, ℕ, Bool, true, List, [], ◌∷◌, ◌++◌};
+//! A nested message, read octet by octet, its payloads in slices.
+ghost use Rattle.std.specs.Prelude.{◌≡◌, ◌≤◌, ◌<◌, ◌+◌, ◌^◌, length, take, slice_index, ◌-◌, ◌↔◌, ℕ, Bool, true, List, [], ◌∷◌, ◌++◌};
 ghost use Rattle.ndef_piece.specs.declared.head_reader.Step.TheVariants as steps;
 ghost use Rattle.ndef_value.specs.declared.reason.Reason.TheVariants as reasons;
-ghost use Rattle.ndef_lang.specs.Language.{Follows, Passes, IsLowest, OneReason};
+ghost use Rattle.ndef_lang.specs.Language.{Follows, Reaches, Passes, PassesBetween, StepsAll, IsLowest, OneReason};
+ghost use Rattle.ndef_value.specs.declared.profile.Profile.{Profile};
 ghost use Rattle.ndef_lang.specs.declared.kind.Kind.{Kind};
 ghost use Rattle.ndef_nest.specs.Nested.{IsNest, IsVersion, table_of};
 ghost use Rattle.ndef_nest.specs.Demands.{suits, spot};
@@ -158,6 +159,40 @@ impl Nest {
         }
     }
 
+    /// Takes the next octet, or more where they are of one nested payload, up to the first that is
+    /// refused: answers how many were looked at, and how many come before it.
+    fn step_some(&mut self, bytes: &[u8], lo: u64, hi: u64) -> (usize, usize)
+        requires some { 0 < length bytes.now }
+        requires enough { length bytes.now ≤ lo }
+        requires small { hi < 2 ^ 32 }
+        requires fits { PassesBetween (future self.old) lo hi }
+        ensures some { 0 < result.0 }
+        ensures most { result.0 ≤ length bytes.now }
+        ensures steps { StepsAll (future self.old) (future self.new) (take result.0 bytes.now) lo hi result.1 }
+        ensures reached { (kind : Kind) (records : ℕ) (profile : Profile)
+            → Reaches (reached self.old kind records profile) (reached self.new kind records profile) (take (result.1 + 1) (take result.0 bytes.now)) }
+        ensures reason { result.1 < result.0 → (kind : Kind) (records : ℕ) (profile : Profile) (s : List ℕ)
+            → reached self.old kind records profile s
+            → IsLowest (NestReason (table_of kind) records profile (s ++ take result.1 (take result.0 bytes.now)) (slice_index (take result.0 bytes.now) result.1)) self.new.told }
+    {
+        if let Phase::Body(body) = self.phase {
+            if body.id == 0 {
+                heads_are_apart();
+                let most = bytes.len().min(body.payload as usize);
+                let (phase, told, count) = body.step_all(&self.context, &bytes[..most]);
+                self.phase = phase;
+                self.told = told;
+                return (most, count);
+            }
+        }
+        self.step(bytes[0]);
+        if self.fitting(lo - 1, hi - 1) {
+            (1, 1)
+        } else {
+            (1, 0)
+        }
+    }
+
     /// Takes an octet of a head.
     fn at_head(&mut self, byte: u8)
         requires { self.old.phase ≡ Phase.Head }
@@ -246,6 +281,19 @@ impl Language for Nest {
                 self.told = Reason::DoesNotFit;
             }
         }
+    }
+
+    fn step_all(&mut self, bytes: &[u8], lo: u64, hi: u64) -> usize {
+        let mut at = 0;
+        while at < bytes.len() {
+            let before = at as u64;
+            let (looked, count) = self.step_some(&bytes[at..], lo - before, hi - before);
+            if count < looked {
+                return at + count;
+            }
+            at += looked;
+        }
+        at
     }
 
     fn fits(&self, lo: u64, hi: u64) -> bool {
