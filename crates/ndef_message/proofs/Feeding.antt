@@ -1,13 +1,14 @@
--- Byte by byte.
-use Rattle.std.proofs.Common.{◌≡◌, ◌≢◌, ℕ, ◌+◌, ◌<◌, ◌≤◌, ◌^◌, inl, inr, refl, sym, ◌∙◌, ap, subst, arith, List, [], ◌∷◌, ◌++◌, length, take, drop, append_assoc, length-append, Some, None, get_or}
-use Rattle.std.proofs.lemmas.List.{append-nil, take_more, take_all, take-append-drop}
+-- Bytes of one field after another.
+use Rattle.std.proofs.Common.{◌≡◌, ◌≢◌, ℕ, ◌+◌, ◌<◌, ◌≤◌, ◌^◌, inl, inr, refl, sym, ◌∙◌, ap, subst, arith, List, [], ◌∷◌, ◌++◌, length, take, drop, append_assoc, Some, None, get_or}
+use Rattle.std.proofs.lemmas.List.{append-nil, take_all, take-append-drop}
 use Rattle.ndef_value.specs.Wire.{Item, LimitValues, AreInRange}
 use Rattle.ndef_value.specs.declared.profile.Profile.{Profile}
 use Rattle.ndef_lang.specs.declared.kind.Kind.{Kind}
 use Rattle.ndef_lang.specs.Language.{Sets, Conditions}
+use Rattle.ndef_lang.specs.StepLaws.{rest, take_rests}
 use Rattle.ndef_piece.specs.Reading.{Reading}
 use Rattle.ndef_message.specs.Deep.{IsDeep, IsViable}
-use Rattle.ndef_message.specs.Field.{Field, IsAt}
+use Rattle.ndef_message.specs.Field.{Field, IsAt, field_with}
 use Rattle.ndef_message.specs.Feed.{Fronts, Leads, Feeds, answer_of}
 use Rattle.ndef_message.specs.Format.{FormatLaws}
 use Rattle.ndef_message.specs.Place.{Refuses}
@@ -42,15 +43,11 @@ module _ (set : Sets) (holds : Conditions) (reach : Kind → ℕ → Profile →
       let k = w.3.0 in
       omega arith
 
-  pub led_on : (bytes : List ℕ) (given : List Item) (field : Field) (b taken : ℕ) → taken ≡ length bytes → Onward set holds reach pass limits place reader phase bytes given field b
-      → LedTo set holds reach pass limits place reader phase (taken + 1)
-  led_on bytes given field b taken e (inl w) = (bytes ++ b ∷ [], w.0, w.1, (omega (arith, length-append bytes (b ∷ [])), inl w.3))
-  led_on bytes given field b taken e (inr s) = (bytes ++ b ∷ [], given, field, (omega (arith, length-append bytes (b ∷ [])), inr s))
-
-  pub knows_on : (bytes : List ℕ) (given : List Item) (field : Field) (b taken : ℕ) → taken ≡ length (bytes ++ b ∷ []) → Onward set holds reach pass limits place reader phase bytes given field b
-      → Leads (Knows set holds reach pass limits place reader phase taken) (bytes ++ b ∷ [])
-  knows_on bytes given field b taken e (inl w) = (w.0, w.1, (e, inl w.3))
-  knows_on bytes given field b taken e (inr s) = (given, field, (e, inr s))
+  -- the bytes lead on
+  pub knows_on : (bytes : List ℕ) (given : List Item) (field : Field) (t : List ℕ) (taken : ℕ) → taken ≡ length (bytes ++ t) → Onward set holds reach pass limits place reader phase bytes given field t
+      → Leads (Knows set holds reach pass limits place reader phase taken) (bytes ++ t)
+  knows_on bytes given field t taken e (inl w) = (w.0, w.1, (e, inl w.3))
+  knows_on bytes given field t taken e (inr w) = (given, field_with field w.0, (e, inr w.3))
 
 -- what led to the old fields leads on with so many of these bytes to the new ones
 abbrev pub Sofar : Fronts → Fronts → List ℕ → ℕ → Type 0
@@ -63,13 +60,15 @@ Here new front bytes at = Leads new (front ++ take at bytes)
 pub sofar_start : (old : Fronts) (bytes : List ℕ) → Sofar old old bytes 0
 sofar_start old bytes front given field x = (given, field, subst (λ y. old y given field) (sym (append-nil front)) x)
 
-pub sofar_step : (old mid new : Fronts) (bytes : List ℕ) (at b : ℕ) → Sofar old mid bytes at → at < length bytes → b ≡ get_or bytes at 0
-    → ((front : List ℕ) (given : List Item) (field : Field) → mid front given field → Leads new (front ++ b ∷ [])) → Sofar old new bytes (at + 1)
-sofar_step old mid new bytes at b s h e f front given field x =
+-- so many bytes behind a front, and some more
+pub some_more : (front bytes : List ℕ) (at n : ℕ) → (front ++ take at bytes) ++ take n (rest bytes at) ≡ front ++ take (at + n) bytes
+some_more front bytes at n = append_assoc front (take at bytes) (take n (rest bytes at)) ∙ ap (λ y. front ++ y) (take_rests bytes at n)
+
+pub sofar_some : (old mid new : Fronts) (bytes : List ℕ) (at n : ℕ) → Sofar old mid bytes at
+    → ((front : List ℕ) (given : List Item) (field : Field) → mid front given field → Leads new (front ++ take n (rest bytes at))) → Sofar old new bytes (at + n)
+sofar_some old mid new bytes at n s f front given field x =
     let w = s front given field x in
-    let q : (front ++ take at bytes) ++ b ∷ [] ≡ front ++ take (at + 1) bytes =
-    append_assoc front (take at bytes) (b ∷ []) ∙ ap (λ y. front ++ (take at bytes ++ y ∷ [])) e ∙ ap (λ y. front ++ y) (sym (take_more bytes at 0 h)) in
-    subst (Leads new) q (f (front ++ take at bytes) w.0 w.1 w.2)
+    subst (Leads new) (some_more front bytes at n) (f (front ++ take at bytes) w.0 w.1 w.2)
 
 module _ (laws : FormatLaws) (set : Sets) (holds : Conditions) (reach : Kind → ℕ → Profile → List ℕ → Type 0) (pass : List ℕ → Type 0) (limits : LimitValues) (range : AreInRange limits)
     (place : Place) (reader : Reading) (taken : ℕ) where
@@ -122,3 +121,8 @@ module _ (laws : FormatLaws) (set : Sets) (holds : Conditions) (reach : Kind →
       not_done set holds reach pass limits place reader phase at e m.1 in
       subst (λ l. Feeds set holds l (Knows set holds reach pass limits place reader phase taken) front bytes fed.More) el
       (subst (IsViable set limits) all s.viable, no, subst (Leads (Knows set holds reach pass limits place reader phase taken)) all k)
+
+-- ---- the first byte
+pub take_one : (xs : List ℕ) → 0 < length xs → take 1 xs ≡ get_or xs 0 0 ∷ []
+take_one [] h = absurd (omega arith)
+take_one (x ∷ xs) h = refl

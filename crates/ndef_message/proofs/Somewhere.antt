@@ -1,5 +1,5 @@
 -- What follows of what is only known to be there.
-use Rattle.std.proofs.Common.{ℕ, ◌+◌, ◌≤◌, length, arith}
+use Rattle.std.proofs.Common.{Bool, IsTrue, ℕ, ◌+◌, ◌≤◌, List, length}
 use Rattle.std.proofs.Math.Logic.{∥∥₁_elim}
 use Rattle.std.proofs.Props.{props}
 use Rattle.ndef_value.specs.Wire.{Item, HasShape, IsShaped}
@@ -31,10 +31,13 @@ shaped_of_some A m some f = record {
   shape = shape_of_some A m.tnf (length m.kind) (length m.id) (length m.payload) some (λ a. (f a).shape);
 }
 
-pub room_of_some : (A : Type 0) (phase : Phase) (o : Opened) → ∥ A ∥₁ → (A → HasRoom phase o) → HasRoom phase o
-room_of_some A phases.Head o some f = tt
-room_of_some A (phases.Type x y z) o some f = let n : length o.kind + 1 ≤ 255 = number_of_some A (length o.kind + 1) 255 some (λ a. let n = f a in omega arith) in omega arith
-room_of_some A (phases.Id x y) o some f = let n : length o.id + 1 ≤ 255 = number_of_some A (length o.id + 1) 255 some (λ a. let n = f a in omega arith) in omega arith
-room_of_some A (phases.Payload x y) o some f = tt
-room_of_some A phases.Done o some f = tt
-room_of_some A (phases.Refused x) o some f = tt
+pub room_of_some : (A : Type 0) (phase : Phase) (o : Opened) (t : List ℕ) → ∥ A ∥₁ → (A → HasRoom phase o t) → HasRoom phase o t
+room_of_some A phases.Head o t some f = tt
+room_of_some A (phases.Type x y z) o t some f = number_of_some A (length o.kind + length t) 255 some f
+room_of_some A (phases.Id x y) o t some f = number_of_some A (length o.id + length t) 255 some f
+room_of_some A (phases.Payload x y) o t some f = tt
+room_of_some A phases.Done o t some f = tt
+room_of_some A (phases.Refused x) o t some f = tt
+
+pub truth_of_some : (A : Type 0) (b : Bool) → ∥ A ∥₁ → (A → IsTrue b) → IsTrue b
+truth_of_some A b some f = ∥∥₁_elim some (hlevel props) f

@@ -17,7 +17,7 @@ use Rattle.ndef_piece.specs.Heads.{head, Begins, MayStand}
 use Rattle.ndef_piece.specs.Reading.{Reading}
 use Rattle.ndef_piece.specs.Walk.{Before, start, spot, Walked}
 use Rattle.ndef_message.specs.Deep.{IsViable}
-use Rattle.ndef_message.specs.Field.{Field, InHead, InType, InId, InPayload, AtEnd, part_octets, record_so_far, IsPart, IsAt, IsReason, Moves}
+use Rattle.ndef_message.specs.Field.{Field, InHead, InType, InId, InPayload, AtEnd, part_octets, record_so_far, IsPart, IsAt, IsReason, Moves, field_with}
 use Rattle.ndef_message.specs.Payload.{completes, most_left}
 use Rattle.ndef_message.specs.declared.phase.Place.{Place}
 use Rattle.ndef_message.specs.declared.phase.Phase.{Phase}
@@ -46,6 +46,11 @@ phase_after h = if h.chunked then phases.Head else (if h.last then phases.Done e
 abbrev pub is_done : Phase → Bool
 is_done phases.Done = true
 is_done _ = false
+
+-- how many of some bytes were accepted that led to this phase: all, or all but a refused one
+abbrev pub accepted : Phase → ℕ → ℕ
+accepted (phases.Refused refusal) count = count - 1
+accepted _ count = count
 
 -- the most payload octets of the record, where a piece goes on within the bounds of its head
 abbrev pub greatest_of : Bounds → ℕ → ℕ
@@ -107,10 +112,11 @@ module _ (set : Sets) (holds : Conditions) (reach : Kind → ℕ → Profile →
   abbrev pub Reached : List ℕ → List Item → Field → Type 0
   Reached bytes given field = Stands bytes given field ⊎ Stopped bytes given field
 
-  -- after an octet behind these bytes
-  abbrev pub Onward : List ℕ → List Item → Field → ℕ → Type 0
-  Onward bytes given field b =
-      ((given' : List Item) × (field' : Field) × Moves limits given field b given' field' × Stands (bytes ++ b ∷ []) given' field') ⊎ Stopped (bytes ++ b ∷ []) given field
+  -- after octets of the field behind these bytes: all of them lead on, or the last of them was refused
+  abbrev pub Onward : List ℕ → List Item → Field → List ℕ → Type 0
+  Onward bytes given field t =
+      ((given' : List Item) × (field' : Field) × Moves limits given field t given' field' × Stands (bytes ++ t) given' field')
+      ⊎ ((s : List ℕ) × (b : ℕ) × (t ≡ s ++ b ∷ []) × Stopped (bytes ++ t) given (field_with field s))
 
   -- where so much is left of the id and the payload of a piece with this head
   pub record InBody (h : Head) (id_left left : ℕ) (bytes : List ℕ) (given : List Item) (c : Before) (f : Fields) (kind id payload : List ℕ) : Type 0 where

@@ -1,5 +1,5 @@
-//! The checker of a message, byte by byte.
-ghost use Rattle.std.specs.Prelude.{◌≡◌, ◌+◌, ◌≤◌, ◌++◌, ◌∷◌, [], ℕ, List, length, None};
+//! The checker of a message: bytes of one field after another.
+ghost use Rattle.std.specs.Prelude.{◌≡◌, ◌+◌, ◌<◌, ◌≤◌, ◌++◌, ◌∷◌, [], ℕ, List, length, take, None};
 ghost use Rattle.ndef_value.specs.Wire.{Item, greatest_length};
 ghost use Rattle.ndef_message.specs.Field.{Field};
 ghost use Rattle.ndef_message.specs.Feed.{Feeds, Ends, IsAccepted, answer_of};
@@ -80,11 +80,12 @@ impl<L: OuterLanguage> Checker<L> {
             → Feeds L.set L.holds (⟦<Checker<L> as Reading>⟧.limits self.old) (⟦<Checker<L> as Reading>⟧.reached self.new) front bytes.now result }
     {
         format_laws(&self.limits);
-        for (at, byte) in bytes.iter().enumerate() {
+        let mut at = 0;
+        while at < bytes.len() {
             if let Some(answer) = self.answer(at) {
                 return answer;
             }
-            self.step(*byte);
+            at += self.step(&bytes[at..]);
         }
         match self.answer(bytes.len()) {
             Some(answer) => answer,
@@ -144,17 +145,23 @@ impl<L: OuterLanguage> Checker<L> {
         }
     }
 
-    /// Takes the next byte.
-    pub(crate) fn step(&mut self, byte: u8)
-        requires { answer_of self.old.state.phase 0 ≡ None }
+    /// Takes the next bytes, as far as they are of one field, up to the first that is refused; answers
+    /// how many, a refused one too.
+    pub(crate) fn step(&mut self, bytes: &[u8]) -> usize
+        requires going { answer_of self.old.state.phase 0 ≡ None }
+        requires some { 0 < length bytes.now }
         ensures limits { self.new.limits ≡ self.old.limits }
-        ensures onward { (bytes : List ℕ) (given : List Item) (field : Field) → ⟦<Checker<L> as Reading>⟧.reached self.old bytes given field
-            → (self.new.taken ≡ length (bytes ++ byte ∷ []))
-            × Onward L.set L.holds (L.reached self.new.state.payload) (L.future self.new.state.payload) self.new.limits self.new.state.place self.new.state.reader self.new.state.phase bytes given field byte }
+        ensures some { 0 < result }
+        ensures most { result ≤ length bytes.now }
+        ensures taken { self.new.taken ≡ self.old.taken + result }
+        ensures onward { (front : List ℕ) (given : List Item) (field : Field) → ⟦<Checker<L> as Reading>⟧.reached self.old front given field
+            → (self.new.taken ≡ length (front ++ take result bytes.now))
+            × Onward L.set L.holds (L.reached self.new.state.payload) (L.future self.new.state.payload) self.new.limits self.new.state.place self.new.state.reader self.new.state.phase front given field (take result bytes.now) }
     {
         format_laws(&self.limits);
         let at = self.taken;
-        self.state.step(&self.limits, at, byte);
-        self.taken = at + 1;
+        let count = self.state.step(&self.limits, at, bytes);
+        self.taken = at + count as u64;
+        count
     }
 }

@@ -1,5 +1,5 @@
-//! One byte of a message.
-ghost use Rattle.std.specs.Prelude.{◌≡◌, ◌≢◌, ◌++◌, ◌∷◌, [], ◌-◌, ◌<◌, ◌⊎◌, ◌↔◌, ℕ, List, length, IsTrue, true};
+//! Bytes of one field of a message.
+ghost use Rattle.std.specs.Prelude.{◌≡◌, ◌≢◌, ◌++◌, ◌∷◌, [], ◌-◌, ◌<◌, ◌≤◌, ◌^◌, ◌⊎◌, ◌↔◌, ℕ, List, length, take, IsTrue, true};
 ghost use Rattle.ndef_value.specs.Wire.{Item, Fields};
 ghost use Rattle.ndef_piece.specs.Walk.{Before};
 
@@ -24,20 +24,38 @@ impl<L: OuterLanguage> State<L> {
     ghost use Rattle.ndef_piece.specs.Heads as heads;
     ghost use Rattle.ndef_message.specs.Deep.{IsViable};
 
-    /// Takes the next byte, after `at` others.
-    pub(crate) fn step(&mut self, limits: &Limits, at: u64, byte: u8)
+    /// Takes the next bytes, after `at` others, as far as they are of one field, up to the first that
+    /// is refused; answers how many, a refused one too.
+    pub(crate) fn step(&mut self, limits: &Limits, at: u64, bytes: &[u8]) -> usize
         requires led { ∥ Led L.set L.holds (L.reached self.old.payload) (L.future self.old.payload) limits.now self.old.place self.old.reader self.old.phase ∥₁ }
-        ensures onward { (bytes : List ℕ) (given : List Item) (field : Field) → at ≡ length bytes
-            → Stands L.set L.holds (L.reached self.old.payload) (L.future self.old.payload) limits.now self.old.place self.old.reader self.old.phase bytes given field
+        requires far { at ≤ 2 ^ 60 }
+        requires some { 0 < length bytes.now }
+        ensures some { 0 < result }
+        ensures most { result ≤ length bytes.now }
+        ensures few { result < 2 ^ 32 }
+        ensures onward { (front : List ℕ) (given : List Item) (field : Field) → at ≡ length front
+            → Stands L.set L.holds (L.reached self.old.payload) (L.future self.old.payload) limits.now self.old.place self.old.reader self.old.phase front given field
             → self.old.phase ≢ Phase.Done
-            → Onward L.set L.holds (L.reached self.new.payload) (L.future self.new.payload) limits.now self.new.place self.new.reader self.new.phase bytes given field byte }
+            → Onward L.set L.holds (L.reached self.new.payload) (L.future self.new.payload) limits.now self.new.place self.new.reader self.new.phase front given field (take result bytes.now) }
     {
         match self.phase {
-            Phase::Head => self.in_head(limits, at, byte),
-            Phase::Type { head, left, kind } => self.in_type(limits, at, head, left, kind, byte),
-            Phase::Id { head, left } => self.in_id(limits, head, left, byte),
-            Phase::Payload { head, left } => self.in_payload(limits, at, head, left, byte),
-            Phase::Done | Phase::Refused { .. } => {}
+            Phase::Head => {
+                self.in_head(limits, at, bytes[0]);
+                1
+            }
+            Phase::Type { head, left, kind } => {
+                self.in_type(limits, at, head, left, kind, bytes[0]);
+                1
+            }
+            Phase::Id { head, left } => {
+                let most = bytes.len().min(usize::from(left));
+                self.in_id(limits, head, left, &bytes[..most])
+            }
+            Phase::Payload { head, left } => {
+                let most = bytes.len().min(left as usize);
+                self.in_payload(limits, at, head, left, &bytes[..most])
+            }
+            Phase::Done | Phase::Refused { .. } => 1,
         }
     }
 
@@ -47,7 +65,7 @@ impl<L: OuterLanguage> State<L> {
         requires led { ∥ Led L.set L.holds (L.reached self.old.payload) (L.future self.old.payload) limits.now self.old.place self.old.reader self.old.phase ∥₁ }
         ensures onward { (bytes : List ℕ) (given : List Item) (field : Field) → at ≡ length bytes
             → Stands L.set L.holds (L.reached self.old.payload) (L.future self.old.payload) limits.now self.old.place self.old.reader self.old.phase bytes given field
-            → Onward L.set L.holds (L.reached self.new.payload) (L.future self.new.payload) limits.now self.new.place self.new.reader self.new.phase bytes given field byte }
+            → Onward L.set L.holds (L.reached self.new.payload) (L.future self.new.payload) limits.now self.new.place self.new.reader self.new.phase bytes given field (byte ∷ []) }
     {
         format_laws(limits);
         match self.reader.step(byte) {
@@ -118,29 +136,48 @@ impl<L: OuterLanguage> State<L> {
         );
     }
 
-    /// Takes an octet of PAYLOAD.
-    fn in_payload(&mut self, limits: &Limits, at: u64, head: Head, left: u32, byte: u8)
+    /// Takes octets of PAYLOAD, no more than the piece still has, up to the first that is refused;
+    /// answers how many, a refused one too.
+    fn in_payload(&mut self, limits: &Limits, at: u64, head: Head, left: u32, bytes: &[u8]) -> usize
         requires phase { self.old.phase ≡ Phase.Payload head left }
         requires led { ∥ Led L.set L.holds (L.reached self.old.payload) (L.future self.old.payload) limits.now self.old.place self.old.reader self.old.phase ∥₁ }
-        ensures onward { (bytes : List ℕ) (given : List Item) (field : Field) → at ≡ length bytes
-            → Stands L.set L.holds (L.reached self.old.payload) (L.future self.old.payload) limits.now self.old.place self.old.reader self.old.phase bytes given field
-            → Onward L.set L.holds (L.reached self.new.payload) (L.future self.new.payload) limits.now self.new.place self.new.reader self.new.phase bytes given field byte }
+        requires far { at ≤ 2 ^ 60 }
+        requires some { 0 < length bytes.now }
+        requires enough { length bytes.now ≤ left }
+        ensures some { 0 < result }
+        ensures most { result ≤ length bytes.now }
+        ensures onward { (front : List ℕ) (given : List Item) (field : Field) → at ≡ length front
+            → Stands L.set L.holds (L.reached self.old.payload) (L.future self.old.payload) limits.now self.old.place self.old.reader self.old.phase front given field
+            → Onward L.set L.holds (L.reached self.new.payload) (L.future self.new.payload) limits.now self.new.place self.new.reader self.new.phase front given field (take result bytes.now) }
     {
         format_laws(limits);
-        self.payload.step(byte);
-        let reason = self.payload.reason();
-        self.enter(limits, at, head, 0, left - 1, reason);
+        let most = self.place.most_left(&head, left);
+        let count = self.payload.step_all(bytes, u64::from(left), most);
+        if count < bytes.len() {
+            self.phase = Phase::Refused {
+                refusal: Refusal {
+                    at: at + count as u64,
+                    reason: self.payload.reason(),
+                },
+            };
+            return count + 1;
+        }
+        self.settle(limits, head, 0, left - count as u32);
+        count
     }
 
-    /// Takes an octet of ID.
-    fn in_id(&mut self, limits: &Limits, head: Head, left: u8, byte: u8)
+    /// Takes octets of ID, no more than the piece still has: all of them.
+    fn in_id(&mut self, limits: &Limits, head: Head, left: u8, bytes: &[u8]) -> usize
         requires phase { self.old.phase ≡ Phase.Id head left }
-        requires led { ∥ Led L.set L.holds (L.reached self.old.payload) (L.future self.old.payload) limits.now self.old.place self.old.reader self.old.phase ∥₁ }
-        ensures onward { (bytes : List ℕ) (given : List Item) (field : Field) → Stands L.set L.holds (L.reached self.old.payload) (L.future self.old.payload) limits.now self.old.place self.old.reader self.old.phase bytes given field
-            → Onward L.set L.holds (L.reached self.new.payload) (L.future self.new.payload) limits.now self.new.place self.new.reader self.new.phase bytes given field byte }
+        requires enough { length bytes.now ≤ left }
+        ensures all { result ≡ length bytes.now }
+        ensures onward { (front : List ℕ) (given : List Item) (field : Field) → Stands L.set L.holds (L.reached self.old.payload) (L.future self.old.payload) limits.now self.old.place self.old.reader self.old.phase front given field
+            → Onward L.set L.holds (L.reached self.new.payload) (L.future self.new.payload) limits.now self.new.place self.new.reader self.new.phase front given field bytes.now }
     {
         format_laws(limits);
-        self.settle(limits, head, left - 1, head.payload_length);
+        let count = bytes.len();
+        self.settle(limits, head, left - count as u8, head.payload_length);
+        count
     }
 
     /// Takes an octet of TYPE.
@@ -157,7 +194,7 @@ impl<L: OuterLanguage> State<L> {
         requires led { ∥ Led L.set L.holds (L.reached self.old.payload) (L.future self.old.payload) limits.now self.old.place self.old.reader self.old.phase ∥₁ }
         ensures onward { (bytes : List ℕ) (given : List Item) (field : Field) → at ≡ length bytes
             → Stands L.set L.holds (L.reached self.old.payload) (L.future self.old.payload) limits.now self.old.place self.old.reader self.old.phase bytes given field
-            → Onward L.set L.holds (L.reached self.new.payload) (L.future self.new.payload) limits.now self.new.place self.new.reader self.new.phase bytes given field byte }
+            → Onward L.set L.holds (L.reached self.new.payload) (L.future self.new.payload) limits.now self.new.place self.new.reader self.new.phase bytes given field (byte ∷ []) }
     {
         format_laws(limits);
         let mut kind = kind;

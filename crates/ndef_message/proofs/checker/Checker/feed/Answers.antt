@@ -1,5 +1,6 @@
-use Rattle.std.proofs.Common.{◌≡◌, length, refl, sym, ◌∙◌, subst, arith, slice_index}
+use Rattle.std.proofs.Common.{◌≡◌, length, take, refl, sym, ◌∙◌, subst, arith}
 use Rattle.ndef_value.specs.Wire.{AreInRange}
+use Rattle.ndef_lang.specs.StepLaws.{rest, rest_length}
 use Rattle.ndef_message.specs.State.{Knows}
 use Rattle.ndef_message.proofs.Feeding as feeding
 use Rattle.ndef_message.proofs.checker.Checker.feed.Goals as goal
@@ -8,6 +9,7 @@ pub loop-at-init : goal.loop-at-init
 loop-at-init g c =
     let i = c.args.self.now in
     record {
+      within = omega arith;
       limits = refl;
       sofar = feeding.sofar_start (Knows g.L.Language.set g.L.Language.holds (g.L.Language.reached i.state.payload) (g.L.Language.future i.state.payload) i.limits i.state.place i.state.reader i.state.phase i.taken) c.args.bytes.now;
     }
@@ -16,20 +18,24 @@ pub loop-at-preserved : goal.loop-at-preserved
 loop-at-preserved g c =
     let i = c.args.self.now in
     let m = c.loop-at.self in
-    let n = c.step.new.self in
+    let n = c.step-at.new.self in
     let inv = c.loop-at.invariant in
     let set = g.L.Language.set in
     let holds = g.L.Language.holds in
-    let byte = slice_index c.args.bytes.now c.loop-at.at in
+    let bytes = c.args.bytes.now in
+    let at = c.loop-at.at in
+    let most = c.step-at.ensures.most in
     record {
-      limits = c.step.ensures.limits ∙ inv.limits;
-      sofar = feeding.sofar_step
+      within = omega (arith, rest_length bytes at);
+      limits = c.step-at.ensures.limits ∙ inv.limits;
+      sofar = feeding.sofar_some
           (Knows set holds (g.L.Language.reached i.state.payload) (g.L.Language.future i.state.payload) i.limits i.state.place i.state.reader i.state.phase i.taken)
           (Knows set holds (g.L.Language.reached m.state.payload) (g.L.Language.future m.state.payload) m.limits m.state.place m.state.reader m.state.phase m.taken)
           (Knows set holds (g.L.Language.reached n.state.payload) (g.L.Language.future n.state.payload) n.limits n.state.place n.state.reader n.state.phase n.taken)
-          c.args.bytes.now c.loop-at.at byte inv.sofar (omega arith) refl
-          (λ front given field x. let w = c.step.ensures.onward front given field x in
-          feeding.knows_on set holds (g.L.Language.reached n.state.payload) (g.L.Language.future n.state.payload) n.limits n.state.place n.state.reader n.state.phase front given field byte n.taken w.0 w.1);
+          bytes at c.step-at.result inv.sofar
+          (λ front given field k.
+          let w = c.step-at.ensures.onward front given field k in
+          feeding.knows_on set holds (g.L.Language.reached n.state.payload) (g.L.Language.future n.state.payload) n.limits n.state.place n.state.reader n.state.phase front given field (take c.step-at.result (rest bytes at)) n.taken w.0 w.1);
     }
 
 pub returns-in-Some-clause-fed : goal.returns-in-Some-clause-fed

@@ -1,0 +1,210 @@
+-- What bytes tell of the pieces that they spell.
+use Rattle.std.proofs.Common.{◌≡◌, ℕ, zero, suc, ◌+◌, ◌-◌, ◌<◌, ◌^◌, Bool, true, false, refl, sym, ◌∙◌, ap, ap₂, arith, List, [], ◌∷◌, ◌++◌, length, length-append, take, drop, take_at, drop_at, append_assoc, Option, Some, None}
+use Rattle.std.specs.Prelude.{unwrap_or, is_some}
+use Rattle.std.specs.Option.{option_map}
+use Rattle.std.specs.List.{AllByRecursion}
+use Rattle.std.proofs.lemmas.Nat.{from_be_bytes-to_be_bytes_4}
+use Rattle.ndef_value.specs.ListLaws.{cut_alike}
+use Rattle.ndef_value.specs.Wire.{Fields, Piece, Spells, SpellAll, Run, pieces, all_pieces, Follow, IsRun, FlatBy, Item, fields, octets, body, payload_length_octets, id_length_octets}
+use Rattle.ndef_value.specs.declared.profile.Profile.{Profile}
+use Rattle.ndef_piece.specs.Header.{is_set, size}
+use Rattle.ndef_piece.specs.HeaderLaws.{header, parts, octets_size}
+use Rattle.ndef_piece.specs.Heads.{CanBeSpelled}
+use Rattle.ndef_piece.specs.Whole.{IsSplit, BeginWithPiece}
+use Rattle.ndef_message.specs.Field.{piece, id_of}
+use Rattle.ndef_message.specs.Seen.{payload_length_at, id_length_at, fields_with, piece_with, piece_at, body_size, size_at, pieces_from, pieces_of, begin_run, runs_of, run_of, IsRecord}
+use Rattle.ndef_message.proofs.Fields.{id_count, piece_head, body_length}
+
+-- ---- heads
+payload_told : (short : Bool) (n : ℕ) (o : Option ℕ) (h k : ℕ) (z : List ℕ) → n < 2 ^ 32
+    → payload_length_at short ((h ∷ k ∷ (payload_length_octets short n ++ id_length_octets o)) ++ z) ≡ n
+payload_told true n o h k z l = refl
+payload_told false n o h k z l = from_be_bytes-to_be_bytes_4 n l
+
+id_told : (short : Bool) (n : ℕ) (o : Option ℕ) (h k : ℕ) (z : List ℕ)
+    → id_length_at (is_some o) short ((h ∷ k ∷ (payload_length_octets short n ++ id_length_octets o)) ++ z) ≡ o
+id_told true n None h k z = refl
+id_told true n (Some d) h k z = refl
+id_told false n None h k z = refl
+id_told false n (Some d) h k z = refl
+
+-- the octets of a head tell it, whatever follows
+head_told : (f : Fields) (z : List ℕ) → CanBeSpelled f → fields_with (header f) (octets f ++ z) ≡ f
+head_told f z l =
+    let p = parts f l.tnf in
+    let n : payload_length_at (is_set 4 (header f)) (octets f ++ z) ≡ f.payload_length =
+    ap (λ s. payload_length_at s (octets f ++ z)) p.short ∙ payload_told f.short f.payload_length f.id_length (header f) f.kind_length z l.payload in
+    let i : id_length_at (is_set 3 (header f)) (is_set 4 (header f)) (octets f ++ z) ≡ f.id_length =
+    ap₂ (λ t s. id_length_at t s (octets f ++ z)) p.id_there p.short ∙ id_told f.short f.payload_length f.id_length (header f) f.kind_length z in
+    λ j. record {
+      first = p.begins j;
+      last = p.ends j;
+      chunked = p.chunked j;
+      short = p.short j;
+      tnf = p.tnf j;
+      kind_length = f.kind_length;
+      payload_length = n j;
+      id_length = i j;
+    }
+
+-- ---- pieces
+
+-- what follows the head of a piece
+abbrev behind_head : Piece → List ℕ → List ℕ
+behind_head p rest = p.kind ++ (unwrap_or p.id [] ++ (p.payload ++ rest))
+
+-- its head, and what follows it
+head_first : (p : Piece) (short : Bool) (front rest : List ℕ) → Spells p short front → front ++ rest ≡ octets (fields p short) ++ behind_head p rest
+head_first p short front rest s =
+    ap (λ x. x ++ rest) s.spelled
+    ∙ append_assoc (octets (fields p short)) (body p) rest
+    ∙ ap (λ x. octets (fields p short) ++ x) (append_assoc p.kind (unwrap_or p.id [] ++ p.payload) rest ∙ ap (λ x. p.kind ++ x) (append_assoc (unwrap_or p.id []) p.payload rest))
+
+same_id : (i : Option (List ℕ)) → id_of (option_map length i) (unwrap_or i []) ≡ i
+same_id None = refl
+same_id (Some x) = refl
+
+same_piece : (p : Piece) (short : Bool) (k i n : List ℕ) → k ≡ p.kind → i ≡ unwrap_or p.id [] → n ≡ p.payload → piece (fields p short) k i n ≡ p
+same_piece p short k i n e1 e2 e3 = rw (e1, e2, e3) (ap (λ x. record p { id = x }) (same_id p.id))
+
+-- what follows its head tells it
+parts_told : (p : Piece) (short : Bool) (rest : List ℕ) → piece_with (fields p short) (behind_head p rest) ≡ p
+parts_told p short rest =
+    let z = behind_head p rest in
+    let n = id_count p.id in
+    let d1 : drop (length p.kind) z ≡ unwrap_or p.id [] ++ (p.payload ++ rest) = drop_at p.kind _ _ refl in
+    let d2 : drop (unwrap_or (option_map length p.id) 0) (drop (length p.kind) z) ≡ p.payload ++ rest =
+    ap (drop (unwrap_or (option_map length p.id) 0)) d1 ∙ drop_at (unwrap_or p.id []) (p.payload ++ rest) _ (sym n) in
+    same_piece p short _ _ _ (take_at p.kind _ _ refl)
+    (ap (take (unwrap_or (option_map length p.id) 0)) d1 ∙ take_at (unwrap_or p.id []) (p.payload ++ rest) _ (sym n))
+    (ap (take (length p.payload)) d2 ∙ take_at p.payload rest _ refl)
+
+-- a piece is told by its octets, whatever follows
+piece_told : (p : Piece) (short : Bool) (front rest : List ℕ) → Spells p short front → piece_at (front ++ rest) ≡ p
+unfolding piece_at
+piece_told p short front rest s =
+    let f = fields p short in
+    let z = behind_head p rest in
+    let l = piece_head p short front s in
+    let behind : drop (size (header f)) (octets f ++ z) ≡ z = drop_at (octets f) z _ (octets_size f l.tnf) in
+    ap piece_at (head_first p short front rest s) ∙ ap₂ piece_with (head_told f z l) behind ∙ parts_told p short rest
+
+-- .. and so is how many there are
+size_told : (p : Piece) (short : Bool) (front rest : List ℕ) → Spells p short front → size_at (front ++ rest) ≡ length front
+unfolding size_at
+size_told p short front rest s =
+    let f = fields p short in
+    let z = behind_head p rest in
+    let l = piece_head p short front s in
+    let n = id_count p.id in
+    let a : size_at (octets f ++ z) ≡ size (header f) + body_size f = ap (λ f'. size (header f) + body_size f') (head_told f z l) in
+    let o = octets_size f l.tnf in
+    let whole = ap length s.spelled ∙ length-append (octets f) (body p) in
+    let m = body_length p in
+    ap size_at (head_first p short front rest s) ∙ a ∙ omega (arith, n, o, whole, m)
+
+-- the piece at the front of some bytes is told by them, and so is what follows it
+same_split : (p q : Piece) (s t : Bool) (x y bytes : List ℕ) → IsSplit p s x bytes → IsSplit q t y bytes → (p ≡ q) × (x ≡ y)
+same_split p q s t x y bytes a b =
+    let e : a.front ++ x ≡ b.front ++ y = sym a.joined ∙ b.joined in
+    let n : length a.front ≡ length b.front = sym (size_told p s a.front x a.spells) ∙ ap size_at e ∙ size_told q t b.front y b.spells in
+    (sym (piece_told p s a.front x a.spells) ∙ ap piece_at e ∙ piece_told q t b.front y b.spells, (cut_alike a.front b.front x y n e).1)
+
+front_is_some : (p : Piece) (short : Bool) (front : List ℕ) → Spells p short front → 0 < length front
+front_is_some p short front s = let e = ap length s.spelled in omega (arith, e)
+
+-- ---- lists of pieces
+pieces_skip : (k : ℕ) (bytes : List ℕ) → pieces_from k bytes ≡ pieces_of (drop k bytes)
+pieces_skip zero [] = refl
+pieces_skip (suc k) [] = refl
+pieces_skip zero (b ∷ bytes) = refl
+pieces_skip (suc k) (b ∷ bytes) = pieces_skip k bytes
+
+drop_one : (n b : ℕ) (bytes : List ℕ) → 0 < n → drop n (b ∷ bytes) ≡ drop (n - 1) bytes
+drop_one zero b bytes h = absurd (omega (arith, h))
+drop_one (suc n) b bytes h = let e : n ≡ suc n - 1 = omega arith in ap (λ k. drop k bytes) e
+
+pieces_step : (bytes : List ℕ) → 0 < length bytes → 0 < size_at bytes → pieces_of bytes ≡ piece_at bytes ∷ pieces_of (drop (size_at bytes) bytes)
+pieces_step [] h n = absurd (omega (arith, h))
+pieces_step (b ∷ bytes) h n =
+    ap (λ ps. piece_at (b ∷ bytes) ∷ ps) (pieces_skip (size_at (b ∷ bytes) - 1) bytes ∙ ap pieces_of (sym (drop_one (size_at (b ∷ bytes)) b bytes n)))
+
+first_told : (p : Piece) (short : Bool) (front rest : List ℕ) → Spells p short front → pieces_of (front ++ rest) ≡ p ∷ pieces_of rest
+first_told p short front rest s =
+    let some = front_is_some p short front s in
+    let n = size_told p short front rest s in
+    let k = length-append front rest in
+    pieces_step (front ++ rest) (omega (arith, some, k)) (omega (arith, some, n))
+    ∙ ap₂ (λ q r. q ∷ pieces_of r) (piece_told p short front rest s) (drop_at front rest _ (sym n))
+
+pub pieces_told : (ps : List Piece) (bytes : List ℕ) → SpellAll ps bytes → pieces_of bytes ≡ ps
+pieces_told [] bytes e = ap pieces_of e
+pieces_told (p ∷ ps) bytes (short, front, rest, e, s, more) =
+    ap pieces_of e ∙ first_told p short front rest s ∙ ap (λ qs. p ∷ qs) (pieces_told ps rest more)
+
+-- ---- runs
+begin_alone : (p : Piece) (rs : List Run) → p.chunked ≡ false → begin_run p rs ≡ record { initial = p; later = [] } ∷ rs
+begin_alone p [] c = refl
+begin_alone p (r ∷ rs) c = rw c refl
+
+pub run_told : (p : Piece) (later rest : List Piece) → Follow p.chunked later → runs_of ((p ∷ later) ++ rest) ≡ record { initial = p; later = later } ∷ runs_of rest
+run_told p [] rest c = begin_alone p (runs_of rest) c
+run_told p (q ∷ later) rest (c, l, more) = ap (begin_run p) (run_told q later rest more) ∙ rw c refl
+
+pub runs_told : (rs : List Run) → AllByRecursion (λ r. Follow r.initial.chunked r.later) rs → runs_of (all_pieces rs) ≡ rs
+runs_told [] h = refl
+runs_told (r ∷ rs) h = run_told r.initial r.later (all_pieces rs) h.0 ∙ ap (λ x. r ∷ x) (runs_told rs h.1)
+
+pub follow_of_read : (rs : List Run) → AllByRecursion IsRecord rs → AllByRecursion (λ r. Follow r.initial.chunked r.later) rs
+follow_of_read [] h = tt
+follow_of_read (r ∷ rs) h = (h.0.follow, follow_of_read rs h.1)
+
+follow_of_run : (profile : Profile) (rs : List Run) → AllByRecursion (IsRun profile) rs → AllByRecursion (λ r. Follow r.initial.chunked r.later) rs
+follow_of_run profile [] h = tt
+follow_of_run profile (r ∷ rs) h = (h.0.follow, follow_of_run profile rs h.1)
+
+-- the runs of a message are told by its bytes
+pub flat_told : (profile : Profile) (rs : List Run) (items : List Item) (bytes : List ℕ) → FlatBy profile rs items bytes → runs_of (pieces_of bytes) ≡ rs
+flat_told profile rs items bytes f = ap runs_of (pieces_told (all_pieces rs) bytes f.spelled) ∙ runs_told rs (follow_of_run profile rs f.message.each_run)
+
+-- a run of some bytes is told by them
+pub run_is : (r : Run) (bytes : List ℕ) → SpellAll (pieces r) bytes → run_of bytes ≡ r
+run_is r bytes (short, front, rest, e, s, more) =
+    let n = size_told r.initial short front rest s in
+    ap run_of e ∙ ap₂ (λ p ps. record { initial = p; later = ps }) (piece_told r.initial short front rest s)
+    (ap pieces_of (drop_at front rest _ (sym n)) ∙ pieces_told r.later rest more)
+
+-- ---- the first of some pieces
+
+-- the bytes are those of this piece, and of these behind it
+pub record First (p : Piece) (ps : List Piece) (bytes : List ℕ) : Type 0 where
+  pub short : Bool
+  pub rest : List ℕ
+  pub split : IsSplit p short rest bytes
+  pub more : SpellAll ps rest
+
+pub first_of : (p : Piece) (ps : List Piece) (bytes : List ℕ) → SpellAll (p ∷ ps) bytes → First p ps bytes
+first_of p ps bytes (short, front, rest, e, s, more) =
+    record { short = short; rest = rest; split = record { front = front; spells = s; joined = e }; more = more }
+
+pub first_of_some : (ps : List Piece) (bytes : List ℕ) → 0 < length bytes → SpellAll ps bytes → (p : Piece) × (later : List Piece) × First p later bytes
+first_of_some [] bytes n e = absurd (let h = ap length e in omega (arith, n, h))
+first_of_some (p ∷ ps) bytes n s = (p, ps, first_of p ps bytes s)
+
+pub begins : {p : Piece} {ps : List Piece} {bytes : List ℕ} → First p ps bytes → BeginWithPiece bytes
+begins {p} f = record { piece = p; short = f.short; rest = f.rest; split = f.split }
+
+-- it is the one that is shown
+pub first_shown : {p : Piece} {ps : List Piece} {bytes : List ℕ} (f : First p ps bytes) (q : Piece) (short : Bool) (x : List ℕ) → IsSplit q short x bytes → (q ≡ p) × (x ≡ f.rest)
+first_shown {p} {ps} {bytes} f q short x i = same_split q p short f.short x f.rest bytes i f.split
+
+-- what is told behind it
+pub told_behind : {p : Piece} {ps : List Piece} {bytes : List ℕ} (f : First p ps bytes) → pieces_of bytes ≡ p ∷ pieces_of f.rest
+told_behind {p} f = ap pieces_of f.split.joined ∙ first_told p f.short f.split.front f.rest f.split.spells
+
+-- something of it is taken
+pub shorter : {p : Piece} {ps : List Piece} {bytes : List ℕ} (f : First p ps bytes) → length f.rest < length bytes
+shorter {p} f =
+    let e = ap length f.split.joined ∙ length-append f.split.front f.rest in
+    let k = front_is_some p f.short f.split.front f.split.spells in
+    omega (arith, e, k)

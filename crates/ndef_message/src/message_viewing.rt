@@ -1,0 +1,28 @@
+//! Views a message, where it lies.
+ghost use Rattle.ndef_message.specs.Views.{Views};
+
+use crate::format::format_laws;
+use crate::{CheckError, SliceSource, View, check_message};
+use ndef_lang::OuterLanguage;
+use ndef_value::{Limits, Refusal};
+
+/// Views the message with which the bytes begin, without copying or memory (NDEF 1.0, messages).
+///
+/// It is within the limits, and the payloads of its records are of their kinds in the language `L`.
+/// Bytes that begin with no such message are refused at the first byte after which no continuation is
+/// one, or where they end too early, with the reason.
+pub fn view<L: OuterLanguage>(bytes: &[u8], limits: Limits) -> Result<View<'_>, Refusal>
+    ensures { Views L.set L.holds limits bytes.now result }
+{
+    format_laws(&limits);
+    let mut source = SliceSource::new(bytes, &[]);
+    match check_message::<L, SliceSource<'_>>(&mut source, limits) {
+        Ok(checked) => Ok(View::new(
+            &bytes[..checked.taken as usize],
+            checked.records,
+            limits.profile(),
+        )),
+        Err(CheckError::Refused(refusal)) => Err(refusal),
+        Err(CheckError::ReadFault) => unreachable!(),
+    }
+}
