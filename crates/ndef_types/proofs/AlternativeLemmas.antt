@@ -1,0 +1,71 @@
+-- The payload of an alternative carrier, as it is read.
+use Rattle.std.proofs.Common.{◌≡◌, ℕ, zero, suc, ◌+◌, ◌%◌, ◌<◌, ◌≤◌, List, [], ◌∷◌, ◌++◌, length, take, drop, get_or, refl, sym, ap, subst, arith, append_assoc, append-nil}
+use Rattle.ndef_lang.specs.Alternative.{IsAlternative, AreReferences, AreAuxiliary}
+use Rattle.ndef_lang.specs.Octets.{IsOctet}
+use Rattle.ndef_lang.specs.OctetLaws.{field_parts}
+use Rattle.ndef_types.specs.Values.{AcValue, StandsForAc, StandForAuxiliary, StandForNames, power_code}
+
+-- ---- reading names
+
+-- behind the first i references of count, m are left, and those read so far stand before what they stand for
+pub record NamesLeft (count i : ℕ) (octets left : List ℕ) (names : List (List ℕ)) : Type 0 where
+  pub m : ℕ
+  pub missing : m + i ≡ count
+  pub are : AreReferences m left
+  pub before : (more : List (List ℕ)) (rest : List ℕ) → StandForNames m left more rest → StandForNames count octets (names ++ more) rest
+
+pub names_first : (count : ℕ) (octets : List ℕ) → AreReferences count octets → NamesLeft count 0 octets octets []
+names_first count octets h = record { m = count; missing = omega arith; are = h; before = λ more rest k. k }
+
+pub names_last : (count i : ℕ) (octets left : List ℕ) (names : List (List ℕ)) → count ≤ i → NamesLeft count i octets left names → StandForNames count octets names left
+names_last count i octets left names l h = at_end h.m (omega (arith, h.missing)) h.before
+  where
+    at_end : (m : ℕ) → m ≡ 0 → ((more : List (List ℕ)) (rest : List ℕ) → StandForNames m left more rest → StandForNames count octets (names ++ more) rest) → StandForNames count octets names left
+    at_end zero e f = subst (λ ns. StandForNames count octets ns left) (append-nil names) (f [] left (refl, refl))
+    at_end (suc m) e f = absurd (omega arith)
+
+-- one name more
+pub record NameStep (count i : ℕ) (octets left : List ℕ) (names : List (List ℕ)) : Type 0 where
+  pub room : get_or left 0 0 < length left
+  pub next : NamesLeft count (i + 1) octets (drop (get_or left 0 0) (drop 1 left)) (names ++ take (get_or left 0 0) (drop 1 left) ∷ [])
+
+pub name_step : (count i : ℕ) (octets left : List ℕ) (names : List (List ℕ)) → i < count → NamesLeft count i octets left names → NameStep count i octets left names
+name_step count i octets left names l h = at_more h.m (omega (arith, h.missing)) h.missing left h.are h.before
+  where
+    at_more : (m : ℕ) → 0 < m → m + i ≡ count → (left : List ℕ) → AreReferences m left
+        → ((more : List (List ℕ)) (rest : List ℕ) → StandForNames m left more rest → StandForNames count octets (names ++ more) rest) → NameStep count i octets left names
+    at_more zero z e left a f = absurd (omega arith)
+    at_more (suc m) z e [] a f = absurd a
+    at_more (suc m) z e (k ∷ s) a f =
+        let p = field_parts IsOctet k (AreReferences m) s a.1 in
+        record {
+          room = omega (arith, p.within);
+          next = record {
+            m = m;
+            missing = omega arith;
+            are = p.rest;
+            before = λ more rest g. subst (λ ns. StandForNames count octets ns rest) (sym (append_assoc names (take k s ∷ []) more)) (f (take k s ∷ more) rest (refl, g));
+          };
+        }
+
+pub names_count : (n : ℕ) (s : List ℕ) (names : List (List ℕ)) (rest : List ℕ) → StandForNames n s names rest → length names ≡ n
+names_count zero s names rest h = ap length h.0
+names_count (suc n) (k ∷ s) (x ∷ names) rest h = omega (arith, names_count n (drop k s) names rest h.1)
+names_count (suc n) [] names rest h = absurd h
+names_count (suc n) (k ∷ s) [] rest h = absurd h
+
+-- ---- the parts of a payload
+
+pub record AcParts (payload : List ℕ) : Type 0 where
+  pub some : 0 < length payload
+  pub room : get_or (drop 1 payload) 0 0 < length (drop 1 payload)
+  pub auxiliary : AreAuxiliary (drop (get_or (drop 1 payload) 0 0) (drop 1 (drop 1 payload)))
+  pub stands : (v : AcValue) → get_or payload 0 0 % 4 ≡ power_code v.power → take (get_or (drop 1 payload) 0 0) (drop 1 (drop 1 payload)) ≡ v.reference
+      → StandForAuxiliary (drop (get_or (drop 1 payload) 0 0) (drop 1 (drop 1 payload))) v.auxiliary v.rest → StandsForAc payload v
+
+pub ac_parts : (payload : List ℕ) → IsAlternative payload → AcParts payload
+ac_parts [] h = absurd h
+ac_parts (octet ∷ []) h = absurd h.1
+ac_parts (octet ∷ n ∷ s) h =
+    let p = field_parts IsOctet n AreAuxiliary s h.1.1 in
+    record { some = omega arith; room = omega (arith, p.within); auxiliary = p.rest; stands = λ v x y z. (x, y, z) }

@@ -1,0 +1,17 @@
+pub mod AlternativeLaws
+pub mod AlternativeLemmas
+pub mod CarrierLaws
+pub mod ContentsLemmas
+pub mod ErrorLaws
+pub mod HandoverLemmas
+pub mod LinkLemmas
+pub mod MessageLaws
+pub mod NestedLemmas
+pub mod PosterLemmas
+pub mod PrefixLemmas
+pub mod RoundTripLemmas
+pub mod TextLaws
+pub mod TextLemmas
+pub mod UriLaws
+pub mod Utf16Lemmas
+pub mod ViewedLinks

@@ -1,0 +1,114 @@
+-- A nested message is a message of one piece a record, whatever its payloads.
+use Rattle.std.proofs.Common.{◌≡◌, ℕ, ◌≤◌, List, [], ◌∷◌, ◌++◌, length, map, refl, sym, subst, ◌<◌, ◌^◌, ◌∙◌, ap, arith, append-nil, suc, take, Ok, Err}
+use Rattle.std.specs.List.{AllByRecursion, flat_map}
+use Rattle.ndef_value.specs.Wire.{Item, Piece, Run, AreItems, IsItem, IsMessage, IsShaped, IsPiece, SpellAll, pieces, all_pieces, payload_of, joined, LimitValues, AreOctets}
+use Rattle.ndef_value.specs.declared.profile.Profile.{Profile}
+use Rattle.ndef_lang.specs.Leaf.{IsPayload}
+use Rattle.ndef_lang.specs.LeafLaws.{payload_octets}
+use Rattle.ndef_lang.specs.Language.{Sets, Conditions}
+use Rattle.ndef_nest.specs.Nested.{Nested, IsNestedBy, kind_in}
+use Rattle.ndef_nest.specs.declared.table.Table.{Table}
+use Rattle.ndef_value.specs.declared.refusal.Refusal.{Refusal}
+use Rattle.ndef_message.specs.Views.{NeverRefused, OneView, Viewed, Views}
+use Rattle.std.proofs.Math.Seq.{take-length}
+use Rattle.ndef_message.specs.Deep.{Deep, IsMember}
+
+-- what every list of octets is in
+abbrev pub opaque : Sets
+opaque kind records profile s = AreOctets s
+
+abbrev pub nested_limits : Profile → LimitValues
+nested_limits profile = record { payload = 4294967295; records = 65535; pieces = 1; profile = profile }
+
+are_pieces : (ps : List Piece) (bytes : List ℕ) → SpellAll ps bytes → AllByRecursion IsPiece ps
+are_pieces [] bytes h = tt
+are_pieces (p ∷ ps) bytes h = (h.4.piece, are_pieces ps h.2 h.5)
+
+map_length : (runs : List Run) → length (map joined runs) ≡ length runs
+map_length [] = refl
+map_length (r ∷ runs) = ap suc (map_length runs)
+
+few : (runs : List Run) → AllByRecursion (λ r. r.later ≡ []) runs → AllByRecursion (λ r. length (pieces r) ≤ 1) runs
+few [] h = tt
+few (r ∷ runs) h = (omega (arith, ap length h.0), few runs h.1)
+
+append_parts : (ps qs : List Piece) → AllByRecursion IsPiece (ps ++ qs) → AllByRecursion IsPiece ps × AllByRecursion IsPiece qs
+append_parts [] qs h = (tt, h)
+append_parts (p ∷ ps) qs h = let k = append_parts ps qs h.1 in ((h.0, k.0), k.1)
+
+one_payload : (r : Run) → r.later ≡ [] → payload_of (pieces r) ≡ r.initial.payload
+one_payload r e = ap (λ ps. r.initial.payload ++ flat_map (λ (q : Piece). q.payload) ps) e ∙ append-nil r.initial.payload
+
+small : (runs : List Run) → AllByRecursion (λ r. r.later ≡ []) runs → AllByRecursion IsPiece (all_pieces runs) → AllByRecursion (λ r. length (payload_of (pieces r)) ≤ 4294967295) runs
+small [] h k = tt
+small (r ∷ runs) h k =
+    let p = append_parts (pieces r) (all_pieces runs) k in
+    let l = p.0.0.payload_length in
+    (omega (arith, ap length (one_payload r h.0), l), small runs h.1 p.1)
+
+are_members : (table : Table) (profile : Profile) (items : List Item) → AllByRecursion (λ i. IsPayload (kind_in table i.tnf i.kind) profile i.payload) items
+    → AllByRecursion (IsMember opaque (nested_limits profile)) items
+are_members table profile [] h = tt
+are_members table profile (i ∷ items) h = (payload_octets (kind_in table i.tnf i.kind) profile i.payload h.0, are_members table profile items h.1)
+
+pub nested_is_deep : (table : Table) (profile : Profile) (runs : List Run) (items : List Item) (bytes : List ℕ) → IsNestedBy table 65535 profile runs items bytes → Deep opaque (nested_limits profile) items bytes
+nested_is_deep table profile runs items bytes h = record {
+  runs = runs;
+  flat = h.flat;
+  within = record {
+    few_records = omega (arith, h.few, map_length runs, ap length h.flat.message.items);
+    few_pieces = few runs h.single;
+    small = small runs h.single (are_pieces (all_pieces runs) bytes h.flat.spelled);
+  };
+  members = are_members table profile items h.contents.members;
+}
+
+-- ---- the records of a nested message
+
+is_item : (r : Run) → r.later ≡ [] → IsPiece r.initial → IsShaped (joined r) → IsItem (joined r)
+is_item r e p s =
+    let same = sym (one_payload r e) in
+    record {
+      shaped = s;
+      lengths = record { kind = p.kind_length; id = p.id_length; payload = subst (λ x. length x < 2 ^ 32) same p.payload_length };
+      kind = p.kind;
+      id = p.id;
+      payload = subst AreOctets same p.payload;
+    }
+
+are_items : (runs : List Run) → AllByRecursion (λ r. r.later ≡ []) runs → AllByRecursion IsPiece (all_pieces runs) → AllByRecursion IsShaped (map joined runs) → AllByRecursion IsItem (map joined runs)
+are_items [] h p s = tt
+are_items (r ∷ runs) h p s = let q = append_parts (pieces r) (all_pieces runs) p in (is_item r h.0 q.0.0 s.0, are_items runs h.1 q.1 s.1)
+
+some : (profile : Profile) (runs : List Run) (items : List Item) → IsMessage profile runs items → 1 ≤ length items
+some profile [] items h = absurd h.begins
+some profile (r ∷ runs) items h = omega (arith, ap length h.items)
+
+pub nested_items : (table : Table) (profile : Profile) (runs : List Run) (items : List Item) (bytes : List ℕ) → IsNestedBy table 65535 profile runs items bytes → AreItems items
+nested_items table profile runs items bytes h =
+    let m = h.flat.message in
+    record {
+      some = some profile runs items m;
+      few = h.few;
+      each = subst (AllByRecursion IsItem) m.items (are_items runs h.single (are_pieces (all_pieces runs) bytes h.flat.spelled) (subst (AllByRecursion IsShaped) (sym m.items) m.shaped));
+    }
+
+-- ---- what is seen
+
+whole_is_deep : (table : Table) (profile : Profile) (runs : List Run) (items : List Item) (bytes : List ℕ) → IsNestedBy table 65535 profile runs items bytes
+    → Deep opaque (nested_limits profile) items (take (length bytes) bytes)
+whole_is_deep table profile runs items bytes h = rw take-length (nested_is_deep table profile runs items bytes h)
+
+pub is_seen : (holds : Conditions) (limits : LimitValues) (table : Table) (profile : Profile) (runs : List Run) (items : List Item) (bytes : List ℕ) (v : Viewed)
+    → OneView opaque holds → limits ≡ nested_limits profile → IsNestedBy table 65535 profile runs items bytes → Views opaque holds limits bytes (Ok v) → map joined v.runs ≡ items
+is_seen holds limits table profile runs items bytes v one l h r =
+    let whole = whole_is_deep table profile runs items bytes h in
+    let deep : Deep opaque limits items (take (length bytes) bytes) = rw l whole in
+    sym (one limits bytes v items (length bytes) r (omega arith) deep).items_are
+
+pub is_not_refused : (holds : Conditions) (limits : LimitValues) (table : Table) (profile : Profile) (bytes : List ℕ) (refusal : Refusal)
+    → NeverRefused opaque holds → limits ≡ nested_limits profile → Nested table 65535 profile bytes → Views opaque holds limits bytes (Err refusal) → ⊥
+is_not_refused holds limits table profile bytes refusal never l h r =
+    let whole = whole_is_deep table profile h.0 h.1 bytes h.2 in
+    let deep : Deep opaque limits h.1 (take (length bytes) bytes) = rw l whole in
+    never limits bytes refusal (length bytes) r (h.1, deep)

@@ -1,0 +1,14 @@
+use Rattle.ndef_types.proofs.UriLaws.{one_uri, each_uri, one_payload, uris_round_trip}
+use Rattle.ndef_types.proofs.laws.uris_are_exact.Goals as goal
+
+pub returns-clause-one : goal.returns-clause-one
+returns-clause-one c = one_uri
+
+pub returns-clause-each : goal.returns-clause-each
+returns-clause-each c = each_uri
+
+pub returns-clause-payload : goal.returns-clause-payload
+returns-clause-payload c = one_payload
+
+pub returns-clause-round_trip : goal.returns-clause-round_trip
+returns-clause-round_trip c = uris_round_trip

@@ -1,0 +1,30 @@
+use Rattle.std.proofs.Common.{sym, subst, refl, ◌≡◌, ◌∙◌}
+use Rattle.std.proofs.lemmas.List.{take_all}
+use Rattle.ndef_nest.specs.Nested.{kind_in}
+use Rattle.ndef_nest.specs.declared.table.Table.TheVariants.{SmartPoster}
+use Rattle.ndef_types.specs.Posters.{titles, StandForTexts}
+use Rattle.ndef_types.specs.Values.{StandsForText}
+use Rattle.ndef_types.proofs.ContentsLemmas.{reached}
+use Rattle.ndef_types.proofs.PosterLemmas.{title_more, title_same}
+use Rattle.ndef_types.proofs.smart_poster.SmartPoster.titles.Goals as goal
+use Rattle.ndef_types.proofs.smart_poster.SmartPoster.titles.Goals.{then-is_kind+in_ok-read_text+in_ok-push, else-is_kind}
+
+pub loop-item-preserved : goal.loop-item-preserved
+loop-item-preserved c =
+    let items = c.records-item-items.result.now in
+    let n = c.loop-item.item-index in
+    let i = c.item-item.result in
+    let e = reached items n i c.loop-item-test.true c.item-item.is in
+    let k : c.kind-in-loop-item.result ≡ kind_in SmartPoster i.tnf i.kind = c.kind-in-loop-item.ensures ∙ (λ j. kind_in SmartPoster (c.tnf.ensures.value j) (c.kind.ensures.value j)) in
+    elim c.if-is_kind.branch [
+      | then-is_kind+in_ok-read_text+in_ok-push w ↦
+          rw (w.texts-is, w.in_ok-push.ensures)
+          (title_more items n i c.loop-item.texts _ e (sym k ∙ w.if-is_kind.ensures.0 refl) c.loop-item.invariant
+          (subst (λ s. StandsForText s w.in_ok-read_text.field-0) w.payload.ensures.value w.in_ok-read_text.ensures))
+      | else-is_kind w ↦ rw w.texts-is (title_same items n i c.loop-item.texts e (λ p. let t = w.if-is_kind.ensures.1 (k ∙ p) in cc) c.loop-item.invariant)
+    ]
+
+pub returns : goal.returns
+returns c =
+    subst (λ items. StandForTexts (titles items) c.loop-item.texts)
+    (take_all c.loop-item.item-index c.records-item-items.result.now c.loop-item-test.false ∙ c.records-item-items.ensures.value ∙ c.self.view_is) c.loop-item.invariant

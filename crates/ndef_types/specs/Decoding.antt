@@ -1,0 +1,69 @@
+-- What is answered of a payload that is decoded, and the laws of what payloads stand for.
+use Rattle.std.specs.Prelude.{◌≡◌, ◌^◌, ◌<◌, ◌≤◌, ◌⊎◌, ⊤, ℕ, List, length, Result, Ok, Err}
+use Rattle.ndef_value.specs.declared.reason.Reason.{Reason}
+use Rattle.ndef_value.specs.declared.reason.Reason.TheVariants.{DoesNotFit}
+use Rattle.ndef_value.specs.declared.refusal.Refusal.{Refusal}
+use Rattle.ndef_lang.specs.Place.{IsRefused}
+use Rattle.ndef_types.specs.declared.error.DecodeError.{DecodeError}
+use Rattle.ndef_types.specs.declared.error.DecodeError.TheVariants as errors
+
+-- the payloads of a type
+abbrev pub Payloads : Type 1
+Payloads = List ℕ → Type 0
+
+-- which reasons hold of an octet after the octets of a payload before it
+abbrev pub Reasons : Type 1
+Reasons = List ℕ → ℕ → Reason → Type 0
+
+-- which payload stands for which value
+abbrev pub Meaning : Type 0 → Type 1
+Meaning V = List ℕ → V → Type 0
+
+-- which payload is written for which value
+abbrev pub Writing : Type 0 → Type 1
+Writing V = V → List ℕ → Type 0
+
+-- ---- what is answered
+
+-- NDEF 1.0, PAYLOAD_LENGTH: no payload is this long; or the first octet is told after which nothing of its length is in the set
+abbrev pub RefusesPayload : Payloads → Reasons → List ℕ → Refusal → Type 0
+RefusesPayload set holds payload refusal =
+    ((2 ^ 32 ≤ length payload) × (refusal.at ≡ 0) × (refusal.reason ≡ DoesNotFit))
+    ⊎ ((length payload < 2 ^ 32) × IsRefused set holds payload refusal.at refusal.reason)
+
+-- the payload is in the set, and stands for the value; or it is refused; or memory is wanting
+abbrev pub Decodes : {V : Type 0} → Payloads → Reasons → Meaning V → List ℕ → Result V DecodeError → Type 0
+Decodes set holds stands payload (Ok value) = (length payload < 2 ^ 32) × set payload × stands payload value
+Decodes set holds stands payload (Err (errors.Refused refusal)) = RefusesPayload set holds payload refusal
+Decodes set holds stands payload (Err errors.NoMemory) = ⊤
+
+-- NDEF 1.0, PAYLOAD_LENGTH: what is written for the value is longer than a payload
+abbrev pub IsTooLong : {V : Type 0} → Writing V → V → Type 0
+IsTooLong written value = (payload : List ℕ) × written value payload × (2 ^ 32 ≤ length payload)
+
+-- ---- laws
+
+-- the value comes back, unless memory is wanting
+abbrev pub GivesBack : {V : Type 0} → V → Result V DecodeError → Type 0
+GivesBack value (Ok back) = back ≡ value
+GivesBack value (Err (errors.Refused refusal)) = ⊥
+GivesBack value (Err errors.NoMemory) = ⊤
+
+-- What was written for a value is decoded to it.
+abbrev pub RoundTrips : {V : Type 0} → Payloads → Reasons → Meaning V → (values : V → Type 0) → Writing V → Type 0
+RoundTrips {V} set holds stands values written =
+    (value : V) (payload : List ℕ) (result : Result V DecodeError) → values value → written value payload → length payload < 2 ^ 32
+    → Decodes set holds stands payload result → GivesBack value result
+
+-- A payload stands for at most one value.
+abbrev pub OneValue : {V : Type 0} → Payloads → Meaning V → Type 0
+OneValue {V} set stands = (payload : List ℕ) (v w : V) → set payload → stands payload v → stands payload w → v ≡ w
+
+-- Each payload of the set stands for a value.
+abbrev pub EachHasValue : {V : Type 0} → Payloads → Meaning V → (values : V → Type 0) → Type 0
+EachHasValue {V} set stands values = (payload : List ℕ) → set payload → (v : V) × (values v × stands payload v)
+
+-- One payload is written for each value.
+abbrev pub OnePayload : {V : Type 0} → (values : V → Type 0) → Writing V → Type 0
+OnePayload {V} values written =
+    (value : V) → values value → (payload : List ℕ) × (written value payload × ((other : List ℕ) → written value other → other ≡ payload))

@@ -1,0 +1,121 @@
+//! Handover carriers.
+ghost use Rattle.std.specs.Prelude.{◌≡◌, ◌<◌, ◌≤◌, ◌^◌, ◌↔◌, length, IfOk, IsErrOf};
+ghost use Rattle.ndef_lang.specs.Carrier.{IsCarrier};
+ghost use Rattle.ndef_lang.specs.Language.{NoReason};
+ghost use Rattle.ndef_types.specs.Decoding.{Decodes};
+ghost use Rattle.ndef_types.specs.Values.{StandsForCarrier, IsCarrierValue, carrier_payload};
+
+use crate::accept::{MOST, accept};
+use crate::{DecodeError, EncodeError};
+use ndef_lang::{HcLang, Kind};
+use ndef_value::{Bytes, Name, NoMemory, Profile};
+use std::alloc::Global;
+use std::marker::Model;
+
+/// A carrier that a handover may use (Connection Handover 1.2, Handover Carrier record): a carrier type
+/// format of 0 to 7, a carrier type of 0 to 255 bytes and carrier data.
+#[derive(Debug, Drop)]
+pub struct Carrier {
+    format: u8,
+    kind: Name,
+    carried: Bytes,
+}
+
+impl Model for Carrier {
+    ghost use Rattle.ndef_types.specs.Values.{CarrierValue, IsCarrierValue};
+
+    ghost Value = { CarrierValue };
+
+    ghost view = { λ c. record { format = c.format; kind = c.kind; carried = c.carried } };
+
+    ghost invariant = { λ c. IsCarrierValue (record { format = c.format; kind = c.kind; carried = c.carried }) };
+}
+
+/// The carrier for which a payload stands.
+fn read_carrier(alloc: Global, payload: &[u8]) -> Result<Carrier, NoMemory>
+    requires { IsCarrier payload.now }
+    ensures { IfOk result (StandsForCarrier payload.now) }
+{
+    let [format, length, rest @ ..] = payload else {
+        unreachable!()
+    };
+    let (kind, carried) = rest.split_at(usize::from(*length));
+    let Ok(kind) = Name::from_slice(alloc, kind) else {
+        return Err(NoMemory);
+    };
+    let carried = Bytes::from_slice(alloc, carried)?;
+    Ok(Carrier::new(format % 8, kind, carried))
+}
+
+impl Carrier {
+    /// A carrier of these very parts, its format at most 7. It takes no memory.
+    pub fn new(format: u8, kind: Name, carried: Bytes) -> Carrier
+        requires { format < 8 }
+        ensures { result ≡ record { format = format; kind = kind; carried = carried } }
+    {
+        let _kind = kind.as_slice();
+        let _carried = carried.as_slice();
+        Carrier {
+            format,
+            kind,
+            carried,
+        }
+    }
+
+    /// The carrier for which the payload of a handover carrier record stands: its format is that of the
+    /// three low bits of the first byte, whose other bits are ignored. `Refused` where the payload isn't
+    /// in the set of its type or is longer than a payload may be, else `NoMemory`.
+    pub fn decode(alloc: Global, payload: &[u8]) -> Result<Carrier, DecodeError>
+        ensures { Decodes IsCarrier (λ s b. NoReason) StandsForCarrier payload.now result }
+    {
+        accept::<HcLang>(Kind::Carrier, Profile::Strict, payload)?;
+        Ok(read_carrier(alloc, payload)?)
+    }
+
+    /// The payload of a handover carrier record, its reserved bits 0. `TooLong` comes before `NoMemory`.
+    pub fn encode(&self, alloc: Global) -> Result<Bytes, EncodeError>
+        ensures ok { IfOk result (λ payload. payload ≡ carrier_payload self.now) }
+        ensures too_long { IsErrOf result EncodeError.TooLong ↔ (2 ^ 32 ≤ length (carrier_payload self.now)) }
+    {
+        if self.carried.as_slice().len() > MOST - 2 - self.kind.as_slice().len() {
+            return Err(EncodeError::TooLong);
+        }
+        Ok(self.payload(alloc)?)
+    }
+
+    /// The payload.
+    fn payload(&self, alloc: Global) -> Result<Bytes, NoMemory>
+        ensures { IfOk result (λ payload. payload ≡ carrier_payload self.now) }
+    {
+        let kind = self.kind.as_slice();
+        let mut payload = Bytes::new(alloc);
+        payload.extend(&[self.format, kind.len() as u8])?;
+        payload.extend(kind)?;
+        payload.extend(self.carried.as_slice())?;
+        Ok(payload)
+    }
+
+    /// The carrier type format, 0 to 7: what the type name format is to the type of a record.
+    pub fn format(&self) -> u8
+        ensures value { result ≡ self.now.format }
+        ensures carrier { IsCarrierValue self.now }
+    {
+        self.format
+    }
+
+    /// The carrier type, 0 to 255 bytes.
+    pub fn kind(&self) -> &Name
+        ensures value { result.now ≡ self.now.kind }
+        ensures carrier { IsCarrierValue self.now }
+    {
+        &self.kind
+    }
+
+    /// The carrier data, such as what configures the carrier.
+    pub fn carried(&self) -> &[u8]
+        ensures value { result.now ≡ self.now.carried }
+        ensures carrier { IsCarrierValue self.now }
+    {
+        self.carried.as_slice()
+    }
+}

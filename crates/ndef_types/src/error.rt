@@ -1,0 +1,55 @@
+//! Why a payload isn't decoded, or a value isn't encoded.
+ghost use Rattle.std.specs.Prelude.{◌≡◌};
+ghost use Rattle.ndef_types.specs.declared.error.DecodeError.TheVariants as decode_errors;
+ghost use Rattle.ndef_types.specs.declared.error.EncodeError.TheVariants as encode_errors;
+
+use ndef_value::{NoMemory, Refusal};
+use thiserror::Error;
+
+/// Why no value was decoded.
+#[derive(Clone, Copy, Debug, Drop, PartialEq, Eq, Error)]
+pub enum DecodeError {
+    /// The payload isn't in the set of its type, or has more than 4294967295 bytes. The place is in the
+    /// payload: the first byte after which nothing of its length is in the set, or 0 with `DoesNotFit`
+    /// where nothing of its length is.
+    #[error(transparent)]
+    Refused(Refusal),
+    /// A growth was refused.
+    #[error("no memory")]
+    NoMemory,
+}
+
+impl From<Refusal> for DecodeError {
+    ghost from_gives = { λ refusal error. error ≡ decode_errors.Refused refusal };
+
+    fn from(refusal: Refusal) -> DecodeError {
+        DecodeError::Refused(refusal)
+    }
+}
+
+impl From<NoMemory> for DecodeError {
+    ghost from_gives = { λ _ error. error ≡ decode_errors.NoMemory };
+
+    fn from(_: NoMemory) -> DecodeError {
+        DecodeError::NoMemory
+    }
+}
+
+/// Why no payload was made, in the order in which it is told.
+#[derive(Clone, Copy, Debug, Drop, PartialEq, Eq, Error)]
+pub enum EncodeError {
+    /// It would have more than 4294967295 bytes.
+    #[error("a payload of more than 4294967295 bytes")]
+    TooLong,
+    /// A growth was refused.
+    #[error("no memory")]
+    NoMemory,
+}
+
+impl From<NoMemory> for EncodeError {
+    ghost from_gives = { λ _ error. error ≡ encode_errors.NoMemory };
+
+    fn from(_: NoMemory) -> EncodeError {
+        EncodeError::NoMemory
+    }
+}

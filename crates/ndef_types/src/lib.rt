@@ -1,0 +1,47 @@
+//! Typed payloads: texts, URIs, smart posters and handovers (NFC Forum, RTD Text, RTD URI, RTD Smart
+//! Poster and Connection Handover 1.2).
+#![tactic(auto)]
+
+mod accept;
+mod action;
+mod alternative;
+mod carrier;
+mod contents;
+mod encoding;
+mod error;
+mod fields;
+mod handover_error;
+mod laws;
+mod link;
+mod message_laws;
+mod nested;
+mod not_handover;
+mod power;
+mod prefixes;
+mod request;
+mod select;
+mod smart_poster;
+mod text;
+mod texts;
+mod uri;
+mod utf16;
+
+pub use action::Action;
+pub use alternative::{Ac, TooMany};
+pub use carrier::Carrier;
+pub use encoding::Encoding;
+pub use error::{DecodeError, EncodeError};
+pub use handover_error::{HandoverError, HandoverErrorError};
+pub use laws::{
+    alternatives_are_exact, carriers_are_exact, errors_are_exact, texts_are_exact, uris_are_exact,
+};
+pub use link::{Link, LinkError, Links, carriers, carriers_as, carriers_view};
+pub use message_laws::{posters_are_exact, requests_are_exact, selects_are_exact};
+pub use not_handover::NotHandover;
+pub use power::Power;
+pub use request::Request;
+pub use select::Select;
+pub use smart_poster::{NotPoster, SmartPoster};
+pub use text::{Text, TextError};
+pub use texts::Texts;
+pub use uri::Uri;

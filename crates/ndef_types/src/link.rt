@@ -1,0 +1,250 @@
+//! The links of a message.
+ghost use Rattle.std.specs.Prelude.{◌≡◌, ◌≢◌, ◌++◌, ◌∷◌, ◌↔◌, ◌⊎◌, [], Some, length, map, slice_get, option_map, IfOk, IsTrue, OnOk};
+ghost use Rattle.std.specs.List.{AllByRecursion, list_any};
+ghost use Rattle.ndef_value.specs.Wire.{joined};
+ghost use Rattle.ndef_value.specs.declared.profile.Profile.TheVariants.{Strict};
+ghost use Rattle.ndef_lang.specs.Alternative.{IsAlternative};
+ghost use Rattle.ndef_lang.specs.Kind.{kind_of};
+ghost use Rattle.ndef_lang.specs.declared.kind.Kind.TheVariants as kinds;
+ghost use Rattle.ndef_nest.specs.Nested.{IsNest};
+ghost use Rattle.ndef_nest.specs.declared.table.Table.{Table};
+ghost use Rattle.ndef_nest.specs.declared.table.Table.TheVariants.{SmartPoster};
+ghost use Rattle.ndef_types.specs.Contents.{IsFirst};
+ghost use Rattle.ndef_types.specs.declared.link.LinkError.TheVariants as errors;
+ghost use Rattle.ndef_types.specs.Links.{AreLinks, FindsLinks, IsHandover, IsIndexOf, LinksOf, StandsForLinks, alternatives, is_handover};
+
+use crate::Ac;
+use crate::accept::accept;
+use crate::alternative::read_ac;
+use crate::contents::is_kind;
+use crate::fields::behind_first;
+use crate::nested::read_optional;
+use ndef_lang::Kind;
+use ndef_message::View;
+use ndef_nest::Nest;
+use ndef_value::{Message, NoMemory, Profile, Record, Refusal};
+use std::alloc::Global;
+use std::marker::Model;
+use thiserror::Error;
+
+/// An alternative carrier of a handover, and the record that it refers to.
+#[derive(Debug, Drop)]
+pub struct Link {
+    /// The alternative carrier.
+    pub ac: Ac,
+    /// The index from 0 of the first record of the message whose id is the carrier reference; none for
+    /// an empty reference, or where no record has that id. The handover record counts too.
+    pub index: Option<usize>,
+}
+
+/// The links of a message, in the order of its alternative carriers.
+#[derive(Debug, Drop)]
+pub struct Links {
+    links: Vec<Link>,
+}
+
+impl Model for Links {
+    ghost use Rattle.std.specs.Prelude.{List};
+    ghost use Rattle.ndef_types.specs.declared.link.Link.{Link};
+
+    ghost Value = { List Link };
+
+    ghost view = { λ l. l.links.items };
+}
+
+impl Links {
+    /// None. It takes no memory.
+    pub(crate) fn new(alloc: Global) -> Links
+        ensures { result ≡ [] }
+    {
+        Links {
+            links: Vec::new(alloc),
+        }
+    }
+
+    /// One more.
+    pub(crate) fn push(&mut self, link: Link) -> Result<(), NoMemory>
+        ensures { OnOk result (self.new ≡ self.old ++ link ∷ []) }
+    {
+        match self.links.push(link) {
+            Ok(()) => Ok(()),
+            Err(_) => Err(NoMemory),
+        }
+    }
+
+    /// How many there are.
+    pub fn len(&self) -> usize
+        ensures { result ≡ length self.now }
+    {
+        self.links.len()
+    }
+
+    /// The link at a place, counted from 0.
+    pub fn get(&self, index: usize) -> Option<&Link>
+        ensures { option_map (λ l. l.now) result ≡ slice_get self.now index }
+    {
+        self.links.get(index)
+    }
+}
+
+/// Why the links of a message aren't known, in the order in which it is told.
+#[derive(Clone, Copy, Debug, Drop, PartialEq, Eq, Error)]
+pub enum LinkError {
+    /// The payload of the handover record isn't in its set: the refusal is that of its decoding, and
+    /// the place is in that payload.
+    #[error(transparent)]
+    Refused(Refusal),
+    /// A growth was refused.
+    #[error("no memory")]
+    NoMemory,
+}
+
+impl From<NoMemory> for LinkError {
+    ghost from_gives = { λ _ error. error ≡ errors.NoMemory };
+
+    fn from(_: NoMemory) -> LinkError {
+        LinkError::NoMemory
+    }
+}
+
+/// The index of the first record with the id; the empty id is none's.
+fn index_of(records: &[Record], id: &[u8]) -> Option<usize>
+    ensures { IsIndexOf records.now id.now result }
+{
+    if id.is_empty() {
+        return None;
+    }
+    for (index, item) in records.iter().enumerate() {
+        if item.id() == id {
+            return Some(index);
+        }
+    }
+    None
+}
+
+/// The links of the alternative carriers of a handover, to records of the outer message.
+fn links_of(alloc: Global, outer: &[Record], handover: &[Record]) -> Result<Links, NoMemory>
+    requires { AllByRecursion (λ i. kind_of i.tnf i.kind ≡ kinds.Alternative → IsAlternative i.payload) handover.now }
+    ensures { IfOk result (AreLinks outer.now (alternatives handover.now)) }
+{
+    let mut links = Links::new(alloc);
+    for item in handover {
+        if is_kind(Kind::of(item.tnf(), item.kind()), Kind::Alternative) {
+            let ac = read_ac(alloc, item.payload())?;
+            let index = index_of(outer, ac.reference().as_slice());
+            links.push(Link { ac, index })?;
+        }
+    }
+    Ok(links)
+}
+
+/// The links in the payload of a handover, to records of the outer message.
+fn read_links(
+    alloc: Global,
+    outer: &[Record],
+    payload: &[u8],
+    profile: Profile,
+) -> Result<Links, NoMemory>
+    requires { (table : Table) × (table ≢ SmartPoster) × IsNest table 65535 profile payload.now }
+    ensures { IfOk result (StandsForLinks profile outer.now payload.now) }
+{
+    match read_optional(alloc, behind_first(payload), profile)? {
+        Some(handover) => links_of(alloc, outer, handover.records()),
+        None => Ok(Links::new(alloc)),
+    }
+}
+
+/// Whether a record is a handover request or select.
+fn is_handover(item: &Record) -> bool
+    ensures { IsTrue result ↔ IsHandover item.now }
+{
+    let kind = Kind::of(item.tnf(), item.kind());
+    is_kind(kind, Kind::Request) || is_kind(kind, Kind::Select)
+}
+
+/// The first handover request or select.
+fn first_handover(records: &[Record]) -> Option<&Record>
+    ensures { IsFirst IsHandover records.now (option_map (λ r. r.now) result) }
+{
+    for item in records {
+        if is_handover(item) {
+            return Some(item);
+        }
+    }
+    None
+}
+
+/// The links of a handover record, to records of the outer message.
+fn links_of_handover(
+    alloc: Global,
+    outer: &[Record],
+    handover: &Record,
+    profile: Profile,
+) -> Result<Links, LinkError>
+    requires { IsHandover handover.now }
+    ensures { LinksOf profile outer.now (Some handover.now) result }
+{
+    let kind = Kind::of(handover.tnf(), handover.kind());
+    if let Err(refusal) = accept::<Nest>(kind, profile, handover.payload()) {
+        return Err(LinkError::Refused(refusal));
+    }
+    Ok(read_links(alloc, outer, handover.payload(), profile)?)
+}
+
+/// The links of a message as a strict reader takes it (Connection Handover 1.2, Alternative Carrier
+/// record): the alternative carriers of its first handover request or select, in order, each with the
+/// index of the record that it refers to. Without a handover there are none, and no memory is taken.
+///
+/// The payload of the handover is refused as `Request::decode` or `Select::decode` refuses it.
+pub fn carriers(alloc: Global, message: &Message) -> Result<Links, LinkError>
+    ensures { FindsLinks Strict message.now result }
+{
+    carriers_as(alloc, message, Profile::Strict)
+}
+
+/// The links of a message as a reader of the profile takes it; see `carriers`.
+pub fn carriers_as(alloc: Global, message: &Message, profile: Profile) -> Result<Links, LinkError>
+    ensures { FindsLinks profile message.now result }
+{
+    let outer = message.records();
+    match first_handover(outer) {
+        Some(handover) => links_of_handover(alloc, outer, handover, profile),
+        None => Ok(Links::new(alloc)),
+    }
+}
+
+/// Whether the kind is that of a handover request or select.
+fn is_handover_kind(kind: Kind) -> bool
+    ensures { result ≡ is_handover kind }
+{
+    match kind {
+        Kind::Request | Kind::Select => true,
+        _ => false,
+    }
+}
+
+/// Whether a record that is viewed is a handover request or select.
+fn has_handover(view: &View<'_>) -> bool
+    ensures { result ≡ list_any (λ r. is_handover (kind_of (joined r).tnf (joined r).kind)) view.now.runs }
+{
+    for item in view.items() {
+        if is_handover_kind(Kind::of(item.tnf(), item.kind())) {
+            return true;
+        }
+    }
+    false
+}
+
+/// The links of a message that is viewed, for a reader of the view's profile. Without a handover there
+/// are none, and no memory is taken.
+pub fn carriers_view(alloc: Global, view: &View<'_>) -> Result<Links, LinkError>
+    ensures { FindsLinks view.now.profile (map joined view.now.runs) result }
+{
+    if !has_handover(view) {
+        return Ok(Links::new(alloc));
+    }
+    match view.to_message(alloc) {
+        Ok(message) => carriers_as(alloc, &message, view.profile()),
+        Err(NoMemory) => Err(LinkError::NoMemory),
+    }
+}

@@ -1,0 +1,56 @@
+//! Laws of the values that hold messages: what was written for a value is decoded to it.
+ghost use Rattle.ndef_value.specs.declared.profile.Profile.{Profile};
+ghost use Rattle.ndef_nest.specs.Conditions.{NestReason};
+ghost use Rattle.ndef_nest.specs.Nested.{IsNest};
+ghost use Rattle.ndef_nest.specs.declared.table.Table.TheVariants.{SmartPoster, Request, Select};
+ghost use Rattle.ndef_types.specs.Decoding.{EachHasValue, OneValue, RoundTrips};
+ghost use Rattle.ndef_types.specs.Handovers.{IsRequestValue, IsSelectValue, StandsForRequest, StandsForSelect, WritesRequest, WritesSelect};
+ghost use Rattle.ndef_types.specs.Posters.{IsPosterValue, StandsForPoster, WritesPoster};
+
+use ndef_nest::strict_contents_are_read;
+use ndef_value::{canonical_is_a_spelling, one_meaning};
+
+/// A payload of a Smart Poster record stands for one poster, and what `SmartPoster::encode` writes is
+/// decoded, for either profile, to the poster that was written.
+pub fn posters_are_exact()
+    ensures one { (profile : Profile) → OneValue (IsNest SmartPoster 65535 profile) (StandsForPoster profile) }
+    ensures each { (profile : Profile) →
+        EachHasValue (IsNest SmartPoster 65535 profile) (StandsForPoster profile) IsPosterValue }
+    ensures round_trip { (profile : Profile) →
+        RoundTrips (IsNest SmartPoster 65535 profile) (NestReason SmartPoster 65535 profile)
+        (StandsForPoster profile) IsPosterValue WritesPoster }
+{
+    one_meaning();
+    canonical_is_a_spelling();
+    strict_contents_are_read();
+}
+
+/// A payload of a Handover Request record stands for one request, and what `Request::encode` writes is
+/// decoded, for either profile, to the request that was written.
+pub fn requests_are_exact()
+    ensures one { (profile : Profile) → OneValue (IsNest Request 65535 profile) (StandsForRequest profile) }
+    ensures each { (profile : Profile) →
+        EachHasValue (IsNest Request 65535 profile) (StandsForRequest profile) IsRequestValue }
+    ensures round_trip { (profile : Profile) →
+        RoundTrips (IsNest Request 65535 profile) (NestReason Request 65535 profile)
+        (StandsForRequest profile) IsRequestValue WritesRequest }
+{
+    one_meaning();
+    canonical_is_a_spelling();
+    strict_contents_are_read();
+}
+
+/// A payload of a Handover Select record stands for one select, and what `Select::encode` writes is
+/// decoded, for either profile, to the select that was written.
+pub fn selects_are_exact()
+    ensures one { (profile : Profile) → OneValue (IsNest Select 65535 profile) (StandsForSelect profile) }
+    ensures each { (profile : Profile) →
+        EachHasValue (IsNest Select 65535 profile) (StandsForSelect profile) IsSelectValue }
+    ensures round_trip { (profile : Profile) →
+        RoundTrips (IsNest Select 65535 profile) (NestReason Select 65535 profile)
+        (StandsForSelect profile) IsSelectValue WritesSelect }
+{
+    one_meaning();
+    canonical_is_a_spelling();
+    strict_contents_are_read();
+}

@@ -1,0 +1,79 @@
+//! Messages within payloads.
+ghost use Rattle.std.specs.Prelude.{◌≡◌, ◌+◌, ◌^◌, ◌≤◌, ◌↔◌, ◌∷◌, ◌⊎◌, [], Some, length, IfOk, IfSome, IsErrOf};
+ghost use Rattle.ndef_value.specs.Wire.{canonical};
+ghost use Rattle.ndef_nest.specs.Nested.{HasContents, Nested};
+ghost use Rattle.ndef_nest.specs.declared.table.Table.{Table};
+ghost use Rattle.ndef_types.specs.Contents.{StandsForMessage};
+
+use crate::EncodeError;
+use crate::accept::{MOST, RECORDS};
+use ndef_lang::Opaque;
+use ndef_message::{Form, encode, encoded_length, short_is_canonical, view, views_are_exact};
+use ndef_value::{Bytes, Limits, Message, NoMemory, Profile};
+use std::alloc::Global;
+
+/// Limits that each nested message meets.
+fn nested_limits(profile: Profile) -> Limits
+    ensures { result ≡ record { payload = 4294967295; records = 65535; pieces = 1; profile = profile } }
+{
+    match Limits::new(u32::MAX, RECORDS, 1) {
+        Ok(limits) => limits.with(profile),
+        Err(_) => unreachable!(),
+    }
+}
+
+/// The message that the bytes spell, which are a nested message. Only memory may fail.
+pub(crate) fn read_nested(
+    alloc: Global,
+    bytes: &[u8],
+    profile: Profile,
+) -> Result<Message, NoMemory>
+    requires { (table : Table) × Nested table 65535 profile bytes.now }
+    ensures stands { IfOk result (λ message. StandsForMessage profile bytes.now (Some message)) }
+    ensures contents { IfOk result
+        (λ message. (table : Table) → Nested table 65535 profile bytes.now → HasContents table profile message) }
+{
+    views_are_exact::<Opaque>();
+    match view::<Opaque>(bytes, nested_limits(profile)) {
+        Ok(view) => view.to_message(alloc),
+        Err(_) => unreachable!(),
+    }
+}
+
+/// The nested message that the bytes spell, and none where there are no bytes. Only memory may fail.
+pub(crate) fn read_optional(
+    alloc: Global,
+    bytes: &[u8],
+    profile: Profile,
+) -> Result<Option<Message>, NoMemory>
+    requires { (table : Table) × ((bytes.now ≡ []) ⊎ Nested table 65535 profile bytes.now) }
+    ensures stands { IfOk result (StandsForMessage profile bytes.now) }
+    ensures contents { IfOk result
+        (λ message. (table : Table) → (bytes.now ≡ []) ⊎ Nested table 65535 profile bytes.now
+        → IfSome message (HasContents table profile)) }
+{
+    if bytes.is_empty() {
+        return Ok(None);
+    }
+    let message = read_nested(alloc, bytes, profile)?;
+    Ok(Some(message))
+}
+
+/// An octet, and the canonical spelling of a message behind it.
+pub(crate) fn encode_behind(
+    alloc: Global,
+    octet: u8,
+    message: &Message,
+) -> Result<Bytes, EncodeError>
+    ensures ok { IfOk result (λ payload. payload ≡ octet ∷ canonical message.now) }
+    ensures too_long { IsErrOf result EncodeError.TooLong ↔ (2 ^ 32 ≤ 1 + length (canonical message.now)) }
+{
+    short_is_canonical();
+    if encoded_length(message, Form::Short) >= MOST as u64 {
+        return Err(EncodeError::TooLong);
+    }
+    let mut payload = Bytes::new(alloc);
+    payload.extend(&[octet])?;
+    payload.extend(encode(alloc, message, Form::Short)?.as_slice())?;
+    Ok(payload)
+}

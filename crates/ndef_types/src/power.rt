@@ -1,0 +1,42 @@
+//! The power state of a carrier.
+ghost use Rattle.std.specs.Prelude.{◌≡◌, ◌%◌};
+ghost use Rattle.ndef_types.specs.Values.{power_code};
+
+/// The power state of a carrier (Connection Handover 1.2, Alternative Carrier record).
+#[derive(Clone, Copy, Debug, PartialEq, Eq)]
+pub enum Power {
+    /// The carrier is off.
+    Inactive,
+    /// The carrier is on.
+    Active,
+    /// The carrier is being turned on.
+    Activating,
+    /// The state isn't known.
+    Unknown,
+}
+
+impl Power {
+    /// The state in bits 1 to 0 of an octet.
+    pub(crate) fn of(octet: u8) -> Power
+        ensures { octet % 4 ≡ power_code result }
+    {
+        match octet % 4 {
+            0 => Power::Inactive,
+            1 => Power::Active,
+            2 => Power::Activating,
+            _ => Power::Unknown,
+        }
+    }
+
+    /// The octet of a state.
+    pub(crate) fn code(self) -> u8
+        ensures { result ≡ power_code self }
+    {
+        match self {
+            Power::Inactive => 0,
+            Power::Active => 1,
+            Power::Activating => 2,
+            Power::Unknown => 3,
+        }
+    }
+}

@@ -1,0 +1,249 @@
+//! Texts.
+ghost use Rattle.std.specs.Prelude.{◌≡◌, ◌<◌, ◌≤◌, ◌^◌, ◌++◌, ◌↔◌, length, chars, encode_utf8_all, string_bytes, IsAscii, IsUtf8, IfOk, OnOk, IsErrOf, IsTrue};
+ghost use Rattle.ndef_lang.specs.Text.{IsText, IsTextIn, TextReason, is_wide};
+ghost use Rattle.ndef_types.specs.Decoding.{Decodes};
+ghost use Rattle.ndef_types.specs.Values.{StandsForText, SpellsText, IsTextValue, is_utf16, language_octets, encoded_octets, status_octet, text_octets, text_payload};
+
+use crate::accept::{MOST, accept};
+use crate::fields::behind_first;
+use crate::utf16::{push_text, read_utf16, units_len};
+use crate::{DecodeError, EncodeError, Encoding};
+use ndef_lang::{Kind, TextLang};
+use ndef_value::{Bytes, NoMemory, Profile};
+use std::alloc::Global;
+use std::marker::Model;
+use thiserror::Error;
+
+/// A text in a language (RTD Text 1.0): its encoding, a language code of 0 to 63 bytes of ASCII, such as
+/// `en`, and the text.
+#[derive(Debug, Drop)]
+pub struct Text {
+    encoding: Encoding,
+    language: String,
+    text: String,
+}
+
+impl Model for Text {
+    ghost use Rattle.std.specs.Prelude.{chars, string_bytes};
+    ghost use Rattle.ndef_types.specs.Values.{TextValue, IsTextValue};
+
+    ghost Value = { TextValue };
+
+    ghost view = { λ t.
+        record { encoding = t.encoding; language = string_bytes t.language; text = chars (string_bytes t.text) } };
+
+    ghost invariant = { λ t. IsTextValue
+        (record { encoding = t.encoding; language = string_bytes t.language; text = chars (string_bytes t.text) }) };
+}
+
+/// Why there is no text of some parts, in the order in which it is told.
+#[derive(Clone, Copy, Debug, Drop, PartialEq, Eq, Error)]
+pub enum TextError {
+    /// A language code of more than 63 bytes.
+    #[error("a language code of more than 63 bytes")]
+    TooLong,
+    /// A language code that isn't ASCII.
+    #[error("a language code that is not ASCII")]
+    NotAscii,
+    /// A growth was refused.
+    #[error("no memory")]
+    NoMemory,
+}
+
+/// A copy of the text that the octets are.
+fn read_utf8(alloc: Global, octets: &[u8]) -> Result<String, NoMemory>
+    requires { IsUtf8 octets.now }
+    ensures { IfOk result (λ text. string_bytes text ≡ octets.now) }
+{
+    let Ok(text) = simdutf8::basic::from_utf8(octets) else {
+        unreachable!()
+    };
+    match String::from_str(alloc, text) {
+        Ok(text) => Ok(text),
+        Err(_) => Err(NoMemory),
+    }
+}
+
+/// The encoding that a status octet tells.
+fn encoding_of(status: u8) -> Encoding
+    ensures { is_wide status ≡ is_utf16 result }
+{
+    if status < 128 {
+        Encoding::Utf8
+    } else {
+        Encoding::Utf16
+    }
+}
+
+/// The octets of the language code and those of the text.
+fn split_language(payload: &[u8]) -> (&[u8], &[u8])
+    requires { IsText payload.now }
+    ensures language { result.0.now ≡ language_octets payload.now }
+    ensures text { result.1.now ≡ encoded_octets payload.now }
+{
+    behind_first(payload).split_at(usize::from(payload[0] % 64))
+}
+
+/// The text that some octets spell.
+fn read_octets(alloc: Global, encoding: Encoding, octets: &[u8]) -> Result<String, NoMemory>
+    requires { IsTextIn (is_utf16 encoding) octets.now }
+    ensures { IfOk result (λ text. SpellsText encoding octets.now (chars (string_bytes text))) }
+{
+    match encoding {
+        Encoding::Utf8 => read_utf8(alloc, octets),
+        Encoding::Utf16 => read_utf16(alloc, octets),
+    }
+}
+
+/// The text for which a payload stands.
+pub(crate) fn read_text(alloc: Global, payload: &[u8]) -> Result<Text, NoMemory>
+    requires { IsText payload.now }
+    ensures { IfOk result (StandsForText payload.now) }
+{
+    let encoding = encoding_of(payload[0]);
+    let (language, octets) = split_language(payload);
+    let language = read_utf8(alloc, language)?;
+    let text = read_octets(alloc, encoding, octets)?;
+    Ok(Text {
+        encoding,
+        language,
+        text,
+    })
+}
+
+/// The status octet of a language code of some octets.
+fn status_octet(encoding: Encoding, length: u8) -> u8
+    requires { length < 64 }
+    ensures { result ≡ status_octet encoding length }
+{
+    match encoding {
+        Encoding::Utf8 => length,
+        Encoding::Utf16 => 128 + length,
+    }
+}
+
+/// Whether the octets of a text are at most so many.
+fn octets_fit(encoding: Encoding, text: &str, most: usize) -> bool
+    ensures { IsTrue result ↔ (length (text_octets encoding (chars text.now)) ≤ most) }
+{
+    match encoding {
+        Encoding::Utf8 => text.len() <= most,
+        Encoding::Utf16 => most >= 2 && units_len(text) <= (most as u64 - 2) / 2,
+    }
+}
+
+/// Appends the octets of a text.
+fn push_octets(octets: &mut Bytes, encoding: Encoding, text: &str) -> Result<(), NoMemory>
+    ensures { OnOk result (octets.new ≡ octets.old ++ text_octets encoding (chars text.now)) }
+{
+    match encoding {
+        Encoding::Utf8 => octets.extend(text.as_bytes()),
+        Encoding::Utf16 => {
+            octets.extend(&[0xfe, 0xff])?;
+            push_text(octets, text)
+        }
+    }
+}
+
+impl Text {
+    /// A text of copies. `TooLong` comes before `NotAscii`, and `NotAscii` before `NoMemory`. What the
+    /// language code means isn't looked at.
+    pub fn new(
+        alloc: Global,
+        encoding: Encoding,
+        language: &str,
+        text: &str,
+    ) -> Result<Text, TextError>
+        ensures ok { IfOk result
+            (λ t. t ≡ record { encoding = encoding; language = language.now; text = chars text.now }) }
+        ensures too_long { IsErrOf result TextError.TooLong ↔ (63 < length language.now) }
+        ensures not_ascii { IsErrOf result TextError.NotAscii
+            ↔ ((length language.now ≤ 63) × ¬ IsAscii language.now) }
+    {
+        if language.len() > 63 {
+            return Err(TextError::TooLong);
+        }
+        if !language.is_ascii() {
+            return Err(TextError::NotAscii);
+        }
+        let Ok(language) = String::from_str(alloc, language) else {
+            return Err(TextError::NoMemory);
+        };
+        let Ok(text) = String::from_str(alloc, text) else {
+            return Err(TextError::NoMemory);
+        };
+        Ok(Text {
+            encoding,
+            language,
+            text,
+        })
+    }
+
+    /// The text for which the payload of a Text record stands. A UTF-16 text may be big-endian or
+    /// little-endian behind its byte order mark, or big-endian without one; the mark is no part of the
+    /// text. `Refused` where the payload isn't in the set of its type or is longer than a payload may
+    /// be, else `NoMemory`.
+    pub fn decode(alloc: Global, payload: &[u8]) -> Result<Text, DecodeError>
+        ensures { Decodes IsText TextReason StandsForText payload.now result }
+    {
+        accept::<TextLang>(Kind::Text, Profile::Strict, payload)?;
+        Ok(read_text(alloc, payload)?)
+    }
+
+    /// The payload of a Text record; UTF-16 is written big-endian behind `FE FF`. `TooLong` comes before
+    /// `NoMemory`.
+    pub fn encode(&self, alloc: Global) -> Result<Bytes, EncodeError>
+        ensures ok { IfOk result (λ payload. payload ≡ text_payload self.now) }
+        ensures too_long { IsErrOf result EncodeError.TooLong ↔ (2 ^ 32 ≤ length (text_payload self.now)) }
+    {
+        if !self.fits() {
+            return Err(EncodeError::TooLong);
+        }
+        Ok(self.payload(alloc)?)
+    }
+
+    /// How the text is encoded in its payload.
+    pub fn encoding(&self) -> Encoding
+        ensures value { result ≡ self.now.encoding }
+        ensures text { IsTextValue self.now }
+    {
+        self.encoding
+    }
+
+    /// The language code, 0 to 63 bytes of ASCII.
+    pub fn language(&self) -> &str
+        ensures value { result.now ≡ self.now.language }
+        ensures text { IsTextValue self.now }
+    {
+        self.language.as_str()
+    }
+
+    /// The text, without a byte order mark.
+    pub fn text(&self) -> &str
+        ensures value { result.now ≡ encode_utf8_all self.now.text }
+        ensures text { IsTextValue self.now }
+    {
+        self.text.as_str()
+    }
+
+    /// Whether the payload has at most 4294967295 bytes.
+    fn fits(&self) -> bool
+        ensures { IsTrue result ↔ (length (text_payload self.now) < 2 ^ 32) }
+    {
+        let language = self.language.as_bytes();
+        octets_fit(self.encoding, &self.text, MOST - 1 - language.len())
+    }
+
+    /// The payload.
+    fn payload(&self, alloc: Global) -> Result<Bytes, NoMemory>
+        ensures { IfOk result (λ payload. payload ≡ text_payload self.now) }
+    {
+        let language = self.language.as_bytes();
+        let status = status_octet(self.encoding, language.len() as u8);
+        let mut payload = Bytes::new(alloc);
+        payload.extend(&[status])?;
+        payload.extend(language)?;
+        push_octets(&mut payload, self.encoding, &self.text)?;
+        Ok(payload)
+    }
+}

@@ -1,0 +1,99 @@
+//! URIs.
+ghost use Rattle.std.specs.Prelude.{◌≡◌, ◌<◌, ◌≤◌, ◌^◌, ◌↔◌, ℕ, List, length, IsUtf8, IfOk, IsErrOf};
+ghost use Rattle.ndef_lang.specs.Uri.{IsUri, UriReason};
+ghost use Rattle.ndef_value.specs.declared.profile.Profile.TheVariants.{Strict};
+ghost use Rattle.ndef_types.specs.Decoding.{Decodes, IsTooLong};
+ghost use Rattle.ndef_types.specs.Values.{StandsForUri, WritesUri};
+
+use crate::accept::{MOST, accept};
+use crate::prefixes::{prefix, split};
+use crate::{DecodeError, EncodeError};
+use ndef_lang::{Kind, UriLang};
+use ndef_value::{Bytes, NoMemory, Profile};
+use std::alloc::Global;
+use std::marker::Model;
+
+/// A URI (RTD URI 1.0), as one whole text in UTF-8.
+#[derive(Debug, Drop)]
+pub struct Uri {
+    text: String,
+}
+
+impl Model for Uri {
+    ghost use Rattle.std.specs.Prelude.{List, ℕ, string_bytes};
+
+    ghost Value = { List ℕ };
+
+    ghost view = { λ u. string_bytes u.text };
+}
+
+/// The URI for which a payload stands.
+pub(crate) fn read_uri(alloc: Global, payload: &[u8], profile: Profile) -> Result<Uri, NoMemory>
+    requires { IsUri profile payload.now }
+    ensures { IfOk result (StandsForUri payload.now) }
+{
+    let Ok(rest) = simdutf8::basic::from_utf8(&payload[1..]) else {
+        unreachable!()
+    };
+    let Ok(mut text) = String::from_str(alloc, prefix(payload[0])) else {
+        return Err(NoMemory);
+    };
+    match text.push_str(rest) {
+        Ok(()) => Ok(Uri { text }),
+        Err(_) => Err(NoMemory),
+    }
+}
+
+impl Uri {
+    /// A URI of a copy of the text, or `NoMemory`. What the text means isn't looked at.
+    pub fn new(alloc: Global, text: &str) -> Result<Uri, NoMemory>
+        ensures { IfOk result (λ uri. uri ≡ text.now) }
+    {
+        match String::from_str(alloc, text) {
+            Ok(text) => Ok(Uri { text }),
+            Err(_) => Err(NoMemory),
+        }
+    }
+
+    /// The URI for which the payload of a URI record stands, as a strict reader takes it: the prefix of
+    /// the code and the rest. `Refused` where the payload isn't in the set of its type or is longer than
+    /// a payload may be, else `NoMemory`.
+    pub fn decode(alloc: Global, payload: &[u8]) -> Result<Uri, DecodeError>
+        ensures { Decodes (IsUri Strict) (UriReason Strict) StandsForUri payload.now result }
+    {
+        Uri::decode_as(alloc, payload, Profile::Strict)
+    }
+
+    /// The URI for which the payload of a URI record stands, as a reader of the profile takes it: under
+    /// `Standard` a reserved code is read as 0, which stands for no prefix. Refusals as for `decode`.
+    pub fn decode_as(alloc: Global, payload: &[u8], profile: Profile) -> Result<Uri, DecodeError>
+        ensures { Decodes (IsUri profile) (UriReason profile) StandsForUri payload.now result }
+    {
+        accept::<UriLang>(Kind::Uri, profile, payload)?;
+        Ok(read_uri(alloc, payload, profile)?)
+    }
+
+    /// The payload of a URI record: the code of the longest prefix that begins the URI, and the rest.
+    /// `TooLong` comes before `NoMemory`.
+    pub fn encode(&self, alloc: Global) -> Result<Bytes, EncodeError>
+        ensures ok { IfOk result (WritesUri self.now) }
+        ensures too_long { IsErrOf result EncodeError.TooLong ↔ IsTooLong WritesUri self.now }
+    {
+        let (code, rest) = split(&self.text);
+        if rest.len() >= MOST {
+            return Err(EncodeError::TooLong);
+        }
+        let mut payload = Bytes::new(alloc);
+        payload.extend(&[code])?;
+        payload.extend(rest)?;
+        Ok(payload)
+    }
+
+    /// The whole URI.
+    pub fn text(&self) -> &str
+        ensures value { result.now ≡ self.now }
+        ensures text { IsUtf8 self.now }
+    {
+        self.text.as_str()
+    }
+}
