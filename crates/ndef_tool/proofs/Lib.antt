@@ -5,3 +5,7 @@ pub mod Sessions
 pub mod Outputs
 pub mod Handling
 pub mod Texts
+pub mod Members
+pub mod Lines
+pub mod Carriers
+pub mod OneText

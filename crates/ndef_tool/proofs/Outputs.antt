@@ -1,5 +1,5 @@
 -- What is printed, and what of it goes out.
-use Rattle.std.proofs.Common.{◌≡◌, ◌+◌, ◌-◌, ℕ, Bool, true, false, List, [], ◌∷◌, ◌++◌, length, take, Option, Result, Ok, Err, refl, sym, ap, ap₂, ◌∙◌, subst, arith, append-nil, append_assoc}
+use Rattle.std.proofs.Common.{◌≡◌, ◌+◌, ◌-◌, ℕ, Bool, true, false, List, [], ◌∷◌, ◌++◌, length, take, Option, Result, Ok, Err, refl, sym, ap, ◌∙◌, subst, arith, append-nil, append_assoc}
 use Rattle.std.proofs.lemmas.Bool.{false≢true}
 use Rattle.std.proofs.Math.Seq.{take-append-add, take-nil}
 use Rattle.std.specs.Io.KnownBytes.{Appends}
@@ -7,11 +7,12 @@ use Rattle.std.proofs.KnownBytes.{Appends-nil, Appends-trans}
 use Rattle.ndef_message.specs.Sending.{Sent, MarksOf}
 use Rattle.ndef_message.specs.declared.message_reading.Read.{Read}
 use Rattle.ndef_message.specs.declared.sending.WriteFault.{WriteFault}
-use Rattle.ndef_tool.specs.Output.{Text, blocks, block_of, bytes_of, ending_line, status_of}
+use Rattle.ndef_tool.specs.Output.{AreBlocks, IsBlock, bytes_of, ending_line, status_of}
+use Rattle.ndef_tool.specs.Quoting.{Text}
 use Rattle.ndef_tool.specs.Runs.{Ends, status_after}
 use Rattle.ndef_tool.specs.Sessions.{GoesOut, is_writing}
 use Rattle.ndef_tool.specs.declared.choice.Action.{Action}
-use Rattle.ndef_tool.specs.declared.choice.Action.TheVariants.{Check, Encode}
+use Rattle.ndef_tool.specs.declared.choice.Action.TheVariants.{Show, Check, Encode}
 use Rattle.ndef_tool.specs.declared.choice.Choice.{Choice}
 use Rattle.ndef_tool.specs.declared.ending.Ending.{Ending}
 use Rattle.ndef_tool.specs.declared.ending.Ending.TheVariants.{Clean, Refused, Hex, Reading, Writing, Memory, TooMany, TooLong}
@@ -24,19 +25,21 @@ pub bytes_more : (reads : List Read) (read : Read) → bytes_of (reads ++ read �
 bytes_more [] read = omega arith
 bytes_more (r ∷ rs) read = let rest = bytes_more rs read in omega (arith, rest)
 
-pub blocks_more : (choice : Choice) (number at : ℕ) (reads : List Read) (read : Read)
-    → blocks choice number at (reads ++ read ∷ []) ≡ blocks choice number at reads ++ block_of choice (number + length reads) (at + bytes_of reads) read
-blocks_more choice number at [] read =
-    let n : number ≡ number + 0 = omega arith in
-    let p : at ≡ at + 0 = omega arith in
-    append-nil (block_of choice number at read) ∙ ap₂ (λ a b. block_of choice a b read) n p
-blocks_more choice number at (r ∷ rs) read =
-    let n : number + 1 + length rs ≡ number + length (r ∷ rs) = omega arith in
-    let p : at + r.taken + bytes_of rs ≡ at + (r.taken + bytes_of rs) = omega arith in
-    let first = block_of choice number at r in
-    let more = blocks choice (number + 1) (at + r.taken) rs in
-    ap (λ t. first ++ t) (blocks_more choice (number + 1) (at + r.taken) rs read ∙ ap₂ (λ a b. more ++ block_of choice a b read) n p)
-    ∙ sym (append_assoc first more (block_of choice (number + length (r ∷ rs)) (at + bytes_of (r ∷ rs)) read))
+pub blocks_more : (choice : Choice) (number at : ℕ) (reads : List Read) (read : Read) (done block : Text) → AreBlocks choice number at reads done
+    → IsBlock choice (number + length reads) (at + bytes_of reads) read block → AreBlocks choice number at (reads ++ read ∷ []) (done ++ block)
+blocks_more choice number at [] read done block are is =
+    let n : number + 0 ≡ number = omega arith in
+    let p : at + 0 ≡ at = omega arith in
+    (block, [], rw (n, p) at is, refl, ap (λ t. t ++ block) are ∙ sym (append-nil block))
+blocks_more choice number at (r ∷ rs) read done block are is =
+    let n : number + length (r ∷ rs) ≡ number + 1 + length rs = omega arith in
+    let p : at + (r.taken + bytes_of rs) ≡ at + r.taken + bytes_of rs = omega arith in (
+      are.0,
+      are.1 ++ block,
+      are.2,
+      blocks_more choice (number + 1) (at + r.taken) rs read are.1 block are.3 (rw (n, p) at is),
+      ap (λ t. t ++ block) are.4 ∙ append_assoc are.0 are.1 block,
+    )
 
 -- ---- what goes out
 
@@ -76,6 +79,8 @@ goes_no_further a b c new done r d s m =
 pub goes_to_end : (a b c : Option (List ℕ)) (middle new : Bool) (done : Text) (action : Action) (base : ℕ) (ending : Ending) (r : Result ℕ WriteFault) → middle ≡ is_writing ending
     → GoesOut a b middle done → Sent 0 b c (ending_line action base ending) r → MarksOf middle new (ending_line action base ending) r
     → GoesOut a c new (done ++ ending_line action base ending)
+goes_to_end a b c middle new done Show base Writing r is d s m =
+    goes_no_further a b c new done r (subst (λ (failed : Bool). GoesOut a b failed done) is d) s (subst (λ (failed : Bool). MarksOf failed new [] r) is m)
 goes_to_end a b c middle new done Check base Writing r is d s m =
     goes_no_further a b c new done r (subst (λ (failed : Bool). GoesOut a b failed done) is d) s (subst (λ (failed : Bool). MarksOf failed new [] r) is m)
 goes_to_end a b c middle new done (Encode form size) base Writing r is d s m =

@@ -1,9 +1,12 @@
 -- Messages that are read one after another.
-use Rattle.std.proofs.Common.{◌≡◌, ℕ, Bool, true, false, length, List, [], ◌∷◌, ◌++◌, Option, Some, None, Result, Ok, Err, sym, ◌∙◌, subst}
+use Rattle.std.proofs.Common.{◌≡◌, ℕ, Bool, true, false, length, List, [], ◌∷◌, ◌++◌, take, drop, append-nil, Option, Some, None, Result, Ok, Err, refl, sym, ◌∙◌, ap, subst}
+use Rattle.std.proofs.lemmas.List.{take-append-drop}
 use Rattle.std.specs.Io.KnownBytes.{Keeps, Consumes}
 use Rattle.std.proofs.KnownBytes.{Keeps-refl}
 use Rattle.ndef_value.specs.Wire.{LimitValues}
+use Rattle.ndef_value.specs.declared.refusal.Refusal.{Refusal}
 use Rattle.ndef_lang.specs.Language.{Sets, Conditions}
+use Rattle.ndef_message.specs.Place.{Refuses}
 use Rattle.ndef_message.specs.Readings.{ReadsFrom}
 use Rattle.ndef_message.specs.declared.message_reading.Read.{Read}
 use Rattle.ndef_message.specs.declared.message_reading.ReadError.{ReadError}
@@ -30,6 +33,13 @@ reads_kept set holds limits (Some x) (Some y) c (Err (errors.Refused r)) k h =
     subst (λ bytes. ReadsFrom set holds limits (Some bytes) c (Err (errors.Refused r))) k h
 reads_kept set holds limits a b c (Err errors.ReadFault) k h = tt
 reads_kept set holds limits a b c (Err errors.NoMemory) k h = (h.0, consumes_kept a b c h.0 k h.1, h.2)
+
+-- bytes that are refused are read to that place
+pub refused_bytes : (set : Sets) (holds : Conditions) (limits : LimitValues) (input rest : List ℕ) (refusal : Refusal) → Refuses set holds limits input refusal → rest ≡ drop refusal.at input
+    → ReadsFrom set holds limits (Some input) (Some rest) (Err (errors.Refused refusal))
+refused_bytes set holds limits input rest refusal r e =
+    let split : input ≡ take refusal.at input ++ rest = sym (take-append-drop refusal.at input) ∙ ap (λ x. take refusal.at input ++ x) (sym e) in
+    (input, ([], sym (append-nil input), λ _. refl), r, split)
 
 -- one message more
 pub follow_more : (set : Sets) (holds : Conditions) (limits : LimitValues) (a b c : Option (List ℕ)) (reads : List Read) (read : Read) → Follow set holds limits a b reads

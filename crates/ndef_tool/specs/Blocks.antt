@@ -1,6 +1,6 @@
 -- The bytes of a block.
 use Rattle.std.specs.Prelude.{string_bytes}
-use Rattle.ndef_tool.specs.Output.{Text}
+use Rattle.ndef_tool.specs.Quoting.{Text}
 use Rattle.ndef_tool.specs.declared.block.Block.{Block}
 use Rattle.ndef_tool.specs.declared.block.Block.TheVariants.{Line, Bytes, Text as Digits}
 

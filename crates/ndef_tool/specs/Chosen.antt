@@ -13,7 +13,7 @@ use Rattle.ndef_message.specs.declared.form.Form.{Form}
 use Rattle.ndef_message.specs.declared.form.Form.TheVariants.{Short, Long}
 use Rattle.ndef_tool.specs.CommandLine.{ndef_app}
 use Rattle.ndef_tool.specs.declared.choice.Action.{Action}
-use Rattle.ndef_tool.specs.declared.choice.Action.TheVariants.{Check, Encode}
+use Rattle.ndef_tool.specs.declared.choice.Action.TheVariants.{Show, Check, Encode}
 use Rattle.ndef_tool.specs.declared.choice.Choice.{Choice}
 use Rattle.ndef_tool.specs.declared.choice.WordsError.{WordsError}
 use Rattle.ndef_tool.specs.declared.choice.WordsError.TheVariants.{Usage, NoMemory}
@@ -85,8 +85,9 @@ encode_of rows = option_and_then (λ form. option_map (λ chunk. Encode form chu
 
 -- the action of a subcommand, with its options
 abbrev pub action_of : Text → List Row → Option Action
-action_of name rows = if bytes_eq name (codes "check") then Some Check
-    else (if bytes_eq name (codes "encode") then encode_of rows else None)
+action_of name rows = if bytes_eq name (codes "show") then Some Show
+    else (if bytes_eq name (codes "check") then Some Check
+    else (if bytes_eq name (codes "encode") then encode_of rows else None))
 
 -- the choice of a subcommand, with its options
 abbrev pub choice_in : Text → List Row → Option Choice
@@ -124,5 +125,6 @@ HasSizeIfAny size = ForSome size (λ n. 1 ≤ n)
 
 -- .. of an action
 abbrev pub HasSize : Action → Type 0
+HasSize Show = ⊤
 HasSize Check = ⊤
 HasSize (Encode form size) = HasSizeIfAny size

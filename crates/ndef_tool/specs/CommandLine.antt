@@ -36,4 +36,4 @@ empty_app = let a = new_app (codes "ndef") in
 
 -- all of it
 abbrev pub ndef_app : App
-ndef_app = with_subcommand (with_subcommand empty_app (reading_app (codes "check")).top) encode_app.top
+ndef_app = with_subcommand (with_subcommand (with_subcommand empty_app (reading_app (codes "show")).top) (reading_app (codes "check")).top) encode_app.top

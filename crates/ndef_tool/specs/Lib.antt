@@ -1,3 +1,6 @@
+pub mod Quoting
+pub mod Showing
+pub mod Linking
 pub mod CommandLine
 pub mod Chosen
 pub mod Output

@@ -1,12 +1,17 @@
 -- What the command prints: a function of the subcommand, of the messages that were read and of the ending.
-use Rattle.std.specs.Prelude.{Bool, true, false, ◌+◌, ◌<◌, ◌^◌, ℕ, List, [], ◌∷◌, ◌++◌, length, codes, decimal, ⊤}
+use Rattle.std.specs.Prelude.{◌≡◌, Bool, true, false, ◌+◌, ◌<◌, ◌^◌, ℕ, List, [], ◌∷◌, ◌++◌, length, codes, decimal, ⊤}
+use Rattle.std.specs.List.{AllByRecursion}
 use Rattle.hex.specs.Hex.{encode_lower}
 use Rattle.ndef_value.specs.Reason.{number_of, name_of}
 use Rattle.ndef_value.specs.declared.refusal.Refusal.{Refusal}
 use Rattle.ndef_message.specs.declared.message_reading.Read.{Read}
 use Rattle.ndef_message.specs.Written.{encoded}
+use Rattle.ndef_tool.specs.Quoting.{Text}
+use Rattle.ndef_tool.specs.Showing.{AreRecordLines, IsTyped}
+use Rattle.ndef_tool.specs.Linking.{AreLinkLines}
+use Rattle.ndef_value.specs.declared.profile.Profile.{Profile}
 use Rattle.ndef_tool.specs.declared.choice.Action.{Action}
-use Rattle.ndef_tool.specs.declared.choice.Action.TheVariants.{Check, Encode}
+use Rattle.ndef_tool.specs.declared.choice.Action.TheVariants.{Show, Check, Encode}
 use Rattle.ndef_tool.specs.declared.choice.Choice.{Choice}
 use Rattle.ndef_tool.specs.declared.ending.Ending.{Ending}
 use Rattle.ndef_tool.specs.declared.ending.Ending.TheVariants.{Clean, Refused, Hex, Reading, Writing, Memory, TooMany, TooLong}
@@ -14,10 +19,6 @@ use Rattle.ndef_tool.specs.declared.ending.HexFault.{HexFault}
 use Rattle.ndef_tool.specs.declared.ending.HexFault.TheVariants.{Odd, BadDigit}
 use Rattle.ndef_tool.specs.declared.ending.Status.{Status}
 use Rattle.ndef_tool.specs.declared.ending.Status.TheVariants as status
-
--- what is printed, in bytes
-abbrev pub Text : Type 0
-Text = List ℕ
 
 -- ---- lines
 
@@ -54,6 +55,7 @@ ending_text base TooLong = codes "fault: hexadecimal input too long\n"
 
 -- `encode` leaves it out
 abbrev pub ending_line : Action → ℕ → Ending → Text
+ending_line Show base how = ending_text base how
 ending_line Check base how = ending_text base how
 ending_line (Encode form size) base how = []
 
@@ -83,19 +85,27 @@ abbrev pub shown_in : Bool → List ℕ → Text
 shown_in false bytes = bytes
 shown_in true bytes = encode_lower bytes ++ codes "\n"
 
+-- the message line, the lines of the records and those of the links
+abbrev pub IsShown : Profile → (number at : ℕ) → Read → Text → Type 0
+IsShown profile number at read text =
+    (records : Text) × (links : Text) × AreRecordLines profile 1 read.message records × AreLinkLines profile read.message links
+    × (text ≡ message_line number at (length read.message) read.taken ++ records ++ links)
+
 -- what is printed of a message, with its number and its place
-abbrev pub block_by : Action → (hex : Bool) → (number at : ℕ) → Read → Text
-block_by Check hex number at read = message_line number at (length read.message) read.taken
-block_by (Encode form size) hex number at read = shown_in hex (encoded form size read.message)
+abbrev pub IsBlockBy : Action → Profile → (hex : Bool) → (number at : ℕ) → Read → Text → Type 0
+IsBlockBy Show profile hex number at read text = IsShown profile number at read text
+IsBlockBy Check profile hex number at read text = text ≡ message_line number at (length read.message) read.taken
+IsBlockBy (Encode form size) profile hex number at read text = text ≡ shown_in hex (encoded form size read.message)
 
 -- .. as it was chosen
-abbrev pub block_of : Choice → (number at : ℕ) → Read → Text
-block_of choice number at read = block_by choice.action choice.hex number at read
+abbrev pub IsBlock : Choice → (number at : ℕ) → Read → Text → Type 0
+IsBlock choice number at read text = IsBlockBy choice.action choice.limits.profile choice.hex number at read text
 
 -- the blocks of the messages, of which the first has this number and this place
-abbrev pub blocks : Choice → (number at : ℕ) → List Read → Text
-blocks choice number at [] = []
-blocks choice number at (read ∷ reads) = block_of choice number at read ++ blocks choice (number + 1) (at + read.taken) reads
+abbrev pub AreBlocks : Choice → (number at : ℕ) → List Read → Text → Type 0
+AreBlocks choice number at [] text = text ≡ []
+AreBlocks choice number at (read ∷ reads) text =
+    (block : Text) × (rest : Text) × IsBlock choice number at read block × AreBlocks choice (number + 1) (at + read.taken) reads rest × (text ≡ block ++ rest)
 
 -- the bytes of all messages
 abbrev pub bytes_of : List Read → ℕ
@@ -103,5 +113,12 @@ bytes_of [] = 0
 bytes_of (read ∷ reads) = read.taken + bytes_of reads
 
 -- all that is printed
-abbrev pub output : Choice → List Read → Ending → Text
-output choice reads ending = blocks choice 1 0 reads ++ ending_line choice.action (bytes_of reads) ending
+abbrev pub IsOutput : Choice → List Read → Ending → Text → Type 0
+IsOutput choice reads ending text = (front : Text) × AreBlocks choice 1 0 reads front × (text ≡ front ++ ending_line choice.action (bytes_of reads) ending)
+
+-- ---- a law
+
+-- What is printed of messages whose payloads are those of their types, and of an ending, is one text.
+abbrev pub OneOutput : Type 0
+OneOutput = (choice : Choice) (reads : List Read) (ending : Ending) (a b : Text) → AllByRecursion (λ r. AllByRecursion (IsTyped choice.limits.profile) r.message) reads
+    → IsOutput choice reads ending a → IsOutput choice reads ending b → a ≡ b

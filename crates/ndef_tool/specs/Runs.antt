@@ -3,7 +3,8 @@ use Rattle.std.specs.Prelude.{◌≡◌, ℕ, Bool, true, false, List, [], Optio
 use Rattle.ndef_lang.specs.Language.{Sets, Conditions}
 use Rattle.ndef_message.specs.declared.message_reading.Read.{Read}
 use Rattle.ndef_tool.specs.Chosen.{Chooses}
-use Rattle.ndef_tool.specs.Output.{Text, output, status_of, usage_line}
+use Rattle.ndef_tool.specs.Output.{IsOutput, status_of, usage_line}
+use Rattle.ndef_tool.specs.Quoting.{Text}
 use Rattle.ndef_tool.specs.Inputs.{ReadsIn}
 use Rattle.ndef_tool.specs.Sessions.{GoesOut}
 use Rattle.ndef_tool.specs.declared.choice.Choice.{Choice}
@@ -17,7 +18,7 @@ use Rattle.ndef_tool.specs.declared.ending.Status.TheVariants as status
 abbrev pub Prints : Sets → Conditions → (before after : Option (List ℕ)) → (source_failed sink_failed : Bool) → Result Choice WordsError → Text → Status → Type 0
 Prints set holds before after source_failed sink_failed (Ok choice) text st =
     (reads : List Read) × (ending : Ending) × ReadsIn choice.hex set holds choice.limits before after source_failed sink_failed reads ending
-    × (text ≡ output choice reads ending) × (st ≡ status_of ending)
+    × IsOutput choice reads ending text × (st ≡ status_of ending)
 Prints set holds before after source_failed sink_failed (Err Usage) text st = (text ≡ usage_line) × (st ≡ status.Usage)
 Prints set holds before after source_failed sink_failed (Err NoMemory) text st = (text ≡ []) × (st ≡ status.Fault)
 

@@ -7,7 +7,8 @@ use Rattle.ndef_message.specs.Readings.{ReadsFrom}
 use Rattle.ndef_message.specs.declared.message_reading.Read.{Read}
 use Rattle.ndef_message.specs.declared.message_reading.ReadError.{ReadError}
 use Rattle.ndef_message.specs.declared.message_reading.ReadError.TheVariants as errors
-use Rattle.ndef_tool.specs.Output.{Text, blocks, bytes_of}
+use Rattle.ndef_tool.specs.Output.{AreBlocks, bytes_of}
+use Rattle.ndef_tool.specs.Quoting.{Text}
 use Rattle.ndef_tool.specs.declared.choice.Choice.{Choice}
 use Rattle.ndef_tool.specs.declared.ending.Ending.{Ending}
 use Rattle.ndef_tool.specs.declared.ending.Ending.TheVariants.{Clean, Refused, Reading, Writing, Memory, TooMany}
@@ -59,7 +60,9 @@ pub record Handles (IsRead : List Read → Ending → Type 0) (choice : Choice) 
   pub reads : List Read
   pub is : IsRead reads session.ending
   pub at : session.at ≡ bytes_of reads
-  pub written : GoesOut written_before written_after sink_failed (blocks choice 1 0 reads)
+  pub blocks : Text
+  pub are_blocks : AreBlocks choice 1 0 reads blocks
+  pub written : GoesOut written_before written_after sink_failed blocks
   pub mark : sink_failed ≡ is_writing session.ending
 
 -- ---- step by step

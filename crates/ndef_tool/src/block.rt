@@ -1,16 +1,20 @@
 //! What is printed of a message.
 ghost use Rattle.std.specs.Prelude.{◌≡◌, IfOk};
 ghost use Rattle.ndef_message.specs.Written.{encoded};
-ghost use Rattle.ndef_tool.specs.Output.{block_of, shown_in};
+ghost use Rattle.ndef_tool.specs.Output.{IsBlock, IsShown, shown_in};
+ghost use Rattle.std.specs.List.{AllByRecursion};
+ghost use Rattle.ndef_tool.specs.Showing.{IsTyped};
 ghost use Rattle.ndef_tool.specs.Chosen.{HasSize, HasSizeIfAny};
 ghost use Rattle.ndef_tool.specs.Blocks.{text_of};
 
 use crate::choice::{Action, Choice};
 use crate::hexadecimal::hexadecimal;
 use crate::line::Line;
+use crate::linking::push_link_lines;
 use crate::printing::message_line;
+use crate::showing::push_records;
 use ndef_message::{Form, Read, encode, encode_chunked};
-use ndef_value::{Bytes, Message, NoMemory};
+use ndef_value::{Bytes, Message, NoMemory, Profile};
 use std::alloc::Global;
 
 /// The bytes that are printed of a message.
@@ -60,6 +64,25 @@ fn block_in(alloc: Global, hex: bool, bytes: Bytes) -> Result<Block, NoMemory>
     Ok(Block::Bytes(bytes))
 }
 
+/// The message line, the lines of the records and those of the links.
+fn show(
+    alloc: Global,
+    profile: Profile,
+    number: u64,
+    at: u64,
+    read: &Read,
+) -> Result<Bytes, NoMemory>
+    requires { AllByRecursion (IsTyped profile) read.now.message }
+    ensures { IfOk result (IsShown profile number at read.now) }
+{
+    let records = read.message.len() as u64;
+    let mut lines = Bytes::new(alloc);
+    lines.extend(message_line(number, at, records, read.taken).as_slice())?;
+    push_records(alloc, &mut lines, profile, &read.message)?;
+    push_link_lines(alloc, &mut lines, profile, &read.message)?;
+    Ok(lines)
+}
+
 /// All that is printed of a message, with its number from 1 and its place in the input.
 pub fn block_for(
     alloc: Global,
@@ -68,10 +91,15 @@ pub fn block_for(
     at: u64,
     read: &Read,
 ) -> Result<Block, NoMemory>
-    requires { HasSize choice.now.action }
-    ensures { IfOk result (λ block. text_of block ≡ block_of choice.now number at read.now) }
+    requires size { HasSize choice.now.action }
+    requires typed { AllByRecursion (IsTyped choice.now.limits.profile) read.now.message }
+    ensures { IfOk result (λ block. IsBlock choice.now number at read.now (text_of block)) }
 {
     match choice.action {
+        Action::Show => {
+            let profile = choice.limits.profile();
+            Ok(Block::Bytes(show(alloc, profile, number, at, read)?))
+        }
         Action::Check => {
             let records = read.message.len() as u64;
             Ok(Block::Line(message_line(number, at, records, read.taken)))

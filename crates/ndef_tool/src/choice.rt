@@ -14,6 +14,8 @@ use thiserror::Error;
 /// What is done with each message.
 #[derive(Clone, Copy, Debug, PartialEq, Eq)]
 pub enum Action {
+    /// A line is printed, and a line of each record and each link.
+    Show,
     /// A line is printed.
     Check,
     /// It is written again, in a form, and in chunks where their size is given.
@@ -171,6 +173,7 @@ fn action_given(name: &str, matches: &ArgMatches<'_>) -> Option<Action>
     ensures some { IfSome result HasSize }
 {
     match name {
+        "show" => Some(Action::Show),
         "check" => Some(Action::Check),
         "encode" => {
             let form = form_given(matches)?;

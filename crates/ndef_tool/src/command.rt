@@ -91,6 +91,7 @@ pub fn ndef_command<'a>(alloc: Global) -> Result<Command<'a>, AllocError>
     ensures { IfOk result (λ c. app_of c ≡ ndef_app) }
 {
     empty_command(alloc)
+        .subcommand(reading_command(alloc, "show")?)?
         .subcommand(reading_command(alloc, "check")?)?
         .subcommand(encode_command(alloc)?)
 }

@@ -1,4 +1,4 @@
-//! The command `ndef`: what stands on standard input is checked, or written again.
+//! The command `ndef`: what stands on standard input is shown, checked, or written again.
 #![tactic(auto)]
 
 ghost use Rattle.std.specs.Prelude.{◌≡◌};
@@ -8,12 +8,22 @@ ghost use Rattle.ndef_tool.specs.Output.{number_of_status};
 mod block;
 mod choice;
 mod command;
+mod decimals;
 mod ending;
+mod handover_lines;
 mod hexadecimal;
+mod kinds;
+mod laws;
 mod line;
+mod linking;
+mod poster_lines;
 mod printing;
+mod quoting;
+mod reading;
 mod running;
 mod session;
+mod showing;
+mod value_lines;
 
 use crate::ending::Status;
 use crate::running::run;

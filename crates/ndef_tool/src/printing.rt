@@ -89,7 +89,7 @@ pub fn ending_line(action: Action, base: u64, ending: Ending) -> Line
     ensures { result ≡ ending_line action base ending }
 {
     match action {
-        Action::Check => ending_text(base, ending),
+        Action::Show | Action::Check => ending_text(base, ending),
         Action::Encode(_, _) => Line::new(),
     }
 }

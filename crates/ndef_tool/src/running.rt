@@ -7,12 +7,10 @@ use crate::choice::{WordsError, choose};
 use crate::ending::{Ending, Status};
 use crate::printing::ending_line;
 use crate::session::handle;
-use ndef_lang::{Language, OuterLanguage};
+use ndef_lang::Language;
 use ndef_message::{Sink, Source, WriteFault, send};
+use ndef_nest::Typed;
 use std::alloc::Global;
-
-/// The language of the payloads that messages have.
-type Payloads = ndef_lang::Opaque;
 
 /// What is printed where the words don't parse.
 const USAGE: &[u8] =
@@ -40,29 +38,6 @@ fn end(written: Result<u64, WriteFault>, status: Status) -> Status
     }
 }
 
-/// What `run` does, with payloads of any language.
-fn run_in<L: OuterLanguage, S: Source, K: Sink>(
-    alloc: Global,
-    words: &[String],
-    source: &mut S,
-    sink: &mut K,
-) -> Status
-    ensures { K.has_failed sink.old ≡ false
-        → Runs L.set L.holds (map string_bytes words.now)
-        (S.coming source.old) (S.coming source.new) (S.has_failed source.new)
-        (K.written sink.old) (K.written sink.new) (K.has_failed sink.new) result }
-{
-    match choose(alloc, words) {
-        Err(WordsError::NoMemory) => Status::Fault,
-        Err(WordsError::Usage) => end(send(0, USAGE, sink), Status::Usage),
-        Ok(choice) => {
-            let session = handle::<L, S, K>(alloc, &choice, source, sink);
-            let line = ending_line(choice.action, session.at, session.ending);
-            end(send(0, line.as_slice(), sink), status_of(session.ending))
-        }
-    }
-}
-
 /// Does what the words ask for, of which the first is the program's name.
 ///
 /// The messages of the source, or with `--hex` those of the bytes that its text stands for, are
@@ -76,9 +51,17 @@ pub fn run<S: Source, K: Sink>(
     sink: &mut K,
 ) -> Status
     ensures { K.has_failed sink.old ≡ false
-        → Runs ⟦<Payloads as Language>⟧.set ⟦<Payloads as Language>⟧.holds (map string_bytes words.now)
+        → Runs ⟦<Typed as Language>⟧.set ⟦<Typed as Language>⟧.holds (map string_bytes words.now)
         (S.coming source.old) (S.coming source.new) (S.has_failed source.new)
         (K.written sink.old) (K.written sink.new) (K.has_failed sink.new) result }
 {
-    run_in::<Payloads, S, K>(alloc, words, source, sink)
+    match choose(alloc, words) {
+        Err(WordsError::NoMemory) => Status::Fault,
+        Err(WordsError::Usage) => end(send(0, USAGE, sink), Status::Usage),
+        Ok(choice) => {
+            let session = handle(alloc, &choice, source, sink);
+            let line = ending_line(choice.action, session.at, session.ending);
+            end(send(0, line.as_slice(), sink), status_of(session.ending))
+        }
+    }
 }

@@ -1,9 +1,12 @@
-//! What messages are answered: checked, read and decoded, with every cut and byte by byte.
+//! What messages are answered: viewed, checked, read and decoded, whole, with every cut and byte by
+//! byte.
+ghost use Rattle.std.specs.Prelude.{◌<◌};
+
 use super::streams::SlowReader;
 use ndef_lang::OuterLanguage;
 use ndef_message::{
     CheckError, Decoder, Event, ReadError, SliceSource, Source, StdSource, check, check_message,
-    read_message,
+    read_message, view,
 };
 use ndef_value::{Limits, Refusal};
 use std::alloc::Global;
@@ -43,14 +46,28 @@ fn check_from<L: OuterLanguage, S: Source>(limits: Limits, source: &mut S) -> Op
     }
 }
 
-fn decoded<L: OuterLanguage>(alloc: Global, limits: Limits, bytes: &[u8]) -> Option<Answer> {
+/// What a decoder answers that is fed parts of this size.
+fn decoded<L: OuterLanguage>(
+    alloc: Global,
+    limits: Limits,
+    bytes: &[u8],
+    size: usize,
+) -> Option<Answer>
+    requires { 0 < size }
+{
     let mut decoder = Decoder::<L>::new(alloc, limits);
-    for byte in bytes {
-        match decoder.feed(&[*byte]).1 {
-            Event::More | Event::Whole { last: false, .. } => {}
-            Event::Whole { last: true, .. } => return Some(Ok(decoder.place())),
-            Event::Refused(refusal) => return Some(Err(refusal)),
-            Event::Failed(_) | Event::Over => return None,
+    for part in bytes.chunks(size) {
+        let mut rest = part;
+        for _ in part {
+            let (count, event) = decoder.feed(rest);
+            rest = &rest[count..];
+            match event {
+                Event::More => break,
+                Event::Whole { last: false, .. } => {}
+                Event::Whole { last: true, .. } => return Some(Ok(decoder.place())),
+                Event::Refused(refusal) => return Some(Err(refusal)),
+                Event::Failed(_) | Event::Over => return None,
+            }
         }
     }
     match decoder.end() {
@@ -59,7 +76,12 @@ fn decoded<L: OuterLanguage>(alloc: Global, limits: Limits, bytes: &[u8]) -> Opt
     }
 }
 
-/// Whether the bytes are answered so with every cut, and byte by byte.
+/// The answer of a view, which looks at the bytes whole.
+fn viewed<L: OuterLanguage>(limits: Limits, bytes: &[u8]) -> Option<Answer> {
+    Some(view::<L>(bytes, limits).map(|view| view.taken()))
+}
+
+/// Whether the bytes are answered so with every cut, in parts of every size, whole and byte by byte.
 pub(super) fn is_answered<L: OuterLanguage>(
     alloc: Global,
     limits: Limits,
@@ -71,12 +93,17 @@ pub(super) fn is_answered<L: OuterLanguage>(
         let cuts = [cut];
         let read = read_from::<L, _>(alloc, limits, &mut SliceSource::new(bytes, &cuts));
         let checked = check_from::<L, _>(limits, &mut SliceSource::new(bytes, &cuts));
+        let given = decoded::<L>(alloc, limits, bytes, cut + 1);
         if fed::<L>(limits, bytes, &cuts) != wanted || read != wanted || checked != wanted {
             return false;
         }
+        if given != wanted {
+            return false;
+        }
     }
-    fed::<L>(limits, bytes, &[1; 80]) == wanted
+    viewed::<L>(limits, bytes) == wanted
+        && fed::<L>(limits, bytes, &[1; 80]) == wanted
         && read_from::<L, _>(alloc, limits, &mut slowly(bytes)) == wanted
         && check_from::<L, _>(limits, &mut slowly(bytes)) == wanted
-        && decoded::<L>(alloc, limits, bytes) == wanted
+        && fed::<L>(limits, bytes, &[]) == wanted
 }

@@ -21,7 +21,12 @@ fn words(alloc: Global, texts: &[&str]) -> Result<Vec<String>, Fail> {
 }
 
 // What is written, and the status, for bytes that come in two pieces.
-fn ran(alloc: Global, texts: &[&str], bytes: &[u8], cut: usize) -> Result<(u8, Vec<u8>), Fail> {
+pub(super) fn ran(
+    alloc: Global,
+    texts: &[&str],
+    bytes: &[u8],
+    cut: usize,
+) -> Result<(u8, Vec<u8>), Fail> {
     let words = words(alloc, texts)?;
     let cuts = [cut.min(bytes.len())];
     let mut source = SliceSource::new(bytes, &cuts);
@@ -30,6 +35,38 @@ fn ran(alloc: Global, texts: &[&str], bytes: &[u8], cut: usize) -> Result<(u8, V
     let status = run(alloc, words.as_slice(), &mut source, &mut sink);
     drop(sink);
     Ok((status as u8, out))
+}
+
+// The same, where the bytes come as hexadecimal text gives the same lines, or the digits of what is
+// written.
+fn ran_alike(
+    alloc: Global,
+    texts: &[&str],
+    bytes: &[u8],
+    cut: usize,
+) -> Result<(u8, Vec<u8>), Fail> {
+    let (status, out) = ran(alloc, texts, bytes, cut)?;
+    let mut with_hex = Vec::new(alloc);
+    for text in texts {
+        with_hex.push(*text)?;
+    }
+    with_hex.push("--hex")?;
+    let Ok(digits) = hex::encode(alloc, bytes) else {
+        return Err("no memory".into());
+    };
+    let (same_status, mut lines) = ran(alloc, with_hex.as_slice(), digits.as_bytes(), cut)?;
+    let mut wanted = out.clone()?;
+    if texts.iter().any(|text| *text == "encode") {
+        let Ok(written) = hex::encode(alloc, out.as_slice()) else {
+            return Err("no memory".into());
+        };
+        wanted = written.into_bytes();
+        lines.retain(|byte| *byte != b'\n');
+    }
+    if same_status != status || lines != wanted {
+        return Err("hexadecimal text is answered otherwise".into());
+    }
+    Ok((status, out))
 }
 
 #[test]
@@ -109,7 +146,7 @@ fn checks_the_table(rt: HostRuntime) -> Result<(), Fail> {
         ),
     ];
     for (bytes, wanted, text) in table {
-        let (status, out) = ran(alloc, &["ndef", "check"], bytes, 0)?;
+        let (status, out) = ran_alike(alloc, &["ndef", "check"], bytes, 0)?;
         assert!(rt;
             status == wanted && out.as_slice() == text.as_bytes(),
             "{text}"
@@ -142,7 +179,7 @@ fn encodes(rt: HostRuntime) -> Result<(), Fail> {
         (&[0xF5], 1, &[]),
     ];
     for (bytes, wanted, text) in table {
-        let (status, out) = ran(alloc, &["ndef", "encode"], bytes, 5)?;
+        let (status, out) = ran_alike(alloc, &["ndef", "encode"], bytes, 5)?;
         assert!(rt; status == wanted && out.as_slice() == text);
     }
     Ok(())
@@ -172,7 +209,7 @@ fn followed(alloc: Global, text: &str, line: &str) -> Result<String, Fail> {
 fn handles_10000_messages(rt: HostRuntime) -> Result<(), Fail> {
     let alloc = rt.alloc();
     let (bytes, text) = least_messages(alloc, 10000)?;
-    let (status, out) = ran(alloc, &["ndef", "check"], bytes.as_slice(), 7)?;
+    let (status, out) = ran_alike(alloc, &["ndef", "check"], bytes.as_slice(), 7)?;
     assert!(rt; status == 0 && out.as_slice() == text.as_bytes());
     let words = words(alloc, &["ndef", "check"])?;
     let mut source = StdSource::new(SlowReader {
@@ -189,10 +226,10 @@ fn handles_10000_messages(rt: HostRuntime) -> Result<(), Fail> {
     assert!(rt; status == Status::Fault && out.as_slice() == faulty.as_bytes());
     let mut more = bytes.clone()?;
     more.extend_from_slice(&[0xD0, 0x00, 0x00])?;
-    let (status, out) = ran(alloc, &["ndef", "check"], more.as_slice(), 7)?;
+    let (status, out) = ran_alike(alloc, &["ndef", "check"], more.as_slice(), 7)?;
     let faulty = followed(alloc, text.as_str(), "fault: more than 10000 messages\n")?;
     assert!(rt; status == 3 && out.as_slice() == faulty.as_bytes());
-    let (status, out) = ran(alloc, &["ndef", "encode"], more.as_slice(), 7)?;
+    let (status, out) = ran_alike(alloc, &["ndef", "encode"], more.as_slice(), 7)?;
     assert!(rt; status == 3 && out.as_slice() == bytes.as_slice());
     Ok(())
 }
@@ -302,7 +339,7 @@ fn keeps_the_limits(rt: HostRuntime) -> Result<(), Fail> {
         ),
     ];
     for (texts, bytes, text) in table {
-        let (status, out) = ran(alloc, texts, bytes, 2)?;
+        let (status, out) = ran_alike(alloc, texts, bytes, 2)?;
         let refused = text.as_bytes()[0] == b'r';
         assert!(rt; status == u8::from(refused) && out.as_slice() == text.as_bytes());
     }
@@ -365,7 +402,7 @@ fn encodes_in_a_form(rt: HostRuntime) -> Result<(), Fail> {
         ),
     ];
     for (texts, bytes, text) in table {
-        let (status, out) = ran(alloc, texts, bytes, 4)?;
+        let (status, out) = ran_alike(alloc, texts, bytes, 4)?;
         assert!(rt; status == 0 && out.as_slice() == text);
     }
     Ok(())

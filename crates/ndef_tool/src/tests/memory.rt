@@ -2,18 +2,18 @@
 use super::samples::HELLO;
 use ndef_lang::Opaque;
 use ndef_message::{
-    Decoder, Event, Form, ReadError, SliceSource, check_message, encode, encode_chunked,
-    read_message,
+    Decoder, Event, Form, Item, ReadError, SliceSource, View, check_message, encode,
+    encode_chunked, read_message, view,
 };
-use ndef_value::{Bytes, Limits, Message, Name, NameError, Record, RecordError, Tnf};
+use ndef_value::{Bytes, Limits, Message, Name, NameError, NoMemory, Record, RecordError, Tnf};
 use std::alloc::Global;
 use std::test::Fail;
 
 const LETTERS: [u8; 200] = [0x41; 200];
 
-// Takes all memory that there is, in blocks from the largest to the least. An allocator without an
-// end, as under `rt try`, leaves some.
-fn use_up(alloc: Global, held: &mut Vec<Vec<u8>>) -> bool {
+/// Takes all memory that there is, in blocks from the largest to the least. An allocator without an
+/// end, as under `rt try`, leaves some.
+pub(super) fn use_up(alloc: Global, held: &mut Vec<Vec<u8>>) -> bool {
     let mut size: usize = 1 << 46;
     for _ in 0..70000 {
         let mut block: Vec<u8> = Vec::new(alloc);
@@ -62,8 +62,8 @@ fn refuses_each_growth_of_a_value(rt: HostRuntime) -> Result<(), Fail> {
     Ok(())
 }
 
-// Blocks that are let go one by one, small ones first.
-fn spare_blocks(alloc: Global) -> Result<Vec<Vec<u8>>, Fail> {
+/// Blocks that are let go one by one, small ones first.
+pub(super) fn spare_blocks(alloc: Global) -> Result<Vec<Vec<u8>>, Fail> {
     let mut spare: Vec<Vec<u8>> = Vec::with_capacity(alloc, 12)?;
     for size in [4096, 4096, 4096, 4096, 64, 64, 64, 64, 32, 32, 32, 32] {
         spare.push(Vec::with_capacity(alloc, size)?)?;
@@ -94,6 +94,37 @@ fn reads_at_last(alloc: Global, bytes: &[u8], spare: &mut Vec<Vec<u8>>) -> bool 
                 let _ = spare.pop();
             }
             Err(_) => return false,
+        }
+    }
+    false
+}
+
+fn is_copied(alloc: Global, view: &View<'_>) -> Result<bool, NoMemory> {
+    let message = view.to_message(alloc)?;
+    Ok(message.len() == 1)
+}
+
+// Lets blocks go until the message is copied; until then each answer is that there is no memory.
+fn copies_at_last(alloc: Global, view: &View<'_>, spare: &mut Vec<Vec<u8>>) -> bool {
+    for _ in 0..13u8 {
+        match is_copied(alloc, view) {
+            Ok(whole) => return whole,
+            Err(NoMemory) => {
+                let _ = spare.pop();
+            }
+        }
+    }
+    false
+}
+
+// .. until the payload is copied
+fn joins_at_last(alloc: Global, item: &Item<'_>, spare: &mut Vec<Vec<u8>>) -> bool {
+    for _ in 0..13u8 {
+        match item.joined(alloc) {
+            Ok(payload) => return payload.as_slice() == &LETTERS[..40],
+            Err(NoMemory) => {
+                let _ = spare.pop();
+            }
         }
     }
     false
@@ -149,5 +180,38 @@ fn refuses_each_growth_of_a_message(rt: HostRuntime) -> Result<(), Fail> {
     assert!(rt; whole && reserved && failed);
     assert!(rt; unread == Err(ReadError::NoMemory) && unwritten && uncut);
     assert!(rt; read);
+    Ok(())
+}
+
+// A view takes no memory, nor do its items; copies of a message and of a payload do.
+#[test]
+fn refuses_each_growth_of_a_copy(rt: HostRuntime) -> Result<(), Fail> {
+    let alloc = rt.alloc();
+    let wide = wide_message(alloc)?;
+    let bytes = encode_chunked(alloc, &wide, Form::Short, 24)?;
+    let mut spare = spare_blocks(alloc)?;
+    let mut more = spare_blocks(alloc)?;
+    let mut held = Vec::with_capacity(alloc, 65536)?;
+    let used_up = use_up(alloc, &mut held);
+    let viewed = view::<Opaque>(bytes.as_slice(), Limits::usual());
+    let mut whole = false;
+    let mut uncopied = false;
+    let mut unjoined = false;
+    let mut copied = false;
+    let mut joined = false;
+    if let Ok(view) = viewed {
+        whole = view.records() == 1;
+        uncopied = view.to_message(alloc).is_err();
+        for item in view.items() {
+            whole = whole && item.length() == 40 && item.pieces().count() == 2;
+            unjoined = item.joined(alloc).is_err();
+            joined = joins_at_last(alloc, &item, &mut spare);
+        }
+        copied = copies_at_last(alloc, &view, &mut more);
+    }
+    drop(held);
+    assert!(rt; used_up, "memory has no end here");
+    assert!(rt; whole && uncopied && unjoined);
+    assert!(rt; joined && copied);
     Ok(())
 }

@@ -1,5 +1,10 @@
 //! Messages that several tests use.
-use ndef_value::{Limits, Profile, Reason, Refusal};
+use ndef_lang::Opaque;
+use ndef_message::{SliceSource, read_message};
+use ndef_types::DecodeError;
+use ndef_value::{Limits, Message, Profile, Reason, Refusal};
+use std::alloc::Global;
+use std::test::Fail;
 
 /// A text record that says Hello in English.
 pub(super) const HELLO: [u8; 12] = [
@@ -18,6 +23,11 @@ pub(super) const TWO: [u8; 8] = [0x91, 0x01, 0x00, 0x41, 0x51, 0x01, 0x00, 0x42]
 pub(super) const SELECT: [u8; 24] = [
     0x91, 0x02, 0x0A, 0x48, 0x73, 0x12, 0xD1, 0x02, 0x04, 0x61, 0x63, 0x01, 0x01, 0x30, 0x00, 0x5A,
     0x03, 0x01, 0x01, 0x61, 0x2F, 0x62, 0x30, 0x01,
+];
+
+/// A smart poster with the URI a.
+pub(super) const POSTER: [u8; 11] = [
+    0xD1, 0x02, 0x06, 0x53, 0x70, 0xD1, 0x01, 0x02, 0x55, 0x00, 0x61,
 ];
 
 /// The usual limits, but for bytes of a payload, records and pieces.
@@ -39,4 +49,19 @@ pub(super) fn standard() -> Limits {
 /// A refusal.
 pub(super) fn at<T>(at: u64, reason: Reason) -> Result<T, Refusal> {
     Err(Refusal { at, reason })
+}
+
+/// Where and why a payload is refused, if it is.
+pub(super) fn refused<T: Drop>(decoded: Result<T, DecodeError>) -> Option<(u64, Reason)> {
+    match decoded {
+        Err(DecodeError::Refused(refusal)) => Some((refusal.at, refusal.reason)),
+        _ => None,
+    }
+}
+
+/// The message that the bytes begin with, whatever its payloads.
+pub(super) fn read(alloc: Global, bytes: &[u8]) -> Result<Message, Fail> {
+    let mut source = SliceSource::new(bytes, &[]);
+    let read = read_message::<Opaque, _>(alloc, &mut source, Limits::usual())?;
+    Ok(read.message)
 }

@@ -1,4 +1,5 @@
 use Rattle.std.proofs.Common.{◌≡◌, ◌≤◌, ◌-◌, ◌*◌, ◌^◌}
+use Rattle.ndef_nest.specs.Typed.{IsTypedPayload, TypedReason}
 use Rattle.ndef_tool.proofs.Handling.{SoFar}
 use Rattle.ndef_tool.proofs.session.handle_messages.Given as goal
 
@@ -7,7 +8,7 @@ invariant-loop-read g l = record {
   few : l.count ≤ 10000;
   room : l.at ≤ l.count * 2 ^ 49;
   mark : g.K.Sink.has_failed l.sink ≡ g.K.Sink.has_failed l.initial.sink;
-  so_far : SoFar g.L.Language.set g.L.Language.holds l.choice (g.S.Source.coming l.initial.source) (g.S.Source.coming l.source)
+  so_far : SoFar IsTypedPayload TypedReason l.choice (g.R.Reading.coming l.initial.from) (g.R.Reading.coming l.from)
       (g.K.Sink.written l.initial.sink) (g.K.Sink.written l.sink) l.count l.at;
 }
 

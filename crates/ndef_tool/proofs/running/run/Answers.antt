@@ -1,13 +1,14 @@
 use Rattle.std.proofs.Common.{◌∙◌, [], Ok, Err, refl}
 use Rattle.std.proofs.KnownBytes.{Appends-nil}
-use Rattle.ndef_tool.specs.Output.{output, status_of, usage_line}
+use Rattle.ndef_nest.specs.Typed.{IsTypedPayload, TypedReason}
+use Rattle.ndef_tool.specs.Output.{status_of, usage_line}
 use Rattle.ndef_tool.specs.declared.choice.WordsError.TheVariants.{Usage, NoMemory}
 use Rattle.ndef_tool.specs.declared.ending.Status.TheVariants as status
 use Rattle.ndef_tool.proofs.Handling.{session_ends}
 use Rattle.ndef_tool.proofs.Outputs.{goes_behind, nothing_out, usage_status}
 use Rattle.ndef_tool.proofs.Sessions.{reads_on}
 use Rattle.ndef_tool.specs.Inputs.{ReadsIn}
-use Rattle.ndef_tool.proofs.running.run_in.Goals as goal
+use Rattle.ndef_tool.proofs.running.run.Goals as goal
 
 pub returns-in-Err-NoMemory : goal.returns-in-Err-NoMemory
 returns-in-Err-NoMemory g c = λ clear.
@@ -31,18 +32,18 @@ pub returns-in-Ok : goal.returns-in-Ok
 returns-in-Ok g c = λ clear.
     let session = c.handle-session.result in
     let choice = c.in-Ok.choice in
-    let done = session_ends (ReadsIn choice.hex g.L.Language.set g.L.Language.holds choice.limits _ _ _ _) (ReadsIn choice.hex g.L.Language.set g.L.Language.holds choice.limits _ _ _ _) choice _ _ _
+    let done = session_ends (ReadsIn choice.hex IsTypedPayload TypedReason choice.limits _ _ _ _) (ReadsIn choice.hex IsTypedPayload TypedReason choice.limits _ _ _ _) choice _ _ _
     (g.K.Sink.has_failed c.handle-session.new.sink) _ session c.as_slice.result.now c.send-in-Ok.result c.end-in-Ok.result
-    (λ reads on h. reads_on choice.hex g.L.Language.set g.L.Language.holds choice.limits _ _ _ _ _ reads session.ending on h)
+    (λ reads on h. reads_on choice.hex IsTypedPayload TypedReason choice.limits _ _ _ _ _ reads session.ending on h)
     (c.handle-session.ensures.handled clear) (c.as_slice.ensures.value ∙ c.ending_line-line.ensures)
     c.send-in-Ok.ensures.sent c.send-in-Ok.ensures.mark (rw c.status_of.ensures at c.end-in-Ok.ensures) in (
       Ok choice,
       c.in-Ok.ensures.chosen,
       (
-        output choice done.0 session.ending,
+        done.1,
         status_of session.ending,
-        (done.0, session.ending, done.1, refl, refl),
-        done.2,
-        done.3,
+        (done.0, session.ending, done.2, done.3, refl),
+        done.4,
+        done.5,
       ),
     )

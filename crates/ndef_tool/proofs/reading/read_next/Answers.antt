@@ -1,7 +1,7 @@
 use Rattle.std.proofs.Common.{arith, Ok, Err}
 use Rattle.ndef_message.specs.declared.message_reading.ReadError.TheVariants.{Refused}
 use Rattle.ndef_tool.proofs.Sessions.{reads_kept}
-use Rattle.ndef_tool.proofs.session.read_next.Goals as goal
+use Rattle.ndef_tool.proofs.reading.read_next.Goals as goal
 
 pub returns-in-Ok-clause-next : goal.returns-in-Ok-clause-next
 returns-in-Ok-clause-next g c =

@@ -1,5 +1,5 @@
 use Rattle.ndef_tool.proofs.Bounded.{reads_small}
-use Rattle.ndef_tool.proofs.session.read_bounded.Goals as goal
+use Rattle.ndef_tool.proofs.reading.read_bounded.Goals as goal
 
 pub returns-clause-small : goal.returns-clause-small
 returns-clause-small g c =

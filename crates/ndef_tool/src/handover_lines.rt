@@ -1,0 +1,103 @@
+//! What is printed of handover requests and selects.
+ghost use Rattle.std.specs.Prelude.{◌≡◌, ◌<◌, ◌^◌, ◌++◌, [], length, unwrap_or, OnOk};
+ghost use Rattle.ndef_lang.specs.Kind.{kind_of};
+ghost use Rattle.ndef_lang.specs.declared.kind.Kind.TheVariants as kinds;
+ghost use Rattle.ndef_nest.specs.Nested.{IsNest};
+ghost use Rattle.ndef_nest.specs.declared.table.Table.TheVariants as tables;
+ghost use Rattle.ndef_types.specs.Links.{alternatives, is_alternative};
+ghost use Rattle.ndef_tool.specs.Showing.{Adds, Tells, told_request, told_select};
+
+use crate::decimals::push_counted;
+use crate::kinds::kind_of;
+use ndef_lang::Kind;
+use ndef_types::{DecodeError, Request, Select};
+use ndef_value::{Bytes, Message, NoMemory, Profile, Record};
+use std::alloc::Global;
+
+/// Whether a record is an alternative carrier.
+fn is_alternative(item: &Record) -> bool
+    ensures { result ≡ is_alternative (kind_of item.now.tnf item.now.kind) }
+{
+    match kind_of(item) {
+        Kind::Alternative => true,
+        _ => false,
+    }
+}
+
+/// How many alternative carriers a message has.
+fn count_of(message: &Message) -> u64
+    ensures { result ≡ length (alternatives message.now) }
+{
+    let mut count = 0;
+    for index in 0..message.len() {
+        let Some(item) = message.get(index) else {
+            unreachable!()
+        };
+        if is_alternative(item) {
+            count += 1;
+        }
+    }
+    count
+}
+
+/// Appends the minor version of a request and how many carriers it has.
+fn push_told_request(line: &mut Bytes, request: &Request) -> Result<(), NoMemory>
+    ensures { OnOk result (line.new ≡ line.old ++ told_request request.now) }
+{
+    push_counted(line, b" request version 1.", u64::from(request.minor()))?;
+    push_counted(line, b" carriers ", count_of(request.message()))
+}
+
+/// Appends what is printed of the payload of a handover request record.
+pub fn push_request(
+    alloc: Global,
+    line: &mut Bytes,
+    profile: Profile,
+    payload: &[u8],
+) -> Result<(), NoMemory>
+    requires short { length payload.now < 2 ^ 32 }
+    requires request { IsNest tables.Request 65535 profile payload.now }
+    ensures { OnOk result (Adds line.old line.new (Tells kinds.Request profile payload.now)) }
+{
+    match Request::decode_as(alloc, payload, profile) {
+        Ok(request) => push_told_request(line, &request),
+        Err(DecodeError::NoMemory) => Err(NoMemory),
+        Err(DecodeError::Refused(_)) => unreachable!(),
+    }
+}
+
+/// How many carriers a select has.
+fn selected_count(select: &Select) -> u64
+    ensures { result ≡ length (alternatives (unwrap_or select.now.message [])) }
+{
+    match select.message() {
+        Some(message) => count_of(message),
+        None => 0,
+    }
+}
+
+/// Appends the minor version of a select and how many carriers it has.
+fn push_told_select(line: &mut Bytes, select: &Select) -> Result<(), NoMemory>
+    ensures { OnOk result (line.new ≡ line.old ++ told_select select.now) }
+{
+    push_counted(line, b" select version 1.", u64::from(select.minor()))?;
+    push_counted(line, b" carriers ", selected_count(select))
+}
+
+/// Appends what is printed of the payload of a handover select record.
+pub fn push_select(
+    alloc: Global,
+    line: &mut Bytes,
+    profile: Profile,
+    payload: &[u8],
+) -> Result<(), NoMemory>
+    requires short { length payload.now < 2 ^ 32 }
+    requires select { IsNest tables.Select 65535 profile payload.now }
+    ensures { OnOk result (Adds line.old line.new (Tells kinds.Select profile payload.now)) }
+{
+    match Select::decode_as(alloc, payload, profile) {
+        Ok(select) => push_told_select(line, &select),
+        Err(DecodeError::NoMemory) => Err(NoMemory),
+        Err(DecodeError::Refused(_)) => unreachable!(),
+    }
+}

@@ -1,0 +1,103 @@
+//! What is printed of texts, URIs and handover carriers.
+ghost use Rattle.std.specs.Prelude.{◌≡◌, ◌<◌, ◌^◌, ◌++◌, length, OnOk};
+ghost use Rattle.ndef_lang.specs.Carrier.{IsCarrier};
+ghost use Rattle.ndef_lang.specs.Text.{IsText};
+ghost use Rattle.ndef_lang.specs.Uri.{IsUri};
+ghost use Rattle.ndef_lang.specs.declared.kind.Kind.TheVariants as kinds;
+ghost use Rattle.ndef_tool.specs.Showing.{Adds, Tells, encoding_name, told_carrier, told_text, told_uri};
+
+use crate::decimals::push_counted;
+use crate::quoting::push_named;
+use ndef_types::{Carrier, DecodeError, Encoding, Text, Uri};
+use ndef_value::{Bytes, NoMemory, Profile};
+use std::alloc::Global;
+
+/// The name of an encoding.
+fn encoding_name(encoding: Encoding) -> &'static [u8]
+    ensures { result.now ≡ encoding_name encoding }
+{
+    match encoding {
+        Encoding::Utf8 => b"utf-8",
+        Encoding::Utf16 => b"utf-16",
+    }
+}
+
+/// Appends the encoding, the language code and the text.
+fn push_told_text(line: &mut Bytes, text: &Text) -> Result<(), NoMemory>
+    ensures { OnOk result (line.new ≡ line.old ++ told_text text.now) }
+{
+    line.extend(b" text ")?;
+    line.extend(encoding_name(text.encoding()))?;
+    push_named(line, b" ", text.language().as_bytes())?;
+    push_named(line, b" ", text.text().as_bytes())
+}
+
+/// Appends what is printed of the payload of a text record.
+pub fn push_text(
+    alloc: Global,
+    line: &mut Bytes,
+    profile: Profile,
+    payload: &[u8],
+) -> Result<(), NoMemory>
+    requires short { length payload.now < 2 ^ 32 }
+    requires text { IsText payload.now }
+    ensures { OnOk result (Adds line.old line.new (Tells kinds.Text profile payload.now)) }
+{
+    match Text::decode(alloc, payload) {
+        Ok(text) => push_told_text(line, &text),
+        Err(DecodeError::NoMemory) => Err(NoMemory),
+        Err(DecodeError::Refused(_)) => unreachable!(),
+    }
+}
+
+/// Appends the URI.
+fn push_told_uri(line: &mut Bytes, uri: &Uri) -> Result<(), NoMemory>
+    ensures { OnOk result (line.new ≡ line.old ++ told_uri uri.now) }
+{
+    push_named(line, b" uri ", uri.text().as_bytes())
+}
+
+/// Appends what is printed of the payload of a URI record.
+pub fn push_uri(
+    alloc: Global,
+    line: &mut Bytes,
+    profile: Profile,
+    payload: &[u8],
+) -> Result<(), NoMemory>
+    requires short { length payload.now < 2 ^ 32 }
+    requires uri { IsUri profile payload.now }
+    ensures { OnOk result (Adds line.old line.new (Tells kinds.Uri profile payload.now)) }
+{
+    match Uri::decode_as(alloc, payload, profile) {
+        Ok(uri) => push_told_uri(line, &uri),
+        Err(DecodeError::NoMemory) => Err(NoMemory),
+        Err(DecodeError::Refused(_)) => unreachable!(),
+    }
+}
+
+/// Appends the format and the type of a handover carrier, and how many octets of data it has.
+fn push_told_carrier(line: &mut Bytes, carrier: &Carrier) -> Result<(), NoMemory>
+    ensures { OnOk result (line.new ≡ line.old ++ told_carrier carrier.now) }
+{
+    push_counted(line, b" carrier format ", u64::from(carrier.format()))?;
+    push_named(line, b" type ", carrier.kind().as_slice())?;
+    push_counted(line, b" data ", carrier.carried().len() as u64)
+}
+
+/// Appends what is printed of the payload of a handover carrier record.
+pub fn push_carrier(
+    alloc: Global,
+    line: &mut Bytes,
+    profile: Profile,
+    payload: &[u8],
+) -> Result<(), NoMemory>
+    requires short { length payload.now < 2 ^ 32 }
+    requires carrier { IsCarrier payload.now }
+    ensures { OnOk result (Adds line.old line.new (Tells kinds.Carrier profile payload.now)) }
+{
+    match Carrier::decode(alloc, payload) {
+        Ok(carrier) => push_told_carrier(line, &carrier),
+        Err(DecodeError::NoMemory) => Err(NoMemory),
+        Err(DecodeError::Refused(_)) => unreachable!(),
+    }
+}
