@@ -1,4 +1,4 @@
--- What the command prints: a function of the subcommand, of the messages that were read and of the ending.
+-- What the command prints of a subcommand, the messages that were read and the ending: one text, as a law of src/laws.rt says.
 use Rattle.std.specs.Prelude.{◌≡◌, Bool, true, false, ◌+◌, ◌<◌, ◌^◌, ℕ, List, [], ◌∷◌, ◌++◌, length, codes, decimal, ⊤}
 use Rattle.std.specs.List.{AllByRecursion}
 use Rattle.hex.specs.Hex.{encode_lower}

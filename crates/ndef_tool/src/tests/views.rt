@@ -135,8 +135,8 @@ fn views_are_linked(rt: HostRuntime) -> Result<(), Fail> {
 fn first_text(alloc: Global, bytes: &[u8]) -> Option<Text> {
     let view = view::<Typed>(bytes, Limits::usual()).ok()?;
     let item = view.items().next()?;
-    match item.kind() {
-        b"T" => Text::decode(alloc, item.whole()?).ok(),
+    match (item.tnf(), item.kind()) {
+        (Tnf::WellKnown, b"T") => Text::decode(alloc, item.whole()?).ok(),
         _ => None,
     }
 }
