@@ -3,9 +3,8 @@ use super::samples::{CHUNKS, HELLO, SELECT, at, standard, usual};
 use ndef_lang::Opaque;
 use ndef_message::{Item, View, view, views_are_exact};
 use ndef_nest::Typed;
-use ndef_types::{Text, carriers_view};
+use ndef_types::carriers_view;
 use ndef_value::{Limits, Profile, Reason, Refusal, Tnf};
-use std::alloc::Global;
 use std::test::Fail;
 
 fn viewed(bytes: &[u8], limits: Limits) -> Result<View<'_>, Fail> {
@@ -129,21 +128,4 @@ fn views_are_linked(rt: HostRuntime) -> Result<(), Fail> {
     let links = carriers_view(alloc, &viewed(&HELLO, usual())?)?;
     assert!(rt; links.len() == 0);
     Ok(())
-}
-
-/// The first record with which the bytes begin, as a text, as README shows it.
-fn first_text(alloc: Global, bytes: &[u8]) -> Option<Text> {
-    let view = view::<Typed>(bytes, Limits::usual()).ok()?;
-    let item = view.items().next()?;
-    match (item.tnf(), item.kind()) {
-        (Tnf::WellKnown, b"T") => Text::decode(alloc, item.whole()?).ok(),
-        _ => None,
-    }
-}
-
-#[test]
-fn a_view_leads_to_a_text(rt: HostRuntime) {
-    let text = first_text(rt.alloc(), &HELLO);
-    assert!(rt; text.map(|text| text.text() == "Hello") == Some(true));
-    assert!(rt; first_text(rt.alloc(), &SELECT).is_none());
 }
