@@ -203,7 +203,7 @@ fn refuses_each_growth_of_a_copy(rt: HostRuntime) -> Result<(), Fail> {
         whole = view.records() == 1;
         uncopied = view.to_message(alloc).is_err();
         for item in view.items() {
-            whole = whole && item.length() == 40 && item.pieces().count() == 2;
+            whole = whole && item.length() == 40 && item.whole().is_none();
             unjoined = item.joined(alloc).is_err();
             joined = joins_at_last(alloc, &item, &mut spare);
         }
