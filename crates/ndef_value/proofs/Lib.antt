@@ -1,3 +1,4 @@
+pub mod Equality
 pub mod Unique
 pub mod Canonical
 pub mod Bounds

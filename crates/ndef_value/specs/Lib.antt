@@ -5,3 +5,5 @@ pub mod TnfLaws
 pub mod Wire
 pub mod Message
 pub mod Reason
+pub mod Record
+pub mod Shown

@@ -295,6 +295,10 @@ pub record AreInRange (limits : LimitValues) : Type 0 where
   pub records : (1 ≤ limits.records) × (limits.records < 2 ^ 16)
   pub pieces : (1 ≤ limits.pieces) × (limits.pieces < 2 ^ 16)
 
+-- limits for usual tags
+abbrev pub usual_limits : LimitValues
+usual_limits = record { payload = 1048576; records = 1024; pieces = 4096; profile = Strict }
+
 -- the runs are within the limits
 pub record IsWithin (limits : LimitValues) (runs : List Run) : Type 0 where
   pub few_records : length runs ≤ limits.records

@@ -1,9 +1,15 @@
 //! A byte string.
-ghost use Rattle.std.specs.Prelude.{◌≡◌, [], ◌++◌, IfOk, OnOk, OnErr};
+ghost use Rattle.std.proofs.Common.{rules};
+ghost use Rattle.std.specs.Cmp.{partial_equiv_from_equiv};
+ghost use Rattle.std.specs.Cmp.Lexicographic.{nat_list_eq_equiv, pointwise};
+ghost use Rattle.std.specs.Cmp.Rules.{hashing};
+ghost use Rattle.std.specs.Hash as fed;
+ghost use Rattle.std.specs.Prelude.{◌≡◌, ◌==◌, ◌↔◌, [], ◌++◌, IsTrue, IfOk, OnOk, OnErr};
 ghost use Rattle.ndef_value.specs.Wire.{AreOctets};
 
 use crate::NoMemory;
 use std::alloc::Global;
+use std::hash::{Hash, Hasher};
 use std::marker::Model;
 
 /// A byte string of any length.
@@ -37,10 +43,9 @@ impl Bytes {
     pub fn from_slice(alloc: Global, bytes: &[u8]) -> Result<Bytes, NoMemory>
         ensures { IfOk result (λ b. b ≡ bytes.now) }
     {
-        match Vec::from_slice(alloc, bytes) {
-            Ok(bytes) => Ok(Bytes { bytes }),
-            Err(_) => Err(NoMemory),
-        }
+        Ok(Bytes {
+            bytes: Vec::from_slice(alloc, bytes)?,
+        })
     }
 
     /// Appends the bytes. On `NoMemory` nothing has changed.
@@ -48,10 +53,7 @@ impl Bytes {
         ensures ok { OnOk result (self.new ≡ self.old ++ bytes.now) }
         ensures err { OnErr result (self.new ≡ self.old) }
     {
-        let Ok(()) = self.bytes.extend_from_slice(bytes) else {
-            return Err(NoMemory);
-        };
-        Ok(())
+        Ok(self.bytes.extend_from_slice(bytes)?)
     }
 
     /// The bytes.
@@ -60,5 +62,32 @@ impl Bytes {
         ensures octets { AreOctets self.now }
     {
         self.bytes.as_slice()
+    }
+}
+
+impl PartialEq for Bytes {
+    ghost eq = { pointwise ◌==◌ };
+
+    ghost laws = { partial_equiv_from_equiv nat_list_eq_equiv };
+
+    fn eq(&self, other: &Bytes) -> bool
+        ensures eq { result ≡ pointwise ◌==◌ self.now other.now }
+        ensures value { IsTrue result ↔ (self.now ≡ other.now) }
+    {
+        self.bytes == other.bytes
+    }
+}
+
+impl Eq for Bytes {
+    ghost laws = { nat_list_eq_equiv };
+}
+
+impl Hash for Bytes {
+    ghost hash_input = { fed.slice fed.u8 };
+
+    ghost respects_eq = { Prim.search (hashing, rules) };
+
+    fn hash<H: Hasher>(&self, state: &mut H) {
+        self.bytes.hash(state);
     }
 }

@@ -23,7 +23,7 @@ pub use profile::Profile;
 pub use reason::Reason;
 pub use record::{Record, RecordError};
 pub use refusal::Refusal;
-pub use tnf::Tnf;
+pub use tnf::{Tnf, TnfError};
 
 #[cfg(test)]
 mod tests;

@@ -1,7 +1,7 @@
 //! How large a message may be, and who reads it.
 ghost use Rattle.std.specs.Prelude.{◌≡◌, IfOk, IsOk, ◌↔◌};
 ghost use Rattle.ndef_value.specs.declared.profile.Profile.TheVariants.{Strict};
-ghost use Rattle.ndef_value.specs.Wire.{LimitValues, AreInRange};
+ghost use Rattle.ndef_value.specs.Wire.{LimitValues, AreInRange, usual_limits};
 
 use crate::Profile;
 use std::marker::Model;
@@ -9,7 +9,7 @@ use thiserror::Error;
 
 /// The payload bytes and the pieces that a record may have, the records that a message may have, and
 /// what is made of reserved values.
-#[derive(Clone, Copy, Debug)]
+#[derive(Clone, Copy, Debug, PartialEq, Eq, Hash)]
 pub struct Limits {
     payload: u32,
     records: u32,
@@ -30,7 +30,7 @@ impl Model for Limits {
 }
 
 /// A limit is out of its range.
-#[derive(Clone, Copy, Debug, Drop, PartialEq, Eq, Error)]
+#[derive(Clone, Copy, Debug, Drop, PartialEq, Eq, Hash, Error)]
 #[error("a limit out of its range")]
 pub struct OutOfRange;
 
@@ -56,7 +56,7 @@ impl Limits {
 
     /// Strict limits for usual tags: 1048576 bytes, 1024 records and 4096 pieces.
     pub fn usual() -> Limits
-        ensures { result ≡ record { payload = 1048576; records = 1024; pieces = 4096; profile = Strict } }
+        ensures { result ≡ usual_limits }
     {
         Limits {
             payload: 1048576,
@@ -103,5 +103,14 @@ impl Limits {
         ensures range { AreInRange self.now }
     {
         self.profile
+    }
+}
+
+/// The usual limits.
+impl Default for Limits {
+    ghost is_default = { λ limits. limits ≡ usual_limits };
+
+    fn default() -> Limits {
+        Limits::usual()
     }
 }

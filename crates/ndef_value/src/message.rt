@@ -1,14 +1,24 @@
 //! A message.
-ghost use Rattle.std.specs.Prelude.{◌≡◌, length, slice_get, option_map};
+ghost use Rattle.std.specs.Cmp.Lexicographic.{lists_equiv, lists_per, pointwise};
+ghost use Rattle.std.specs.Hash as fed;
+ghost use Rattle.std.specs.Hash.{items_Alike};
+ghost use Rattle.std.specs.Iterator.Runs.{EveryRun, ItemsMapTo};
+ghost use Rattle.std.specs.Prelude.{◌≡◌, ◌<◌, ◌↔◌, ◌^◌, length, slice_get, option_map, IsTrue};
 ghost use Rattle.std.specs.List.{AllByRecursion};
-ghost use Rattle.ndef_value.specs.Wire.{IsItem, AreItems};
+ghost use Rattle.std.specs.Slice.Iter.{iter_rest, iter_steps};
+ghost use Rattle.ndef_value.specs.contracts.record.RecordEq.TheImpl.Laws as equiv;
+ghost use Rattle.ndef_value.specs.contracts.record.RecordHash.TheImpl.Laws as hashed;
+ghost use Rattle.ndef_value.specs.contracts.record.RecordPartialEq.TheImpl.Laws as per;
+ghost use Rattle.ndef_value.specs.Wire.{Item, IsItem, AreItems};
 ghost use Rattle.ndef_value.specs.Message.{Gives};
 
 use crate::Record;
+use std::hash::{Hash, Hasher};
 use std::marker::Model;
+use std::slice;
 use thiserror::Error;
 
-/// 1 to 65535 records.
+/// A message (NDEF 1.0): 1 to 65535 records.
 #[derive(Debug, Drop)]
 pub struct Message {
     records: Vec<Record>,
@@ -76,11 +86,59 @@ impl Message {
         self.records.as_slice()
     }
 
-    /// The record at a place, counted from 0.
+    /// The record at a place, counted from 0; none from `len` on.
     pub fn get(&self, index: usize) -> Option<&Record>
         ensures value { option_map (λ r. r.now) result ≡ slice_get self.now index }
         ensures items { AreItems self.now }
     {
         self.records.get(index)
+    }
+
+    /// The records one after another, 1 to 65535 of them. Each call begins anew.
+    pub fn iter(&self) -> slice::Iter<'_, Record>
+        ensures rest { iter_rest result ≡ self.now }
+        ensures items { AreItems self.now }
+    {
+        self.records().iter()
+    }
+}
+
+impl<'a> IntoIterator for &'a Message {
+    type Item = &'a Record;
+
+    type IntoIter = slice::Iter<'a, Record>;
+
+    ghost into_iter_gives = { λ message it. (iter_rest it ≡ message.now) × (length (iter_rest it) < 2 ^ 64)
+        × EveryRun (iter_steps {A = Item}) (λ run. ItemsMapTo run (λ item. item.now) (iter_rest run.from)) };
+
+    fn into_iter(self) -> slice::Iter<'a, Record> {
+        self.records.iter()
+    }
+}
+
+impl PartialEq for Message {
+    ghost eq = { pointwise ⟦<Record as PartialEq>⟧.eq };
+
+    ghost laws = { lists_per per.laws-law };
+
+    fn eq(&self, other: &Message) -> bool
+        ensures eq { result ≡ pointwise ⟦<Record as PartialEq>⟧.eq self.now other.now }
+        ensures value { IsTrue result ↔ (self.now ≡ other.now) }
+    {
+        self.records == other.records
+    }
+}
+
+impl Eq for Message {
+    ghost laws = { lists_equiv equiv.laws-law };
+}
+
+impl Hash for Message {
+    ghost hash_input = { fed.slice ⟦<Record as Hash>⟧.hash_input };
+
+    ghost respects_eq = { (items_Alike (record { fed = hashed.respects_eq-law })).fed };
+
+    fn hash<H: Hasher>(&self, state: &mut H) {
+        self.records.hash(state);
     }
 }

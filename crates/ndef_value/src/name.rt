@@ -1,17 +1,25 @@
 //! A type name or an id.
-ghost use Rattle.std.specs.Prelude.{◌≡◌, ◌+◌, ◌<◌, ◌≤◌, ◌↔◌, [], ◌∷◌, ◌++◌, length, IsOk, IfOk, OnOk, OnErr, IsErrOf};
+ghost use Rattle.std.proofs.Common.{rules};
+ghost use Rattle.std.specs.Cmp.{partial_equiv_from_equiv};
+ghost use Rattle.std.specs.Cmp.Lexicographic.{nat_list_eq_equiv, pointwise};
+ghost use Rattle.std.specs.Cmp.Rules.{hashing};
+ghost use Rattle.std.specs.Hash as fed;
+ghost use Rattle.std.specs.Prelude.{◌≡◌, ◌==◌, ◌+◌, ◌<◌, ◌≤◌, ◌↔◌, [], ◌∷◌, ◌++◌, length, IsTrue, IsOk, IfOk, OnOk, OnErr, IsErrOf};
+ghost use Rattle.ndef_value.specs.declared.name.NameError.TheVariants as errors;
 ghost use Rattle.ndef_value.specs.Wire.{AreOctets};
 
 use crate::NoMemory;
 use smallvec::SmallVec;
-use std::alloc::Global;
+use std::alloc::{AllocError, Global};
+use std::hash::{Hash, Hasher};
 use std::marker::Model;
 use thiserror::Error;
 
 /// The bytes that a name holds without memory.
 const INLINE: usize = 32;
 
-/// 0 to 255 bytes, up to 32 of them inline: so many a piece can give its type or its id.
+/// The type or the id of a record (NDEF 1.0, TYPE and ID): 0 to 255 bytes, as many as a head can tell,
+/// up to 32 of them inline.
 #[derive(Debug, Drop)]
 pub struct Name {
     bytes: SmallVec<u8, INLINE>,
@@ -29,7 +37,7 @@ impl Model for Name {
 }
 
 /// Why there is no name of some bytes.
-#[derive(Clone, Copy, Debug, Drop, PartialEq, Eq, Error)]
+#[derive(Clone, Copy, Debug, Drop, PartialEq, Eq, Hash, Error)]
 pub enum NameError {
     /// There are more than 255 of them.
     #[error("a name of more than 255 bytes")]
@@ -37,6 +45,14 @@ pub enum NameError {
     /// A growth was refused.
     #[error("no memory")]
     NoMemory,
+}
+
+impl From<AllocError> for NameError {
+    ghost from_gives = { λ _ error. error ≡ errors.NoMemory };
+
+    fn from(_: AllocError) -> NameError {
+        NameError::NoMemory
+    }
 }
 
 impl Name {
@@ -59,10 +75,9 @@ impl Name {
         if bytes.len() > 255 {
             return Err(NameError::TooLong);
         }
-        match SmallVec::from_slice(alloc, bytes) {
-            Ok(bytes) => Ok(Name { bytes }),
-            Err(_) => Err(NameError::NoMemory),
-        }
+        Ok(Name {
+            bytes: SmallVec::from_slice(alloc, bytes)?,
+        })
     }
 
     /// Appends a byte, up to 32 bytes without memory. On `NoMemory` nothing has changed.
@@ -72,10 +87,7 @@ impl Name {
         ensures err { OnErr result (self.new ≡ self.old) }
         ensures inline { length self.old < 32 → IsOk result }
     {
-        match self.bytes.push(byte) {
-            Ok(()) => Ok(()),
-            Err(_) => Err(NoMemory),
-        }
+        Ok(self.bytes.push(byte)?)
     }
 
     /// Appends the bytes, up to 32 bytes in all without memory. On `NoMemory` nothing has changed.
@@ -88,10 +100,7 @@ impl Name {
         if bytes.len() == 1 {
             return self.push(bytes[0]);
         }
-        let Ok(()) = self.bytes.extend_from_slice(bytes) else {
-            return Err(NoMemory);
-        };
-        Ok(())
+        Ok(self.bytes.extend_from_slice(bytes)?)
     }
 
     /// The bytes.
@@ -101,5 +110,32 @@ impl Name {
         ensures octets { AreOctets self.now }
     {
         self.bytes.as_slice()
+    }
+}
+
+impl PartialEq for Name {
+    ghost eq = { pointwise ◌==◌ };
+
+    ghost laws = { partial_equiv_from_equiv nat_list_eq_equiv };
+
+    fn eq(&self, other: &Name) -> bool
+        ensures eq { result ≡ pointwise ◌==◌ self.now other.now }
+        ensures value { IsTrue result ↔ (self.now ≡ other.now) }
+    {
+        self.bytes == other.bytes
+    }
+}
+
+impl Eq for Name {
+    ghost laws = { nat_list_eq_equiv };
+}
+
+impl Hash for Name {
+    ghost hash_input = { fed.slice fed.u8 };
+
+    ghost respects_eq = { Prim.search (hashing, rules) };
+
+    fn hash<H: Hasher>(&self, state: &mut H) {
+        self.bytes.hash(state);
     }
 }

@@ -1,7 +1,21 @@
 //! The want of memory.
+use std::alloc::{AllocError, AllocFailed};
 use thiserror::Error;
 
-/// A growth was refused.
-#[derive(Clone, Copy, Debug, Drop, PartialEq, Eq, Error)]
+/// A growth was refused. What was to grow is as it was before the call, unless that says otherwise.
+#[derive(Clone, Copy, Debug, Drop, PartialEq, Eq, Hash, Error)]
 #[error("no memory")]
 pub struct NoMemory;
+
+impl From<AllocError> for NoMemory {
+    fn from(_: AllocError) -> NoMemory {
+        NoMemory
+    }
+}
+
+/// What wasn't stored is let go.
+impl<T: Drop> From<AllocFailed<T>> for NoMemory {
+    fn from(_: AllocFailed<T>) -> NoMemory {
+        NoMemory
+    }
+}

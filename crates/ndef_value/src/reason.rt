@@ -1,11 +1,14 @@
 //! Why bytes are refused.
-ghost use Rattle.std.specs.Prelude.{◌≡◌, ◌≤◌, length};
+ghost use Rattle.std.specs.Prelude.{◌≡◌, ◌≤◌, length, Some};
 ghost use Rattle.ndef_value.specs.Reason.{number_of, rank_of, name_of};
+ghost use Rattle.ndef_value.specs.Shown.{reason_text};
+
+use std::fmt;
 
 /// Why the byte at a place can't stand there, or why the input can't end there.
 ///
 /// Of the reasons that hold of a byte the one with the lowest rank is told.
-#[derive(Clone, Copy, Debug, PartialEq, Eq)]
+#[derive(Clone, Copy, Debug, PartialEq, Eq, Hash)]
 pub enum Reason {
     /// The type name format is the reserved 7.
     ReservedTnf,
@@ -108,37 +111,56 @@ impl Reason {
         }
     }
 
-    /// The name, as it is printed.
+    /// The name, as it is printed: 4 to 16 bytes of ASCII.
     pub fn name(self) -> &'static [u8]
         ensures value { result.now ≡ name_of self }
         ensures bound { length result.now ≤ 16 }
     {
+        self.text().as_bytes()
+    }
+
+    /// The name as a text.
+    fn text(self) -> &'static str
+        ensures value { result.now ≡ name_of self }
+        ensures bound { length result.now ≤ 16 }
+    {
         match self {
-            Reason::ReservedTnf => b"ReservedTnf",
-            Reason::BeginMissing => b"BeginMissing",
-            Reason::BeginAgain => b"BeginAgain",
-            Reason::UnchangedOutside => b"UnchangedOutside",
-            Reason::ChangedInside => b"ChangedInside",
-            Reason::IdInside => b"IdInside",
-            Reason::ChunkAtEnd => b"ChunkAtEnd",
-            Reason::ChunkOfEmpty => b"ChunkOfEmpty",
-            Reason::TooManyPieces => b"TooManyPieces",
-            Reason::TooManyRecords => b"TooManyRecords",
-            Reason::TypeNotEmpty => b"TypeNotEmpty",
-            Reason::TypeEmpty => b"TypeEmpty",
-            Reason::EmptyNotEmpty => b"EmptyNotEmpty",
-            Reason::PayloadTooLarge => b"PayloadTooLarge",
-            Reason::TextBit => b"TextBit",
-            Reason::Language => b"Language",
-            Reason::Utf8 => b"Utf8",
-            Reason::Utf16 => b"Utf16",
-            Reason::UriCode => b"UriCode",
-            Reason::UriMissing => b"UriMissing",
-            Reason::UriAgain => b"UriAgain",
-            Reason::Version => b"Version",
-            Reason::CollisionMissing => b"CollisionMissing",
-            Reason::DoesNotFit => b"DoesNotFit",
-            Reason::EndOfInput => b"EndOfInput",
+            Reason::ReservedTnf => "ReservedTnf",
+            Reason::BeginMissing => "BeginMissing",
+            Reason::BeginAgain => "BeginAgain",
+            Reason::UnchangedOutside => "UnchangedOutside",
+            Reason::ChangedInside => "ChangedInside",
+            Reason::IdInside => "IdInside",
+            Reason::ChunkAtEnd => "ChunkAtEnd",
+            Reason::ChunkOfEmpty => "ChunkOfEmpty",
+            Reason::TooManyPieces => "TooManyPieces",
+            Reason::TooManyRecords => "TooManyRecords",
+            Reason::TypeNotEmpty => "TypeNotEmpty",
+            Reason::TypeEmpty => "TypeEmpty",
+            Reason::EmptyNotEmpty => "EmptyNotEmpty",
+            Reason::PayloadTooLarge => "PayloadTooLarge",
+            Reason::TextBit => "TextBit",
+            Reason::Language => "Language",
+            Reason::Utf8 => "Utf8",
+            Reason::Utf16 => "Utf16",
+            Reason::UriCode => "UriCode",
+            Reason::UriMissing => "UriMissing",
+            Reason::UriAgain => "UriAgain",
+            Reason::Version => "Version",
+            Reason::CollisionMissing => "CollisionMissing",
+            Reason::DoesNotFit => "DoesNotFit",
+            Reason::EndOfInput => "EndOfInput",
         }
+    }
+}
+
+/// The number and the name, as `24 EndOfInput`.
+impl fmt::Display for Reason {
+    ghost output = { λ reason. Some (reason_text reason) };
+
+    fn fmt<W: fmt::Write>(&self, f: &mut fmt::Formatter<W>) -> fmt::Result {
+        let number = self.number();
+        let name = self.text();
+        write!(f, "{number} {name}")
     }
 }

@@ -1,8 +1,10 @@
 //! A record.
 ghost use Rattle.std.specs.Prelude.{◌≡◌, ◌↔◌, IfOk, IsErrOf, IsTrue};
+ghost use Rattle.ndef_value.specs.declared.record.RecordError.TheVariants as errors;
+ghost use Rattle.ndef_value.specs.Record.{record_error};
 ghost use Rattle.ndef_value.specs.Wire.{IsShaped, HasLengths, IsItem};
 
-use crate::{Bytes, Name, Tnf};
+use crate::{Bytes, Name, NameError, NoMemory, Tnf};
 use std::alloc::Global;
 use std::marker::Model;
 use thiserror::Error;
@@ -11,7 +13,7 @@ use thiserror::Error;
 ///
 /// An Empty record has no type, id or payload, an Unknown one no type, every other one a type; none
 /// is Unchanged. A type and an id have at most 255 bytes, a payload at most 4294967295.
-#[derive(Debug, Drop)]
+#[derive(Debug, Drop, PartialEq, Eq, Hash)]
 pub struct Record {
     tnf: Tnf,
     kind: Name,
@@ -27,10 +29,12 @@ impl Model for Record {
     ghost view = { λ r. record { tnf = r.tnf; kind = r.kind; id = r.id; payload = r.payload } };
 
     ghost invariant = { λ r. IsItem (record { tnf = r.tnf; kind = r.kind; id = r.id; payload = r.payload }) };
+
+    ghost inverse = { λ v. record { tnf = v.tnf; kind = v.kind; id = v.id; payload = v.payload } };
 }
 
 /// Why there is no record of some parts, in the order in which it is told.
-#[derive(Clone, Copy, Debug, Drop, PartialEq, Eq, Error)]
+#[derive(Clone, Copy, Debug, Drop, PartialEq, Eq, Hash, Error)]
 pub enum RecordError {
     /// The type name format is Unchanged, or the parts don't go with it.
     #[error("the parts do not go with the type name format")]
@@ -41,6 +45,25 @@ pub enum RecordError {
     /// A growth was refused.
     #[error("no memory")]
     NoMemory,
+}
+
+impl From<NameError> for RecordError {
+    ghost from_gives = { λ error given. given ≡ record_error error };
+
+    fn from(error: NameError) -> RecordError {
+        match error {
+            NameError::TooLong => RecordError::TooLong,
+            NameError::NoMemory => RecordError::NoMemory,
+        }
+    }
+}
+
+impl From<NoMemory> for RecordError {
+    ghost from_gives = { λ _ given. given ≡ errors.NoMemory };
+
+    fn from(_: NoMemory) -> RecordError {
+        RecordError::NoMemory
+    }
 }
 
 /// Whether the parts go together.
@@ -84,15 +107,9 @@ impl Record {
         if !has_lengths(tnf, kind, id, payload) {
             return Err(RecordError::TooLong);
         }
-        let Ok(kind) = Name::from_slice(alloc, kind) else {
-            return Err(RecordError::NoMemory);
-        };
-        let Ok(id) = Name::from_slice(alloc, id) else {
-            return Err(RecordError::NoMemory);
-        };
-        let Ok(payload) = Bytes::from_slice(alloc, payload) else {
-            return Err(RecordError::NoMemory);
-        };
+        let kind = Name::from_slice(alloc, kind)?;
+        let id = Name::from_slice(alloc, id)?;
+        let payload = Bytes::from_slice(alloc, payload)?;
         Ok(Record::from_parts(tnf, kind, id, payload))
     }
 

@@ -1,8 +1,9 @@
 use crate::{
     Bytes, Limits, Message, MessageError, Name, NameError, OutOfRange, Profile, Reason, Record,
-    RecordError, Refusal, Tnf,
+    RecordError, Refusal, Tnf, TnfError,
 };
 use std::alloc::Global;
+use std::hash::{DefaultHasher, Hash, Hasher};
 use std::test::Fail;
 
 const LETTERS: [u8; 256] = [0x41; 256];
@@ -75,6 +76,109 @@ fn makes_messages(rt: HostRuntime) -> Result<(), Fail> {
     let second = message.get(1).ok_or("a second record")?;
     assert!(rt; second.payload() == b"two".as_slice());
     assert!(rt; message.get(2).is_none());
+    let payloads = [b"one", b"two"];
+    for (record, payload) in (&message).into_iter().zip(payloads.iter()) {
+        assert!(rt; record.payload() == payload.as_slice());
+    }
+    assert!(rt; message.iter().count() == 2);
+    Ok(())
+}
+
+fn message(alloc: Global, payload: &[u8]) -> Result<Message, Fail> {
+    let mut records = Vec::new(alloc);
+    records.push(item(alloc, payload)?)?;
+    Ok(Message::new(records)?)
+}
+
+fn hash_of<T: Hash>(value: &T) -> u64 {
+    let mut state = DefaultHasher::new();
+    value.hash(&mut state);
+    state.finish()
+}
+
+fn are_same<T: Eq + Hash>(one: &T, other: &T) -> bool {
+    *one == *other && hash_of(one) == hash_of(other)
+}
+
+#[test]
+fn compares_values(rt: HostRuntime) -> Result<(), Fail> {
+    let alloc = rt.alloc();
+    let (one, same) = (message(alloc, b"one")?, message(alloc, b"one")?);
+    assert!(rt; are_same(&one, &same) && one != message(alloc, b"two")?);
+    assert!(rt; are_same(&item(alloc, b"one")?, &item(alloc, b"one")?));
+    assert!(rt;
+        are_same(
+            &Name::from_slice(alloc, b"T")?,
+            &Name::from_slice(alloc, b"T")?
+        )
+    );
+    assert!(rt;
+        are_same(
+            &Bytes::from_slice(alloc, b"T")?,
+            &Bytes::from_slice(alloc, b"T")?
+        )
+    );
+    assert!(rt; Bytes::from_slice(alloc, b"T")? != Bytes::from_slice(alloc, b"U")?);
+    assert!(rt; are_same(&Limits::usual(), &Limits::default()));
+    assert!(rt; Limits::default() != Limits::usual().with(Profile::Standard));
+    assert!(rt; Profile::default() == Profile::Strict);
+    Ok(())
+}
+
+#[test]
+fn prints_type_name_formats(rt: HostRuntime) -> Result<(), Fail> {
+    let table = [
+        (0, "0 Empty"),
+        (1, "1 WellKnown"),
+        (2, "2 Media"),
+        (3, "3 AbsoluteUri"),
+        (4, "4 External"),
+        (5, "5 Unknown"),
+        (6, "6 Unchanged"),
+    ];
+    for (number, text) in table {
+        let tnf = Tnf::try_from(number)?;
+        assert!(rt; tnf.code() == number);
+        assert!(rt; format!(in rt.alloc(); "{tnf}")?.as_str() == text);
+    }
+    assert!(rt; Tnf::try_from(7u8) == Err(TnfError(7)));
+    let text = format!(in rt.alloc(); "{}", TnfError(7))?;
+    assert!(rt; text.as_str() == "no type name format has the number 7");
+    Ok(())
+}
+
+#[test]
+fn prints_reasons(rt: HostRuntime) -> Result<(), Fail> {
+    let table = [
+        (Reason::ReservedTnf, "1 ReservedTnf"),
+        (Reason::BeginMissing, "2 BeginMissing"),
+        (Reason::BeginAgain, "3 BeginAgain"),
+        (Reason::UnchangedOutside, "4 UnchangedOutside"),
+        (Reason::ChangedInside, "5 ChangedInside"),
+        (Reason::IdInside, "6 IdInside"),
+        (Reason::ChunkAtEnd, "7 ChunkAtEnd"),
+        (Reason::ChunkOfEmpty, "8 ChunkOfEmpty"),
+        (Reason::TooManyPieces, "9 TooManyPieces"),
+        (Reason::TooManyRecords, "10 TooManyRecords"),
+        (Reason::TypeNotEmpty, "11 TypeNotEmpty"),
+        (Reason::TypeEmpty, "12 TypeEmpty"),
+        (Reason::EmptyNotEmpty, "13 EmptyNotEmpty"),
+        (Reason::PayloadTooLarge, "14 PayloadTooLarge"),
+        (Reason::TextBit, "15 TextBit"),
+        (Reason::Language, "16 Language"),
+        (Reason::Utf8, "17 Utf8"),
+        (Reason::Utf16, "18 Utf16"),
+        (Reason::UriCode, "19 UriCode"),
+        (Reason::UriMissing, "20 UriMissing"),
+        (Reason::UriAgain, "21 UriAgain"),
+        (Reason::Version, "22 Version"),
+        (Reason::DoesNotFit, "23 DoesNotFit"),
+        (Reason::EndOfInput, "24 EndOfInput"),
+        (Reason::CollisionMissing, "25 CollisionMissing"),
+    ];
+    for (reason, text) in table {
+        assert!(rt; format!(in rt.alloc(); "{reason}")?.as_str() == text);
+    }
     Ok(())
 }
 
