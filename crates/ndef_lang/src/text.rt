@@ -12,7 +12,7 @@ use super::utf8::Utf8Lang;
 use super::utf16::Utf16State;
 use ndef_value::{Profile, Reason};
 
-/// The payloads of Text records (RTD Text), by what completes them.
+/// The payloads of Text records (RTD Text 1.0), by what completes them.
 ///
 /// A payload is a status octet with bit 6 clear, as many octets of language code up to 7F as bits 5
 /// to 0 of it tell, and a text: in UTF-16 where bit 7 is set, else in UTF-8.

@@ -26,9 +26,9 @@ use ndef_piece::{
 };
 use ndef_value::{Profile, Reason, Tnf};
 
-/// The payload of a record that holds a message: a smart poster, or a handover request or select
-/// with its version octet.
-#[derive(Drop)]
+/// The payload of a record that holds a message: a smart poster (RTD Smart Poster 1.0), or a handover
+/// request or select (Connection Handover 1.2) with its version octet.
+#[derive(Debug, Drop)]
 pub struct Nest {
     context: Context,
     reader: HeadReader,
@@ -100,7 +100,7 @@ fn start_fits(context: &Context, lo: u64, hi: u64) -> bool
 impl Nest {
     ghost use Rattle.ndef_nest.specs.Nests.{future, come, reached};
 
-    /// Before the first octet of the payload; its message has at most `records` records.
+    /// Before the first octet of the payload; its message has at most `records` records, 1 to 65535.
     pub fn new(table: Table, records: u32, profile: Profile) -> Self
         requires some { 1 ≤ records }
         ensures future { Follows (IsNest table records profile) (future result) [] }

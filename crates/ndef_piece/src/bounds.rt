@@ -9,17 +9,18 @@ use crate::payload_length::{least_and_greatest, length_front};
 use crate::{Head, Spot};
 use ndef_value::Tnf;
 
-/// What the heads that go on after some octets have in common, and the least and the greatest of
-/// their lengths. Each three lengths within these ranges are those of one such head.
-#[derive(Clone, Copy, Debug, PartialEq, Eq)]
+/// What the heads (NDEF 1.0, record layout) that go on after some octets have in common, and the least
+/// and the greatest of their lengths, in octets. Each three lengths within these ranges are those of one
+/// such head.
+#[derive(Clone, Copy, Debug, PartialEq, Eq, Hash)]
 pub struct Bounds {
-    /// ME.
+    /// ME: the piece is the last of its message.
     pub last: bool,
-    /// CF.
+    /// CF: another piece of its record follows.
     pub chunked: bool,
     /// TNF, the reserved 7 being read as Unknown.
     pub tnf: Tnf,
-    /// How many octets of the head are to come.
+    /// How many octets of the head are to come, 0 to 6.
     pub left: usize,
     /// The least and the greatest TYPE_LENGTH.
     pub kind: (u8, u8),

@@ -9,7 +9,7 @@ use crate::payload_length::{least_and_greatest, length_front};
 use ndef_value::Tnf;
 
 /// What the octets of a piece before its TYPE tell (NDEF 1.0, record layout).
-#[derive(Clone, Copy, Debug, PartialEq, Eq)]
+#[derive(Clone, Copy, Debug, PartialEq, Eq, Hash)]
 pub struct Head {
     /// MB: the piece is the first of its message.
     pub first: bool,
@@ -21,11 +21,11 @@ pub struct Head {
     pub short: bool,
     /// TNF, the reserved 7 being read as Unknown.
     pub tnf: Tnf,
-    /// TYPE_LENGTH.
+    /// TYPE_LENGTH, in octets.
     pub kind_length: u8,
     /// PAYLOAD_LENGTH: the payload bytes of this piece alone.
     pub payload_length: u32,
-    /// ID_LENGTH, there exactly if IL is set.
+    /// ID_LENGTH, in octets, there exactly if IL is set.
     pub id_length: Option<u8>,
 }
 

@@ -16,7 +16,7 @@ use ndef_value::Reason;
 use std::marker::Model;
 
 /// What is known after an octet of a head.
-#[derive(Clone, Copy, Debug, PartialEq, Eq)]
+#[derive(Clone, Copy, Debug, PartialEq, Eq, Hash)]
 pub enum Step {
     /// It goes on.
     More,
@@ -55,9 +55,9 @@ fn answer(spot: &Spot, octets: &mut [u8; 7], count: usize, octet: u8) -> Step
     }
 }
 
-/// Reads the head of one piece. Clauses see its spot, its octets so far, a refused one with them,
+/// Reads the head of one piece (NDEF 1.0, record layout), octet by octet. Clauses see its spot, its octets so far, a refused one with them,
 /// and the answer to the last.
-#[derive(Drop)]
+#[derive(Debug, Drop)]
 pub struct HeadReader {
     spot: Spot,
     octets: [u8; 7],
@@ -94,7 +94,8 @@ impl HeadReader {
         }
     }
 
-    /// Takes the next octet. After a head or a refusal it answers the same and changes nothing.
+    /// Takes the next octet. A refused octet isn't part of the head; after a head or a refusal `step`
+    /// answers the same and changes nothing.
     pub fn step(&mut self, octet: u8) -> Step
         ensures sound { IsSound self.old self.old.answer }
         ensures ended { self.old.answer ≢ steps.More

@@ -9,15 +9,15 @@ use ndef_value::Tnf;
 
 /// A whole piece (NDEF 1.0, record layout), its parts being slices of the bytes that spell it, and
 /// what follows it there.
-#[derive(Clone, Copy, Debug)]
+#[derive(Clone, Copy, Debug, PartialEq, Eq, Hash)]
 pub struct WholePiece<'a> {
     /// The header octet, which tells the reserved type name format 7 too.
     pub header: u8,
-    /// TYPE.
+    /// TYPE, 0 to 255 bytes.
     pub kind: &'a [u8],
-    /// ID, empty where IL is clear.
+    /// ID, 0 to 255 bytes, empty where IL is clear.
     pub id: &'a [u8],
-    /// PAYLOAD, of this piece alone.
+    /// PAYLOAD, of this piece alone, 0 to 4294967295 bytes.
     pub payload: &'a [u8],
     /// The bytes behind the piece.
     pub rest: &'a [u8],

@@ -12,7 +12,7 @@ use std::alloc::Global;
 use std::hash::{Hash, Hasher};
 use std::marker::Model;
 
-/// A byte string of any length.
+/// A byte string of any length, as a payload (NDEF 1.0, PAYLOAD) or the bytes of an encoded message.
 #[derive(Debug, Drop)]
 pub struct Bytes {
     bytes: Vec<u8>,
@@ -39,7 +39,7 @@ impl Bytes {
         }
     }
 
-    /// A copy of the bytes, or `NoMemory`.
+    /// A copy of the bytes; `NoMemory` where their growth is refused.
     pub fn from_slice(alloc: Global, bytes: &[u8]) -> Result<Bytes, NoMemory>
         ensures { IfOk result (λ b. b ≡ bytes.now) }
     {

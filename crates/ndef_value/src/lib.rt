@@ -1,4 +1,5 @@
-//! The values of an NDEF message: names, records, messages, limits, and the reasons for a refusal.
+//! The values of an NDEF message (NFC Forum, NDEF 1.0): names, records, messages, limits, and the reasons
+//! for a refusal.
 #![tactic(auto)]
 
 mod bytes;

@@ -7,8 +7,9 @@ use crate::Profile;
 use std::marker::Model;
 use thiserror::Error;
 
-/// The payload bytes and the pieces that a record may have, the records that a message may have, and
-/// what is made of reserved values.
+/// How large a message may be that is read: the bytes of a payload, its pieces joined, 1 to 4294967295;
+/// the records of a message, a nested one too, 1 to 65535; the pieces of a record, 1 to 65535; and what
+/// is made of reserved values. NDEF 1.0 sets no limit but that of its 32-bit lengths.
 #[derive(Clone, Copy, Debug, PartialEq, Eq, Hash)]
 pub struct Limits {
     payload: u32,
@@ -29,7 +30,7 @@ impl Model for Limits {
     ghost inverse = { λ v. record { payload = v.payload; records = v.records; pieces = v.pieces; profile = v.profile } };
 }
 
-/// A limit is out of its range.
+/// A limit is out of its range. Nothing was made.
 #[derive(Clone, Copy, Debug, Drop, PartialEq, Eq, Hash, Error)]
 #[error("a limit out of its range")]
 pub struct OutOfRange;
@@ -73,7 +74,7 @@ impl Limits {
         Limits { profile, ..self }
     }
 
-    /// The greatest number of bytes of a payload.
+    /// The greatest number of bytes of a payload, its pieces joined, 1 to 4294967295.
     pub fn payload(&self) -> u32
         ensures value { result ≡ self.now.payload }
         ensures range { AreInRange self.now }
@@ -81,7 +82,7 @@ impl Limits {
         self.payload
     }
 
-    /// The greatest number of records of a message, a nested one too.
+    /// The greatest number of records of a message, a nested one too, 1 to 65535.
     pub fn records(&self) -> u32
         ensures value { result ≡ self.now.records }
         ensures range { AreInRange self.now }
@@ -89,7 +90,7 @@ impl Limits {
         self.records
     }
 
-    /// The greatest number of pieces of a record.
+    /// The greatest number of pieces of a record, 1 to 65535.
     pub fn pieces(&self) -> u32
         ensures value { result ≡ self.now.pieces }
         ensures range { AreInRange self.now }

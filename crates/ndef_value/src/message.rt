@@ -56,7 +56,8 @@ fn are_items(records: &[Record])
 }
 
 impl Message {
-    /// A message of the records, or the records back. It takes no memory.
+    /// A message of the records, in their order; the records back where there are none or more than
+    /// 65535. It takes no memory.
     pub fn new(records: Vec<Record>) -> Result<Message, MessageError>
         ensures { Gives records.items result }
     {

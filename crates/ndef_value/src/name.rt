@@ -80,7 +80,7 @@ impl Name {
         })
     }
 
-    /// Appends a byte, up to 32 bytes without memory. On `NoMemory` nothing has changed.
+    /// Appends a byte to fewer than 255, up to 32 bytes without memory. On `NoMemory` nothing has changed.
     pub fn push(&mut self, byte: u8) -> Result<(), NoMemory>
         requires { length self.old < 255 }
         ensures ok { OnOk result (self.new ≡ self.old ++ byte ∷ []) }
@@ -90,7 +90,7 @@ impl Name {
         Ok(self.bytes.push(byte)?)
     }
 
-    /// Appends the bytes, up to 32 bytes in all without memory. On `NoMemory` nothing has changed.
+    /// Appends the bytes, to at most 255 in all, up to 32 without memory. On `NoMemory` nothing has changed.
     pub fn extend(&mut self, bytes: &[u8]) -> Result<(), NoMemory>
         requires { length self.old + length bytes.now ≤ 255 }
         ensures ok { OnOk result (self.new ≡ self.old ++ bytes.now) }
@@ -103,7 +103,7 @@ impl Name {
         Ok(self.bytes.extend_from_slice(bytes)?)
     }
 
-    /// The bytes.
+    /// The bytes, 0 to 255 of them.
     pub fn as_slice(&self) -> &[u8]
         ensures value { result.now ≡ self.now }
         ensures bound { length self.now ≤ 255 }

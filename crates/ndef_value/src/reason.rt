@@ -7,58 +7,60 @@ use std::fmt;
 
 /// Why the byte at a place can't stand there, or why the input can't end there.
 ///
-/// Of the reasons that hold of a byte the one with the lowest rank is told.
+/// Of the reasons that hold of a byte the one with the lowest rank is told. `ReservedTnf` to
+/// `PayloadTooLarge` are of heads: broken rules of NDEF 1.0 or of the limits. The others but the last two
+/// are of payloads (RTD Text 1.0, RTD URI 1.0, RTD Smart Poster 1.0 and Connection Handover 1.2).
 #[derive(Clone, Copy, Debug, PartialEq, Eq, Hash)]
 pub enum Reason {
-    /// The type name format is the reserved 7.
+    /// TNF is the reserved 7.
     ReservedTnf,
-    /// The first piece of a message doesn't say that it is.
+    /// The first piece of a message has MB clear.
     BeginMissing,
-    /// A later piece says that it is the first.
+    /// A later piece of a message has MB set.
     BeginAgain,
-    /// An unchanged type where no run is open.
+    /// TNF is that of an unchanged type where no run is open.
     UnchangedOutside,
-    /// A type where a run is open.
+    /// TNF is another than that of an unchanged type where a run is open.
     ChangedInside,
-    /// An id where a run is open.
+    /// IL is set where a run is open.
     IdInside,
-    /// The last piece of a message says that its run goes on.
+    /// The last piece of a message, with ME, says by CF that its run goes on.
     ChunkAtEnd,
-    /// A run of an empty record.
+    /// CF is set in the first piece of an empty record.
     ChunkOfEmpty,
-    /// The run goes on past the pieces that a record may have.
+    /// CF is set in the last piece that a record may have by the limits; in a nested message, in any.
     TooManyPieces,
-    /// The message goes on past the records that it may have.
+    /// ME is clear in the last record that a message may have by the limits.
     TooManyRecords,
-    /// A type where the type name format allows none.
+    /// TYPE_LENGTH isn't 0 where TNF is Unknown or Unchanged.
     TypeNotEmpty,
-    /// No type where the type name format demands one.
+    /// TYPE_LENGTH is 0 where TNF demands a type.
     TypeEmpty,
-    /// An empty record with a type, an id or a payload.
+    /// A length isn't 0 in an empty record.
     EmptyNotEmpty,
-    /// The payload is longer than a payload may be.
+    /// PAYLOAD_LENGTH, with the earlier pieces of the record, is above the limit of a payload.
     PayloadTooLarge,
-    /// The status octet of a text has its reserved bit set.
+    /// The status octet of a text has its reserved bit 6 set.
     TextBit,
-    /// An octet of a language code isn't ASCII.
+    /// An octet of a text's language code isn't ASCII.
     Language,
     /// The octets so far begin no UTF-8 text.
     Utf8,
     /// The octets so far begin no UTF-16 text.
     Utf16,
-    /// The code of a URI is reserved.
+    /// The identifier code of a URI is reserved: 24 to FF hexadecimal.
     UriCode,
     /// A smart poster ends without a URI.
     UriMissing,
     /// A second URI in a smart poster.
     UriAgain,
-    /// A handover of another major version than 1.
+    /// A handover request or select of another major version than 1.
     Version,
     /// A handover request that doesn't begin with a collision record.
     CollisionMissing,
-    /// No other reason holds, but nothing that may follow fits.
+    /// No other reason holds, but nothing that may follow fits the lengths that were told.
     DoesNotFit,
-    /// The input ended.
+    /// The input ended within a message, or before one.
     EndOfInput,
 }
 

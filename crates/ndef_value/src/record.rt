@@ -9,7 +9,8 @@ use std::alloc::Global;
 use std::marker::Model;
 use thiserror::Error;
 
-/// What a run of pieces means: a type name format, a type, an id and a payload that go together.
+/// A record (NDEF 1.0), in one piece or several: a type name format, a type, an id and a payload that go
+/// together.
 ///
 /// An Empty record has no type, id or payload, an Unknown one no type, every other one a type; none
 /// is Unchanged. A type and an id have at most 255 bytes, a payload at most 4294967295.
@@ -33,7 +34,7 @@ impl Model for Record {
     ghost inverse = { λ v. record { tnf = v.tnf; kind = v.kind; id = v.id; payload = v.payload } };
 }
 
-/// Why there is no record of some parts, in the order in which it is told.
+/// Why there is no record of some parts, in the order in which it is told. Nothing was made.
 #[derive(Clone, Copy, Debug, Drop, PartialEq, Eq, Hash, Error)]
 pub enum RecordError {
     /// The type name format is Unchanged, or the parts don't go with it.
@@ -127,7 +128,7 @@ impl Record {
         }
     }
 
-    /// The type name format, never Unchanged.
+    /// The type name format (NDEF 1.0, TNF), never Unchanged.
     pub fn tnf(&self) -> Tnf
         ensures value { result ≡ self.now.tnf }
         ensures item { IsItem self.now }
@@ -135,7 +136,7 @@ impl Record {
         self.tnf
     }
 
-    /// The type.
+    /// The type (NDEF 1.0, TYPE), 0 to 255 bytes.
     pub fn kind(&self) -> &[u8]
         ensures value { result.now ≡ self.now.kind }
         ensures item { IsItem self.now }
@@ -143,7 +144,7 @@ impl Record {
         self.kind.as_slice()
     }
 
-    /// The id; the empty one stands for none too.
+    /// The id (NDEF 1.0, ID), 0 to 255 bytes; the empty one stands for none too.
     pub fn id(&self) -> &[u8]
         ensures value { result.now ≡ self.now.id }
         ensures item { IsItem self.now }
@@ -151,7 +152,7 @@ impl Record {
         self.id.as_slice()
     }
 
-    /// The payload.
+    /// The payload (NDEF 1.0, PAYLOAD), that of all pieces joined, 0 to 4294967295 bytes.
     pub fn payload(&self) -> &[u8]
         ensures value { result.now ≡ self.now.payload }
         ensures item { IsItem self.now }

@@ -9,7 +9,7 @@ use std::fmt;
 /// The first byte that can't stand where it stands, or the end of input that came too early.
 #[derive(Clone, Copy, Debug, PartialEq, Eq, Hash)]
 pub struct Refusal {
-    /// The place, in bytes from the start of what is read.
+    /// The place, in bytes from 0 at the start of what is read: of the message, or of the payload.
     pub at: u64,
     /// Why that byte is refused.
     pub reason: Reason,

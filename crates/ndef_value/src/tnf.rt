@@ -21,12 +21,13 @@ pub enum Tnf {
     External,
     /// A payload of unknown type.
     Unknown,
-    /// A middle or terminating piece of a run: the type is that of its initial piece.
+    /// A middle or terminating piece of a chunked record: the type is that of its initial piece. No
+    /// `Record` has it.
     Unchanged,
 }
 
 impl Tnf {
-    /// The number on the wire, 0 to 6.
+    /// The number on the wire (NDEF 1.0, TNF), 0 to 6.
     pub fn code(self) -> u8
         ensures value { result ≡ code self }
         ensures bound { result ≤ 6 }
