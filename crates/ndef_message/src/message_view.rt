@@ -8,7 +8,7 @@ use ndef_value::{Message, NoMemory, Profile};
 use std::alloc::Global;
 use std::marker::Model;
 
-/// A message at the front of a slice, of which nothing is copied: [`view`](crate::view) makes one of
+/// A message (NDEF 1.0) at the front of a slice, of which nothing is copied: [`view`](crate::view) makes one of
 /// bytes that it has checked. Contracts see how many bytes the message has, the runs of its records,
 /// and the profile with which it was checked.
 #[derive(Debug, Drop)]
@@ -52,7 +52,7 @@ impl<'a> View<'a> {
         self.bytes.len() as u64
     }
 
-    /// How many records the message has, 1 to 65535.
+    /// How many records the message has, 1 to 65535, and at most as many as its limits allowed.
     pub fn records(&self) -> u32
         ensures { result ≡ length self.now.runs }
     {
@@ -75,15 +75,13 @@ impl<'a> View<'a> {
         Items::new(self.bytes)
     }
 
-    /// A copy of the message; or `NoMemory` where a growth is refused.
+    /// A copy of the message; `NoMemory` where a growth is refused.
     pub fn to_message(&self, alloc: Global) -> Result<Message, NoMemory>
         ensures { IfOk result (λ m. m ≡ map joined self.now.runs) }
     {
         let mut records = Vec::new(alloc);
         for item in self.items() {
-            let Ok(()) = records.push(item.to_record(alloc)?) else {
-                return Err(NoMemory);
-            };
+            records.push(item.to_record(alloc)?)?;
         }
         let Ok(message) = Message::new(records) else {
             unreachable!()

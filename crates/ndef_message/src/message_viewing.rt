@@ -8,14 +8,15 @@ use ndef_value::{Limits, Refusal};
 
 /// Views the message with which the bytes begin, without copying or memory (NDEF 1.0, messages).
 ///
-/// It is within the limits, and the payloads of its records are of their kinds in the language `L`.
+/// It is within the limits, and the payloads of its records are of their kinds in the language `L`:
+/// `Typed` of ndef_nest looks into the payloads that the standards define, `Opaque` of ndef_lang into none.
 /// Bytes that begin with no such message are refused at the first byte after which no continuation is
 /// one, or where they end too early, with the reason.
 pub fn view<L: OuterLanguage>(bytes: &[u8], limits: Limits) -> Result<View<'_>, Refusal>
     ensures { Views L.set L.holds limits bytes.now result }
 {
     format_laws(&limits);
-    let mut source = SliceSource::new(bytes, &[]);
+    let mut source = SliceSource::whole(bytes);
     match check_message::<L, SliceSource<'_>>(&mut source, limits) {
         Ok(checked) => Ok(View::new(
             &bytes[..checked.taken as usize],
