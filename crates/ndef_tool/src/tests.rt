@@ -3,6 +3,7 @@
 mod answers;
 mod checking;
 mod command;
+mod comparing;
 mod encoding;
 mod handovers;
 mod links;

@@ -1,6 +1,8 @@
 pub mod Alternatives
 pub mod Contents
 pub mod Decoding
+pub mod Equality
+pub mod EqualityLaws
 pub mod Handovers
 pub mod Links
 pub mod Posters

@@ -4,6 +4,8 @@ ghost use Rattle.std.specs.List.{AllByRecursion, flat_map};
 ghost use Rattle.ndef_lang.specs.Alternative.{IsAlternative, AreAuxiliary, AreReferences};
 ghost use Rattle.ndef_lang.specs.Language.{NoReason};
 ghost use Rattle.ndef_types.specs.Decoding.{Decodes};
+ghost use Rattle.ndef_types.specs.Equality.{ac_eq, ac_hash};
+ghost use Rattle.ndef_types.specs.EqualityLaws.{ac_alike, ac_equiv, ac_per};
 ghost use Rattle.ndef_types.specs.Values.{StandsForAc, StandForAuxiliary, StandForNames, IsAcValue, IsReference, ac_payload, counted};
 ghost use Rattle.ndef_types.specs.Alternatives.{MakesAc};
 
@@ -13,6 +15,7 @@ use crate::{DecodeError, EncodeError, Power};
 use ndef_lang::{AcLang, Kind};
 use ndef_value::{Bytes, Name, NoMemory, Profile};
 use std::alloc::Global;
+use std::hash::{Hash, Hasher};
 use std::marker::Model;
 use thiserror::Error;
 
@@ -74,9 +77,7 @@ fn read_names(alloc: Global, count: u8, octets: &[u8]) -> Result<(Vec<Name>, &[u
         let Ok(name) = Name::from_slice(alloc, name) else {
             return Err(NoMemory);
         };
-        let Ok(()) = names.push(name) else {
-            return Err(NoMemory);
-        };
+        names.push(name)?;
         left = after;
     }
     Ok((names, left))
@@ -216,7 +217,7 @@ impl Ac {
         Ok(self.payload(alloc)?)
     }
 
-    /// The power state.
+    /// The power state of the carrier.
     pub fn power(&self) -> Power
         ensures { result ≡ self.now.power }
     {
@@ -253,5 +254,37 @@ impl Ac {
         ensures ac { IsAcValue self.now }
     {
         self.rest.as_slice()
+    }
+}
+
+/// Alternative carriers are equal in power state, references and the octets behind them.
+impl PartialEq for Ac {
+    ghost eq = { ac_eq };
+
+    ghost laws = { ac_per };
+
+    fn eq(&self, other: &Ac) -> bool {
+        let same_references = self.reference == other.reference
+            && self.auxiliary == other.auxiliary;
+        let same_power = self.power == other.power;
+        same_power && same_references && self.rest == other.rest
+    }
+}
+
+impl Eq for Ac {
+    ghost laws = { ac_equiv };
+}
+
+impl Hash for Ac {
+    ghost hash_input = { ac_hash };
+
+    ghost respects_eq = { ac_alike.fed };
+
+    fn hash<H: Hasher>(&self, state: &mut H) {
+        let power = self.power;
+        power.hash(state);
+        self.reference.hash(state);
+        self.auxiliary.hash(state);
+        self.rest.hash(state);
     }
 }

@@ -14,7 +14,7 @@ use std::marker::Model;
 
 /// A carrier that a handover may use (Connection Handover 1.2, Handover Carrier record): a carrier type
 /// format of 0 to 7, a carrier type of 0 to 255 bytes and carrier data.
-#[derive(Debug, Drop)]
+#[derive(Debug, Drop, PartialEq, Eq, Hash)]
 pub struct Carrier {
     format: u8,
     kind: Name,
@@ -29,6 +29,8 @@ impl Model for Carrier {
     ghost view = { λ c. record { format = c.format; kind = c.kind; carried = c.carried } };
 
     ghost invariant = { λ c. IsCarrierValue (record { format = c.format; kind = c.kind; carried = c.carried }) };
+
+    ghost inverse = { λ v. record { format = v.format; kind = v.kind; carried = v.carried } };
 }
 
 /// The carrier for which a payload stands.

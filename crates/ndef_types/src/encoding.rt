@@ -1,10 +1,10 @@
 //! How the text of a Text record is encoded.
 
 /// The encoding of a text (RTD Text 1.0, status octet).
-#[derive(Clone, Copy, Debug, PartialEq, Eq)]
+#[derive(Clone, Copy, Debug, PartialEq, Eq, Hash)]
 pub enum Encoding {
-    /// UTF-8.
+    /// UTF-8 (RFC 3629).
     Utf8,
-    /// UTF-16, which is written big-endian behind a byte order mark.
+    /// UTF-16 (RFC 2781), which is written big-endian behind a byte order mark.
     Utf16,
 }

@@ -6,8 +6,8 @@ ghost use Rattle.ndef_types.specs.declared.error.EncodeError.TheVariants as enco
 use ndef_value::{NoMemory, Refusal};
 use thiserror::Error;
 
-/// Why no value was decoded.
-#[derive(Clone, Copy, Debug, Drop, PartialEq, Eq, Error)]
+/// Why no value was decoded, in the order in which it is told.
+#[derive(Clone, Copy, Debug, Drop, PartialEq, Eq, Hash, Error)]
 pub enum DecodeError {
     /// The payload isn't in the set of its type, or has more than 4294967295 bytes. The place is in the
     /// payload: the first byte after which nothing of its length is in the set, or 0 with `DoesNotFit`
@@ -36,9 +36,9 @@ impl From<NoMemory> for DecodeError {
 }
 
 /// Why no payload was made, in the order in which it is told.
-#[derive(Clone, Copy, Debug, Drop, PartialEq, Eq, Error)]
+#[derive(Clone, Copy, Debug, Drop, PartialEq, Eq, Hash, Error)]
 pub enum EncodeError {
-    /// It would have more than 4294967295 bytes.
+    /// It would have more than 4294967295 bytes, the most that PAYLOAD_LENGTH tells (NDEF 1.0).
     #[error("a payload of more than 4294967295 bytes")]
     TooLong,
     /// A growth was refused.

@@ -2,6 +2,7 @@
 ghost use Rattle.std.specs.Prelude.{◌≡◌, ◌≤◌, ◌^◌, ◌↔◌, length, IsTrue, IfOk, IsErrOf};
 ghost use Rattle.ndef_lang.specs.HandoverError.{IsError, IsErrorData};
 ghost use Rattle.ndef_lang.specs.Language.{NoReason};
+ghost use Rattle.ndef_types.specs.declared.handover_error.DetailError.TheVariants as errors;
 ghost use Rattle.ndef_types.specs.Decoding.{Decodes};
 ghost use Rattle.ndef_types.specs.Values.{StandsForError, IsErrorValue, error_payload};
 
@@ -15,7 +16,7 @@ use thiserror::Error;
 
 /// Why a handover fails (Connection Handover 1.2, Error record): a reason and its data, which is one
 /// byte for the reasons 1 and 3, four bytes for 2, and any bytes for all others.
-#[derive(Debug, Drop)]
+#[derive(Debug, Drop, PartialEq, Eq, Hash)]
 pub struct HandoverError {
     reason: u8,
     detail: Bytes,
@@ -29,17 +30,27 @@ impl Model for HandoverError {
     ghost view = { λ e. record { reason = e.reason; detail = e.detail } };
 
     ghost invariant = { λ e. IsErrorValue (record { reason = e.reason; detail = e.detail }) };
+
+    ghost inverse = { λ v. record { reason = v.reason; detail = v.detail } };
 }
 
 /// Why there is no handover error of a reason and some data, in the order in which it is told.
-#[derive(Clone, Copy, Debug, Drop, PartialEq, Eq, Error)]
-pub enum HandoverErrorError {
+#[derive(Clone, Copy, Debug, Drop, PartialEq, Eq, Hash, Error)]
+pub enum DetailError {
     /// The data isn't as long as the reason asks.
     #[error("the data does not go with the reason")]
     BadShape,
     /// A growth was refused.
     #[error("no memory")]
     NoMemory,
+}
+
+impl From<NoMemory> for DetailError {
+    ghost from_gives = { λ _ error. error ≡ errors.NoMemory };
+
+    fn from(_: NoMemory) -> DetailError {
+        DetailError::NoMemory
+    }
 }
 
 /// Whether the data goes with the reason.
@@ -55,21 +66,15 @@ fn goes_with(reason: u8, detail: &[u8]) -> bool
 
 impl HandoverError {
     /// An error of the reason with a copy of the data. `BadShape` comes before `NoMemory`.
-    pub fn new(
-        alloc: Global,
-        reason: u8,
-        detail: &[u8],
-    ) -> Result<HandoverError, HandoverErrorError>
+    pub fn new(alloc: Global, reason: u8, detail: &[u8]) -> Result<HandoverError, DetailError>
         ensures ok { IfOk result (λ e. e ≡ record { reason = reason; detail = detail.now }) }
-        ensures bad_shape { IsErrOf result HandoverErrorError.BadShape ↔ ¬ IsErrorData reason detail.now }
+        ensures bad_shape { IsErrOf result DetailError.BadShape ↔ ¬ IsErrorData reason detail.now }
     {
         if !goes_with(reason, detail) {
-            return Err(HandoverErrorError::BadShape);
+            return Err(DetailError::BadShape);
         }
-        match Bytes::from_slice(alloc, detail) {
-            Ok(detail) => Ok(HandoverError { reason, detail }),
-            Err(NoMemory) => Err(HandoverErrorError::NoMemory),
-        }
+        let detail = Bytes::from_slice(alloc, detail)?;
+        Ok(HandoverError { reason, detail })
     }
 
     /// The error for which the payload of an error record stands. `Refused` where the payload isn't in

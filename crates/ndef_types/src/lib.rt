@@ -1,5 +1,5 @@
-//! Typed payloads: texts, URIs, smart posters and handovers (NFC Forum, RTD Text, RTD URI, RTD Smart
-//! Poster and Connection Handover 1.2).
+//! Typed payloads: texts, URIs, smart posters and handovers (NFC Forum, RTD Text 1.0, RTD URI 1.0, RTD
+//! Smart Poster 1.0 and Connection Handover 1.2).
 #![tactic(auto)]
 
 mod accept;
@@ -31,7 +31,7 @@ pub use alternative::{Ac, TooMany};
 pub use carrier::Carrier;
 pub use encoding::Encoding;
 pub use error::{DecodeError, EncodeError};
-pub use handover_error::{HandoverError, HandoverErrorError};
+pub use handover_error::{DetailError, HandoverError};
 pub use laws::{
     alternatives_are_exact, carriers_are_exact, errors_are_exact, texts_are_exact, uris_are_exact,
 };

@@ -1,5 +1,7 @@
 //! The links of a message.
-ghost use Rattle.std.specs.Prelude.{◌≡◌, ◌≢◌, ◌++◌, ◌∷◌, ◌↔◌, ◌⊎◌, [], Some, length, map, slice_get, option_map, IfOk, IsTrue, OnOk};
+ghost use Rattle.std.specs.Iterator.Runs.{EveryRun, ItemsMapTo};
+ghost use Rattle.std.specs.Prelude.{◌≡◌, ◌≢◌, ◌<◌, ◌^◌, ◌++◌, ◌∷◌, ◌↔◌, ◌⊎◌, [], Some, length, map, slice_get, option_map, IfOk, IsTrue, OnOk};
+ghost use Rattle.std.specs.Slice.Iter.{iter_rest, iter_steps};
 ghost use Rattle.std.specs.List.{AllByRecursion, list_any};
 ghost use Rattle.ndef_value.specs.Wire.{joined};
 ghost use Rattle.ndef_value.specs.declared.profile.Profile.TheVariants.{Strict};
@@ -25,10 +27,12 @@ use ndef_nest::Nest;
 use ndef_value::{Message, NoMemory, Profile, Record, Refusal};
 use std::alloc::Global;
 use std::marker::Model;
+use std::slice;
 use thiserror::Error;
 
-/// An alternative carrier of a handover, and the record that it refers to.
-#[derive(Debug, Drop)]
+/// An alternative carrier of a handover (Connection Handover 1.2, Alternative Carrier record), and the
+/// record that it refers to.
+#[derive(Debug, Drop, PartialEq, Eq, Hash)]
 pub struct Link {
     /// The alternative carrier.
     pub ac: Ac,
@@ -66,10 +70,7 @@ impl Links {
     pub(crate) fn push(&mut self, link: Link) -> Result<(), NoMemory>
         ensures { OnOk result (self.new ≡ self.old ++ link ∷ []) }
     {
-        match self.links.push(link) {
-            Ok(()) => Ok(()),
-            Err(_) => Err(NoMemory),
-        }
+        Ok(self.links.push(link)?)
     }
 
     /// How many there are.
@@ -79,16 +80,45 @@ impl Links {
         self.links.len()
     }
 
-    /// The link at a place, counted from 0.
+    /// Whether there is none.
+    pub fn is_empty(&self) -> bool
+        ensures { IsTrue result ↔ (self.now ≡ []) }
+    {
+        self.links.is_empty()
+    }
+
+    /// The link at a place, counted from 0; none from `len` on.
     pub fn get(&self, index: usize) -> Option<&Link>
         ensures { option_map (λ l. l.now) result ≡ slice_get self.now index }
     {
         self.links.get(index)
     }
+
+    /// The links one after another. Each call begins anew.
+    pub fn iter(&self) -> slice::Iter<'_, Link>
+        ensures { iter_rest result ≡ self.now }
+    {
+        self.into_iter()
+    }
+}
+
+impl<'a> IntoIterator for &'a Links {
+    ghost use Rattle.ndef_types.specs.declared.link.Link.{Link as Each};
+
+    type Item = &'a Link;
+
+    type IntoIter = slice::Iter<'a, Link>;
+
+    ghost into_iter_gives = { λ links it. (iter_rest it ≡ links.now) × (length (iter_rest it) < 2 ^ 64)
+        × EveryRun (iter_steps {A = Each}) (λ run. ItemsMapTo run (λ link. link.now) (iter_rest run.from)) };
+
+    fn into_iter(self) -> slice::Iter<'a, Link> {
+        self.links.iter()
+    }
 }
 
 /// Why the links of a message aren't known, in the order in which it is told.
-#[derive(Clone, Copy, Debug, Drop, PartialEq, Eq, Error)]
+#[derive(Clone, Copy, Debug, Drop, PartialEq, Eq, Hash, Error)]
 pub enum LinkError {
     /// The payload of the handover record isn't in its set: the refusal is that of its decoding, and
     /// the place is in that payload.
@@ -243,8 +273,6 @@ pub fn carriers_view(alloc: Global, view: &View<'_>) -> Result<Links, LinkError>
     if !has_handover(view) {
         return Ok(Links::new(alloc));
     }
-    match view.to_message(alloc) {
-        Ok(message) => carriers_as(alloc, &message, view.profile()),
-        Err(NoMemory) => Err(LinkError::NoMemory),
-    }
+    let message = view.to_message(alloc)?;
+    carriers_as(alloc, &message, view.profile())
 }

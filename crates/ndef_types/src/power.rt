@@ -3,15 +3,15 @@ ghost use Rattle.std.specs.Prelude.{◌≡◌, ◌%◌};
 ghost use Rattle.ndef_types.specs.Values.{power_code};
 
 /// The power state of a carrier (Connection Handover 1.2, Alternative Carrier record).
-#[derive(Clone, Copy, Debug, PartialEq, Eq)]
+#[derive(Clone, Copy, Debug, PartialEq, Eq, Hash)]
 pub enum Power {
-    /// The carrier is off.
+    /// 0: the carrier is off.
     Inactive,
-    /// The carrier is on.
+    /// 1: the carrier is on.
     Active,
-    /// The carrier is being turned on.
+    /// 2: the carrier is being turned on.
     Activating,
-    /// The state isn't known.
+    /// 3: the state isn't known.
     Unknown,
 }
 

@@ -21,7 +21,7 @@ use std::marker::Model;
 
 /// A handover request (Connection Handover 1.2): a minor version from 0 to 15, and a message that
 /// begins with its collision resolution record.
-#[derive(Debug, Drop)]
+#[derive(Debug, Drop, PartialEq, Eq, Hash)]
 pub struct Request {
     minor: u8,
     message: Message,
@@ -39,6 +39,8 @@ impl Model for Request {
     ghost view = { λ r. record { minor = r.minor; items = r.message } };
 
     ghost invariant = { λ r. (r.minor < 16) × HasContents tables.Request Strict r.message };
+
+    ghost inverse = { λ v. record { minor = v.minor; message = v.items } };
 }
 
 /// The request for which a payload stands.
@@ -71,7 +73,8 @@ impl Request {
 
     /// The request for which the payload of a Handover Request record stands, as a strict reader
     /// takes it: a version octet and a message of at most 65535 records, each in one piece. Any other
-    /// payload is refused at the first byte after which no payload of its length is one.
+    /// payload is `Refused` at the first byte after which no payload of its length is one. Else
+    /// `NoMemory`.
     pub fn decode(alloc: Global, payload: &[u8]) -> Result<Request, DecodeError>
         ensures { Decodes (IsNest tables.Request 65535 Strict) (NestReason tables.Request 65535 Strict)
             (StandsForRequest Strict) payload.now result }
@@ -80,7 +83,7 @@ impl Request {
     }
 
     /// The request for which the payload of a Handover Request record stands, as a reader of the
-    /// profile takes it.
+    /// profile takes it. Refusals as for `decode`.
     pub fn decode_as(
         alloc: Global,
         payload: &[u8],
@@ -118,7 +121,8 @@ impl Request {
         &self.message
     }
 
-    /// The number that resolves a collision, of the first record.
+    /// The random number that resolves a collision (Connection Handover 1.2, Collision Resolution record),
+    /// of the first record.
     pub fn collision(&self) -> u16
         ensures { IsCollisionOf self.now.items result }
     {

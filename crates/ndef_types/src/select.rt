@@ -19,7 +19,7 @@ use std::alloc::Global;
 use std::marker::Model;
 
 /// A handover select (Connection Handover 1.2): a minor version from 0 to 15, and a message or none.
-#[derive(Debug, Drop)]
+#[derive(Debug, Drop, PartialEq, Eq, Hash)]
 pub struct Select {
     minor: u8,
     message: Option<Message>,
@@ -37,6 +37,8 @@ impl Model for Select {
     ghost view = { λ s. record { minor = s.minor; message = s.message } };
 
     ghost invariant = { λ s. (s.minor < 16) × IfSome s.message (HasContents tables.Select Strict) };
+
+    ghost inverse = { λ v. record { minor = v.minor; message = v.message } };
 }
 
 /// The select for which a payload stands.
@@ -79,7 +81,8 @@ impl Select {
 
     /// The select for which the payload of a Handover Select record stands, as a strict reader takes
     /// it: a version octet alone, or with a message of at most 65535 records, each in one piece. Any
-    /// other payload is refused at the first byte after which no payload of its length is one.
+    /// other payload is `Refused` at the first byte after which no payload of its length is one. Else
+    /// `NoMemory`.
     pub fn decode(alloc: Global, payload: &[u8]) -> Result<Select, DecodeError>
         ensures { Decodes (IsNest tables.Select 65535 Strict) (NestReason tables.Select 65535 Strict)
             (StandsForSelect Strict) payload.now result }
@@ -88,7 +91,7 @@ impl Select {
     }
 
     /// The select for which the payload of a Handover Select record stands, as a reader of the
-    /// profile takes it.
+    /// profile takes it. Refusals as for `decode`.
     pub fn decode_as(alloc: Global, payload: &[u8], profile: Profile) -> Result<Select, DecodeError>
         ensures { Decodes (IsNest tables.Select 65535 profile) (NestReason tables.Select 65535 profile)
             (StandsForSelect profile) payload.now result }

@@ -27,7 +27,7 @@ use thiserror::Error;
 
 /// A smart poster (RTD Smart Poster 1.0): a message with exactly one URI, in which titles, actions,
 /// sizes and media types have payloads of their own, as a strict reader takes them.
-#[derive(Debug, Drop)]
+#[derive(Debug, Drop, PartialEq, Eq, Hash)]
 pub struct SmartPoster {
     message: Message,
 }
@@ -44,6 +44,8 @@ impl Model for SmartPoster {
     ghost view = { λ p. p.message };
 
     ghost invariant = { λ p. HasContents tables.SmartPoster Strict p.message };
+
+    ghost inverse = { λ items. record { message = items } };
 }
 
 /// The message isn't one of a smart poster, and is handed back.
@@ -105,9 +107,7 @@ fn plain_message(alloc: Global, message: &Message) -> Result<Message, NoMemory>
 {
     let mut records = Vec::new(alloc);
     for item in message.records() {
-        let Ok(()) = records.push(plain_record(alloc, item)?) else {
-            return Err(NoMemory);
-        };
+        records.push(plain_record(alloc, item)?)?;
     }
     match Message::new(records) {
         Ok(copy) => Ok(copy),
@@ -158,8 +158,8 @@ impl SmartPoster {
     }
 
     /// The poster for which the payload of a Smart Poster record stands, as a strict reader takes it:
-    /// a message of at most 65535 records, each in one piece. Any other payload is refused at the first
-    /// byte after which no payload of its length is one.
+    /// a message of at most 65535 records, each in one piece. Any other payload is `Refused` at the first
+    /// byte after which no payload of its length is one. Else `NoMemory`.
     pub fn decode(alloc: Global, payload: &[u8]) -> Result<SmartPoster, DecodeError>
         ensures { Decodes (IsNest tables.SmartPoster 65535 Strict) (NestReason tables.SmartPoster 65535 Strict)
             (StandsForPoster Strict) payload.now result }
@@ -168,7 +168,7 @@ impl SmartPoster {
     }
 
     /// The poster for which the payload of a Smart Poster record stands, as a reader of the profile
-    /// takes it. A reserved code of its URI is 0 in the poster.
+    /// takes it. A reserved code of its URI is 0 in the poster. Refusals as for `decode`.
     pub fn decode_as(
         alloc: Global,
         payload: &[u8],
@@ -210,8 +210,8 @@ impl SmartPoster {
         Some(Action::of(item.payload()[0]))
     }
 
-    /// The size in bytes of what the poster refers to, as the first size record tells it; none without
-    /// one.
+    /// The size in bytes of what the poster refers to, 0 to 4294967295, as the first size record tells it;
+    /// none without one.
     pub fn size(&self) -> Option<u32>
         ensures { Says kinds.Size size_in self.now result }
     {

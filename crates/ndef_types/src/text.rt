@@ -1,6 +1,9 @@
 //! Texts.
 ghost use Rattle.std.specs.Prelude.{◌≡◌, ◌<◌, ◌≤◌, ◌^◌, ◌++◌, ◌↔◌, length, chars, encode_utf8_all, string_bytes, IsAscii, IsUtf8, IfOk, OnOk, IsErrOf, IsTrue};
+ghost use Rattle.ndef_types.specs.Equality.{text_eq, text_hash};
+ghost use Rattle.ndef_types.specs.EqualityLaws.{text_alike, text_equiv, text_per};
 ghost use Rattle.ndef_lang.specs.Text.{IsText, IsTextIn, TextReason, is_wide};
+ghost use Rattle.ndef_types.specs.declared.text.TextError.TheVariants as errors;
 ghost use Rattle.ndef_types.specs.Decoding.{Decodes};
 ghost use Rattle.ndef_types.specs.Values.{StandsForText, SpellsText, IsTextValue, is_utf16, language_octets, encoded_octets, status_octet, text_octets, text_payload};
 
@@ -10,7 +13,8 @@ use crate::utf16::{push_text, read_utf16, units_len};
 use crate::{DecodeError, EncodeError, Encoding};
 use ndef_lang::{Kind, TextLang};
 use ndef_value::{Bytes, NoMemory, Profile};
-use std::alloc::Global;
+use std::alloc::{AllocError, Global};
+use std::hash::{Hash, Hasher};
 use std::marker::Model;
 use thiserror::Error;
 
@@ -37,7 +41,7 @@ impl Model for Text {
 }
 
 /// Why there is no text of some parts, in the order in which it is told.
-#[derive(Clone, Copy, Debug, Drop, PartialEq, Eq, Error)]
+#[derive(Clone, Copy, Debug, Drop, PartialEq, Eq, Hash, Error)]
 pub enum TextError {
     /// A language code of more than 63 bytes.
     #[error("a language code of more than 63 bytes")]
@@ -50,6 +54,14 @@ pub enum TextError {
     NoMemory,
 }
 
+impl From<AllocError> for TextError {
+    ghost from_gives = { λ _ error. error ≡ errors.NoMemory };
+
+    fn from(_: AllocError) -> TextError {
+        TextError::NoMemory
+    }
+}
+
 /// A copy of the text that the octets are.
 fn read_utf8(alloc: Global, octets: &[u8]) -> Result<String, NoMemory>
     requires { IsUtf8 octets.now }
@@ -58,10 +70,7 @@ fn read_utf8(alloc: Global, octets: &[u8]) -> Result<String, NoMemory>
     let Ok(text) = simdutf8::basic::from_utf8(octets) else {
         unreachable!()
     };
-    match String::from_str(alloc, text) {
-        Ok(text) => Ok(text),
-        Err(_) => Err(NoMemory),
-    }
+    Ok(String::from_str(alloc, text)?)
 }
 
 /// The encoding that a status octet tells.
@@ -166,12 +175,8 @@ impl Text {
         if !language.is_ascii() {
             return Err(TextError::NotAscii);
         }
-        let Ok(language) = String::from_str(alloc, language) else {
-            return Err(TextError::NoMemory);
-        };
-        let Ok(text) = String::from_str(alloc, text) else {
-            return Err(TextError::NoMemory);
-        };
+        let language = String::from_str(alloc, language)?;
+        let text = String::from_str(alloc, text)?;
         Ok(Text {
             encoding,
             language,
@@ -245,5 +250,34 @@ impl Text {
         payload.extend(language)?;
         push_octets(&mut payload, self.encoding, &self.text)?;
         Ok(payload)
+    }
+}
+
+/// Texts are equal in encoding, language code and text.
+impl PartialEq for Text {
+    ghost eq = { text_eq };
+
+    ghost laws = { text_per };
+
+    fn eq(&self, other: &Text) -> bool {
+        let same_parts = self.encoding == other.encoding && self.language == other.language;
+        same_parts && self.text() == other.text()
+    }
+}
+
+impl Eq for Text {
+    ghost laws = { text_equiv };
+}
+
+impl Hash for Text {
+    ghost hash_input = { text_hash };
+
+    ghost respects_eq = { text_alike.fed };
+
+    fn hash<H: Hasher>(&self, state: &mut H) {
+        let encoding = self.encoding;
+        encoding.hash(state);
+        self.language.hash(state);
+        self.text().hash(state);
     }
 }

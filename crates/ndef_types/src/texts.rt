@@ -1,12 +1,16 @@
 //! The titles of a smart poster.
-ghost use Rattle.std.specs.Prelude.{◌≡◌, ◌++◌, ◌∷◌, [], length, slice_get, option_map, OnOk};
+ghost use Rattle.std.specs.Iterator.Runs.{EveryRun, ItemsMapTo};
+ghost use Rattle.std.specs.Prelude.{◌≡◌, ◌<◌, ◌^◌, ◌↔◌, ◌++◌, ◌∷◌, [], length, slice_get, option_map, IsTrue, OnOk};
+ghost use Rattle.std.specs.Slice.Iter.{iter_rest, iter_steps};
+ghost use Rattle.ndef_types.specs.Values.{TextValue};
 
 use crate::Text;
 use ndef_value::NoMemory;
 use std::alloc::Global;
 use std::marker::Model;
+use std::slice;
 
-/// The titles of a smart poster, in order.
+/// The titles of a smart poster (RTD Smart Poster 1.0, title records), in order.
 #[derive(Debug, Drop)]
 pub struct Texts {
     texts: Vec<Text>,
@@ -35,10 +39,7 @@ impl Texts {
     pub(crate) fn push(&mut self, text: Text) -> Result<(), NoMemory>
         ensures { OnOk result (self.new ≡ self.old ++ text ∷ []) }
     {
-        match self.texts.push(text) {
-            Ok(()) => Ok(()),
-            Err(_) => Err(NoMemory),
-        }
+        Ok(self.texts.push(text)?)
     }
 
     /// How many there are.
@@ -48,10 +49,37 @@ impl Texts {
         self.texts.len()
     }
 
-    /// The text at a place, counted from 0.
+    /// Whether there is none.
+    pub fn is_empty(&self) -> bool
+        ensures { IsTrue result ↔ (self.now ≡ []) }
+    {
+        self.texts.is_empty()
+    }
+
+    /// The text at a place, counted from 0; none from `len` on.
     pub fn get(&self, index: usize) -> Option<&Text>
         ensures { option_map (λ t. t.now) result ≡ slice_get self.now index }
     {
         self.texts.get(index)
+    }
+
+    /// The texts one after another. Each call begins anew.
+    pub fn iter(&self) -> slice::Iter<'_, Text>
+        ensures { iter_rest result ≡ self.now }
+    {
+        self.into_iter()
+    }
+}
+
+impl<'a> IntoIterator for &'a Texts {
+    type Item = &'a Text;
+
+    type IntoIter = slice::Iter<'a, Text>;
+
+    ghost into_iter_gives = { λ texts it. (iter_rest it ≡ texts.now) × (length (iter_rest it) < 2 ^ 64)
+        × EveryRun (iter_steps {A = TextValue}) (λ run. ItemsMapTo run (λ text. text.now) (iter_rest run.from)) };
+
+    fn into_iter(self) -> slice::Iter<'a, Text> {
+        self.texts.iter()
     }
 }

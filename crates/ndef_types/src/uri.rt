@@ -1,5 +1,10 @@
 //! URIs.
-ghost use Rattle.std.specs.Prelude.{◌≡◌, ◌<◌, ◌≤◌, ◌^◌, ◌↔◌, ℕ, List, length, IsUtf8, IfOk, IsErrOf};
+ghost use Rattle.std.proofs.Common.{rules};
+ghost use Rattle.std.specs.Cmp.{partial_equiv_from_equiv};
+ghost use Rattle.std.specs.Cmp.Lexicographic.{nat_list_eq_equiv, pointwise};
+ghost use Rattle.std.specs.Cmp.Rules.{hashing};
+ghost use Rattle.std.specs.Hash as fed;
+ghost use Rattle.std.specs.Prelude.{◌≡◌, ◌==◌, ◌<◌, ◌≤◌, ◌^◌, ◌↔◌, ℕ, List, length, IsTrue, IsUtf8, IfOk, IsErrOf};
 ghost use Rattle.ndef_lang.specs.Uri.{IsUri, UriReason};
 ghost use Rattle.ndef_value.specs.declared.profile.Profile.TheVariants.{Strict};
 ghost use Rattle.ndef_types.specs.Decoding.{Decodes, IsTooLong};
@@ -11,9 +16,10 @@ use crate::{DecodeError, EncodeError};
 use ndef_lang::{Kind, UriLang};
 use ndef_value::{Bytes, NoMemory, Profile};
 use std::alloc::Global;
+use std::hash::{Hash, Hasher};
 use std::marker::Model;
 
-/// A URI (RTD URI 1.0), as one whole text in UTF-8.
+/// A URI (RTD URI 1.0; RFC 3986 says what one is), as one whole text in UTF-8, its prefix written out.
 #[derive(Debug, Drop)]
 pub struct Uri {
     text: String,
@@ -35,13 +41,9 @@ pub(crate) fn read_uri(alloc: Global, payload: &[u8], profile: Profile) -> Resul
     let Ok(rest) = simdutf8::basic::from_utf8(&payload[1..]) else {
         unreachable!()
     };
-    let Ok(mut text) = String::from_str(alloc, prefix(payload[0])) else {
-        return Err(NoMemory);
-    };
-    match text.push_str(rest) {
-        Ok(()) => Ok(Uri { text }),
-        Err(_) => Err(NoMemory),
-    }
+    let mut text = String::from_str(alloc, prefix(payload[0]))?;
+    text.push_str(rest)?;
+    Ok(Uri { text })
 }
 
 impl Uri {
@@ -49,10 +51,9 @@ impl Uri {
     pub fn new(alloc: Global, text: &str) -> Result<Uri, NoMemory>
         ensures { IfOk result (λ uri. uri ≡ text.now) }
     {
-        match String::from_str(alloc, text) {
-            Ok(text) => Ok(Uri { text }),
-            Err(_) => Err(NoMemory),
-        }
+        Ok(Uri {
+            text: String::from_str(alloc, text)?,
+        })
     }
 
     /// The URI for which the payload of a URI record stands, as a strict reader takes it: the prefix of
@@ -95,5 +96,32 @@ impl Uri {
         ensures text { IsUtf8 self.now }
     {
         self.text.as_str()
+    }
+}
+
+impl PartialEq for Uri {
+    ghost eq = { pointwise ◌==◌ };
+
+    ghost laws = { partial_equiv_from_equiv nat_list_eq_equiv };
+
+    fn eq(&self, other: &Uri) -> bool
+        ensures eq { result ≡ pointwise ◌==◌ self.now other.now }
+        ensures value { IsTrue result ↔ (self.now ≡ other.now) }
+    {
+        self.text == other.text
+    }
+}
+
+impl Eq for Uri {
+    ghost laws = { nat_list_eq_equiv };
+}
+
+impl Hash for Uri {
+    ghost hash_input = { fed.str };
+
+    ghost respects_eq = { Prim.search (hashing, rules) };
+
+    fn hash<H: Hasher>(&self, state: &mut H) {
+        self.text.hash(state);
     }
 }

@@ -1,7 +1,7 @@
 //! Alternative carriers, handover errors and handover carriers: what their payloads stand for, what is
 //! refused, and what is written.
 use super::samples::refused;
-use ndef_types::{Ac, Carrier, HandoverError, HandoverErrorError, Power};
+use ndef_types::{Ac, Carrier, DetailError, HandoverError, Power};
 use ndef_value::{Bytes, Name, Reason};
 use std::alloc::Global;
 use std::test::Fail;
@@ -127,10 +127,7 @@ fn handover_errors_are_read_and_written(rt: HostRuntime) -> Result<(), Fail> {
     let rows: [(u8, &[u8]); 4] = [(1, b""), (2, b"@"), (2, b"12345"), (3, b"12")];
     for (reason, detail) in rows {
         let made = HandoverError::new(alloc, reason, detail);
-        assert!(rt;
-            made.err() == Some(HandoverErrorError::BadShape),
-            "{reason}"
-        );
+        assert!(rt; made.err() == Some(DetailError::BadShape), "{reason}");
     }
     Ok(())
 }

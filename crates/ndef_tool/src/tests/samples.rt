@@ -61,7 +61,7 @@ pub(super) fn refused<T: Drop>(decoded: Result<T, DecodeError>) -> Option<(u64, 
 
 /// The message that the bytes begin with, whatever its payloads.
 pub(super) fn read(alloc: Global, bytes: &[u8]) -> Result<Message, Fail> {
-    let mut source = SliceSource::new(bytes, &[]);
+    let mut source = SliceSource::whole(bytes);
     let read = read_message::<Opaque, _>(alloc, &mut source, Limits::usual())?;
     Ok(read.message)
 }

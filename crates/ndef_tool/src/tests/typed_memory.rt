@@ -1,8 +1,8 @@
 //! Typed values where memory is used up.
 use super::memory::{spare_blocks, use_up};
 use ndef_types::{
-    Ac, Carrier, DecodeError, EncodeError, Encoding, HandoverError, HandoverErrorError, Text,
-    TextError, Uri,
+    Ac, Carrier, DecodeError, DetailError, EncodeError, Encoding, HandoverError, Text, TextError,
+    Uri,
 };
 use ndef_value::{Bytes, NoMemory};
 use std::alloc::Global;
@@ -107,8 +107,8 @@ fn new_text(alloc: Global) -> Result<bool, NoMemory> {
 fn new_error(alloc: Global) -> Result<bool, NoMemory> {
     match HandoverError::new(alloc, 2, &ERROR[1..]) {
         Ok(_) => Ok(true),
-        Err(HandoverErrorError::NoMemory) => Err(NoMemory),
-        Err(HandoverErrorError::BadShape) => Ok(false),
+        Err(DetailError::NoMemory) => Err(NoMemory),
+        Err(DetailError::BadShape) => Ok(false),
     }
 }
 

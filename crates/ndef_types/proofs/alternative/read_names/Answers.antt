@@ -11,7 +11,7 @@ split_counted-requires c = (name_step _ _ _ _ _ c.loop-i-test.true c.loop-i.inva
 pub loop-i-preserved : goal.loop-i-preserved
 loop-i-preserved c =
     let s = name_step _ _ _ _ _ c.loop-i-test.true c.loop-i.invariant in
-    rw (c.in-Ok-push.ensures.items, c.in-Ok.ensures.ok, c.split_counted.ensures.field, c.split_counted.ensures.rest) s.next
+    rw (c.in_ok-push.ensures.items, c.in-Ok.ensures.ok, c.split_counted.ensures.field, c.split_counted.ensures.rest) s.next
 
 pub returns-clause-names : goal.returns-clause-names
 returns-clause-names c = names_last _ _ _ _ _ c.loop-i-test.false c.loop-i.invariant

@@ -1,4 +1,4 @@
-use Rattle.std.proofs.Common.{◌≡◌, ◌∙◌, sym, ap, true, false, Some, None, Ok}
+use Rattle.std.proofs.Common.{rules, ◌≡◌, ◌∙◌, sym, ap, true, false, Some, None, Ok}
 use Rattle.ndef_types.proofs.ViewedLinks.{no_handover, some_handover}
 use Rattle.ndef_types.proofs.link.carriers_view.Goals as goal
 
@@ -7,8 +7,8 @@ returns-then-not-has_handover c =
     let e : c.has_handover.result ≡ false = cc in
     (None, no_handover c.args.view.now.runs (sym c.has_handover.ensures ∙ e), ap Ok c.new.ensures)
 
-pub returns-in-Err : goal.returns-in-Err
-returns-in-Err c =
+pub returns-in_err-message : goal.returns-in_err-message
+returns-in_err-message c =
     let e : c.has_handover.result ≡ true = cc in
     let h = some_handover c.args.view.now.runs (sym c.has_handover.ensures ∙ e) in
-    (Some h.0, h.1, tt)
+    (Some h.0, h.1, search rules)
