@@ -2,6 +2,7 @@ pub mod AlternativeLaws
 pub mod AlternativeLemmas
 pub mod CarrierLaws
 pub mod ContentsLemmas
+pub mod EqualityLemmas
 pub mod ErrorLaws
 pub mod HandoverLemmas
 pub mod LinkLemmas

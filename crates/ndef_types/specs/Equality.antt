@@ -1,5 +1,5 @@
 -- When texts and alternative carriers are equal, and what they are hashed by.
-use Rattle.std.specs.Prelude.{◌==◌, ◌++◌, Bool, ℕ, List, encode_utf8_all}
+use Rattle.std.specs.Prelude.{◌≡◌, ◌==◌, ◌↔◌, ◌++◌, Bool, ℕ, List, IsTrue, encode_utf8_all}
 use Rattle.std.specs.Cmp.Lexicographic.{pointwise}
 use Rattle.std.specs.Hash as fed
 use Rattle.std.specs.Hash.{HashWrites}
@@ -31,3 +31,13 @@ ac_eq = eq_of_both (on (λ a. a.power) powers.ghosts.eq)
 abbrev pub ac_hash : AcValue → HashWrites
 ac_hash a =
     power_hashes.ghosts.hash_input a.power ++ (fed.slice fed.u8 a.reference ++ (fed.slice (fed.slice fed.u8) a.auxiliary ++ fed.slice fed.u8 a.rest))
+
+-- ---- laws
+
+-- Texts are equal exactly where they have the same encoding, language code and characters.
+abbrev pub EqualTextsAreSame : Type 0
+EqualTextsAreSame = (t u : TextValue) → IsTrue (text_eq t u) ↔ (t ≡ u)
+
+-- Alternative carriers are equal exactly where all their parts are the same.
+abbrev pub EqualAlternativesAreSame : Type 0
+EqualAlternativesAreSame = (a b : AcValue) → IsTrue (ac_eq a b) ↔ (a ≡ b)

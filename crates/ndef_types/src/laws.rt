@@ -1,4 +1,4 @@
-//! Laws of the definitions: what was written for a value is decoded to it.
+//! Laws of the definitions: what was written for a value is decoded to it, and which values are equal.
 ghost use Rattle.std.specs.Prelude.{IsUtf8};
 ghost use Rattle.ndef_value.specs.declared.profile.Profile.{Profile};
 ghost use Rattle.ndef_lang.specs.Alternative.{IsAlternative};
@@ -8,6 +8,7 @@ ghost use Rattle.ndef_lang.specs.Language.{NoReason};
 ghost use Rattle.ndef_lang.specs.Text.{IsText, TextReason};
 ghost use Rattle.ndef_lang.specs.Uri.{IsUri, UriReason};
 ghost use Rattle.ndef_types.specs.Decoding.{OneValue, EachHasValue, OnePayload, RoundTrips};
+ghost use Rattle.ndef_types.specs.Equality.{EqualAlternativesAreSame, EqualTextsAreSame};
 ghost use Rattle.ndef_types.specs.Values.{StandsForText, IsTextValue, WritesText, StandsForUri, WritesUri, StandsForError, IsErrorValue, WritesError, StandsForCarrier, IsCarrierValue, WritesCarrier, StandsForAc, IsAcValue, WritesAc};
 
 /// A payload of a Text record stands for one text, and what `Text::encode` writes is decoded to the
@@ -50,4 +51,10 @@ pub fn alternatives_are_exact()
     ensures one { OneValue IsAlternative StandsForAc }
     ensures each { EachHasValue IsAlternative StandsForAc IsAcValue }
     ensures round_trip { RoundTrips IsAlternative (λ s b. NoReason) StandsForAc IsAcValue WritesAc }
+{}
+
+/// Texts and alternative carriers are equal, by `==`, exactly where all their parts are the same.
+pub fn equality_is_exact()
+    ensures texts { EqualTextsAreSame }
+    ensures alternatives { EqualAlternativesAreSame }
 {}

@@ -33,7 +33,8 @@ pub use encoding::Encoding;
 pub use error::{DecodeError, EncodeError};
 pub use handover_error::{DetailError, HandoverError};
 pub use laws::{
-    alternatives_are_exact, carriers_are_exact, errors_are_exact, texts_are_exact, uris_are_exact,
+    alternatives_are_exact, carriers_are_exact, equality_is_exact, errors_are_exact,
+    texts_are_exact, uris_are_exact,
 };
 pub use link::{Link, LinkError, Links, carriers, carriers_as, carriers_view};
 pub use message_laws::{posters_are_exact, requests_are_exact, selects_are_exact};
