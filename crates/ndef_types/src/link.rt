@@ -1,7 +1,7 @@
 //! The links of a message.
-ghost use Rattle.std.specs.Iterator.Runs.{EveryRun, ItemsMapTo};
+ghost use Rattle.std.specs.Iterator.Adapters.{IterYieldsInOrder, IterYieldsInReverse};
 ghost use Rattle.std.specs.Prelude.{◌≡◌, ◌≢◌, ◌<◌, ◌^◌, ◌++◌, ◌∷◌, ◌↔◌, ◌⊎◌, [], Some, length, map, slice_get, option_map, IfOk, IsTrue, OnOk};
-ghost use Rattle.std.specs.Slice.Iter.{iter_rest, iter_steps};
+ghost use Rattle.std.specs.Slice.Iter.{iter_rest};
 ghost use Rattle.std.specs.List.{AllByRecursion, list_any};
 ghost use Rattle.ndef_value.specs.Wire.{joined};
 ghost use Rattle.ndef_value.specs.declared.profile.Profile.TheVariants.{Strict};
@@ -57,6 +57,8 @@ impl Model for Links {
 }
 
 impl Links {
+    ghost use Rattle.ndef_types.specs.declared.link.Link.{Link as Each};
+
     /// None. It takes no memory.
     pub(crate) fn new(alloc: Global) -> Links
         ensures { result ≡ [] }
@@ -96,9 +98,13 @@ impl Links {
 
     /// The links one after another. Each call begins anew.
     pub fn iter(&self) -> slice::Iter<'_, Link>
-        ensures { iter_rest result ≡ self.now }
+        ensures rest { iter_rest result ≡ self.now }
+        ensures bound { length (iter_rest result) < 2 ^ 64 }
+        // It gives them in order, or from the back.
+        ensures runs { IterYieldsInOrder Each }
+        ensures runs_back { IterYieldsInReverse Each }
     {
-        self.into_iter()
+        self.links.iter()
     }
 }
 
@@ -109,11 +115,11 @@ impl<'a> IntoIterator for &'a Links {
 
     type IntoIter = slice::Iter<'a, Link>;
 
-    ghost into_iter_gives = { λ links it. (iter_rest it ≡ links.now) × (length (iter_rest it) < 2 ^ 64)
-        × EveryRun (iter_steps {A = Each}) (λ run. ItemsMapTo run (λ link. link.now) (iter_rest run.from)) };
+    ghost into_iter_gives = { λ links it.
+        (iter_rest it ≡ links.now) × (length (iter_rest it) < 2 ^ 64) × IterYieldsInOrder Each };
 
     fn into_iter(self) -> slice::Iter<'a, Link> {
-        self.links.iter()
+        self.iter()
     }
 }
 

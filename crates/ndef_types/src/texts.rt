@@ -1,7 +1,7 @@
 //! The titles of a smart poster.
-ghost use Rattle.std.specs.Iterator.Runs.{EveryRun, ItemsMapTo};
+ghost use Rattle.std.specs.Iterator.Adapters.{IterYieldsInOrder, IterYieldsInReverse};
 ghost use Rattle.std.specs.Prelude.{◌≡◌, ◌<◌, ◌^◌, ◌↔◌, ◌++◌, ◌∷◌, [], length, slice_get, option_map, IsTrue, OnOk};
-ghost use Rattle.std.specs.Slice.Iter.{iter_rest, iter_steps};
+ghost use Rattle.std.specs.Slice.Iter.{iter_rest};
 ghost use Rattle.ndef_types.specs.Values.{TextValue};
 
 use crate::Text;
@@ -65,9 +65,13 @@ impl Texts {
 
     /// The texts one after another. Each call begins anew.
     pub fn iter(&self) -> slice::Iter<'_, Text>
-        ensures { iter_rest result ≡ self.now }
+        ensures rest { iter_rest result ≡ self.now }
+        ensures bound { length (iter_rest result) < 2 ^ 64 }
+        // It gives them in order, or from the back.
+        ensures runs { IterYieldsInOrder TextValue }
+        ensures runs_back { IterYieldsInReverse TextValue }
     {
-        self.into_iter()
+        self.texts.iter()
     }
 }
 
@@ -76,10 +80,10 @@ impl<'a> IntoIterator for &'a Texts {
 
     type IntoIter = slice::Iter<'a, Text>;
 
-    ghost into_iter_gives = { λ texts it. (iter_rest it ≡ texts.now) × (length (iter_rest it) < 2 ^ 64)
-        × EveryRun (iter_steps {A = TextValue}) (λ run. ItemsMapTo run (λ text. text.now) (iter_rest run.from)) };
+    ghost into_iter_gives = { λ texts it.
+        (iter_rest it ≡ texts.now) × (length (iter_rest it) < 2 ^ 64) × IterYieldsInOrder TextValue };
 
     fn into_iter(self) -> slice::Iter<'a, Text> {
-        self.texts.iter()
+        self.iter()
     }
 }

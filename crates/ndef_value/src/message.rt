@@ -2,10 +2,10 @@
 ghost use Rattle.std.specs.Cmp.Lexicographic.{lists_equiv, lists_per, pointwise};
 ghost use Rattle.std.specs.Hash as fed;
 ghost use Rattle.std.specs.Hash.{items_Alike};
-ghost use Rattle.std.specs.Iterator.Runs.{EveryRun, ItemsMapTo};
+ghost use Rattle.std.specs.Iterator.Adapters.{IterYieldsInOrder, IterYieldsInReverse};
 ghost use Rattle.std.specs.Prelude.{◌≡◌, ◌<◌, ◌↔◌, ◌^◌, length, slice_get, option_map, IsTrue};
 ghost use Rattle.std.specs.List.{AllByRecursion};
-ghost use Rattle.std.specs.Slice.Iter.{iter_rest, iter_steps};
+ghost use Rattle.std.specs.Slice.Iter.{iter_rest};
 ghost use Rattle.ndef_value.specs.contracts.record.RecordEq.TheImpl.Laws as equiv;
 ghost use Rattle.ndef_value.specs.contracts.record.RecordHash.TheImpl.Laws as hashed;
 ghost use Rattle.ndef_value.specs.contracts.record.RecordPartialEq.TheImpl.Laws as per;
@@ -98,7 +98,11 @@ impl Message {
     /// The records one after another, 1 to 65535 of them. Each call begins anew.
     pub fn iter(&self) -> slice::Iter<'_, Record>
         ensures rest { iter_rest result ≡ self.now }
+        ensures bound { length (iter_rest result) < 2 ^ 64 }
         ensures items { AreItems self.now }
+        // It gives them in order, or from the back.
+        ensures runs { IterYieldsInOrder Item }
+        ensures runs_back { IterYieldsInReverse Item }
     {
         self.records().iter()
     }
@@ -109,11 +113,11 @@ impl<'a> IntoIterator for &'a Message {
 
     type IntoIter = slice::Iter<'a, Record>;
 
-    ghost into_iter_gives = { λ message it. (iter_rest it ≡ message.now) × (length (iter_rest it) < 2 ^ 64)
-        × EveryRun (iter_steps {A = Item}) (λ run. ItemsMapTo run (λ item. item.now) (iter_rest run.from)) };
+    ghost into_iter_gives = { λ message it.
+        (iter_rest it ≡ message.now) × (length (iter_rest it) < 2 ^ 64) × IterYieldsInOrder Item };
 
     fn into_iter(self) -> slice::Iter<'a, Record> {
-        self.records.iter()
+        self.iter()
     }
 }
 
