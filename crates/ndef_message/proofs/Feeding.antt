@@ -2,50 +2,49 @@
 use Rattle.std.proofs.Common.{◌≡◌, ◌≢◌, ℕ, ◌+◌, ◌<◌, ◌≤◌, ◌^◌, inl, inr, refl, sym, ◌∙◌, ap, subst, arith, List, [], ◌∷◌, ◌++◌, length, take, drop, append_assoc, Some, None, get_or}
 use Rattle.std.proofs.lemmas.List.{append-nil, take_all, take-append-drop}
 use Rattle.ndef_value.specs.Wire.{Item, LimitValues, AreInRange}
-use Rattle.ndef_value.specs.declared.profile.Profile.{Profile}
-use Rattle.ndef_lang.specs.declared.kind.Kind.{Kind}
-use Rattle.ndef_lang.specs.Language.{Sets, Conditions}
 use Rattle.ndef_lang.specs.StepLaws.{rest, take_rests}
-use Rattle.ndef_piece.specs.Reading.{Reading}
+use Rattle.ndef_lang.specs.declared.language.Language.{Ghosts}
+use Rattle.ndef_message.specs.Checkers.{CheckerReached}
 use Rattle.ndef_message.specs.Deep.{IsDeep, IsViable}
 use Rattle.ndef_message.specs.Field.{Field, IsAt, field_with}
 use Rattle.ndef_message.specs.Feed.{Fronts, Leads, Feeds, answer_of}
 use Rattle.ndef_message.specs.Format.{FormatLaws}
 use Rattle.ndef_message.specs.Place.{Refuses}
 use Rattle.ndef_message.specs.State.{Matches, Stands, Reached, Onward, Knows, LedTo, Led}
+use Rattle.ndef_message.specs.declared.checker.Checker.{Checker}
 use Rattle.ndef_message.specs.declared.fed.Fed.{Fed}
 use Rattle.ndef_message.specs.declared.fed.Fed.TheVariants as fed
-use Rattle.ndef_message.specs.declared.phase.Place.{Place}
 use Rattle.ndef_message.specs.declared.phase.Phase.{Phase}
 use Rattle.ndef_message.specs.declared.phase.Phase.TheVariants as phases
+use Rattle.ndef_message.specs.declared.state.State.{State}
 use Rattle.ndef_message.proofs.Octets.{not_refused}
 use Rattle.ndef_message.proofs.Ended.{viable_bounded, greatest_small, unended, ended, refuses, done_field}
 
-module _ (set : Sets) (holds : Conditions) (reach : Kind → ℕ → Profile → List ℕ → Type 0) (pass : List ℕ → Type 0) (limits : LimitValues) (place : Place) (reader : Reading) (phase : Phase) where
+module _ {L : Type 0} (language : Ghosts L) (limits : LimitValues) (state : State L) where
   -- where no answer is due nothing was refused
-  pub going : (taken : ℕ) (bytes : List ℕ) (given : List Item) (field : Field) → answer_of phase taken ≡ None → Reached set holds reach pass limits place reader phase bytes given field
-      → Stands set holds reach pass limits place reader phase bytes given field
+  pub going : (taken : ℕ) (bytes : List ℕ) (given : List Item) (field : Field) → answer_of state.phase taken ≡ None → Reached language limits state bytes given field
+      → Stands language limits state bytes given field
   going taken bytes given field e (inl s) = s
   going taken bytes given field e (inr s) = absurd (let q = sym e ∙ ap (λ p. answer_of p taken) s.phase_is in cc)
 
-  pub not_done : (taken : ℕ) → answer_of phase taken ≡ None → phase ≢ phases.Done
+  pub not_done : (taken : ℕ) → answer_of state.phase taken ≡ None → state.phase ≢ phases.Done
   not_done taken e d = let q = sym e ∙ ap (λ p. answer_of p taken) d in cc
 
-  pub some_led : (taken : ℕ) → answer_of phase 0 ≡ None → LedTo set holds reach pass limits place reader phase taken → Led set holds reach pass limits place reader phase
+  pub some_led : (taken : ℕ) → answer_of state.phase 0 ≡ None → LedTo language limits state taken → Led language limits state
   some_led taken e w = record { bytes = w.0; given = w.1; field = w.2; stands = going 0 w.0 w.1 w.2 e w.3.1 }
 
   -- what was taken is bounded
-  pub taken_small : FormatLaws → AreInRange limits → (taken : ℕ) → answer_of phase 0 ≡ None → LedTo set holds reach pass limits place reader phase taken → taken + 1 ≤ 2 ^ 60
+  pub taken_small : FormatLaws → AreInRange limits → (taken : ℕ) → answer_of state.phase 0 ≡ None → LedTo language limits state taken → taken + 1 ≤ 2 ^ 60
   taken_small laws range taken e w =
       let s = going 0 w.0 w.1 w.2 e w.3.1 in
-      let n = viable_bounded laws set limits w.0 s.viable in
+      let n = viable_bounded laws language.set limits w.0 s.viable in
       let m = greatest_small limits range in
       let k = w.3.0 in
       omega arith
 
   -- the bytes lead on
-  pub knows_on : (bytes : List ℕ) (given : List Item) (field : Field) (t : List ℕ) (taken : ℕ) → taken ≡ length (bytes ++ t) → Onward set holds reach pass limits place reader phase bytes given field t
-      → Leads (Knows set holds reach pass limits place reader phase taken) (bytes ++ t)
+  pub knows_on : (bytes : List ℕ) (given : List Item) (field : Field) (t : List ℕ) (taken : ℕ) → taken ≡ length (bytes ++ t) → Onward language limits state bytes given field t
+      → Leads (Knows language limits state taken) (bytes ++ t)
   knows_on bytes given field t taken e (inl w) = (w.0, w.1, (e, inl w.3))
   knows_on bytes given field t taken e (inr w) = (given, field_with field w.0, (e, inr w.3))
 
@@ -70,57 +69,53 @@ sofar_some old mid new bytes at n s f front given field x =
     let w = s front given field x in
     subst (Leads new) (some_more front bytes at n) (f (front ++ take at bytes) w.0 w.1 w.2)
 
-module _ (laws : FormatLaws) (set : Sets) (holds : Conditions) (reach : Kind → ℕ → Profile → List ℕ → Type 0) (pass : List ℕ → Type 0) (limits : LimitValues) (range : AreInRange limits)
-    (place : Place) (reader : Reading) (taken : ℕ) where
-  feeds_here : (phase : Phase) (front bytes : List ℕ) (given : List Item) (field : Field) (at : ℕ) (answer : Fed) → answer_of phase at ≡ Some answer → at ≤ length bytes
-      → Knows set holds reach pass limits place reader phase taken (front ++ take at bytes) given field
-      → Feeds set holds limits (Knows set holds reach pass limits place reader phase taken) front bytes answer
-  feeds_here phases.Head front bytes given field at answer e h k = cc
-  feeds_here (phases.Type x y z) front bytes given field at answer e h k = cc
-  feeds_here (phases.Id x y) front bytes given field at answer e h k = cc
-  feeds_here (phases.Payload x y) front bytes given field at answer e h k = cc
-  feeds_here phases.Done front bytes given field at answer e h k =
+module _ (laws : FormatLaws) {L : Type 0} {language : Ghosts L} (c : Checker L language) (range : AreInRange c.limits) where
+  feeds_here : (phase : Phase) → c.state.phase ≡ phase → (front bytes : List ℕ) (given : List Item) (field : Field) (at : ℕ) (answer : Fed) → answer_of phase at ≡ Some answer → at ≤ length bytes
+      → CheckerReached c (front ++ take at bytes) given field → Feeds language.set language.holds c.limits (CheckerReached c) front bytes answer
+  feeds_here phases.Head w front bytes given field at answer e h k = cc
+  feeds_here (phases.Type x y z) w front bytes given field at answer e h k = cc
+  feeds_here (phases.Id x y) w front bytes given field at answer e h k = cc
+  feeds_here (phases.Payload x y) w front bytes given field at answer e h k = cc
+  feeds_here phases.Done w front bytes given field at answer e h k =
       let q : fed.Done at ≡ answer = cc in
-      subst (Feeds set holds limits (Knows set holds reach pass limits place reader phases.Done taken) front bytes) q (h, whole k.1, (given, field, k))
+      subst (Feeds language.set language.holds c.limits (CheckerReached c) front bytes) q (h, whole k.1, (given, field, k))
     where
-      whole : Reached set holds reach pass limits place reader phases.Done (front ++ take at bytes) given field → IsDeep set limits (front ++ take at bytes)
+      whole : Reached language c.limits c.state (front ++ take at bytes) given field → IsDeep language.set c.limits (front ++ take at bytes)
       whole (inl s) =
-          let d = done_field set holds reach pass limits place reader phases.Done field refl s.matches in
-          ended laws set limits range (front ++ take at bytes) given d.0 (subst (IsAt limits (front ++ take at bytes) given) d.1 s.at) s.viable
-      whole (inr s) = absurd (let q = s.phase_is in cc)
-  feeds_here (phases.Refused refusal) front bytes given field at answer e h k =
+          let d = done_field language c.limits c.state field w s.matches in
+          ended laws language.set c.limits range (front ++ take at bytes) given d.0 (subst (IsAt c.limits (front ++ take at bytes) given) d.1 s.at) s.viable
+      whole (inr s) = absurd (let q = sym w ∙ s.phase_is in cc)
+  feeds_here (phases.Refused refusal) w front bytes given field at answer e h k =
       let q : fed.Refused refusal ≡ answer = cc in
-      subst (Feeds set holds limits (Knows set holds reach pass limits place reader (phases.Refused refusal) taken) front bytes) q (by_side k.1)
+      subst (Feeds language.set language.holds c.limits (CheckerReached c) front bytes) q (by_side k.1)
     where
-      by_side : Reached set holds reach pass limits place reader (phases.Refused refusal) (front ++ take at bytes) given field
-          → Feeds set holds limits (Knows set holds reach pass limits place reader (phases.Refused refusal) taken) front bytes (fed.Refused refusal)
-      by_side (inl s) = absurd (not_refused set holds reach pass limits place reader (phases.Refused refusal) refusal field refl s.matches)
+      by_side : Reached language c.limits c.state (front ++ take at bytes) given field → Feeds language.set language.holds c.limits (CheckerReached c) front bytes (fed.Refused refusal)
+      by_side (inl s) = absurd (not_refused language c.limits c.state refusal field w s.matches)
       by_side (inr s) =
-          let same : s.refusal ≡ refusal = (let p = s.phase_is in cc) in
+          let same : s.refusal ≡ refusal = (let p = sym s.phase_is ∙ w in cc) in
           let all : (front ++ take at bytes) ++ drop at bytes ≡ front ++ bytes = append_assoc front (take at bytes) (drop at bytes) ∙ ap (λ y. front ++ y) (take-append-drop at bytes) in
-          let r = refuses laws set limits range holds reach pass place reader (phases.Refused refusal) (front ++ take at bytes) (drop at bytes) given field s in
-          let r1 = subst (λ y. (s.refusal.at < length y) × Refuses set holds limits y s.refusal × (front ++ take at bytes ≡ take (s.refusal.at + 1) y)) all r in
-          let r2 = subst (λ y. (y.at < length (front ++ bytes)) × Refuses set holds limits (front ++ bytes) y × (front ++ take at bytes ≡ take (y.at + 1) (front ++ bytes))) same r1 in
-          (r2.0, r2.1, (given, field, subst (λ y. Knows set holds reach pass limits place reader (phases.Refused refusal) taken y given field) r2.2 k))
+          let r = refuses laws range (front ++ take at bytes) (drop at bytes) given field s in
+          let r1 = subst (λ y. (s.refusal.at < length y) × Refuses language.set language.holds c.limits y s.refusal × (front ++ take at bytes ≡ take (s.refusal.at + 1) y)) all r in
+          let r2 = subst (λ y. (y.at < length (front ++ bytes)) × Refuses language.set language.holds c.limits (front ++ bytes) y × (front ++ take at bytes ≡ take (y.at + 1) (front ++ bytes))) same r1 in
+          (r2.0, r2.1, (given, field, subst (λ y. CheckerReached c y given field) r2.2 k))
 
-  pub feeds_answer : (limits' : LimitValues) → limits ≡ limits' → (phase : Phase) (front bytes : List ℕ) (at : ℕ) (answer : Fed) → answer_of phase at ≡ Some answer → at ≤ length bytes
-      → Leads (Knows set holds reach pass limits place reader phase taken) (front ++ take at bytes)
-      → Feeds set holds limits' (Knows set holds reach pass limits place reader phase taken) front bytes answer
-  feeds_answer limits' el phase front bytes at answer e h k =
-      subst (λ l. Feeds set holds l (Knows set holds reach pass limits place reader phase taken) front bytes answer) el (feeds_here phase front bytes k.0 k.1 at answer e h k.2)
+  module _ (limits : LimitValues) (same : c.limits ≡ limits) (front bytes : List ℕ) (at : ℕ) where
+    pub feeds_answer : (answer : Fed) → answer_of c.state.phase at ≡ Some answer → at ≤ length bytes → Leads (CheckerReached c) (front ++ take at bytes)
+        → Feeds language.set language.holds limits (CheckerReached c) front bytes answer
+    feeds_answer answer e h k =
+        subst (λ l. Feeds language.set language.holds l (CheckerReached c) front bytes answer) same (feeds_here c.state.phase refl front bytes k.0 k.1 at answer e h k.2)
 
-  pub feeds_more : (limits' : LimitValues) → limits ≡ limits' → (phase : Phase) (front bytes : List ℕ) (at : ℕ) → answer_of phase at ≡ None → at ≡ length bytes
-      → Leads (Knows set holds reach pass limits place reader phase taken) (front ++ take at bytes)
-      → Feeds set holds limits' (Knows set holds reach pass limits place reader phase taken) front bytes fed.More
-  feeds_more limits' el phase front bytes at e h k =
-      let all : front ++ take at bytes ≡ front ++ bytes = ap (λ y. front ++ y) (take_all at bytes (omega arith)) in
-      let s = going set holds reach pass limits place reader phase at (front ++ take at bytes) k.0 k.1 e k.2.1 in
-      let no : ¬ IsDeep set limits (front ++ bytes) = λ d.
-      let u = unended laws set limits range (front ++ take at bytes) k.0 k.1 s.at (subst (IsDeep set limits) (sym all) d) in
-      let m = subst (Matches set holds reach pass limits place reader phase) u.1 s.matches in
-      not_done set holds reach pass limits place reader phase at e m.1 in
-      subst (λ l. Feeds set holds l (Knows set holds reach pass limits place reader phase taken) front bytes fed.More) el
-      (subst (IsViable set limits) all s.viable, no, subst (Leads (Knows set holds reach pass limits place reader phase taken)) all k)
+    pub feeds_more : answer_of c.state.phase at ≡ None → at ≡ length bytes → Leads (CheckerReached c) (front ++ take at bytes)
+        → Feeds language.set language.holds limits (CheckerReached c) front bytes fed.More
+    feeds_more e h k =
+        let all : front ++ take at bytes ≡ front ++ bytes = ap (λ y. front ++ y) (take_all at bytes (omega arith)) in
+        let s = going language c.limits c.state at (front ++ take at bytes) k.0 k.1 e k.2.1 in
+        let no : ¬ IsDeep language.set c.limits (front ++ bytes) = λ d.
+        let u = unended laws language.set c.limits range (front ++ take at bytes) k.0 k.1 s.at (subst (IsDeep language.set c.limits) (sym all) d) in
+        let m = subst (Matches language c.limits c.state) u.1 s.matches in
+        not_done language c.limits c.state at e m.1 in
+        subst (λ l. Feeds language.set language.holds l (CheckerReached c) front bytes fed.More) same
+        (subst (IsViable language.set c.limits) all s.viable, no, subst (Leads (CheckerReached c)) all k)
 
 -- ---- the first byte
 pub take_one : (xs : List ℕ) → 0 < length xs → take 1 xs ≡ get_or xs 0 0 ∷ []

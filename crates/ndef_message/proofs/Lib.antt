@@ -21,7 +21,6 @@ pub mod Octets
 pub mod Opening
 pub mod Parts
 pub mod Places
-pub mod Reached
 pub mod ReadBack
 pub mod ReadingOn
 pub mod Rests

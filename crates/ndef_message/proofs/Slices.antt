@@ -9,31 +9,30 @@ use Rattle.ndef_value.specs.declared.reason.Reason.{Reason}
 use Rattle.ndef_lang.specs.declared.kind.Kind.{Kind}
 use Rattle.ndef_lang.specs.declared.kind.Kind.TheVariants.{Other}
 use Rattle.ndef_lang.specs.Kind.{kind_of}
-use Rattle.ndef_lang.specs.Language.{Sets, Conditions, Follows, Reaches, PassesBetween, Behind, StepsAll, IsLowest}
+use Rattle.ndef_lang.specs.Language.{Follows, Reaches, PassesBetween, Behind, StepsAll, IsLowest}
 use Rattle.ndef_lang.specs.StepLaws.{steps_done}
+use Rattle.ndef_lang.specs.declared.language.Language.{Ghosts}
 use Rattle.ndef_piece.specs.declared.head.Head.{Head}
-use Rattle.ndef_piece.specs.Reading.{Reading}
 use Rattle.ndef_piece.specs.Walk.{Before}
 use Rattle.ndef_message.specs.Deep.{IsMember, IsViable}
 use Rattle.ndef_message.specs.Field.{Field, InPayload, record_so_far, IsAt, given_next, field_next}
 use Rattle.ndef_message.specs.Format.{FormatLaws}
 use Rattle.ndef_message.specs.Payload.{most_left}
 use Rattle.ndef_message.specs.State.{Speaks, Stands, Stopped, InBody, Onward}
-use Rattle.ndef_message.specs.declared.phase.Place.{Place}
-use Rattle.ndef_message.specs.declared.phase.Phase.{Phase}
 use Rattle.ndef_message.specs.declared.phase.Phase.TheVariants as phases
+use Rattle.ndef_message.specs.declared.state.State.{State}
 use Rattle.ndef_message.proofs.Entered.{given_members, body_counted, body_goes_on, body_went_on, stopped}
 use Rattle.ndef_message.proofs.Octets.{AtPayload, at_with, payload_body, payload_on, moves_payload}
 
 -- what a language has read, with these octets more
-speaks_all : (set : Sets) (limits : LimitValues) (reach reach' : Kind → ℕ → Profile → List ℕ → Type 0) (pass pass' : List ℕ → Type 0) (m : Item) (t : List ℕ)
-    → ((k : Kind) (n : ℕ) (profile : Profile) → Reaches (reach k n profile) (reach' k n profile) t) → Follows pass pass' t
-    → Speaks set reach pass limits m → Speaks set reach' pass' limits (record m { payload = m.payload ++ t })
-speaks_all set limits reach reach' pass pass' m t r f s = record {
+speaks_all : {L : Type 0} (language : Ghosts L) (limits : LimitValues) (old new : L) (m : Item) (t : List ℕ)
+    → ((k : Kind) (n : ℕ) (profile : Profile) → Reaches (language.reached old k n profile) (language.reached new k n profile) t) → Follows (language.future old) (language.future new) t
+    → Speaks language limits old m → Speaks language limits new (record m { payload = m.payload ++ t })
+speaks_all language limits old new m t r f s = record {
   reached = r _ _ _ m.payload s.reached;
   future = λ z. (
-    λ x. subst (λ y. set (kind_of m.tnf m.kind) limits.records limits.profile y) (sym (append_assoc m.payload t z)) ((s.future (t ++ z)).0 ((f z).0 x)),
-    λ x. (f z).1 ((s.future (t ++ z)).1 (subst (λ y. set (kind_of m.tnf m.kind) limits.records limits.profile y) (append_assoc m.payload t z) x)),
+    λ x. subst (λ y. language.set (kind_of m.tnf m.kind) limits.records limits.profile y) (sym (append_assoc m.payload t z)) ((s.future (t ++ z)).0 ((f z).0 x)),
+    λ x. (f z).1 ((s.future (t ++ z)).1 (subst (λ y. language.set (kind_of m.tnf m.kind) limits.records limits.profile y) (append_assoc m.payload t z) x)),
   );
 }
 
@@ -44,9 +43,19 @@ so_far_all (Some m) f k i z t = ap (λ y. record m { payload = y }) (append_asso
 
 -- ---- behind octets that no state of the language stands for
 
--- the octets t behind those that led there
-abbrev ReachedBehind : (Kind → ℕ → Profile → List ℕ → Type 0) → List ℕ → Kind → ℕ → Profile → List ℕ → Type 0
-ReachedBehind reach t k n profile s = (before : List ℕ) × ((s ≡ before ++ t) × reach k n profile before)
+-- the language, each state of which stands behind these octets
+abbrev behind : {L : Type 0} → Ghosts L → List ℕ → Ghosts L
+behind language t =
+    record language { future = λ state. Behind (language.future state) t; reached = λ state k n profile s. (before : List ℕ) × ((s ≡ before ++ t) × language.reached state k n profile before) }
+
+speaks_behind : {L : Type 0} (language : Ghosts L) (limits : LimitValues) (state : L) (m : Item) (t : List ℕ) → Speaks language limits state m → Speaks (behind language t) limits state (record m { payload = m.payload ++ t })
+speaks_behind language limits state m t s = record {
+  reached = (m.payload, (refl, s.reached));
+  future = λ z. (
+    λ x. subst (λ y. language.set (kind_of m.tnf m.kind) limits.records limits.profile y) (sym (append_assoc m.payload t z)) ((s.future (t ++ z)).0 x),
+    λ x. (s.future (t ++ z)).1 (subst (λ y. language.set (kind_of m.tnf m.kind) limits.records limits.profile y) (append_assoc m.payload t z) x),
+  );
+}
 
 most_after : (v : Bool) (room n left k : ℕ) → k ≤ left → most_left v room n left - k ≡ most_left v room n (left - k)
 most_after true room n left k h = omega arith
@@ -55,13 +64,12 @@ most_after false room n left k h = refl
 between_at : {pass : List ℕ → Type 0} (a b c d : ℕ) → a ≡ c → b ≡ d → PassesBetween pass a b → PassesBetween pass c d
 between_at {pass} a b c d e g p = subst (λ x. PassesBetween pass c x) g (subst (λ x. PassesBetween pass x b) e p)
 
-module _ {set : Sets} {holds : Conditions} {reach : Kind → ℕ → Profile → List ℕ → Type 0} {pass : List ℕ → Type 0} {limits : LimitValues} {place : Place} {reader : Reading} {phase : Phase}
-    {bytes : List ℕ} {given : List Item} {h : Head} {left : ℕ} {field : Field} (a : AtPayload set holds reach pass limits place reader phase bytes given h left field) where
-  -- the payload so far, with these octets more
-  pub body_all : (reach' : Kind → ℕ → Profile → List ℕ → Type 0) (pass' : List ℕ → Type 0) (t : List ℕ) → AreOctets t → length t ≤ left
-      → ((k : Kind) (n : ℕ) (profile : Profile) → Reaches (reach k n profile) (reach' k n profile) t) → Follows pass pass' t
-      → InBody set holds reach' pass' limits place reader phase h 0 (left - length t) (bytes ++ t) given a.c a.f a.kind a.id (a.payload ++ t)
-  body_all reach' pass' t are few r f =
+module _ {L : Type 0} {language : Ghosts L} {limits : LimitValues} {state : State L}
+    {bytes : List ℕ} {given : List Item} {h : Head} {left : ℕ} {field : Field} (a : AtPayload language limits state bytes given h left field) where
+  -- the payload so far, with these octets more, by what has read them
+  body_by : (other : Ghosts L) (read : L) (t : List ℕ) → AreOctets t → length t ≤ left → Speaks other limits read (record (record_so_far a.c.begun a.f a.kind a.id a.payload) { payload = (record_so_far a.c.begun a.f a.kind a.id a.payload).payload ++ t })
+      → InBody other limits (record state { payload = read }) h 0 (left - length t) (bytes ++ t) given a.c a.f a.kind a.id (a.payload ++ t)
+  body_by other read t are few s =
       let w = subst (IsAt limits bytes given) a.field_is a.stands.at in
       let p = w.proper in
       let e = p.2 in
@@ -88,8 +96,18 @@ module _ {set : Sets} {holds : Conditions} {reach : Kind → ℕ → Profile →
         payload_fits = omega (arith, length-append a.payload t);
         in_turn = inl p.2;
         place_is = a.place_is;
-        speaks = subst (Speaks set reach' pass' limits) (so_far_all a.c.begun a.f a.kind a.id a.payload t) (speaks_all set limits reach reach' pass pass' (record_so_far a.c.begun a.f a.kind a.id a.payload) t r f a.speaks);
+        speaks = subst (Speaks other limits read) (so_far_all a.c.begun a.f a.kind a.id a.payload t) s;
       }
+
+  -- .. by a state that has
+  pub body_all : (payload' : L) (t : List ℕ) → AreOctets t → length t ≤ left
+      → ((k : Kind) (n : ℕ) (profile : Profile) → Reaches (language.reached state.payload k n profile) (language.reached payload' k n profile) t) → Follows (language.future state.payload) (language.future payload') t
+      → InBody language limits (record state { payload = payload' }) h 0 (left - length t) (bytes ++ t) given a.c a.f a.kind a.id (a.payload ++ t)
+  body_all payload' t are few r f = body_by language payload' t are few (speaks_all language limits state.payload payload' (record_so_far a.c.begun a.f a.kind a.id a.payload) t r f a.speaks)
+
+  -- .. by the one that stands before them
+  body_behind : (t : List ℕ) → AreOctets t → length t ≤ left → InBody (behind language t) limits state h 0 (left - length t) (bytes ++ t) given a.c a.f a.kind a.id (a.payload ++ t)
+  body_behind t are few = body_by (behind language t) state.payload t are few (speaks_behind language limits state.payload (record_so_far a.c.begun a.f a.kind a.id a.payload) t a.speaks)
 
   -- .. and fewer than are left, they stand in its payload
   pub at_front : (t : List ℕ) → AreOctets t → length t < left → IsAt limits (bytes ++ t) given (InPayload a.c a.f a.kind a.id (a.payload ++ t))
@@ -97,47 +115,47 @@ module _ {set : Sets} {holds : Conditions} {reach : Kind → ℕ → Profile →
       let l = a.left_is in
       at_with limits bytes given (InPayload a.c a.f a.kind a.id a.payload) t are (omega arith) (subst (IsAt limits bytes given) a.field_is a.stands.at)
 
-module _ (laws : FormatLaws) {set : Sets} {holds : Conditions} {reach : Kind → ℕ → Profile → List ℕ → Type 0} {pass : List ℕ → Type 0} {limits : LimitValues} (range : AreInRange limits)
-    (octets_of : (k : Kind) (n : ℕ) (profile : Profile) (s : List ℕ) → set k n profile s → AreOctets s)
-    (others : (n : ℕ) (profile : Profile) (s : List ℕ) → set Other n profile s ↔ AreOctets s)
-    {place : Place} {reader : Reading} {phase : Phase} {bytes : List ℕ} {given : List Item} {h : Head} {left : ℕ} {field : Field}
-    (a : AtPayload set holds reach pass limits place reader phase bytes given h left field)
-    (reach' : Kind → ℕ → Profile → List ℕ → Type 0) (pass' : List ℕ → Type 0) (t : List ℕ) (are : AreOctets t) (few : length t ≤ left) {most count : ℕ} (most_is : most ≡ most_left h.chunked place.room h.payload_length left)
-    (steps : StepsAll pass pass' t left most count)
+module _ (laws : FormatLaws) {L : Type 0} {language : Ghosts L} {limits : LimitValues} (range : AreInRange limits)
+    (octets_of : (k : Kind) (n : ℕ) (profile : Profile) (s : List ℕ) → language.set k n profile s → AreOctets s)
+    (others : (n : ℕ) (profile : Profile) (s : List ℕ) → language.set Other n profile s ↔ AreOctets s)
+    {state : State L} {bytes : List ℕ} {given : List Item} {h : Head} {left : ℕ} {field : Field}
+    (a : AtPayload language limits state bytes given h left field)
+    (payload' : L) (t : List ℕ) (are : AreOctets t) (few : length t ≤ left) {most count : ℕ} (most_is : most ≡ most_left h.chunked state.place.room h.payload_length left)
+    (steps : StepsAll (language.future state.payload) (language.future payload') t left most count)
   where
-    members : AllByRecursion (IsMember set limits) given
-    members = given_members laws set limits range bytes given field a.stands.at a.stands.viable
+    members : AllByRecursion (IsMember language.set limits) given
+    members = given_members laws language.set limits range bytes given field a.stands.at a.stands.viable
 
     -- the last of them doesn't end what was viable
-    pub all_viable : (r : (k : Kind) (n : ℕ) (profile : Profile) → Reaches (reach k n profile) (reach' k n profile) t) → count ≡ length t → IsViable set limits (bytes ++ t)
+    pub all_viable : (r : (k : Kind) (n : ℕ) (profile : Profile) → Reaches (language.reached state.payload k n profile) (language.reached payload' k n profile) t) → count ≡ length t → IsViable language.set limits (bytes ++ t)
     all_viable r e =
         let d = steps_done steps e in
-        body_goes_on laws {reach = reach'} range (body_all a reach' pass' t are few r d.0) octets_of others members
-        (between_at (left - length t) (most - length t) (left - length t) (most_left h.chunked place.room h.payload_length (left - length t)) refl
-        (ap (λ n. n - length t) most_is ∙ most_after h.chunked place.room h.payload_length left (length t) few) d.1)
+        body_goes_on laws range (body_all a payload' t are few r d.0) octets_of others members
+        (between_at (left - length t) (most - length t) (left - length t) (most_left h.chunked state.place.room h.payload_length (left - length t)) refl
+        (ap (λ n. n - length t) most_is ∙ most_after h.chunked state.place.room h.payload_length left (length t) few) d.1)
 
     -- the octets before the refused one
-    front_viable : (s : List ℕ) → AreOctets s → length s ≡ count → count ≤ left → PassesBetween (Behind pass s) (left - count) (most - count) → IsViable set limits (bytes ++ s)
+    front_viable : (s : List ℕ) → AreOctets s → length s ≡ count → count ≤ left → PassesBetween (Behind (language.future state.payload) s) (left - count) (most - count) → IsViable language.set limits (bytes ++ s)
     front_viable s ok e l p =
-        body_goes_on laws {reach = ReachedBehind reach s} range (body_all a (ReachedBehind reach s) (Behind pass s) s ok (omega arith) (λ k n profile before x. (before, (refl, x))) (λ r. (λ x. x, λ x. x))) octets_of others members
-        (between_at (left - count) (most - count) (left - length s) (most_left h.chunked place.room h.payload_length (left - length s)) (omega arith)
-        (ap (λ n. n - count) most_is ∙ most_after h.chunked place.room h.payload_length left count l ∙ ap (λ n. most_left h.chunked place.room h.payload_length (left - n)) (sym e)) p)
+        body_goes_on laws range (body_behind a s ok (omega arith)) octets_of others members
+        (between_at (left - count) (most - count) (left - length s) (most_left h.chunked state.place.room h.payload_length (left - length s)) (omega arith)
+        (ap (λ n. n - count) most_is ∙ most_after h.chunked state.place.room h.payload_length left count l ∙ ap (λ n. most_left h.chunked state.place.room h.payload_length (left - n)) (sym e)) p)
 
     -- .. and it
-    never_viable : (s : List ℕ) → AreOctets s → length s ≡ count + 1 → count + 1 ≤ left → ((k : Kind) (n : ℕ) (profile : Profile) → Reaches (reach k n profile) (reach' k n profile) s) → Follows pass pass' s
-        → (PassesBetween pass' (left - (count + 1)) (most - (count + 1)) → ⊥) → IsViable set limits (bytes ++ s) → ⊥
+    never_viable : (s : List ℕ) → AreOctets s → length s ≡ count + 1 → count + 1 ≤ left → ((k : Kind) (n : ℕ) (profile : Profile) → Reaches (language.reached state.payload k n profile) (language.reached payload' k n profile) s) → Follows (language.future state.payload) (language.future payload') s
+        → (PassesBetween (language.future payload') (left - (count + 1)) (most - (count + 1)) → ⊥) → IsViable language.set limits (bytes ++ s) → ⊥
     never_viable s ok e l r f bad v =
-        bad (between_at (left - length s) (most_left h.chunked place.room h.payload_length (left - length s)) (left - (count + 1)) (most - (count + 1)) (ap (λ n. left - n) e)
-        (ap (λ n. most_left h.chunked place.room h.payload_length (left - n)) e ∙ sym (ap (λ n. n - (count + 1)) most_is ∙ most_after h.chunked place.room h.payload_length left (count + 1) l))
-        (body_went_on laws {reach = reach'} range (body_all a reach' pass' s ok (omega arith) r f) octets_of others members v))
+        bad (between_at (left - length s) (most_left h.chunked state.place.room h.payload_length (left - length s)) (left - (count + 1)) (most - (count + 1)) (ap (λ n. left - n) e)
+        (ap (λ n. most_left h.chunked state.place.room h.payload_length (left - n)) e ∙ sym (ap (λ n. n - (count + 1)) most_is ∙ most_after h.chunked state.place.room h.payload_length left (count + 1) l))
+        (body_went_on laws range (body_all a payload' s ok (omega arith) r f) octets_of others members v))
 
     -- one of them is refused
-    pub all_stopped : ((k : Kind) (n : ℕ) (profile : Profile) → Reaches (reach k n profile) (reach' k n profile) (take (count + 1) t)) → count < length t → {at : ℕ} {reason : Reason} → at ≡ length bytes
-        → ((k : Kind) (n : ℕ) (profile : Profile) (s : List ℕ) → reach k n profile s → IsLowest (holds k n profile (s ++ take count t) (get_or t count 0)) reason)
-        → Onward set holds reach' pass' limits place reader (phases.Refused (record { at = at + count; reason = reason })) bytes given field (take (count + 1) t)
+    pub all_stopped : ((k : Kind) (n : ℕ) (profile : Profile) → Reaches (language.reached state.payload k n profile) (language.reached payload' k n profile) (take (count + 1) t)) → count < length t → {at : ℕ} {reason : Reason} → at ≡ length bytes
+        → ((k : Kind) (n : ℕ) (profile : Profile) (s : List ℕ) → language.reached state.payload k n profile s → IsLowest (language.holds k n profile (s ++ take count t) (get_or t count 0)) reason)
+        → Onward language limits (record state { payload = payload'; phase = phases.Refused (record { at = at + count; reason = reason }) }) bytes given field (take (count + 1) t)
     all_stopped r l {at} {reason} at_is why =
-        subst (λ x. Onward set holds reach' pass' limits place reader (phases.Refused (record { at = at + count; reason = reason })) bytes given x (take (count + 1) t)) (sym a.field_is)
-        (inr (take count t, get_or t count 0, more, subst (λ x. Stopped set holds reach' pass' limits place reader (phases.Refused (record { at = at + count; reason = reason })) x given (InPayload a.c a.f a.kind a.id (a.payload ++ take count t))) split stop))
+        subst (λ x. Onward language limits (record state { payload = payload'; phase = phases.Refused (record { at = at + count; reason = reason }) }) bytes given x (take (count + 1) t)) (sym a.field_is)
+        (inr (take count t, get_or t count 0, more, subst (λ x. Stopped language limits (record state { payload = payload'; phase = phases.Refused (record { at = at + count; reason = reason }) }) x given (InPayload a.c a.f a.kind a.id (a.payload ++ take count t))) split stop))
       where
         more : take (count + 1) t ≡ take count t ++ get_or t count 0 ∷ []
         more = take_more t count 0 l
@@ -154,23 +172,23 @@ module _ (laws : FormatLaws) {set : Sets} {holds : Conditions} {reach : Kind →
         so_far : Item
         so_far = record_so_far a.c.begun a.f a.kind a.id a.payload
 
-        stop : Stopped set holds reach' pass' limits place reader (phases.Refused (record { at = at + count; reason = reason })) ((bytes ++ take count t) ++ get_or t count 0 ∷ []) given (InPayload a.c a.f a.kind a.id (a.payload ++ take count t))
+        stop : Stopped language limits (record state { payload = payload'; phase = phases.Refused (record { at = at + count; reason = reason }) }) ((bytes ++ take count t) ++ get_or t count 0 ∷ []) given (InPayload a.c a.f a.kind a.id (a.payload ++ take count t))
         stop =
             let fits = steps.fits in
-            stopped (body_counted laws range (payload_body a))
-            (λ v. never_viable (take (count + 1) t) (octets_taken (count + 1) t are) (length-take-le (count + 1) t (omega arith)) (omega arith) r steps.stepped (steps.refused l) (subst (IsViable set limits) split v))
+            stopped (record state { payload = payload' }) (body_counted laws range (payload_body a))
+            (λ v. never_viable (take (count + 1) t) (octets_taken (count + 1) t are) (length-take-le (count + 1) t (omega arith)) (omega arith) r steps.stepped (steps.refused l) (subst (IsViable language.set limits) split v))
             record {
               at_is = at_front a (take count t) front_octets (omega (arith, few_front));
               viable = front_viable (take count t) front_octets few_front (omega arith) fits;
               place_is = omega (arith, at_is, few_front, length-append bytes (take count t));
-              reason_is = subst (λ m. IsLowest (holds (kind_of m.tnf m.kind) limits.records limits.profile m.payload (get_or t count 0)) reason) (so_far_all a.c.begun a.f a.kind a.id a.payload (take count t))
+              reason_is = subst (λ m. IsLowest (language.holds (kind_of m.tnf m.kind) limits.records limits.profile m.payload (get_or t count 0)) reason) (so_far_all a.c.begun a.f a.kind a.id a.payload (take count t))
                   (why (kind_of so_far.tnf so_far.kind) limits.records limits.profile so_far.payload a.speaks.reached);
             }
 
 -- all of them were taken
-pub all_taken : {set : Sets} {holds : Conditions} {limits : LimitValues} {place : Place} {reader : Reading} {phase : Phase} (reach : Kind → ℕ → Profile → List ℕ → Type 0) (pass : List ℕ → Type 0)
+pub all_taken : {L : Type 0} {language : Ghosts L} {limits : LimitValues} {state : State L}
     (bytes : List ℕ) (given : List Item) (field : Field) (c : Before) (f : Fields) (k i z t s : List ℕ) → field ≡ InPayload c f k i z → s ≡ t → length z + length t ≤ f.payload_length
-    → Stands set holds reach pass limits place reader phase (bytes ++ t) (given_next limits given c f k i (z ++ t)) (field_next limits c f k i (z ++ t)) → Onward set holds reach pass limits place reader phase bytes given field s
-all_taken {set} {holds} {limits} {place} {reader} {phase} reach pass bytes given field c f k i z t s e g few x =
-    subst (Onward set holds reach pass limits place reader phase bytes given field) (sym g)
+    → Stands language limits state (bytes ++ t) (given_next limits given c f k i (z ++ t)) (field_next limits c f k i (z ++ t)) → Onward language limits state bytes given field s
+all_taken {language = language} {limits} {state} bytes given field c f k i z t s e g few x =
+    subst (Onward language limits state bytes given field) (sym g)
     (inl (given_next limits given c f k i (z ++ t), field_next limits c f k i (z ++ t), moves_payload limits given field t c f k i z e few, x))

@@ -4,24 +4,24 @@ use Rattle.ndef_value.specs.Wire.{Item, Piece, Fields, octets, LimitValues, Spel
 use Rattle.ndef_value.specs.declared.profile.Profile.{Profile}
 use Rattle.ndef_value.specs.declared.reason.Reason.{Reason}
 use Rattle.ndef_value.specs.declared.refusal.Refusal.{Refusal}
-use Rattle.ndef_lang.specs.declared.kind.Kind.{Kind}
 use Rattle.ndef_lang.specs.declared.kind.Kind.TheVariants.{Other}
 use Rattle.ndef_lang.specs.declared.kind.KindReader.{KindReader}
 use Rattle.ndef_lang.specs.Kind.{kind_of, kind_after, missing_of}
-use Rattle.ndef_lang.specs.Language.{Sets, Conditions, PassesBetween}
+use Rattle.ndef_lang.specs.Language.{PassesBetween}
+use Rattle.ndef_lang.specs.declared.language.Language.{Ghosts}
 use Rattle.ndef_piece.specs.declared.head.Head.{Head}
 use Rattle.ndef_piece.specs.declared.spot.Spot.{Spot}
 use Rattle.ndef_piece.specs.declared.head_reader.Step.TheVariants as steps
 use Rattle.ndef_piece.specs.declared.bounds.Bounds.{Bounds}
 use Rattle.ndef_piece.specs.Heads.{head, Begins, MayStand}
-use Rattle.ndef_piece.specs.Reading.{Reading}
 use Rattle.ndef_piece.specs.Walk.{Before, start, spot, Walked}
 use Rattle.ndef_message.specs.Deep.{IsViable}
-use Rattle.ndef_message.specs.Field.{Field, InHead, InType, InId, InPayload, AtEnd, part_octets, record_so_far, IsPart, IsAt, IsReason, Moves, field_with}
+use Rattle.ndef_message.specs.Field.{Field, InHead, InType, InId, InPayload, AtEnd, part_octets, record_so_far, IsPart, IsAt, IsReason, Moves, given_next, field_next, field_with}
 use Rattle.ndef_message.specs.Payload.{completes, most_left}
 use Rattle.ndef_message.specs.declared.phase.Place.{Place}
 use Rattle.ndef_message.specs.declared.phase.Phase.{Phase}
 use Rattle.ndef_message.specs.declared.phase.Phase.TheVariants as phases
+use Rattle.ndef_message.specs.declared.state.State.{State}
 
 -- what is kept of what is known before a piece
 abbrev pub numbers : Before → Place
@@ -61,37 +61,37 @@ abbrev pub SomeHead : (List ℕ → Type 0) → Spot → List ℕ → Type 0
 SomeHead pass spot xs = (f : Fields) × Begins spot xs f × PassesBetween pass f.payload_length (most_left f.chunked spot.room f.payload_length f.payload_length)
 
 -- the language has read the payload of the record so far
-pub record Speaks (set : Sets) (reach : Kind → ℕ → Profile → List ℕ → Type 0) (pass : List ℕ → Type 0) (limits : LimitValues) (m : Item) : Type 0 where
-  pub reached : reach (kind_of m.tnf m.kind) limits.records limits.profile m.payload
-  pub future : (r : List ℕ) → pass r ↔ completes set limits m r
+pub record Speaks {L : Type 0} (language : Ghosts L) (limits : LimitValues) (payload : L) (m : Item) : Type 0 where
+  pub reached : language.reached payload (kind_of m.tnf m.kind) limits.records limits.profile m.payload
+  pub future : (r : List ℕ) → language.future payload r ↔ completes language.set limits m r
 
 -- .. where one is open
-abbrev pub SpeaksIf : Sets → (Kind → ℕ → Profile → List ℕ → Type 0) → (List ℕ → Type 0) → LimitValues → Option Item → Type 0
-SpeaksIf set reach pass limits None = ⊤
-SpeaksIf set reach pass limits (Some m) = Speaks set reach pass limits m
+abbrev pub SpeaksIf : {L : Type 0} (language : Ghosts L) → LimitValues → (payload : L) → Option Item → Type 0
+SpeaksIf language limits payload None = ⊤
+SpeaksIf language limits payload (Some m) = Speaks language limits payload m
 
 -- the reader of a type's name has read these octets
 pub record Reads (reader : KindReader) (f : Fields) (kind : List ℕ) (left : ℕ) : Type 0 where
   pub missing : missing_of reader ≡ left
   pub kinds : (more : List ℕ) → kind_after reader more ≡ (if length more == left then kind_of (tnf_of f.tnf) (kind ++ more) else Other)
 
-module _ (set : Sets) (holds : Conditions) (reach : Kind → ℕ → Profile → List ℕ → Type 0) (pass : List ℕ → Type 0) (limits : LimitValues) (place : Place) (reader : Reading) (phase : Phase) where
+module _ {L : Type 0} (language : Ghosts L) (limits : LimitValues) (state : State L) where
   -- the fields tell the field of the next byte
   abbrev pub Matches : Field → Type 0
   Matches (InHead c xs) =
-      (place ≡ numbers c) × (phase ≡ phases.Head) × (reader ≡ record { spot = spot limits.profile c; octets = xs; answer = steps.More }) × SpeaksIf set reach pass limits c.begun
+      (state.place ≡ numbers c) × (state.phase ≡ phases.Head) × (state.reader ≡ record { spot = spot limits.profile c; octets = xs; answer = steps.More }) × SpeaksIf language limits state.payload c.begun
   Matches (InType c f kind) =
-      (place ≡ numbers c) × (c.begun ≡ None) × (r : KindReader) × (phase ≡ phases.Type (head f) (f.kind_length - length kind) r) × Reads r f kind (f.kind_length - length kind)
+      (state.place ≡ numbers c) × (c.begun ≡ None) × (r : KindReader) × (state.phase ≡ phases.Type (head f) (f.kind_length - length kind) r) × Reads r f kind (f.kind_length - length kind)
   Matches (InId c f kind id) =
-      (place ≡ numbers c) × (phase ≡ phases.Id (head f) (unwrap_or f.id_length 0 - length id)) × Speaks set reach pass limits (record_so_far c.begun f kind id [])
+      (state.place ≡ numbers c) × (state.phase ≡ phases.Id (head f) (unwrap_or f.id_length 0 - length id)) × Speaks language limits state.payload (record_so_far c.begun f kind id [])
   Matches (InPayload c f kind id payload) =
-      (place ≡ numbers c) × (phase ≡ phases.Payload (head f) (f.payload_length - length payload)) × Speaks set reach pass limits (record_so_far c.begun f kind id payload)
-  Matches (AtEnd c) = (place ≡ numbers c) × (phase ≡ phases.Done)
+      (state.place ≡ numbers c) × (state.phase ≡ phases.Payload (head f) (f.payload_length - length payload)) × Speaks language limits state.payload (record_so_far c.begun f kind id payload)
+  Matches (AtEnd c) = (state.place ≡ numbers c) × (state.phase ≡ phases.Done)
 
   -- these bytes led here, and none was refused
   pub record Stands (bytes : List ℕ) (given : List Item) (field : Field) : Type 0 where
     pub at : IsAt limits bytes given field
-    pub viable : IsViable set limits bytes
+    pub viable : IsViable language.set limits bytes
     pub matches : Matches field
 
   -- these bytes led here, and the last one was refused
@@ -101,16 +101,20 @@ module _ (set : Sets) (holds : Conditions) (reach : Kind → ℕ → Profile →
     pub refusal : Refusal
     pub split : bytes ≡ front ++ byte ∷ []
     pub at : IsAt limits front given field
-    pub viable : IsViable set limits front
-    pub refused : ¬ IsViable set limits bytes
-    pub phase_is : phase ≡ phases.Refused refusal
+    pub viable : IsViable language.set limits front
+    pub refused : ¬ IsViable language.set limits bytes
+    pub phase_is : state.phase ≡ phases.Refused refusal
     pub place_is : refusal.at ≡ length front
-    pub counted : place.records + length given ≡ limits.records
-    pub reason : IsReason holds limits field byte refusal.reason
+    pub counted : state.place.records + length given ≡ limits.records
+    pub reason : IsReason language.holds limits field byte refusal.reason
 
   -- these bytes led here: they end these records, and this is the field of the next byte, or of the one that was refused
   abbrev pub Reached : List ℕ → List Item → Field → Type 0
   Reached bytes given field = Stands bytes given field ⊎ Stopped bytes given field
+
+  -- these bytes led behind these parts of a piece
+  abbrev pub StandsBehind : List ℕ → List Item → Before → Fields → (kind id payload : List ℕ) → Type 0
+  StandsBehind bytes given c f kind id payload = Stands bytes (given_next limits given c f kind id payload) (field_next limits c f kind id payload)
 
   -- after octets of the field behind these bytes: all of them lead on, or the last of them was refused
   abbrev pub Onward : List ℕ → List Item → Field → List ℕ → Type 0
@@ -133,8 +137,8 @@ module _ (set : Sets) (holds : Conditions) (reach : Kind → ℕ → Profile →
     pub left_is : left ≡ f.payload_length - length payload
     pub payload_fits : length payload ≤ f.payload_length
     pub in_turn : (length id ≡ unwrap_or f.id_length 0) ⊎ (payload ≡ [])
-    pub place_is : place ≡ numbers c
-    pub speaks : Speaks set reach pass limits (record_so_far c.begun f kind id payload)
+    pub place_is : state.place ≡ numbers c
+    pub speaks : Speaks language limits state.payload (record_so_far c.begun f kind id payload)
 
   -- some bytes led there
   pub record SomeBody (h : Head) (id_left left : ℕ) : Type 0 where
@@ -157,8 +161,8 @@ module _ (set : Sets) (holds : Conditions) (reach : Kind → ℕ → Profile →
     pub goes_on : c.over ≡ false
     pub stands : MayStand (spot limits.profile c) f
     pub head_is : h ≡ head f
-    pub place_is : place ≡ numbers c
-    pub speaks : SpeaksIf set reach pass limits c.begun
+    pub place_is : state.place ≡ numbers c
+    pub speaks : SpeaksIf language limits state.payload c.begun
 
   -- some bytes led to a whole head
   pub record SomeWhole (h : Head) : Type 0 where
@@ -176,18 +180,16 @@ module _ (set : Sets) (holds : Conditions) (reach : Kind → ℕ → Profile →
     pub stands : Stands bytes given field
 
 -- an octet came after these bytes, and this is its reason if it is refused
-pub record Came (set : Sets) (holds : Conditions) (limits : LimitValues) (at : ℕ) (reason : Reason) (bytes : List ℕ) (given : List Item) (field : Field) (b : ℕ) : Type 0 where
+pub record Came {L : Type 0} (language : Ghosts L) (limits : LimitValues) (at : ℕ) (reason : Reason) (bytes : List ℕ) (given : List Item) (field : Field) (b : ℕ) : Type 0 where
   pub at_is : IsAt limits bytes given field
-  pub viable : IsViable set limits bytes
+  pub viable : IsViable language.set limits bytes
   pub place_is : at ≡ length bytes
-  pub reason_is : IsReason holds limits field b reason
+  pub reason_is : IsReason language.holds limits field b reason
 
 -- these bytes, so many, led there
-abbrev pub Knows : (set : Sets) (holds : Conditions) (reach : Kind → ℕ → Profile → List ℕ → Type 0) (pass : List ℕ → Type 0) (limits : LimitValues) (place : Place) (reader : Reading) (phase : Phase) (taken : ℕ)
-    → List ℕ → List Item → Field → Type 0
-Knows set holds reach pass limits place reader phase taken bytes given field = (taken ≡ length bytes) × Reached set holds reach pass limits place reader phase bytes given field
+abbrev pub Knows : {L : Type 0} (language : Ghosts L) → LimitValues → State L → (taken : ℕ) → List ℕ → List Item → Field → Type 0
+Knows language limits state taken bytes given field = (taken ≡ length bytes) × Reached language limits state bytes given field
 
 -- some bytes led there
-abbrev pub LedTo : (set : Sets) (holds : Conditions) (reach : Kind → ℕ → Profile → List ℕ → Type 0) (pass : List ℕ → Type 0) (limits : LimitValues) (place : Place) (reader : Reading) (phase : Phase) (taken : ℕ) → Type 0
-LedTo set holds reach pass limits place reader phase taken =
-    (bytes : List ℕ) × (given : List Item) × (field : Field) × Knows set holds reach pass limits place reader phase taken bytes given field
+abbrev pub LedTo : {L : Type 0} (language : Ghosts L) → LimitValues → State L → (taken : ℕ) → Type 0
+LedTo language limits state taken = (bytes : List ℕ) × (given : List Item) × (field : Field) × Knows language limits state taken bytes given field

@@ -1,8 +1,7 @@
 //! The checker of a message: bytes of one field after another.
 ghost use Rattle.std.specs.Prelude.{◌≡◌, ◌+◌, ◌<◌, ◌≤◌, ◌++◌, ◌∷◌, [], ℕ, List, length, take, None};
-ghost use Rattle.ndef_value.specs.Wire.{Item, greatest_length};
-ghost use Rattle.ndef_message.specs.Field.{Field};
-ghost use Rattle.ndef_message.specs.Feed.{Feeds, Ends, IsAccepted, answer_of};
+ghost use Rattle.ndef_value.specs.Wire.{greatest_length};
+ghost use Rattle.ndef_message.specs.Feed.{WhateverLed, Feeds, Ends, IsAccepted, answer_of};
 ghost use Rattle.ndef_message.specs.State.{LedTo, Onward};
 
 use crate::Fed;
@@ -13,44 +12,24 @@ use ndef_lang::{Kind, Language, OuterLanguage};
 use ndef_piece::HeadReader;
 use ndef_value::{Limits, Reason, Refusal};
 
-/// What is known of something that is fed the bytes of a message.
-pub trait Reading {
-    ghost use Rattle.ndef_value.specs.Wire.{Item, LimitValues};
-    ghost use Rattle.ndef_message.specs.Field.{Field};
-
-    /// Its limits.
-    ghost limits: { Self → LimitValues };
-
-    /// The bytes that lead there, a refused one with them, with the records that they end and the
-    /// field of the next byte, or of the refused one.
-    ghost reached: { Self → List ℕ → List Item → Field → Type 0 };
-}
-
 /// Checks one message in memory of fixed size.
 #[derive(Drop)]
 pub struct Checker<L: OuterLanguage> {
     pub(crate) limits: Limits,
     pub(crate) state: State<L>,
     pub(crate) taken: u64,
-    ghost led: { ∥ LedTo L.set L.holds (L.reached state.payload) (L.future state.payload) limits state.place state.reader state.phase taken ∥₁ },
-}
-
-impl<L: OuterLanguage> Reading for Checker<L> {
-    ghost use Rattle.ndef_message.specs.State.{Knows};
-
-    ghost limits = { λ c. c.limits };
-
-    ghost reached = { λ c. Knows L.set L.holds (L.reached c.state.payload) (L.future c.state.payload) c.limits c.state.place c.state.reader c.state.phase c.taken };
+    ghost led: { ∥ LedTo L.Language limits state taken ∥₁ },
 }
 
 impl<L: OuterLanguage> Checker<L> {
-    ghost use Rattle.ndef_message.specs.Field.{Field, InHead};
+    ghost use Rattle.ndef_message.specs.Field.{InHead};
+    ghost use Rattle.ndef_message.specs.Checkers.{CheckerReached, checker_limits};
     ghost use Rattle.ndef_piece.specs.Walk.{start};
 
     /// Before a message.
     pub fn new(limits: Limits) -> Self
-        ensures limits { ⟦<Checker<L> as Reading>⟧.limits result ≡ limits }
-        ensures reached { ⟦<Checker<L> as Reading>⟧.reached result [] [] (InHead (start limits) []) }
+        ensures limits { checker_limits result ≡ limits }
+        ensures reached { CheckerReached result [] [] (InHead (start limits) []) }
     {
         format_laws(&limits);
         let place = Place {
@@ -75,9 +54,9 @@ impl<L: OuterLanguage> Checker<L> {
     /// Takes the next bytes of the message, up to its last one or the first that is refused. After
     /// the last byte it takes none, and after a refusal it repeats that refusal.
     pub fn feed(&mut self, bytes: &[u8]) -> Fed
-        ensures limits { ⟦<Checker<L> as Reading>⟧.limits self.new ≡ ⟦<Checker<L> as Reading>⟧.limits self.old }
-        ensures fed { (front : List ℕ) (given : List Item) (field : Field) → ⟦<Checker<L> as Reading>⟧.reached self.old front given field
-            → Feeds L.set L.holds (⟦<Checker<L> as Reading>⟧.limits self.old) (⟦<Checker<L> as Reading>⟧.reached self.new) front bytes.now result }
+        ensures limits { checker_limits self.new ≡ checker_limits self.old }
+        ensures fed { WhateverLed (CheckerReached self.old) (λ front given field.
+            Feeds L.set L.holds (checker_limits self.old) (CheckerReached self.new) front bytes.now result) }
     {
         format_laws(&self.limits);
         let mut at = 0;
@@ -95,8 +74,8 @@ impl<L: OuterLanguage> Checker<L> {
 
     /// What the input is, if it ends here.
     pub fn end(&self) -> Result<(), Refusal>
-        ensures { (front : List ℕ) (given : List Item) (field : Field) → ⟦<Checker<L> as Reading>⟧.reached self.now front given field
-            → Ends L.set L.holds (⟦<Checker<L> as Reading>⟧.limits self.now) front result }
+        ensures { WhateverLed (CheckerReached self.now) (λ front given field.
+            Ends L.set L.holds (checker_limits self.now) front result) }
     {
         format_laws(&self.limits);
         match self.state.phase {
@@ -111,8 +90,7 @@ impl<L: OuterLanguage> Checker<L> {
 
     /// The records that have ended; after a refusal, before the refused byte.
     pub fn records(&self) -> u32
-        ensures { (front : List ℕ) (given : List Item) (field : Field) → ⟦<Checker<L> as Reading>⟧.reached self.now front given field
-            → result ≡ length given }
+        ensures { WhateverLed (CheckerReached self.now) (λ front given field. result ≡ length given) }
     {
         format_laws(&self.limits);
         self.limits
@@ -123,9 +101,9 @@ impl<L: OuterLanguage> Checker<L> {
     /// The bytes that were taken; after a refusal, those before the refused one. They are at most as
     /// many as a message within the limits can have.
     pub fn place(&self) -> u64
-        ensures accepted { (front : List ℕ) (given : List Item) (field : Field) → ⟦<Checker<L> as Reading>⟧.reached self.now front given field
-            → IsAccepted L.set (⟦<Checker<L> as Reading>⟧.limits self.now) front result }
-        ensures bound { result ≤ greatest_length (⟦<Checker<L> as Reading>⟧.limits self.now) }
+        ensures accepted { WhateverLed (CheckerReached self.now) (λ front given field.
+            IsAccepted L.set (checker_limits self.now) front result) }
+        ensures bound { result ≤ greatest_length (checker_limits self.now) }
     {
         format_laws(&self.limits);
         match self.state.phase {
@@ -154,9 +132,9 @@ impl<L: OuterLanguage> Checker<L> {
         ensures some { 0 < result }
         ensures most { result ≤ length bytes.now }
         ensures taken { self.new.taken ≡ self.old.taken + result }
-        ensures onward { (front : List ℕ) (given : List Item) (field : Field) → ⟦<Checker<L> as Reading>⟧.reached self.old front given field
-            → (self.new.taken ≡ length (front ++ take result bytes.now))
-            × Onward L.set L.holds (L.reached self.new.state.payload) (L.future self.new.state.payload) self.new.limits self.new.state.place self.new.state.reader self.new.state.phase front given field (take result bytes.now) }
+        ensures onward { WhateverLed (CheckerReached self.old) (λ front given field.
+            (self.new.taken ≡ length (front ++ take result bytes.now))
+            × Onward L.Language self.new.limits self.new.state front given field (take result bytes.now)) }
     {
         format_laws(&self.limits);
         let at = self.taken;

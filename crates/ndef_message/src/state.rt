@@ -19,24 +19,23 @@ pub(crate) struct State<L: OuterLanguage> {
 }
 
 impl<L: OuterLanguage> State<L> {
-    ghost use Rattle.ndef_message.specs.Field.{Field, given_next, field_next};
-    ghost use Rattle.ndef_message.specs.State.{Stands, Stopped, InBody, SomeBody, WholeHead, SomeWhole, SomeHead, Led, Came, Onward};
+    ghost use Rattle.ndef_message.specs.Feed.{WhateverLed};
+    ghost use Rattle.ndef_message.specs.Field.{Field};
+    ghost use Rattle.ndef_message.specs.State.{Stands, StandsBehind, Stopped, InBody, SomeBody, WholeHead, SomeWhole, SomeHead, Led, Came, Onward};
     ghost use Rattle.ndef_piece.specs.Heads as heads;
     ghost use Rattle.ndef_message.specs.Deep.{IsViable};
 
     /// Takes the next bytes, after `at` others, as far as they are of one field, up to the first that
     /// is refused; answers how many, a refused one too.
     pub(crate) fn step(&mut self, limits: &Limits, at: u64, bytes: &[u8]) -> usize
-        requires led { ∥ Led L.set L.holds (L.reached self.old.payload) (L.future self.old.payload) limits.now self.old.place self.old.reader self.old.phase ∥₁ }
+        requires led { ∥ Led L.Language limits.now self.old ∥₁ }
         requires far { at ≤ 2 ^ 60 }
         requires some { 0 < length bytes.now }
         ensures some { 0 < result }
         ensures most { result ≤ length bytes.now }
         ensures few { result < 2 ^ 32 }
-        ensures onward { (front : List ℕ) (given : List Item) (field : Field) → at ≡ length front
-            → Stands L.set L.holds (L.reached self.old.payload) (L.future self.old.payload) limits.now self.old.place self.old.reader self.old.phase front given field
-            → self.old.phase ≢ Phase.Done
-            → Onward L.set L.holds (L.reached self.new.payload) (L.future self.new.payload) limits.now self.new.place self.new.reader self.new.phase front given field (take result bytes.now) }
+        ensures onward { WhateverLed (Stands L.Language limits.now self.old) (λ front given field. at ≡ length front
+            → self.old.phase ≢ Phase.Done → Onward L.Language limits.now self.new front given field (take result bytes.now)) }
     {
         match self.phase {
             Phase::Head => {
@@ -62,10 +61,9 @@ impl<L: OuterLanguage> State<L> {
     /// Takes an octet of the head of a piece.
     fn in_head(&mut self, limits: &Limits, at: u64, byte: u8)
         requires phase { self.old.phase ≡ Phase.Head }
-        requires led { ∥ Led L.set L.holds (L.reached self.old.payload) (L.future self.old.payload) limits.now self.old.place self.old.reader self.old.phase ∥₁ }
-        ensures onward { (bytes : List ℕ) (given : List Item) (field : Field) → at ≡ length bytes
-            → Stands L.set L.holds (L.reached self.old.payload) (L.future self.old.payload) limits.now self.old.place self.old.reader self.old.phase bytes given field
-            → Onward L.set L.holds (L.reached self.new.payload) (L.future self.new.payload) limits.now self.new.place self.new.reader self.new.phase bytes given field (byte ∷ []) }
+        requires led { ∥ Led L.Language limits.now self.old ∥₁ }
+        ensures onward { WhateverLed (Stands L.Language limits.now self.old) (λ front given field. at ≡ length front
+            → Onward L.Language limits.now self.new front given field (byte ∷ [])) }
     {
         format_laws(limits);
         match self.reader.step(byte) {
@@ -104,12 +102,12 @@ impl<L: OuterLanguage> State<L> {
 
     /// Goes on behind a whole head.
     fn behind_head(&mut self, limits: &Limits, at: u64, head: Head)
-        requires led { ∥ SomeWhole L.set L.holds (L.reached self.old.payload) (L.future self.old.payload) limits.now self.old.place self.old.reader self.old.phase head ∥₁ }
+        requires led { ∥ SomeWhole L.Language limits.now self.old head ∥₁ }
         ensures entered { (bytes : List ℕ) (given : List Item) (field : Field) (b : ℕ) (c : Before) (f : Fields)
-            → Came L.set L.holds limits.now at Reason.DoesNotFit bytes given field b
-            → WholeHead L.set L.holds (L.reached self.old.payload) (L.future self.old.payload) limits.now self.old.place self.old.reader self.old.phase head (bytes ++ b ∷ []) given c f
-            → Stands L.set L.holds (L.reached self.new.payload) (L.future self.new.payload) limits.now self.new.place self.new.reader self.new.phase (bytes ++ b ∷ []) (given_next limits.now given c f [] [] []) (field_next limits.now c f [] [] [])
-            ⊎ Stopped L.set L.holds (L.reached self.new.payload) (L.future self.new.payload) limits.now self.new.place self.new.reader self.new.phase (bytes ++ b ∷ []) given field }
+            → Came L.Language limits.now at Reason.DoesNotFit bytes given field b
+            → WholeHead L.Language limits.now self.old head (bytes ++ b ∷ []) given c f
+            → StandsBehind L.Language limits.now self.new (bytes ++ b ∷ []) given c f [] [] []
+            ⊎ Stopped L.Language limits.now self.new (bytes ++ b ∷ []) given field }
     {
         format_laws(limits);
         if self.place.inside {
@@ -140,15 +138,14 @@ impl<L: OuterLanguage> State<L> {
     /// answers how many, a refused one too.
     fn in_payload(&mut self, limits: &Limits, at: u64, head: Head, left: u32, bytes: &[u8]) -> usize
         requires phase { self.old.phase ≡ Phase.Payload head left }
-        requires led { ∥ Led L.set L.holds (L.reached self.old.payload) (L.future self.old.payload) limits.now self.old.place self.old.reader self.old.phase ∥₁ }
+        requires led { ∥ Led L.Language limits.now self.old ∥₁ }
         requires far { at ≤ 2 ^ 60 }
         requires some { 0 < length bytes.now }
         requires enough { length bytes.now ≤ left }
         ensures some { 0 < result }
         ensures most { result ≤ length bytes.now }
-        ensures onward { (front : List ℕ) (given : List Item) (field : Field) → at ≡ length front
-            → Stands L.set L.holds (L.reached self.old.payload) (L.future self.old.payload) limits.now self.old.place self.old.reader self.old.phase front given field
-            → Onward L.set L.holds (L.reached self.new.payload) (L.future self.new.payload) limits.now self.new.place self.new.reader self.new.phase front given field (take result bytes.now) }
+        ensures onward { WhateverLed (Stands L.Language limits.now self.old) (λ front given field. at ≡ length front
+            → Onward L.Language limits.now self.new front given field (take result bytes.now)) }
     {
         format_laws(limits);
         let most = self.place.most_left(&head, left);
@@ -171,8 +168,8 @@ impl<L: OuterLanguage> State<L> {
         requires phase { self.old.phase ≡ Phase.Id head left }
         requires enough { length bytes.now ≤ left }
         ensures all { result ≡ length bytes.now }
-        ensures onward { (front : List ℕ) (given : List Item) (field : Field) → Stands L.set L.holds (L.reached self.old.payload) (L.future self.old.payload) limits.now self.old.place self.old.reader self.old.phase front given field
-            → Onward L.set L.holds (L.reached self.new.payload) (L.future self.new.payload) limits.now self.new.place self.new.reader self.new.phase front given field bytes.now }
+        ensures onward { WhateverLed (Stands L.Language limits.now self.old) (λ front given field.
+            Onward L.Language limits.now self.new front given field bytes.now) }
     {
         format_laws(limits);
         let count = bytes.len();
@@ -191,10 +188,9 @@ impl<L: OuterLanguage> State<L> {
         byte: u8,
     )
         requires phase { self.old.phase ≡ Phase.Type head left kind }
-        requires led { ∥ Led L.set L.holds (L.reached self.old.payload) (L.future self.old.payload) limits.now self.old.place self.old.reader self.old.phase ∥₁ }
-        ensures onward { (bytes : List ℕ) (given : List Item) (field : Field) → at ≡ length bytes
-            → Stands L.set L.holds (L.reached self.old.payload) (L.future self.old.payload) limits.now self.old.place self.old.reader self.old.phase bytes given field
-            → Onward L.set L.holds (L.reached self.new.payload) (L.future self.new.payload) limits.now self.new.place self.new.reader self.new.phase bytes given field (byte ∷ []) }
+        requires led { ∥ Led L.Language limits.now self.old ∥₁ }
+        ensures onward { WhateverLed (Stands L.Language limits.now self.old) (λ front given field. at ≡ length front
+            → Onward L.Language limits.now self.new front given field (byte ∷ [])) }
     {
         format_laws(limits);
         let mut kind = kind;
@@ -230,12 +226,13 @@ impl<L: OuterLanguage> State<L> {
         left: u32,
         reason: Reason,
     )
-        requires led { ∥ SomeBody L.set L.holds (L.reached self.old.payload) (L.future self.old.payload) limits.now self.old.place self.old.reader self.old.phase head id_left left ∥₁ }
-        ensures entered { (bytes : List ℕ) (given : List Item) (field : Field) (b : ℕ) (c : Before) (f : Fields) (kind id payload : List ℕ)
-            → Came L.set L.holds limits.now at reason bytes given field b
-            → InBody L.set L.holds (L.reached self.old.payload) (L.future self.old.payload) limits.now self.old.place self.old.reader self.old.phase head id_left left (bytes ++ b ∷ []) given c f kind id payload
-            → Stands L.set L.holds (L.reached self.new.payload) (L.future self.new.payload) limits.now self.new.place self.new.reader self.new.phase (bytes ++ b ∷ []) (given_next limits.now given c f kind id payload) (field_next limits.now c f kind id payload)
-            ⊎ Stopped L.set L.holds (L.reached self.new.payload) (L.future self.new.payload) limits.now self.new.place self.new.reader self.new.phase (bytes ++ b ∷ []) given field }
+        requires led { ∥ SomeBody L.Language limits.now self.old head id_left left ∥₁ }
+        ensures entered { (bytes : List ℕ) (given : List Item) (field : Field) (b : ℕ) (c : Before) (f : Fields)
+            (kind id payload : List ℕ)
+            → Came L.Language limits.now at reason bytes given field b
+            → InBody L.Language limits.now self.old head id_left left (bytes ++ b ∷ []) given c f kind id payload
+            → StandsBehind L.Language limits.now self.new (bytes ++ b ∷ []) given c f kind id payload
+            ⊎ Stopped L.Language limits.now self.new (bytes ++ b ∷ []) given field }
     {
         format_laws(limits);
         if self
@@ -252,9 +249,10 @@ impl<L: OuterLanguage> State<L> {
 
     /// Goes on behind so much of the id and the payload of a piece.
     fn settle(&mut self, limits: &Limits, head: Head, id_left: u8, left: u32)
-        ensures stands { (bytes : List ℕ) (given : List Item) (c : Before) (f : Fields) (kind id payload : List ℕ) → InBody L.set L.holds (L.reached self.old.payload) (L.future self.old.payload) limits.now self.old.place self.old.reader self.old.phase head id_left left bytes given c f kind id payload
+        ensures stands { (bytes : List ℕ) (given : List Item) (c : Before) (f : Fields) (kind id payload : List ℕ)
+            → InBody L.Language limits.now self.old head id_left left bytes given c f kind id payload
             → IsViable L.set limits.now bytes
-            → Stands L.set L.holds (L.reached self.new.payload) (L.future self.new.payload) limits.now self.new.place self.new.reader self.new.phase bytes (given_next limits.now given c f kind id payload) (field_next limits.now c f kind id payload) }
+            → StandsBehind L.Language limits.now self.new bytes given c f kind id payload }
     {
         format_laws(limits);
         if id_left > 0 {
