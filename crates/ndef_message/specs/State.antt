@@ -1,5 +1,5 @@
 -- What the fields of a checker say of the bytes that led there.
-use Rattle.std.specs.Prelude.{◌≡◌, ◌+◌, ◌-◌, ◌≤◌, ◌==◌, ◌||◌, nat_lt, ℕ, Bool, true, false, List, [], ◌∷◌, ◌++◌, length, Option, Some, None, is_some, unwrap_or, ⊤, ◌⊎◌, ◌↔◌, if◌then◌else◌}
+use Rattle.std.specs.Prelude.{◌≡◌, ◌≢◌, ◌+◌, ◌-◌, ◌≤◌, ◌==◌, ◌||◌, nat_lt, ℕ, Bool, true, false, List, [], ◌∷◌, ◌++◌, length, Option, Some, None, is_some, unwrap_or, ⊤, ◌⊎◌, ◌↔◌, if◌then◌else◌}
 use Rattle.ndef_value.specs.Wire.{Item, Piece, Fields, octets, LimitValues, SpellAll, tnf_of}
 use Rattle.ndef_value.specs.declared.profile.Profile.{Profile}
 use Rattle.ndef_value.specs.declared.reason.Reason.{Reason}
@@ -13,6 +13,7 @@ use Rattle.ndef_piece.specs.declared.head.Head.{Head}
 use Rattle.ndef_piece.specs.declared.spot.Spot.{Spot}
 use Rattle.ndef_piece.specs.declared.head_reader.Step.TheVariants as steps
 use Rattle.ndef_piece.specs.declared.bounds.Bounds.{Bounds}
+use Rattle.ndef_piece.specs.Heads as heads
 use Rattle.ndef_piece.specs.Heads.{head, Begins, MayStand}
 use Rattle.ndef_piece.specs.Walk.{Before, start, spot, Walked}
 use Rattle.ndef_message.specs.Deep.{IsViable}
@@ -59,6 +60,14 @@ greatest_of b room = if b.chunked || nat_lt room b.payload.1 then room else b.pa
 -- the payload can be completed by the piece of some head that goes on after these octets
 abbrev pub SomeHead : (List ℕ → Type 0) → Spot → List ℕ → Type 0
 SomeHead pass spot xs = (f : Fields) × Begins spot xs f × PassesBetween pass f.payload_length (most_left f.chunked spot.room f.payload_length f.payload_length)
+
+-- the reader stands within a head that can go on
+abbrev pub IsWithinHead : {L : Type 0} → State L → Type 0
+IsWithinHead state = (state.reader.octets ≢ []) × (state.reader.spot.room ≡ state.place.room) × heads.IsViable state.reader.spot state.reader.octets
+
+-- the payload of an open run can be completed by the piece of a head that goes on so
+abbrev pub CanGoOn : {L : Type 0} (language : Ghosts L) → State L → Type 0
+CanGoOn language state = state.place.inside ≡ true → SomeHead (language.future state.payload) state.reader.spot state.reader.octets
 
 -- the language has read the payload of the record so far
 pub record Speaks {L : Type 0} (language : Ghosts L) (limits : LimitValues) (payload : L) (m : Item) : Type 0 where

@@ -21,8 +21,8 @@ pub(crate) struct State<L: OuterLanguage> {
 impl<L: OuterLanguage> State<L> {
     ghost use Rattle.ndef_message.specs.Feed.{WhateverLed};
     ghost use Rattle.ndef_message.specs.Field.{Field};
-    ghost use Rattle.ndef_message.specs.State.{Stands, StandsBehind, Stopped, InBody, SomeBody, WholeHead, SomeWhole, SomeHead, Led, Came, Onward};
-    ghost use Rattle.ndef_piece.specs.Heads as heads;
+    ghost use Rattle.ndef_message.specs.State.{Stands, StandsBehind, Stopped, Led, Came, Onward};
+    ghost use Rattle.ndef_message.specs.State.{InBody, SomeBody, WholeHead, SomeWhole, IsWithinHead, CanGoOn};
     ghost use Rattle.ndef_message.specs.Deep.{IsViable};
 
     /// Takes the next bytes, after `at` others, as far as they are of one field, up to the first that
@@ -34,8 +34,10 @@ impl<L: OuterLanguage> State<L> {
         ensures some { 0 < result }
         ensures most { result ≤ length bytes.now }
         ensures few { result < 2 ^ 32 }
-        ensures onward { WhateverLed (Stands L.Language limits.now self.old) (λ front given field. at ≡ length front
-            → self.old.phase ≢ Phase.Done → Onward L.Language limits.now self.new front given field (take result bytes.now)) }
+        ensures onward { WhateverLed (Stands L.Language limits.now self.old) (λ front given field.
+            at ≡ length front
+            → self.old.phase ≢ Phase.Done
+            → Onward L.Language limits.now self.new front given field (take result bytes.now)) }
     {
         match self.phase {
             Phase::Head => {
@@ -62,7 +64,8 @@ impl<L: OuterLanguage> State<L> {
     fn in_head(&mut self, limits: &Limits, at: u64, byte: u8)
         requires phase { self.old.phase ≡ Phase.Head }
         requires led { ∥ Led L.Language limits.now self.old ∥₁ }
-        ensures onward { WhateverLed (Stands L.Language limits.now self.old) (λ front given field. at ≡ length front
+        ensures onward { WhateverLed (Stands L.Language limits.now self.old) (λ front given field.
+            at ≡ length front
             → Onward L.Language limits.now self.new front given field (byte ∷ [])) }
     {
         format_laws(limits);
@@ -86,8 +89,7 @@ impl<L: OuterLanguage> State<L> {
 
     /// Whether the payload of an open run can be completed by a piece whose head goes on so.
     fn head_goes_on(&self) -> bool
-        ensures { self.now.reader.octets ≢ [] → self.now.reader.spot.room ≡ self.now.place.room → heads.IsViable self.now.reader.spot self.now.reader.octets
-            → (IsTrue result ↔ (self.now.place.inside ≡ true → SomeHead (L.future self.now.payload) self.now.reader.spot self.now.reader.octets)) }
+        ensures { IsWithinHead self.now → (IsTrue result ↔ CanGoOn L.Language self.now) }
     {
         if !self.place.inside {
             return true;
@@ -144,7 +146,8 @@ impl<L: OuterLanguage> State<L> {
         requires enough { length bytes.now ≤ left }
         ensures some { 0 < result }
         ensures most { result ≤ length bytes.now }
-        ensures onward { WhateverLed (Stands L.Language limits.now self.old) (λ front given field. at ≡ length front
+        ensures onward { WhateverLed (Stands L.Language limits.now self.old) (λ front given field.
+            at ≡ length front
             → Onward L.Language limits.now self.new front given field (take result bytes.now)) }
     {
         format_laws(limits);
@@ -189,7 +192,8 @@ impl<L: OuterLanguage> State<L> {
     )
         requires phase { self.old.phase ≡ Phase.Type head left kind }
         requires led { ∥ Led L.Language limits.now self.old ∥₁ }
-        ensures onward { WhateverLed (Stands L.Language limits.now self.old) (λ front given field. at ≡ length front
+        ensures onward { WhateverLed (Stands L.Language limits.now self.old) (λ front given field.
+            at ≡ length front
             → Onward L.Language limits.now self.new front given field (byte ∷ [])) }
     {
         format_laws(limits);

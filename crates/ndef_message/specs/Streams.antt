@@ -1,0 +1,35 @@
+-- What a source over a reader and a sink over a writer show.
+use Rattle.std.specs.Prelude.{◌≡◌, ◌-◌, ℕ, Bool, true, List, Option}
+use Rattle.std.specs.declared.io.traits.BufRead.{Ghosts as BufferedOf}
+use Rattle.std.specs.declared.io.traits.Read.{Ghosts as ReadingOf}
+use Rattle.ndef_message.specs.Sources.{left_of}
+use Rattle.ndef_message.specs.declared.std_sink.StdSink.{StdSink}
+use Rattle.ndef_message.specs.declared.std_source.StdSource.{StdSource}
+
+-- the bytes to come of a source
+abbrev pub reader_coming : {R : Type 0} {buffered : BufferedOf R} {reading : ReadingOf R} → StdSource R buffered reading → Option (List ℕ)
+reader_coming {buffered = buffered} {reading} s = left_of (reading.remaining s.reader) (buffered.consumable_len s.reader) s.fresh s.filled s.pending
+
+-- how many bytes were taken of it
+abbrev pub reader_taken : {R : Type 0} {buffered : BufferedOf R} {reading : ReadingOf R} → StdSource R buffered reading → ℕ
+reader_taken s = s.count
+
+-- how many it shows that are not taken yet
+abbrev pub reader_shown : {R : Type 0} {buffered : BufferedOf R} {reading : ReadingOf R} → StdSource R buffered reading → ℕ
+reader_shown s = s.filled - s.taken
+
+-- it has failed
+abbrev pub reader_failed : {R : Type 0} {buffered : BufferedOf R} {reading : ReadingOf R} → StdSource R buffered reading → Bool
+reader_failed s = s.has_failed
+
+-- where its reader showed bytes since it last consumed some, and stood behind all that was taken, it stands behind all again
+abbrev pub StaysBehind : {R : Type 0} {buffered : BufferedOf R} {reading : ReadingOf R} (old new : StdSource R buffered reading) → Type 0
+StaysBehind old new = old.fresh ≡ true → old.pending ≡ 0 → new.pending ≡ 0
+
+-- the writer of a sink
+abbrev pub writer_of : {W : Type 0} → StdSink W → W
+writer_of s = s.writer
+
+-- it has failed
+abbrev pub writer_failed : {W : Type 0} → StdSink W → Bool
+writer_failed s = s.has_failed
