@@ -4,13 +4,15 @@ use Rattle.std.proofs.lemmas.List.{append-nil, take_all, take-append-drop}
 use Rattle.ndef_value.specs.Wire.{Item, LimitValues, AreInRange}
 use Rattle.ndef_lang.specs.StepLaws.{rest, take_rests}
 use Rattle.ndef_lang.specs.declared.language.Language.{Ghosts}
-use Rattle.ndef_message.specs.Checkers.{CheckerReached}
+use Rattle.ndef_message.specs.Machine.Checkers.{CheckerReached}
 use Rattle.ndef_message.specs.Deep.{IsDeep, IsViable}
-use Rattle.ndef_message.specs.Field.{Field, IsAt, field_with}
-use Rattle.ndef_message.specs.Feed.{Fronts, Leads, Feeds, answer_of}
-use Rattle.ndef_message.specs.Format.{FormatLaws}
+use Rattle.ndef_message.specs.Field.{Field, IsAt}
+use Rattle.ndef_message.specs.Machine.Moves.{field_with}
+use Rattle.ndef_message.specs.Feed.{Fronts, Leads, Feeds}
+use Rattle.ndef_message.specs.Machine.State.{answer_of}
+use Rattle.ndef_message.specs.Machine.Format.{FormatLaws}
 use Rattle.ndef_message.specs.Place.{Refuses}
-use Rattle.ndef_message.specs.State.{Matches, Stands, Reached, Onward, Knows, LedTo, Led}
+use Rattle.ndef_message.specs.Machine.State.{Matches, Stands, Reached, Onward, Knows, LedTo, Led}
 use Rattle.ndef_message.specs.declared.checker.Checker.{Checker}
 use Rattle.ndef_message.specs.declared.fed.Fed.{Fed}
 use Rattle.ndef_message.specs.declared.fed.Fed.TheVariants as fed

@@ -12,7 +12,7 @@ use Rattle.ndef_piece.specs.HeaderLaws.{header, parts, octets_size}
 use Rattle.ndef_piece.specs.Heads.{CanBeSpelled}
 use Rattle.ndef_piece.specs.Whole.{IsSplit, BeginWithPiece}
 use Rattle.ndef_message.specs.Field.{piece, id_of}
-use Rattle.ndef_message.specs.Seen.{payload_length_at, id_length_at, fields_with, piece_with, piece_at, body_size, size_at, pieces_from, pieces_of, begin_run, runs_of, run_of, IsRecord}
+use Rattle.ndef_message.specs.Machine.Seen.{payload_length_at, id_length_at, fields_with, piece_with, piece_at, body_size, size_at, pieces_from, pieces_of, begin_run, runs_of, run_of, IsRecord}
 use Rattle.ndef_message.proofs.Fields.{id_count, piece_head, body_length}
 
 -- ---- heads

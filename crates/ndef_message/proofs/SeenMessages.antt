@@ -7,7 +7,7 @@ use Rattle.ndef_lang.specs.Language.{Sets, Conditions}
 use Rattle.ndef_message.specs.Checkings.{HasRecords}
 use Rattle.ndef_message.specs.Deep.{Deep, IsMember}
 use Rattle.ndef_message.specs.Place.{NoPrefixIsDeep}
-use Rattle.ndef_message.specs.Seen.{AreRuns, AreChecked, IsRecord, pieces_of, runs_of, viewed_of}
+use Rattle.ndef_message.specs.Machine.Seen.{AreRuns, AreChecked, IsRecord, pieces_of, runs_of, viewed_of}
 use Rattle.ndef_message.specs.Views.{Viewed, Views, OneView, NeverRefused}
 use Rattle.ndef_message.proofs.ReadBack.{one_front}
 use Rattle.ndef_message.proofs.SeenBytes.{pieces_told, runs_told, follow_of_read, flat_told}

@@ -3,7 +3,7 @@ use Rattle.std.proofs.Common.{◌≡◌, ℕ, ◌+◌, ◌-◌, ◌<◌, ◌≤�
 use Rattle.std.specs.Prelude.{unwrap_or}
 use Rattle.std.specs.List.{AllByRecursion, concat}
 use Rattle.ndef_value.specs.Wire.{Piece, SpellAll, Run, pieces, all_pieces, payload_of, Follow, joined, HasLengths}
-use Rattle.ndef_message.specs.Seen.{AreRun, AreRuns, IsRecord, pieces_of, runs_of, run_of}
+use Rattle.ndef_message.specs.Machine.Seen.{AreRun, AreRuns, IsRecord, pieces_of, runs_of, run_of}
 use Rattle.ndef_message.specs.Views.{payloads, only_payload}
 use Rattle.ndef_message.proofs.Rests.{spell_append}
 use Rattle.ndef_message.proofs.SeenBytes.{First, first_of, pieces_told, run_told, run_is}

@@ -15,10 +15,11 @@ use Rattle.ndef_lang.specs.declared.language.Language.{Ghosts}
 use Rattle.ndef_piece.specs.declared.head.Head.{Head}
 use Rattle.ndef_piece.specs.Walk.{Before}
 use Rattle.ndef_message.specs.Deep.{IsMember, IsViable}
-use Rattle.ndef_message.specs.Field.{Field, InPayload, record_so_far, IsAt, given_next, field_next}
-use Rattle.ndef_message.specs.Format.{FormatLaws}
-use Rattle.ndef_message.specs.Payload.{most_left}
-use Rattle.ndef_message.specs.State.{Speaks, Stands, Stopped, InBody, Onward}
+use Rattle.ndef_message.specs.Field.{Field, InPayload, record_so_far, IsAt}
+use Rattle.ndef_message.specs.Machine.Moves.{given_next, field_next}
+use Rattle.ndef_message.specs.Machine.Format.{FormatLaws}
+use Rattle.ndef_message.specs.Machine.Payload.{most_left}
+use Rattle.ndef_message.specs.Machine.State.{Speaks, Stands, Stopped, InBody, Onward}
 use Rattle.ndef_message.specs.declared.phase.Phase.TheVariants as phases
 use Rattle.ndef_message.specs.declared.state.State.{State}
 use Rattle.ndef_message.proofs.Entered.{given_members, body_counted, body_goes_on, body_went_on, stopped}

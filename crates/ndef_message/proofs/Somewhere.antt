@@ -5,7 +5,8 @@ use Rattle.std.proofs.Props.{props}
 use Rattle.ndef_value.specs.Wire.{Item, HasShape, IsShaped}
 use Rattle.ndef_value.specs.declared.tnf.Tnf.{Tnf}
 use Rattle.ndef_value.specs.declared.tnf.Tnf.TheVariants.{Empty, WellKnown, Media, AbsoluteUri, External, Unknown, Unchanged}
-use Rattle.ndef_message.specs.Opened.{Opened, HasRoom}
+use Rattle.ndef_message.specs.Opened.{Opened}
+use Rattle.ndef_message.specs.Machine.Open.{HasRoom}
 use Rattle.ndef_message.specs.declared.phase.Phase.{Phase}
 use Rattle.ndef_message.specs.declared.phase.Phase.TheVariants as phases
 

@@ -1,8 +1,9 @@
 //! The checker of a message: bytes of one field after another.
 ghost use Rattle.std.specs.Prelude.{◌≡◌, ◌+◌, ◌<◌, ◌≤◌, ◌++◌, ◌∷◌, [], ℕ, List, length, take, None};
 ghost use Rattle.ndef_value.specs.Wire.{greatest_length};
-ghost use Rattle.ndef_message.specs.Feed.{WhateverLed, Feeds, Ends, IsAccepted, answer_of};
-ghost use Rattle.ndef_message.specs.State.{LedTo, Onward};
+ghost use Rattle.ndef_message.specs.Feed.{WhateverLed, Feeds, Ends, IsAccepted};
+ghost use Rattle.ndef_message.specs.Machine.State.{answer_of};
+ghost use Rattle.ndef_message.specs.Machine.State.{LedTo, Onward};
 
 use crate::Fed;
 use crate::format::format_laws;
@@ -23,7 +24,7 @@ pub struct Checker<L: OuterLanguage> {
 
 impl<L: OuterLanguage> Checker<L> {
     ghost use Rattle.ndef_message.specs.Field.{InHead};
-    ghost use Rattle.ndef_message.specs.Checkers.{CheckerReached, checker_limits};
+    ghost use Rattle.ndef_message.specs.Machine.Checkers.{CheckerReached, checker_limits};
     ghost use Rattle.ndef_piece.specs.Walk.{start};
 
     /// Before a message.

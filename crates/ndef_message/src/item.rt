@@ -4,7 +4,7 @@ ghost use Rattle.std.specs.List.{concat};
 ghost use Rattle.ndef_value.specs.Wire.{HasLengths, IsShaped, joined, pieces};
 ghost use Rattle.ndef_piece.specs.Header.{is_set};
 ghost use Rattle.ndef_piece.specs.Whole.{shown};
-ghost use Rattle.ndef_message.specs.Seen.{AreRuns, IsRecord, pieces_of, runs_of};
+ghost use Rattle.ndef_message.specs.Machine.Seen.{AreRuns, IsRecord, pieces_of, runs_of};
 ghost use Rattle.ndef_message.specs.Views.{only_payload, payloads};
 
 use crate::Pieces;
@@ -27,7 +27,7 @@ pub struct Item<'a> {
 
 impl<'a> Model for Item<'a> {
     ghost use Rattle.ndef_value.specs.Wire.{Run};
-    ghost use Rattle.ndef_message.specs.Seen.{AreRun, run_of};
+    ghost use Rattle.ndef_message.specs.Machine.Seen.{AreRun, run_of};
 
     ghost Value = { Run };
 

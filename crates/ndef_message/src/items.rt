@@ -1,7 +1,7 @@
 //! The records of a message, where they lie.
 ghost use Rattle.std.specs.Prelude.{◌≡◌};
 ghost use Rattle.std.specs.Iterator.{YieldsFirst, item_count};
-ghost use Rattle.ndef_message.specs.Seen.{AreRuns, pieces_of, runs_of};
+ghost use Rattle.ndef_message.specs.Machine.Seen.{AreRuns, pieces_of, runs_of};
 
 use crate::Item;
 use crate::item::split_item;
@@ -17,7 +17,7 @@ pub struct Items<'a> {
 impl<'a> Model for Items<'a> {
     ghost use Rattle.std.specs.Prelude.{List};
     ghost use Rattle.ndef_value.specs.Wire.{Run};
-    ghost use Rattle.ndef_message.specs.Seen.{AreRuns, pieces_of, runs_of};
+    ghost use Rattle.ndef_message.specs.Machine.Seen.{AreRuns, pieces_of, runs_of};
 
     ghost Value = { List Run };
 

@@ -1,7 +1,7 @@
 //! A message, where it lies.
 ghost use Rattle.std.specs.Prelude.{◌≡◌, ◌≤◌, length, map, IfOk};
 ghost use Rattle.ndef_value.specs.Wire.{joined};
-ghost use Rattle.ndef_message.specs.Seen.{AreChecked, viewed_of};
+ghost use Rattle.ndef_message.specs.Machine.Seen.{AreChecked, viewed_of};
 
 use crate::Items;
 use ndef_value::{Message, NoMemory, Profile};
@@ -22,7 +22,7 @@ pub struct View<'a> {
 }
 
 impl<'a> Model for View<'a> {
-    ghost use Rattle.ndef_message.specs.Seen.{AreChecked, viewed_of};
+    ghost use Rattle.ndef_message.specs.Machine.Seen.{AreChecked, viewed_of};
     ghost use Rattle.ndef_message.specs.Views.{Viewed};
 
     ghost Value = { Viewed };

@@ -1,7 +1,7 @@
 //! The payloads of the pieces of a record, where they lie.
 ghost use Rattle.std.specs.Prelude.{◌≡◌};
 ghost use Rattle.std.specs.Iterator.{YieldsFirstRef, item_count};
-ghost use Rattle.ndef_message.specs.Seen.{ArePieces, pieces_of};
+ghost use Rattle.ndef_message.specs.Machine.Seen.{ArePieces, pieces_of};
 ghost use Rattle.ndef_message.specs.Views.{payloads};
 
 use crate::checked_bytes::first_piece;
@@ -17,7 +17,7 @@ pub struct Pieces<'a> {
 
 impl<'a> Model for Pieces<'a> {
     ghost use Rattle.std.specs.Prelude.{List, ℕ};
-    ghost use Rattle.ndef_message.specs.Seen.{ArePieces, pieces_of};
+    ghost use Rattle.ndef_message.specs.Machine.Seen.{ArePieces, pieces_of};
     ghost use Rattle.ndef_message.specs.Views.{payloads};
 
     ghost Value = { List (List ℕ) };

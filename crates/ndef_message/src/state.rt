@@ -21,8 +21,8 @@ pub(crate) struct State<L: OuterLanguage> {
 impl<L: OuterLanguage> State<L> {
     ghost use Rattle.ndef_message.specs.Feed.{WhateverLed};
     ghost use Rattle.ndef_message.specs.Field.{Field};
-    ghost use Rattle.ndef_message.specs.State.{Stands, StandsBehind, Stopped, Led, Came, Onward};
-    ghost use Rattle.ndef_message.specs.State.{InBody, SomeBody, WholeHead, SomeWhole, IsWithinHead, CanGoOn};
+    ghost use Rattle.ndef_message.specs.Machine.State.{Stands, StandsBehind, Stopped, Led, Came, Onward};
+    ghost use Rattle.ndef_message.specs.Machine.State.{InBody, SomeBody, WholeHead, SomeWhole, IsWithinHead, CanGoOn};
     ghost use Rattle.ndef_message.specs.Deep.{IsViable};
 
     /// Takes the next bytes, after `at` others, as far as they are of one field, up to the first that

@@ -1,7 +1,7 @@
 use Rattle.std.proofs.Common.{◌≡◌, length, take, refl, sym, ◌∙◌, subst, arith}
 use Rattle.ndef_value.specs.Wire.{AreInRange}
 use Rattle.ndef_lang.specs.StepLaws.{rest, rest_length}
-use Rattle.ndef_message.specs.Checkers.{CheckerReached}
+use Rattle.ndef_message.specs.Machine.Checkers.{CheckerReached}
 use Rattle.ndef_message.proofs.Feeding as feeding
 use Rattle.ndef_message.proofs.checker.Checker.feed.Goals as goal
 

@@ -1,6 +1,6 @@
 use Rattle.std.proofs.Common.{rules, ◌<◌, ◌∷◌, length, sym, ◌∙◌, ap, ap₂, subst}
 use Rattle.ndef_value.specs.Wire.{SpellAll}
-use Rattle.ndef_message.specs.Seen.{pieces_of}
+use Rattle.ndef_message.specs.Machine.Seen.{pieces_of}
 use Rattle.ndef_message.specs.Views.{payloads}
 use Rattle.ndef_message.proofs.SeenBytes.{begins, first_of_some, first_shown, told_behind}
 use Rattle.ndef_message.proofs.pieces.PiecesIterator.next.Goals as goal

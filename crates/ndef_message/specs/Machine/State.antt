@@ -17,12 +17,15 @@ use Rattle.ndef_piece.specs.Heads as heads
 use Rattle.ndef_piece.specs.Heads.{head, Begins, MayStand}
 use Rattle.ndef_piece.specs.Walk.{Before, start, spot, Walked}
 use Rattle.ndef_message.specs.Deep.{IsViable}
-use Rattle.ndef_message.specs.Field.{Field, InHead, InType, InId, InPayload, AtEnd, part_octets, record_so_far, IsPart, IsAt, IsReason, Moves, given_next, field_next, field_with}
-use Rattle.ndef_message.specs.Payload.{completes, most_left}
+use Rattle.ndef_message.specs.Field.{Field, InHead, InType, InId, InPayload, AtEnd, part_octets, record_so_far, IsPart, IsAt, IsReason}
+use Rattle.ndef_message.specs.Machine.Moves.{Moves, given_next, field_next, field_with}
+use Rattle.ndef_message.specs.Machine.Payload.{completes, most_left}
 use Rattle.ndef_message.specs.declared.phase.Place.{Place}
 use Rattle.ndef_message.specs.declared.phase.Phase.{Phase}
 use Rattle.ndef_message.specs.declared.phase.Phase.TheVariants as phases
 use Rattle.ndef_message.specs.declared.state.State.{State}
+use Rattle.ndef_message.specs.declared.fed.Fed.{Fed}
+use Rattle.ndef_message.specs.declared.fed.Fed.TheVariants as fed
 
 -- what is kept of what is known before a piece
 abbrev pub numbers : Before → Place
@@ -202,3 +205,9 @@ Knows language limits state taken bytes given field = (taken ≡ length bytes) �
 -- some bytes led there
 abbrev pub LedTo : {L : Type 0} (language : Ghosts L) → LimitValues → State L → (taken : ℕ) → Type 0
 LedTo language limits state taken = (bytes : List ℕ) × (given : List Item) × (field : Field) × Knows language limits state taken bytes given field
+
+-- the answer that a phase gives before it sees another byte
+abbrev pub answer_of : Phase → ℕ → Option Fed
+answer_of phases.Done taken = Some (fed.Done taken)
+answer_of (phases.Refused refusal) taken = Some (fed.Refused refusal)
+answer_of _ taken = None

@@ -2,7 +2,7 @@
 use Rattle.std.specs.Prelude.{Bool, is_some}
 use Rattle.ndef_value.specs.Wire.{LimitValues}
 use Rattle.ndef_lang.specs.declared.language.Language.{Ghosts}
-use Rattle.ndef_message.specs.Decoding.{DecoderKnows}
+use Rattle.ndef_message.specs.Machine.DecoderState.{DecoderKnows}
 use Rattle.ndef_message.specs.Feed.{Fronts}
 use Rattle.ndef_message.specs.declared.decoder.Decoder.{Decoder}
 

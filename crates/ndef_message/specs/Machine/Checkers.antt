@@ -2,7 +2,7 @@
 use Rattle.ndef_value.specs.Wire.{LimitValues}
 use Rattle.ndef_lang.specs.declared.language.Language.{Ghosts}
 use Rattle.ndef_message.specs.Feed.{Fronts}
-use Rattle.ndef_message.specs.State.{Knows}
+use Rattle.ndef_message.specs.Machine.State.{Knows}
 use Rattle.ndef_message.specs.declared.checker.Checker.{Checker}
 
 -- its limits

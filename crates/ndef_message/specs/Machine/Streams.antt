@@ -2,7 +2,7 @@
 use Rattle.std.specs.Prelude.{◌≡◌, ◌-◌, ℕ, Bool, true, List, Option}
 use Rattle.std.specs.declared.io.traits.BufRead.{Ghosts as BufferedOf}
 use Rattle.std.specs.declared.io.traits.Read.{Ghosts as ReadingOf}
-use Rattle.ndef_message.specs.Sources.{left_of}
+use Rattle.ndef_message.specs.Machine.Readers.{left_of}
 use Rattle.ndef_message.specs.declared.std_sink.StdSink.{StdSink}
 use Rattle.ndef_message.specs.declared.std_source.StdSource.{StdSource}
 

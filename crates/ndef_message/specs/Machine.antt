@@ -1,0 +1,15 @@
+-- What contracts and proofs say of the states of the machines. The definitions beside this folder don't name them.
+pub mod Checkers
+pub mod DecoderState
+pub mod Decoders
+pub mod Format
+pub mod Moves
+pub mod Open
+pub mod Payload
+pub mod Readers
+pub mod Seen
+pub mod Slices
+pub mod State
+pub mod Streams
+pub mod Turns
+pub mod Writing

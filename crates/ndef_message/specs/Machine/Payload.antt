@@ -1,0 +1,14 @@
+-- What the payload of the open record can still be.
+use Rattle.std.specs.Prelude.{◌+◌, ◌-◌, ℕ, Bool, List, ◌++◌, if◌then◌else◌}
+use Rattle.ndef_value.specs.Wire.{Item, LimitValues}
+use Rattle.ndef_lang.specs.Kind.{kind_of}
+use Rattle.ndef_lang.specs.Language.{Sets}
+
+-- the octets that complete the payload of a record
+abbrev pub completes : Sets → LimitValues → Item → List ℕ → Type 0
+completes set limits m r = set (kind_of m.tnf m.kind) limits.records limits.profile (m.payload ++ r)
+
+-- NDEF 1.0, chunked payloads: the most payload octets that can still come to a record, where so many are left of a piece
+-- with n of them: in this piece alone, or with CF up to the room that is left after it
+abbrev pub most_left : (chunked : Bool) → (room n left : ℕ) → ℕ
+most_left chunked room n left = if chunked then left + (room - n) else left

@@ -1,0 +1,54 @@
+-- What is read and checked of a source, turn by turn.
+use Rattle.std.specs.Prelude.{◌≡◌, ◌<◌, ◌≤◌, ◌-◌, ℕ, Bool, true, false, List, [], ◌++◌, length, take, IfSome}
+use Rattle.std.specs.Io.KnownBytes.{Consumes}
+use Rattle.ndef_value.specs.Wire.{Item, LimitValues}
+use Rattle.ndef_lang.specs.Language.{Sets, Conditions}
+use Rattle.ndef_message.specs.Decoding.{Decodes}
+use Rattle.ndef_message.specs.Deep.{IsDeep, IsViable}
+use Rattle.ndef_message.specs.Feed.{Fronts, Leads}
+use Rattle.ndef_message.specs.Field.{Field}
+use Rattle.ndef_message.specs.Place.{Refuses}
+use Rattle.ndef_message.specs.Sources.{Counts, Supply, supply}
+use Rattle.ndef_message.specs.declared.message_checking.Look.{Look}
+use Rattle.ndef_message.specs.declared.message_checking.Look.TheVariants as looks
+use Rattle.ndef_message.specs.declared.message_reading.Turn.{Turn}
+use Rattle.ndef_message.specs.declared.message_reading.Turn.TheVariants as turns
+use Rattle.ndef_message.specs.declared.source.Source.{Ghosts as SourceOf}
+
+-- what is known of a source
+abbrev pub supply_of : {S : Type 0} (source : SourceOf S) → S → Supply
+supply_of source s = supply (source.coming s) (source.taken s)
+
+-- these bytes were taken, and counted
+abbrev pub Gave : Supply → Supply → List ℕ → Type 0
+Gave old new bytes = Consumes old.coming new.coming bytes × Counts old.taken new.taken (length bytes)
+
+-- the source showed these bytes, and this many of them were taken
+pub record Shown (before after : Supply) (bytes : List ℕ) (count : ℕ) : Type 0 where
+  pub some : 0 < length bytes
+  pub within : count ≤ length bytes
+  pub begins : IfSome before.coming (λ input. (rest : List ℕ) × (input ≡ bytes ++ rest))
+  pub taken : Gave before after (take count bytes)
+
+-- what a turn did after a front: the source failed, or has ended, or the bytes that it showed were decoded
+abbrev pub Turned : Sets → Conditions → LimitValues → (new : Fronts) → (no_memory : Bool) → (before after : Supply) → (failed : Bool) → (front : List ℕ) → (given : List Item) → Field → Turn → Type 0
+Turned set holds limits new no_memory before after failed front given field turns.Fault = (failed ≡ true) × (after.taken ≡ before.taken)
+Turned set holds limits new no_memory before after failed front given field turns.End =
+    (failed ≡ false) × Gave before after [] × IfSome before.coming (λ input. input ≡ []) × new front given field
+Turned set holds limits new no_memory before after failed front given field (turns.Fed event) =
+    (failed ≡ false) × (bytes : List ℕ) × (count : ℕ) × Shown before after bytes count × Decodes set holds limits new no_memory front given field bytes count event
+
+-- what a turn did after a front: the source failed, or has ended, or the bytes that it showed go on, or some of them end the
+-- message, or one of them is refused
+abbrev pub Looked : Sets → Conditions → LimitValues → (new : Fronts) → (before after : Supply) → (failed : Bool) → (front : List ℕ) → (given : List Item) → Field → Look → Type 0
+Looked set holds limits new before after failed front given field looks.Fault = (failed ≡ true) × (after.taken ≡ before.taken)
+Looked set holds limits new before after failed front given field looks.End =
+    (failed ≡ false) × Gave before after [] × IfSome before.coming (λ input. input ≡ []) × new front given field
+Looked set holds limits new before after failed front given field looks.More =
+    (failed ≡ false) × (bytes : List ℕ) × (0 < length bytes) × Gave before after bytes
+    × IsViable set limits (front ++ bytes) × (¬ IsDeep set limits (front ++ bytes)) × Leads new (front ++ bytes)
+Looked set holds limits new before after failed front given field looks.Done =
+    (failed ≡ false) × (bytes : List ℕ) × Gave before after bytes × IsDeep set limits (front ++ bytes) × Leads new (front ++ bytes)
+Looked set holds limits new before after failed front given field (looks.Refused refusal) =
+    (failed ≡ false) × (bytes : List ℕ) × Shown before after bytes (refusal.at - length front)
+    × (refusal.at < length (front ++ bytes)) × Refuses set holds limits (front ++ bytes) refusal

@@ -1,0 +1,9 @@
+-- The pieces that are written, by where they stand.
+use Rattle.std.specs.Prelude.{ℕ, List, ◌&&◌, not}
+use Rattle.ndef_value.specs.Wire.{Item, Piece}
+use Rattle.ndef_message.specs.Cut.{first_piece}
+use Rattle.ndef_message.specs.declared.writing.Standing.{Standing}
+
+-- the first piece of a record that stands there, with this part of its payload
+abbrev pub standing_piece : Standing → Item → List ℕ → Piece
+standing_piece standing item part = first_piece standing.first (standing.alone && standing.last) (not standing.alone) item part
