@@ -8,7 +8,7 @@ use Rattle.ndef_message.specs.Machine.Checkers.{CheckerReached}
 use Rattle.ndef_message.specs.Deep.{IsDeep, IsViable}
 use Rattle.ndef_message.specs.Field.{Field, IsAt}
 use Rattle.ndef_message.specs.Machine.Moves.{field_with}
-use Rattle.ndef_message.specs.Feed.{Fronts, Leads, Feeds}
+use Rattle.ndef_message.specs.Feed.{Fronts, WhateverLed, Leads, Feeds}
 use Rattle.ndef_message.specs.Machine.State.{answer_of}
 use Rattle.ndef_message.specs.Machine.Format.{FormatLaws}
 use Rattle.ndef_message.specs.Place.{Refuses}
@@ -52,7 +52,7 @@ module _ {L : Type 0} (language : Ghosts L) (limits : LimitValues) (state : Stat
 
 -- what led to the old fields leads on with so many of these bytes to the new ones
 abbrev pub Sofar : Fronts → Fronts → List ℕ → ℕ → Type 0
-Sofar old new bytes at = (front : List ℕ) (given : List Item) (field : Field) → old front given field → Leads new (front ++ take at bytes)
+Sofar old new bytes at = WhateverLed old (λ front given field. Leads new (front ++ take at bytes))
 
 -- .. from this front
 abbrev pub Here : Fronts → (front bytes : List ℕ) → ℕ → Type 0
@@ -66,7 +66,7 @@ pub some_more : (front bytes : List ℕ) (at n : ℕ) → (front ++ take at byte
 some_more front bytes at n = append_assoc front (take at bytes) (take n (rest bytes at)) ∙ ap (λ y. front ++ y) (take_rests bytes at n)
 
 pub sofar_some : (old mid new : Fronts) (bytes : List ℕ) (at n : ℕ) → Sofar old mid bytes at
-    → ((front : List ℕ) (given : List Item) (field : Field) → mid front given field → Leads new (front ++ take n (rest bytes at))) → Sofar old new bytes (at + n)
+    → WhateverLed mid (λ front given field. Leads new (front ++ take n (rest bytes at))) → Sofar old new bytes (at + n)
 sofar_some old mid new bytes at n s f front given field x =
     let w = s front given field x in
     subst (Leads new) (some_more front bytes at n) (f (front ++ take at bytes) w.0 w.1 w.2)

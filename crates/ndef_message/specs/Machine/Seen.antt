@@ -58,7 +58,7 @@ pieces_from skip [] = []
 pieces_from zero (b ∷ bytes) = piece_at (b ∷ bytes) ∷ pieces_from (size_at (b ∷ bytes) - 1) bytes
 pieces_from (suc skip) (b ∷ bytes) = pieces_from skip bytes
 
--- .. behind none
+-- the pieces of some bytes
 abbrev pub pieces_of : List ℕ → List Piece
 pieces_of = pieces_from 0
 

@@ -77,7 +77,7 @@ pub record Speaks {L : Type 0} (language : Ghosts L) (limits : LimitValues) (pay
   pub reached : language.reached payload (kind_of m.tnf m.kind) limits.records limits.profile m.payload
   pub future : (r : List ℕ) → language.future payload r ↔ completes language.set limits m r
 
--- .. where one is open
+-- it has, where a record is open
 abbrev pub SpeaksIf : {L : Type 0} (language : Ghosts L) → LimitValues → (payload : L) → Option Item → Type 0
 SpeaksIf language limits payload None = ⊤
 SpeaksIf language limits payload (Some m) = Speaks language limits payload m
