@@ -8,11 +8,11 @@ use Rattle.ndef_message.specs.Machine.Checkers.{CheckerReached}
 use Rattle.ndef_message.specs.Deep.{IsDeep, IsViable}
 use Rattle.ndef_message.specs.Field.{Field, IsAt}
 use Rattle.ndef_message.specs.Machine.Moves.{field_with}
-use Rattle.ndef_message.specs.Feed.{Fronts, WhateverLed, Leads, Feeds}
+use Rattle.ndef_message.specs.Feed.{SomeLed, Fronts, WhateverLed, Leads, Feeds}
 use Rattle.ndef_message.specs.Machine.State.{answer_of}
 use Rattle.ndef_message.specs.Machine.Format.{FormatLaws}
 use Rattle.ndef_message.specs.Place.{Refuses}
-use Rattle.ndef_message.specs.Machine.State.{Matches, Stands, Reached, Onward, Knows, LedTo, Led}
+use Rattle.ndef_message.specs.Machine.State.{Matches, Stands, Reached, Onward, Knows}
 use Rattle.ndef_message.specs.declared.checker.Checker.{Checker}
 use Rattle.ndef_message.specs.declared.fed.Fed.{Fed}
 use Rattle.ndef_message.specs.declared.fed.Fed.TheVariants as fed
@@ -32,11 +32,11 @@ module _ {L : Type 0} (language : Ghosts L) (limits : LimitValues) (state : Stat
   pub not_done : (taken : ℕ) → answer_of state.phase taken ≡ None → state.phase ≢ phases.Done
   not_done taken e d = let q = sym e ∙ ap (λ p. answer_of p taken) d in cc
 
-  pub some_led : (taken : ℕ) → answer_of state.phase 0 ≡ None → LedTo language limits state taken → Led language limits state
-  some_led taken e w = record { bytes = w.0; given = w.1; field = w.2; stands = going 0 w.0 w.1 w.2 e w.3.1 }
+  pub some_led : (taken : ℕ) → answer_of state.phase 0 ≡ None → SomeLed (Knows language limits state taken) → SomeLed (Stands language limits state)
+  some_led taken e w = (w.0, w.1, w.2, going 0 w.0 w.1 w.2 e w.3.1)
 
   -- what was taken is bounded
-  pub taken_small : FormatLaws → AreInRange limits → (taken : ℕ) → answer_of state.phase 0 ≡ None → LedTo language limits state taken → taken + 1 ≤ 2 ^ 60
+  pub taken_small : FormatLaws → AreInRange limits → (taken : ℕ) → answer_of state.phase 0 ≡ None → SomeLed (Knows language limits state taken) → taken + 1 ≤ 2 ^ 60
   taken_small laws range taken e w =
       let s = going 0 w.0 w.1 w.2 e w.3.1 in
       let n = viable_bounded laws language.set limits w.0 s.viable in

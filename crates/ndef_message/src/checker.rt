@@ -1,9 +1,9 @@
 //! The checker of a message: bytes of one field after another.
 ghost use Rattle.std.specs.Prelude.{◌≡◌, ◌+◌, ◌<◌, ◌≤◌, ◌++◌, ◌∷◌, [], ℕ, List, length, take, None};
 ghost use Rattle.ndef_value.specs.Wire.{greatest_length};
-ghost use Rattle.ndef_message.specs.Feed.{WhateverLed, Feeds, Ends, IsAccepted};
+ghost use Rattle.ndef_message.specs.Feed.{SomeLed, WhateverLed, Feeds, Ends, IsAccepted};
 ghost use Rattle.ndef_message.specs.Machine.State.{answer_of};
-ghost use Rattle.ndef_message.specs.Machine.State.{LedTo, Onward};
+ghost use Rattle.ndef_message.specs.Machine.State.{Knows, Onward};
 
 use crate::Fed;
 use crate::format::format_laws;
@@ -19,7 +19,7 @@ pub struct Checker<L: OuterLanguage> {
     pub(crate) limits: Limits,
     pub(crate) state: State<L>,
     pub(crate) taken: u64,
-    ghost led: { ∥ LedTo L.Language limits state taken ∥₁ },
+    ghost led: { ∥ SomeLed (Knows L.Language limits state taken) ∥₁ },
 }
 
 impl<L: OuterLanguage> Checker<L> {

@@ -19,16 +19,16 @@ pub(crate) struct State<L: OuterLanguage> {
 }
 
 impl<L: OuterLanguage> State<L> {
-    ghost use Rattle.ndef_message.specs.Feed.{WhateverLed};
+    ghost use Rattle.ndef_message.specs.Feed.{SomeLed, WhateverLed};
     ghost use Rattle.ndef_message.specs.Field.{Field};
-    ghost use Rattle.ndef_message.specs.Machine.State.{Stands, StandsBehind, Stopped, Led, Came, Onward};
+    ghost use Rattle.ndef_message.specs.Machine.State.{Stands, StandsBehind, Stopped, Came, Onward};
     ghost use Rattle.ndef_message.specs.Machine.State.{InBody, SomeBody, WholeHead, SomeWhole, IsWithinHead, CanGoOn};
     ghost use Rattle.ndef_message.specs.Deep.{IsViable};
 
     /// Takes the next bytes, after `at` others, as far as they are of one field, up to the first that
     /// is refused; answers how many, a refused one too.
     pub(crate) fn step(&mut self, limits: &Limits, at: u64, bytes: &[u8]) -> usize
-        requires led { ∥ Led L.Language limits.now self.old ∥₁ }
+        requires led { ∥ SomeLed (Stands L.Language limits.now self.old) ∥₁ }
         requires far { at ≤ 2 ^ 60 }
         requires some { 0 < length bytes.now }
         ensures some { 0 < result }
@@ -63,7 +63,7 @@ impl<L: OuterLanguage> State<L> {
     /// Takes an octet of the head of a piece.
     fn in_head(&mut self, limits: &Limits, at: u64, byte: u8)
         requires phase { self.old.phase ≡ Phase.Head }
-        requires led { ∥ Led L.Language limits.now self.old ∥₁ }
+        requires led { ∥ SomeLed (Stands L.Language limits.now self.old) ∥₁ }
         ensures onward { WhateverLed (Stands L.Language limits.now self.old) (λ front given field.
             at ≡ length front
             → Onward L.Language limits.now self.new front given field (byte ∷ [])) }
@@ -140,7 +140,7 @@ impl<L: OuterLanguage> State<L> {
     /// answers how many, a refused one too.
     fn in_payload(&mut self, limits: &Limits, at: u64, head: Head, left: u32, bytes: &[u8]) -> usize
         requires phase { self.old.phase ≡ Phase.Payload head left }
-        requires led { ∥ Led L.Language limits.now self.old ∥₁ }
+        requires led { ∥ SomeLed (Stands L.Language limits.now self.old) ∥₁ }
         requires far { at ≤ 2 ^ 60 }
         requires some { 0 < length bytes.now }
         requires enough { length bytes.now ≤ left }
@@ -191,7 +191,7 @@ impl<L: OuterLanguage> State<L> {
         byte: u8,
     )
         requires phase { self.old.phase ≡ Phase.Type head left kind }
-        requires led { ∥ Led L.Language limits.now self.old ∥₁ }
+        requires led { ∥ SomeLed (Stands L.Language limits.now self.old) ∥₁ }
         ensures onward { WhateverLed (Stands L.Language limits.now self.old) (λ front given field.
             at ≡ length front
             → Onward L.Language limits.now self.new front given field (byte ∷ [])) }

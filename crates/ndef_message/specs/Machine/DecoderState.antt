@@ -44,7 +44,3 @@ pub record Failed (set : Sets) (limits : LimitValues) (place : ℕ) (bytes : Lis
 abbrev pub DecoderKnows : {L : Type 0} {language : Ghosts L} → Checker L language → (failed : Option ℕ) (open_record : Opened) → Fronts
 DecoderKnows c None o bytes given field = CheckerReached c bytes given field × (o ≡ opened field)
 DecoderKnows {language = language} c (Some at) o bytes given field = Failed language.set c.limits at bytes given field × (o ≡ unopened)
-
--- some bytes led there
-abbrev pub DecoderLed : Fronts → Type 0
-DecoderLed fronts = (bytes : List ℕ) × (given : List Item) × (field : Field) × fronts bytes given field

@@ -184,13 +184,6 @@ module _ {L : Type 0} (language : Ghosts L) (limits : LimitValues) (state : Stat
     pub fields : Fields
     pub whole : WholeHead h bytes given before fields
 
-  -- some bytes led here
-  pub record Led : Type 0 where
-    pub bytes : List ℕ
-    pub given : List Item
-    pub field : Field
-    pub stands : Stands bytes given field
-
 -- an octet came after these bytes, and this is its reason if it is refused
 pub record Came {L : Type 0} (language : Ghosts L) (limits : LimitValues) (at : ℕ) (reason : Reason) (bytes : List ℕ) (given : List Item) (field : Field) (b : ℕ) : Type 0 where
   pub at_is : IsAt limits bytes given field
@@ -201,10 +194,6 @@ pub record Came {L : Type 0} (language : Ghosts L) (limits : LimitValues) (at : 
 -- these bytes, so many, led there
 abbrev pub Knows : {L : Type 0} (language : Ghosts L) → LimitValues → State L → (taken : ℕ) → List ℕ → List Item → Field → Type 0
 Knows language limits state taken bytes given field = (taken ≡ length bytes) × Reached language limits state bytes given field
-
--- some bytes led there
-abbrev pub LedTo : {L : Type 0} (language : Ghosts L) → LimitValues → State L → (taken : ℕ) → Type 0
-LedTo language limits state taken = (bytes : List ℕ) × (given : List Item) × (field : Field) × Knows language limits state taken bytes given field
 
 -- the answer that a phase gives before it sees another byte
 abbrev pub answer_of : Phase → ℕ → Option Fed

@@ -8,7 +8,7 @@ use Rattle.ndef_message.proofs.state.State.step.Goals as goal
 
 pub in_payload-requires-clause-some : goal.in_payload-requires-clause-some
 in_payload-requires-clause-some g c =
-    let n : 1 ≤ c.in-Payload.left = number_of_some _ _ _ c.requires.led (λ led. octets.payload_left (octets.at_payload led.field c.in-Payload.is led.stands)) in
+    let n : 1 ≤ c.in-Payload.left = number_of_some _ _ _ c.requires.led (λ led. octets.payload_left (octets.at_payload led.2 c.in-Payload.is led.3)) in
     let some = c.requires.some in
     let most = c.min-most-in-Payload.ensures in
     omega (arith, length-take c.min-most-in-Payload.result c.args.bytes.now)
@@ -25,7 +25,7 @@ returns-in-Type-clause-onward g c front given field stands at going =
 
 pub returns-in-Id-clause-some : goal.returns-in-Id-clause-some
 returns-in-Id-clause-some g c =
-    let n : 1 ≤ c.in-Id.left = number_of_some _ _ _ c.requires.led (λ led. octets.id_left (octets.at_id led.field c.in-Id.is led.stands)) in
+    let n : 1 ≤ c.in-Id.left = number_of_some _ _ _ c.requires.led (λ led. octets.id_left (octets.at_id led.2 c.in-Id.is led.3)) in
     let some = c.requires.some in
     let most = c.min-most.ensures in
     let from = c.from.ensures in
