@@ -9,10 +9,9 @@ use Rattle.ndef_message.specs.Deep.{IsDeep, IsViable}
 use Rattle.ndef_message.specs.Field.{Field, IsAt}
 use Rattle.ndef_message.specs.Machine.Moves.{field_with}
 use Rattle.ndef_message.specs.Feed.{SomeLed, Fronts, WhateverLed, Leads, Feeds}
-use Rattle.ndef_message.specs.Machine.State.{answer_of}
+use Rattle.ndef_message.specs.Machine.State.{answer_of, Matches, Stands, Reached, Onward, Knows}
 use Rattle.ndef_message.specs.Machine.Format.{FormatLaws}
 use Rattle.ndef_message.specs.Place.{Refuses}
-use Rattle.ndef_message.specs.Machine.State.{Matches, Stands, Reached, Onward, Knows}
 use Rattle.ndef_message.specs.declared.checker.Checker.{Checker}
 use Rattle.ndef_message.specs.declared.fed.Fed.{Fed}
 use Rattle.ndef_message.specs.declared.fed.Fed.TheVariants as fed

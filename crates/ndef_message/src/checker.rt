@@ -2,8 +2,7 @@
 ghost use Rattle.std.specs.Prelude.{◌≡◌, ◌+◌, ◌<◌, ◌≤◌, ◌++◌, ◌∷◌, [], ℕ, List, length, take, None};
 ghost use Rattle.ndef_value.specs.Wire.{greatest_length};
 ghost use Rattle.ndef_message.specs.Feed.{SomeLed, WhateverLed, Feeds, Ends, IsAccepted};
-ghost use Rattle.ndef_message.specs.Machine.State.{answer_of};
-ghost use Rattle.ndef_message.specs.Machine.State.{Knows, Onward};
+ghost use Rattle.ndef_message.specs.Machine.State.{answer_of, Knows, Onward};
 
 use crate::Fed;
 use crate::format::format_laws;
