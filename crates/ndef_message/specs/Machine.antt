@@ -2,6 +2,7 @@
 pub mod Checkers
 pub mod DecoderState
 pub mod Decoders
+pub mod Faults
 pub mod Format
 pub mod Moves
 pub mod Open

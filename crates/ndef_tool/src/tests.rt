@@ -5,6 +5,7 @@ mod checking;
 mod command;
 mod comparing;
 mod encoding;
+mod faults;
 mod handovers;
 mod links;
 mod memory;

@@ -1,4 +1,5 @@
 //! What the command writes and the status that it ends with.
+use super::faults::fails_in_turn;
 use super::samples::{CHUNKS, HELLO, TWO};
 use super::streams::{FullWriter, SlowReader};
 use crate::ending::Status;
@@ -12,7 +13,7 @@ const LONG: [u8; 6] = [0xC5, 0x00, 0x00, 0x00, 0x00, 0x00];
 const USAGE: &str =
     "usage: ndef show|check|encode [--hex] [--payload N] [--records N] [--pieces N] [--form short|long] [--chunk N] [--profile strict|standard]\n";
 
-fn words(alloc: Global, texts: &[&str]) -> Result<Vec<String>, Fail> {
+pub(super) fn words(alloc: Global, texts: &[&str]) -> Result<Vec<String>, Fail> {
     let mut words = Vec::new(alloc);
     for text in texts {
         words.push(String::from_str(alloc, text)?)?;
@@ -20,7 +21,11 @@ fn words(alloc: Global, texts: &[&str]) -> Result<Vec<String>, Fail> {
     Ok(words)
 }
 
-// What is written, and the status, for bytes that come in two pieces.
+/// The most bytes of an input of which each read and each write fails in turn.
+const MOST_IN_TURN: usize = 64;
+
+// What is written, and the status, for bytes that come in two pieces. Where they are few, each read and
+// each write fails in turn too.
 pub(super) fn ran(
     alloc: Global,
     texts: &[&str],
@@ -34,7 +39,11 @@ pub(super) fn ran(
     let mut sink = StdSink::new(&mut out);
     let status = run(alloc, words.as_slice(), &mut source, &mut sink);
     drop(sink);
-    Ok((status as u8, out))
+    let status = status as u8;
+    if bytes.len() <= MOST_IN_TURN && !fails_in_turn(alloc, texts, bytes, status, out.as_slice())? {
+        return Err("a fault leaves something else".into());
+    }
+    Ok((status, out))
 }
 
 // The same, where the bytes come as hexadecimal text gives the same lines, or the digits of what is
