@@ -1,23 +1,63 @@
 -- The messages that were handled so far.
-use Rattle.std.proofs.Common.{◌≡◌, ◌+◌, ◌<◌, ℕ, Bool, true, false, List, [], ◌∷◌, ◌++◌, length, Option, Result, Ok, Err, refl, ap, ◌∙◌, arith, length-append}
+use Rattle.std.proofs.Common.{◌≡◌, ◌+◌, ◌*◌, ◌<◌, ◌≤◌, ◌^◌, ℕ, Bool, true, false, List, [], ◌∷◌, ◌++◌, length, Option, Result, Ok, Err, refl, sym, ap, subst, ◌∙◌, arith, length-append}
 use Rattle.std.specs.Io.KnownBytes.{Appends}
 use Rattle.std.proofs.KnownBytes.{Appends-trans, Keeps-refl}
 use Rattle.ndef_lang.specs.Language.{Sets, Conditions}
-use Rattle.ndef_message.specs.Readings.{ReadsFrom}
+use Rattle.std.specs.Prelude.{IsErrAnd}
+use Rattle.ndef_value.specs.Wire.{AreInRange, LimitValues, greatest_length}
 use Rattle.ndef_message.specs.Sending.{Sent, MarksOf}
+use Rattle.ndef_message.specs.Sources.{Counts}
 use Rattle.ndef_message.specs.declared.message_reading.Read.{Read}
 use Rattle.ndef_message.specs.declared.sending.WriteFault.{WriteFault}
-use Rattle.ndef_tool.specs.Output.{AreBlocks, IsBlock, IsOutput, bytes_of, ending_line, status_of}
+use Rattle.ndef_tool.specs.Output.{AreBlocks, FitsPlace, IsBlock, IsBlockBy, IsOutput, bytes_of, ending_line, message_line, status_of}
 use Rattle.ndef_tool.specs.Quoting.{Text}
 use Rattle.ndef_tool.specs.Runs.{Ends, status_after}
-use Rattle.ndef_tool.specs.Sessions.{Follow, GoesOut, Handles, IsSession}
+use Rattle.ndef_tool.specs.Blocks.{text_of}
+use Rattle.ndef_tool.specs.Sessions.{Follow, GoesOut, Handles, HasTaken, IsSession, MayEnd, PrintsNext, TakesNext}
+use Rattle.ndef_tool.specs.declared.choice.Action.{Action}
+use Rattle.ndef_tool.specs.declared.choice.Action.TheVariants.{Show, Check, Encode}
 use Rattle.ndef_tool.specs.declared.choice.Choice.{Choice}
-use Rattle.ndef_tool.specs.declared.ending.Ending.TheVariants.{Writing}
+use Rattle.ndef_tool.specs.declared.ending.Ending.TheVariants.{Clean, Refused, Hex, Reading, Writing, Memory, TooMany, TooLong}
 use Rattle.ndef_tool.specs.declared.ending.Ending.{Ending}
 use Rattle.ndef_tool.specs.declared.ending.Status.{Status}
+use Rattle.ndef_tool.specs.declared.session.Printed.{Printed}
 use Rattle.ndef_tool.specs.declared.session.Session.{Session}
+use Rattle.ndef_tool.proofs.Bounded.{greatest_small}
 use Rattle.ndef_tool.proofs.Outputs.{blocks_more, bytes_more, ending_status, goes_behind, goes_to_end, stays_failed}
 use Rattle.ndef_tool.proofs.Sessions.{follow_more}
+
+-- numbers of bytes that are taken add up
+pub counts_more : (a b c m n : ℕ) → Counts a b m → Counts b c n → Counts a c (m + n)
+counts_more a b c m n h k = λ small.
+    let middle : a + m < 2 ^ 64 = omega arith in
+    let last : b + n < 2 ^ 64 = omega (arith, h middle) in
+    omega (arith, h middle, k last)
+
+-- of a message for whose block memory was wanting
+pub memory_taken : {X : Type 0} (taken_of : X → ℕ) (limits : LimitValues) (before after : ℕ) (r : Result X Ending) (taken : ℕ) → IsErrAnd r (λ ending. ending ≡ Memory)
+    → taken ≤ greatest_length limits → Counts before after taken → TakesNext taken_of limits before after r
+memory_taken taken_of limits before after (Ok x) taken h few counts = absurd h
+memory_taken taken_of limits before after (Err e) taken h few counts =
+    subst (λ x. HasTaken limits 0 before after x) (sym h) (taken, few, λ small. omega (arith, counts (omega arith)))
+
+-- the line of a message that was checked
+pub check_printed : (choice : Choice) (number at : ℕ) (read : Read) (records taken : ℕ) (text : Text) → choice.action ≡ Check → text ≡ message_line number at records taken
+    → records ≡ length read.message → read.taken ≡ taken → IsBlock choice number at read text
+check_printed choice number at read records taken text is e n t =
+    let line : text ≡ message_line number at (length read.message) read.taken =
+    e ∙ ap (λ x. message_line number at x taken) n ∙ ap (λ x. message_line number at (length read.message) x) (sym t) in
+    subst (λ action. IsBlockBy action choice.limits.profile choice.hex number at read text) (sym is) line
+
+-- the place of a refusal behind at most 10000 messages can be counted
+pub fits_behind : (limits : LimitValues) (count at a b : ℕ) (ending : Ending) → AreInRange limits → count ≤ 10000 → at ≤ count * 2 ^ 49 → HasTaken limits 0 a b ending → FitsPlace at ending
+fits_behind limits count at a b (Refused r) range few room (n, (e, h), k) = omega (arith, e, h, greatest_small limits range)
+fits_behind limits count at a b Clean range few room t = tt
+fits_behind limits count at a b (Hex x) range few room t = tt
+fits_behind limits count at a b Reading range few room t = tt
+fits_behind limits count at a b Writing range few room t = tt
+fits_behind limits count at a b Memory range few room t = tt
+fits_behind limits count at a b TooMany range few room t = tt
+fits_behind limits count at a b TooLong range few room t = tt
 
 -- these were read, and their blocks are written
 pub record SoFar (set : Sets) (holds : Conditions) (choice : Choice) (a b : Option (List ℕ)) (v w : Option (List ℕ)) (count at : ℕ) : Type 0 where
@@ -37,36 +77,45 @@ block_behind choice count at reads read done text n p are is =
     blocks_more choice 1 0 reads read done text are (rw (number, place) at is)
 
 -- one message more, and its block
-pub handled_more : (set : Sets) (holds : Conditions) (choice : Choice) (a b c : Option (List ℕ)) (v w x : Option (List ℕ)) (count at : ℕ) (read : Read) (text : Text)
-    → SoFar set holds choice a b v w count at → ReadsFrom set holds choice.limits b c (Ok read) → IsBlock choice (count + 1) at read text → Appends w x text
-    → SoFar set holds choice a c v x (count + 1) (at + read.taken)
-handled_more set holds choice a b c v w x count at read text s r e sent = record {
-  reads = s.reads ++ read ∷ [];
-  number = omega (arith, s.number, length-append s.reads (read ∷ []));
-  place = omega (arith, s.place, bytes_more s.reads read);
-  follow = follow_more set holds choice.limits a b c s.reads read s.follow r;
-  blocks = s.blocks ++ text;
-  are_blocks = block_behind choice count at s.reads read s.blocks text s.number s.place s.are_blocks e;
-  written = Appends-trans v w x s.blocks text s.written sent;
-}
+pub handled_more : (set : Sets) (holds : Conditions) (choice : Choice) (a b c : Option (List ℕ)) (v w x : Option (List ℕ)) (count at : ℕ) (failed : Bool) (printed : Printed)
+    → SoFar set holds choice a b v w count at → PrintsNext set holds choice count at b c failed (Ok printed) → Appends w x (text_of printed.block)
+    → SoFar set holds choice a c v x (count + 1) (at + printed.taken)
+handled_more set holds choice a b c v w x count at failed printed s (read, next, is, e) sent =
+    let text = text_of printed.block in
+    record {
+      reads = s.reads ++ read ∷ [];
+      number = omega (arith, s.number, length-append s.reads (read ∷ []));
+      place = omega (arith, s.place, e, bytes_more s.reads read);
+      follow = follow_more set holds choice.limits a b c s.reads read s.follow next.2;
+      blocks = s.blocks ++ text;
+      are_blocks = block_behind choice count at s.reads read s.blocks text s.number s.place s.are_blocks is;
+      written = Appends-trans v w x s.blocks text s.written sent;
+    }
+
+may_write : (action : Action) → MayEnd action Writing
+may_write Show = tt
+may_write Check = refl
+may_write (Encode form size) = tt
 
 -- .. of which a front went out
-pub handled_in_part : (set : Sets) (holds : Conditions) (choice : Choice) (a b c : Option (List ℕ)) (v w x : Option (List ℕ)) (count at : ℕ) (read : Read) (text : Text)
-    (source_failed old new : Bool) (f : WriteFault) → SoFar set holds choice a b v w count at → count < 10000 → ReadsFrom set holds choice.limits b c (Ok read)
-    → IsBlock choice (count + 1) at read text → old ≡ false → Sent 0 w x text (Err f) → new ≡ true
-    → Handles (IsSession set holds choice.limits a c source_failed new) choice v x new (record { at = at + read.taken; ending = Writing })
-handled_in_part set holds choice a b c v w x count at read text source_failed old new f s small r e clear sent m =
+pub handled_in_part : (set : Sets) (holds : Conditions) (choice : Choice) (a b c : Option (List ℕ)) (v w x : Option (List ℕ)) (count at : ℕ) (printed : Printed)
+    (source_failed failed old new : Bool) (f : WriteFault) → SoFar set holds choice a b v w count at → PrintsNext set holds choice count at b c failed (Ok printed)
+    → old ≡ false → Sent 0 w x (text_of printed.block) (Err f) → new ≡ true
+    → Handles (IsSession choice.action set holds choice.limits a c source_failed new) choice v x new (record { at = at + printed.taken; ending = Writing })
+handled_in_part set holds choice a b c v w x count at printed source_failed failed old new f s (read, next, is, e) clear sent m =
+    let text = text_of printed.block in
     record {
       reads = s.reads ++ read ∷ [];
       is = record {
-        few = omega (arith, s.number, length-append s.reads (read ∷ []));
+        few = omega (arith, s.number, next.0, length-append s.reads (read ∷ []));
         between = c;
-        follow = follow_more set holds choice.limits a b c s.reads read s.follow r;
+        follow = follow_more set holds choice.limits a b c s.reads read s.follow next.2;
         stops = (m, Keeps-refl c);
+        may = may_write choice.action;
       };
-      at = omega (arith, s.place, bytes_more s.reads read);
+      at = omega (arith, s.place, e, bytes_more s.reads read);
       blocks = s.blocks ++ text;
-      are_blocks = block_behind choice count at s.reads read s.blocks text s.number s.place s.are_blocks e;
+      are_blocks = block_behind choice count at s.reads read s.blocks text s.number s.place s.are_blocks is;
       written = goes_behind v w x old new s.blocks text (Err f) clear s.written sent m;
       mark = m;
     }

@@ -4,7 +4,6 @@ pub mod Numbers
 pub mod Sessions
 pub mod Outputs
 pub mod Handling
-pub mod Texts
 pub mod Members
 pub mod Lines
 pub mod Carriers

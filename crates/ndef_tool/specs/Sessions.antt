@@ -1,17 +1,24 @@
 -- The messages of a source, one after another, and how they end.
-use Rattle.std.specs.Prelude.{◌≡◌, ◌≢◌, ◌<◌, ◌≤◌, ◌^◌, ℕ, Bool, true, false, List, [], ◌∷◌, length, take, Option, None, Some, Result, Ok, Err, ⊤}
+use Rattle.std.specs.Prelude.{◌≡◌, ◌≢◌, ◌+◌, ◌<◌, ◌≤◌, ℕ, Bool, true, false, List, [], ◌∷◌, length, take, drop, Option, None, Some, Result, Ok, Err, ⊤}
 use Rattle.std.specs.Io.KnownBytes.{Appends, Keeps, IsAtEnd}
-use Rattle.ndef_value.specs.Wire.{LimitValues}
+use Rattle.ndef_value.specs.Wire.{LimitValues, greatest_length}
 use Rattle.ndef_lang.specs.Language.{Sets, Conditions}
+use Rattle.ndef_message.specs.Checkings.{ChecksFrom}
 use Rattle.ndef_message.specs.Readings.{ReadsFrom}
+use Rattle.ndef_message.specs.Sources.{Counts}
+use Rattle.ndef_message.specs.Views.{Viewed, Views}
+use Rattle.ndef_message.specs.declared.message_checking.Checked.{Checked}
 use Rattle.ndef_message.specs.declared.message_reading.Read.{Read}
-use Rattle.ndef_message.specs.declared.message_reading.ReadError.{ReadError}
 use Rattle.ndef_message.specs.declared.message_reading.ReadError.TheVariants as errors
-use Rattle.ndef_tool.specs.Output.{AreBlocks, bytes_of}
+use Rattle.ndef_tool.specs.Blocks.{text_of}
+use Rattle.ndef_tool.specs.Output.{AreBlocks, IsBlock, bytes_of}
 use Rattle.ndef_tool.specs.Quoting.{Text}
+use Rattle.ndef_tool.specs.declared.choice.Action.{Action}
+use Rattle.ndef_tool.specs.declared.choice.Action.TheVariants.{Check}
 use Rattle.ndef_tool.specs.declared.choice.Choice.{Choice}
 use Rattle.ndef_tool.specs.declared.ending.Ending.{Ending}
 use Rattle.ndef_tool.specs.declared.ending.Ending.TheVariants.{Clean, Refused, Reading, Writing, Memory, TooMany}
+use Rattle.ndef_tool.specs.declared.session.Printed.{Printed}
 use Rattle.ndef_tool.specs.declared.session.Session.{Session}
 
 -- some byte is left, where it is known
@@ -32,16 +39,41 @@ Stops set holds limits count before after source_failed sink_failed (Refused ref
     (count < 10000) × (source_failed ≡ false) × IsOn before × ReadsFrom set holds limits before after (Err (errors.Refused refusal))
 Stops set holds limits count before after source_failed sink_failed Reading = source_failed ≡ true
 Stops set holds limits count before after source_failed sink_failed Writing = (sink_failed ≡ true) × Keeps before after
-Stops set holds limits count before after source_failed sink_failed Memory = (count < 10000) × (source_failed ≡ false)
+Stops set holds limits count before after source_failed sink_failed Memory =
+    (count < 10000) × (source_failed ≡ false) × ReadsFrom set holds limits before after (Err errors.NoMemory)
 Stops set holds limits count before after source_failed sink_failed TooMany = (count ≡ 10000) × (source_failed ≡ false) × Keeps before after × IsOn before
 Stops set holds limits count before after source_failed sink_failed _ = ⊥
 
--- what is read of the bytes to come: these messages, at most 10000, and then this ending
-pub record IsSession (set : Sets) (holds : Conditions) (limits : LimitValues) (before after : Option (List ℕ)) (source_failed sink_failed : Bool) (reads : List Read) (ending : Ending) : Type 0 where
+-- memory was wanting
+abbrev pub is_memory : Ending → Bool
+is_memory Memory = true
+is_memory _ = false
+
+-- how the messages may end for an action: `check` takes no memory
+abbrev pub MayEnd : Action → Ending → Type 0
+MayEnd Check ending = is_memory ending ≡ false
+MayEnd _ _ = ⊤
+
+-- what an action makes of the bytes to come: these messages, at most 10000, and then this ending
+pub record IsSession (action : Action) (set : Sets) (holds : Conditions) (limits : LimitValues) (before after : Option (List ℕ)) (source_failed sink_failed : Bool) (reads : List Read) (ending : Ending) : Type 0 where
   pub few : length reads ≤ 10000
   pub between : Option (List ℕ)
   pub follow : Follow set holds limits before between reads
   pub stops : Stops set holds limits (length reads) between after source_failed sink_failed ending
+  pub may : MayEnd action ending
+
+-- ---- how many bytes are taken
+
+-- behind the last message: those before a refused one; where reading or memory failed, at most those of a message; else none
+abbrev pub TakesBehind : LimitValues → Ending → ℕ → Type 0
+TakesBehind limits (Refused refusal) n = (n ≡ refusal.at) × (n ≤ greatest_length limits)
+TakesBehind limits Reading n = n ≤ greatest_length limits
+TakesBehind limits Memory n = n ≤ greatest_length limits
+TakesBehind limits _ n = n ≡ 0
+
+-- in all, whether or not the source tells them, where the messages have so many
+abbrev pub HasTaken : LimitValues → (at : ℕ) → (before after : ℕ) → Ending → Type 0
+HasTaken limits at before after ending = (n : ℕ) × TakesBehind limits ending n × Counts before after (at + n)
 
 -- ---- what goes out
 
@@ -67,25 +99,49 @@ pub record Handles (IsRead : List Read → Ending → Type 0) (choice : Choice) 
 
 -- ---- step by step
 
--- whether the source is at its end, and nothing is taken
-abbrev pub LooksAhead : {E : Type 0} → (before after : Option (List ℕ)) → Bool → Result Bool E → Type 0
-LooksAhead before after failed (Ok true) = (failed ≡ false) × Keeps before after × IsAtEnd before
-LooksAhead before after failed (Ok false) = (failed ≡ false) × Keeps before after × IsOn before
-LooksAhead before after failed (Err e) = failed ≡ true
+-- whether one message more is handled behind so many, where these bytes come next
+abbrev pub GoesOn : {X : Type 0} → (count : ℕ) → List ℕ → Result X Ending → Type 0
+GoesOn count bytes (Ok x) = (count < 10000) × (bytes ≢ [])
+GoesOn count bytes (Err Clean) = bytes ≡ []
+GoesOn count bytes (Err TooMany) = (count ≡ 10000) × (bytes ≢ [])
+GoesOn count bytes (Err _) = ⊥
+
+-- the same of a source, of which nothing is taken
+abbrev pub LooksAhead : {X : Type 0} → (count : ℕ) → (before after : Option (List ℕ)) → Bool → Result X Ending → Type 0
+LooksAhead count before after failed (Ok x) = (count < 10000) × (failed ≡ false) × Keeps before after × IsOn before
+LooksAhead count before after failed (Err Clean) = (failed ≡ false) × Keeps before after × IsAtEnd before
+LooksAhead count before after failed (Err TooMany) = (count ≡ 10000) × (failed ≡ false) × Keeps before after × IsOn before
+LooksAhead count before after failed (Err Reading) = failed ≡ true
+LooksAhead count before after failed (Err _) = ⊥
 
 -- the next message, after so many, or why there is none
 abbrev pub IsNext : Sets → Conditions → LimitValues → (count : ℕ) → (before after : Option (List ℕ)) → Bool → Result Read Ending → Type 0
 IsNext set holds limits count before after failed (Ok read) = (count < 10000) × (failed ≡ false) × ReadsFrom set holds limits before after (Ok read)
 IsNext set holds limits count before after failed (Err ending) = Stops set holds limits count before after failed false ending
 
--- numbers of bytes that are those of one message at most
-abbrev pub IsSmall : Result Read ReadError → Type 0
-IsSmall (Ok read) = read.taken < 2 ^ 49
-IsSmall (Err (errors.Refused refusal)) = refusal.at < 2 ^ 49
-IsSmall (Err _) = ⊤
+-- the same of a message that is only checked, for which memory is never wanting
+abbrev pub ChecksNext : Sets → Conditions → LimitValues → (count : ℕ) → (before after : Option (List ℕ)) → Bool → Result Checked Ending → Type 0
+ChecksNext set holds limits count before after failed (Ok checked) =
+    (count < 10000) × (failed ≡ false) × ChecksFrom set holds limits before after (Ok checked)
+ChecksNext set holds limits count before after failed (Err ending) =
+    Stops set holds limits count before after failed false ending × (is_memory ending ≡ false)
 
--- .. or to the next ending
-abbrev pub IsShort : Result Read Ending → Type 0
-IsShort (Ok read) = read.taken < 2 ^ 49
-IsShort (Err (Refused refusal)) = refusal.at < 2 ^ 49
-IsShort (Err _) = ⊤
+-- the same of a message in memory, which is viewed there
+abbrev pub ViewsNext : Sets → Conditions → LimitValues → (count : ℕ) → (before after : List ℕ) → Result Viewed Ending → Type 0
+ViewsNext set holds limits count before after (Ok viewed) =
+    (count < 10000) × Views set holds limits before (Ok viewed) × (after ≡ drop viewed.taken before)
+ViewsNext set holds limits count before after (Err ending) =
+    Stops set holds limits count (Some before) (Some after) false false ending × (is_memory ending ≡ false)
+
+-- how many bytes of the next message are taken, of which `X` tells the number, or how many before the ending
+abbrev pub TakesNext : {X : Type 0} → (X → ℕ) → LimitValues → (before after : ℕ) → Result X Ending → Type 0
+TakesNext taken_of limits before after (Ok x) = (taken_of x ≤ greatest_length limits) × Counts before after (taken_of x)
+TakesNext taken_of limits before after (Err ending) = HasTaken limits 0 before after ending
+
+-- all that is printed of the next message, of which this many bytes come before, or why there is none
+abbrev pub PrintsNext : Sets → Conditions → Choice → (count at : ℕ) → (before after : Option (List ℕ)) → Bool → Result Printed Ending → Type 0
+PrintsNext set holds choice count at before after failed (Ok printed) =
+    (read : Read) × IsNext set holds choice.limits count before after failed (Ok read)
+    × IsBlock choice (count + 1) at read (text_of printed.block) × (printed.taken ≡ read.taken)
+PrintsNext set holds choice count at before after failed (Err ending) =
+    Stops set holds choice.limits count before after failed false ending × MayEnd choice.action ending

@@ -1,19 +1,18 @@
 //! What is printed of a message.
 ghost use Rattle.std.specs.Prelude.{◌≡◌, IfOk};
 ghost use Rattle.ndef_message.specs.Written.{encoded};
-ghost use Rattle.ndef_tool.specs.Output.{IsBlock, IsShown, shown_in};
 ghost use Rattle.std.specs.List.{AllByRecursion};
+ghost use Rattle.ndef_tool.specs.Output.{IsShown, message_line, shown_in};
 ghost use Rattle.ndef_tool.specs.Showing.{IsTyped};
-ghost use Rattle.ndef_tool.specs.Chosen.{HasSize, HasSizeIfAny};
+ghost use Rattle.ndef_tool.specs.Chosen.{HasSizeIfAny};
 ghost use Rattle.ndef_tool.specs.Blocks.{text_of};
 
-use crate::choice::{Action, Choice};
 use crate::hexadecimal::hexadecimal;
 use crate::line::Line;
 use crate::linking::push_link_lines;
 use crate::printing::message_line;
 use crate::showing::push_records;
-use ndef_message::{Form, Read, encode, encode_chunked};
+use ndef_message::{Checked, Form, Read, encode, encode_chunked};
 use ndef_value::{Bytes, Message, NoMemory, Profile};
 use std::alloc::Global;
 
@@ -64,49 +63,44 @@ fn block_in(alloc: Global, hex: bool, bytes: Bytes) -> Result<Block, NoMemory>
     Ok(Block::Bytes(bytes))
 }
 
-/// The message line, the lines of the records and those of the links.
-fn show(
+/// What `check` prints of a message, with its number from 1 and its place in the input: its line.
+pub fn check_block(number: u64, at: u64, checked: Checked) -> Block
+    ensures { text_of result ≡ message_line number at checked.records checked.taken }
+{
+    let records = u64::from(checked.records);
+    Block::Line(message_line(number, at, records, checked.taken))
+}
+
+/// What `show` prints of it: its line, the lines of the records and those of the links.
+pub fn show_block(
     alloc: Global,
     profile: Profile,
     number: u64,
     at: u64,
     read: &Read,
-) -> Result<Bytes, NoMemory>
+) -> Result<Block, NoMemory>
     requires { AllByRecursion (IsTyped profile) read.now.message }
-    ensures { IfOk result (IsShown profile number at read.now) }
+    ensures { IfOk result (λ block. IsShown profile number at read.now (text_of block)) }
 {
     let records = read.message.len() as u64;
     let mut lines = Bytes::new(alloc);
     lines.extend(message_line(number, at, records, read.taken).as_slice())?;
     push_records(alloc, &mut lines, profile, &read.message)?;
     push_link_lines(alloc, &mut lines, profile, &read.message)?;
-    Ok(lines)
+    Ok(Block::Bytes(lines))
 }
 
-/// All that is printed of a message, with its number from 1 and its place in the input.
-pub fn block_for(
+/// What `encode` prints of it: its bytes, or their digits.
+pub fn encode_block(
     alloc: Global,
-    choice: &Choice,
-    number: u64,
-    at: u64,
-    read: &Read,
+    hex: bool,
+    form: Form,
+    size: Option<u32>,
+    message: &Message,
 ) -> Result<Block, NoMemory>
-    requires size { HasSize choice.now.action }
-    requires typed { AllByRecursion (IsTyped choice.now.limits.profile) read.now.message }
-    ensures { IfOk result (λ block. IsBlock choice.now number at read.now (text_of block)) }
+    requires { HasSizeIfAny size }
+    ensures { IfOk result (λ block. text_of block ≡ shown_in hex (encoded form size message.now)) }
 {
-    match choice.action {
-        Action::Show => {
-            let profile = choice.limits.profile();
-            Ok(Block::Bytes(show(alloc, profile, number, at, read)?))
-        }
-        Action::Check => {
-            let records = read.message.len() as u64;
-            Ok(Block::Line(message_line(number, at, records, read.taken)))
-        }
-        Action::Encode(form, size) => {
-            let bytes = encode_by(alloc, &read.message, form, size)?;
-            block_in(alloc, choice.hex, bytes)
-        }
-    }
+    let bytes = encode_by(alloc, message, form, size)?;
+    block_in(alloc, hex, bytes)
 }

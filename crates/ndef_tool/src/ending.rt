@@ -1,5 +1,9 @@
 //! How a run of the command ends.
-use ndef_value::Refusal;
+ghost use Rattle.std.specs.Prelude.{◌≡◌};
+ghost use Rattle.ndef_tool.specs.declared.ending.Ending.TheVariants.{Memory, Reading};
+
+use ndef_message::SourceFault;
+use ndef_value::{NoMemory, Refusal};
 
 /// What is wrong with hexadecimal digits.
 #[derive(Clone, Copy, Debug, PartialEq, Eq)]
@@ -29,6 +33,22 @@ pub enum Ending {
     TooMany,
     /// The hexadecimal text is longer than what a run reads.
     TooLong,
+}
+
+impl From<NoMemory> for Ending {
+    ghost from_gives = { λ _ ending. ending ≡ Memory };
+
+    fn from(_fault: NoMemory) -> Ending {
+        Ending::Memory
+    }
+}
+
+impl From<SourceFault> for Ending {
+    ghost from_gives = { λ _ ending. ending ≡ Reading };
+
+    fn from(_fault: SourceFault) -> Ending {
+        Ending::Reading
+    }
 }
 
 /// The status that the process ends with.

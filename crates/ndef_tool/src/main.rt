@@ -1,9 +1,10 @@
 //! The command `ndef`: what stands on standard input is shown, checked, or written again.
 #![tactic(auto)]
 
-ghost use Rattle.std.specs.Prelude.{◌≡◌};
+ghost use Rattle.std.specs.Prelude.{◌≡◌, is_err};
 ghost use Rattle.std.specs.Process.{exit_status};
 ghost use Rattle.ndef_tool.specs.Output.{number_of_status};
+ghost use Rattle.ndef_tool.specs.Runs.{status_after};
 
 mod block;
 mod choice;
@@ -28,7 +29,7 @@ mod value_lines;
 use crate::ending::Status;
 use crate::running::run;
 use ndef_message::{StdSink, StdSource};
-use std::io::{BufReader, BufWriter, Write};
+use std::io::{self, BufReader, BufWriter, Write};
 use std::process::ExitCode;
 
 /// The status as the process ends with it.
@@ -36,6 +37,16 @@ fn code(status: Status) -> ExitCode
     ensures { exit_status result ≡ number_of_status status }
 {
     ExitCode::from(status as u8)
+}
+
+/// The same of a run whose output is flushed at last.
+fn code_after(status: Status, flushed: io::Result<()>) -> ExitCode
+    ensures { exit_status result ≡ number_of_status (status_after (is_err flushed) status) }
+{
+    match flushed {
+        Ok(()) => code(status),
+        Err(_) => code(Status::Fault),
+    }
 }
 
 /// Runs the command with standard input and output, flushes standard output and ends with the status.
@@ -59,10 +70,7 @@ fn main(rt: HostRuntime) -> ExitCode {
     let mut sink = StdSink::new(&mut writer);
     let status = run(alloc, words.as_slice(), &mut source, &mut sink);
     drop(sink);
-    match writer.flush() {
-        Ok(()) => code(status),
-        Err(_) => code(Status::Fault),
-    }
+    code_after(status, writer.flush())
 }
 
 #[cfg(test)]

@@ -1,11 +1,12 @@
 //! The next message of a source, or of bytes in memory.
-ghost use Rattle.std.specs.Prelude.{◌≡◌, ◌≤◌, ℕ, Bool, List, Option, Some, false};
-ghost use Rattle.ndef_message.specs.Readings.{ReadsFrom, is_fault};
-ghost use Rattle.ndef_tool.specs.Sessions.{IsNext, IsShort, IsSmall, LooksAhead};
+ghost use Rattle.std.specs.Prelude.{◌≡◌, ◌≤◌, ◌^◌, ℕ, Bool, List, Option, Some, false};
+ghost use Rattle.ndef_tool.specs.Sessions.{ChecksNext, GoesOn, IsNext, LooksAhead, TakesNext, ViewsNext};
 
 use crate::ending::Ending;
 use ndef_lang::OuterLanguage;
-use ndef_message::{Read, ReadError, Source, SourceFault, read_message, view};
+use ndef_message::{
+    CheckError, Checked, Read, ReadError, Source, View, check_message, read_message, view,
+};
 use ndef_value::{Limits, messages_are_bounded};
 use std::alloc::Global;
 
@@ -17,15 +18,25 @@ pub(crate) trait Reading<L: OuterLanguage, S> {
     /// The bytes to come, where they are known.
     ghost coming: { S → Option (List ℕ) };
 
+    /// How many bytes were taken of it, as long as they are fewer than 2 ^ 64.
+    ghost taken: { S → ℕ };
+
     /// Whether a reading has failed.
     ghost has_failed: { S → Bool };
 
     /// The next message, after so many, or how the messages end here.
-    fn next(alloc: Global, limits: Limits, count: u64, from: &mut S) -> Result<Read, Ending>
+    fn read(alloc: Global, limits: Limits, count: u64, from: &mut S) -> Result<Read, Ending>
         requires { count ≤ 10000 }
         ensures next { IsNext L.set L.holds limits count
             (coming from.old) (coming from.new) (has_failed from.new) result }
-        ensures short { IsShort result };
+        ensures taken { TakesNext (λ read. read.taken) limits (taken from.old) (taken from.new) result };
+
+    /// Checks the next message, after so many, or tells how the messages end here. It takes no memory.
+    fn check(limits: Limits, count: u64, from: &mut S) -> Result<Checked, Ending>
+        requires { count ≤ 10000 }
+        ensures next { ChecksNext L.set L.holds limits count
+            (coming from.old) (coming from.new) (has_failed from.new) result }
+        ensures taken { TakesNext (λ checked. checked.taken) limits (taken from.old) (taken from.new) result };
 }
 
 /// Messages come from a source, and are read as its bytes come.
@@ -37,111 +48,101 @@ pub(crate) struct FromBytes;
 impl<L: OuterLanguage, S: Source> Reading<L, S> for FromSource {
     ghost coming = { S.coming };
 
+    ghost taken = { S.taken };
+
     ghost has_failed = { S.has_failed };
 
-    fn next(alloc: Global, limits: Limits, count: u64, from: &mut S) -> Result<Read, Ending> {
-        read_next::<L, S>(alloc, limits, count, from)
+    fn read(alloc: Global, limits: Limits, count: u64, from: &mut S) -> Result<Read, Ending> {
+        look_ahead(count, from)?;
+        match read_message::<L, S>(alloc, from, limits) {
+            Ok(read) => Ok(read),
+            Err(ReadError::Refused(refusal)) => Err(Ending::Refused(refusal)),
+            Err(ReadError::ReadFault) => Err(Ending::Reading),
+            Err(ReadError::NoMemory) => Err(Ending::Memory),
+        }
+    }
+
+    fn check(limits: Limits, count: u64, from: &mut S) -> Result<Checked, Ending> {
+        look_ahead(count, from)?;
+        match check_message::<L, S>(from, limits) {
+            Ok(checked) => Ok(checked),
+            Err(CheckError::Refused(refusal)) => Err(Ending::Refused(refusal)),
+            Err(CheckError::ReadFault) => Err(Ending::Reading),
+        }
     }
 }
 
 impl<'a, L: OuterLanguage> Reading<L, &'a [u8]> for FromBytes {
     ghost coming = { λ bytes. Some bytes.now };
 
+    // It isn't counted.
+    ghost taken = { λ _. 2 ^ 64 };
+
     ghost has_failed = { λ _. false };
 
-    fn next(
+    fn read(
         alloc: Global,
         limits: Limits,
         count: u64,
         from: &mut &'a [u8],
     ) -> Result<Read, Ending> {
-        view_next::<L>(alloc, limits, count, from)
+        let view = view_next::<L>(limits, count, from)?;
+        Ok(Read {
+            message: view.to_message(alloc)?,
+            taken: view.taken(),
+        })
+    }
+
+    fn check(limits: Limits, count: u64, from: &mut &'a [u8]) -> Result<Checked, Ending> {
+        let view = view_next::<L>(limits, count, from)?;
+        Ok(Checked {
+            records: view.records(),
+            taken: view.taken(),
+        })
     }
 }
 
-/// Whether no bytes are to come.
-fn is_at_end<S: Source>(source: &mut S) -> Result<bool, SourceFault>
-    ensures { LooksAhead (S.coming source.old) (S.coming source.new) (S.has_failed source.new) result }
-{
-    let bytes = source.fill()?;
-    if bytes.is_empty() {
-        return Ok(true);
-    }
-    Ok(false)
-}
-
-/// Reads a message. It has so few bytes that those of 10000 messages can be added up.
-fn read_bounded<L: OuterLanguage, S: Source>(
-    alloc: Global,
-    limits: Limits,
-    source: &mut S,
-) -> Result<Read, ReadError>
-    ensures reads { ReadsFrom L.set L.holds limits
-        (S.coming source.old) (S.coming source.new) result }
-    ensures mark { S.has_failed source.new ≡ is_fault result }
-    ensures small { IsSmall result }
-{
-    messages_are_bounded();
-    limits.profile();
-    read_message::<L, S>(alloc, source, limits)
-}
-
-/// The next message of the source, after so many, or how the messages end here.
-fn read_next<L: OuterLanguage, S: Source>(
-    alloc: Global,
-    limits: Limits,
-    count: u64,
-    source: &mut S,
-) -> Result<Read, Ending>
+/// Whether one message more is handled behind so many, where these bytes come next.
+fn go_on(count: u64, bytes: &[u8]) -> Result<(), Ending>
     requires { count ≤ 10000 }
-    ensures next { IsNext L.set L.holds limits count
-        (S.coming source.old) (S.coming source.new) (S.has_failed source.new) result }
-    ensures short { IsShort result }
+    ensures { GoesOn count bytes.now result }
 {
-    match is_at_end(source) {
-        Err(_) => return Err(Ending::Reading),
-        Ok(true) => return Err(Ending::Clean),
-        Ok(false) => {}
-    }
-    if count == MOST {
-        return Err(Ending::TooMany);
-    }
-    match read_bounded::<L, S>(alloc, limits, source) {
-        Ok(read) => Ok(read),
-        Err(ReadError::Refused(refusal)) => Err(Ending::Refused(refusal)),
-        Err(ReadError::ReadFault) => Err(Ending::Reading),
-        Err(ReadError::NoMemory) => Err(Ending::Memory),
-    }
-}
-
-/// The next message of the bytes, after so many, or how the messages end here.
-fn view_next<L: OuterLanguage>(
-    alloc: Global,
-    limits: Limits,
-    count: u64,
-    left: &mut &[u8],
-) -> Result<Read, Ending>
-    requires { count ≤ 10000 }
-    ensures next { IsNext L.set L.holds limits count (Some left.old.now) (Some left.new.now) false result }
-    ensures short { IsShort result }
-{
-    let bytes = *left;
     if bytes.is_empty() {
         return Err(Ending::Clean);
     }
     if count == MOST {
         return Err(Ending::TooMany);
     }
+    Ok(())
+}
+
+/// The same of a source, of which nothing is taken.
+fn look_ahead<S: Source>(count: u64, source: &mut S) -> Result<(), Ending>
+    requires { count ≤ 10000 }
+    ensures ahead { LooksAhead count (S.coming source.old) (S.coming source.new) (S.has_failed source.new) result }
+    ensures taken { S.taken source.new ≡ S.taken source.old }
+{
+    let bytes = source.fill()?;
+    go_on(count, bytes)
+}
+
+/// Views the next message of the bytes, after so many, or tells how the messages end here.
+fn view_next<'a, L: OuterLanguage>(
+    limits: Limits,
+    count: u64,
+    left: &mut &'a [u8],
+) -> Result<View<'a>, Ending>
+    requires { count ≤ 10000 }
+    ensures next { ViewsNext L.set L.holds limits count left.old.now left.new.now result }
+    ensures taken { TakesNext (λ viewed. viewed.taken) limits (2 ^ 64) (2 ^ 64) result }
+{
+    let bytes = *left;
+    go_on(count, bytes)?;
     messages_are_bounded();
-    limits.profile();
     match view::<L>(bytes, limits) {
         Ok(view) => {
-            let taken = view.taken();
-            *left = &bytes[taken as usize..];
-            let Ok(message) = view.to_message(alloc) else {
-                return Err(Ending::Memory);
-            };
-            Ok(Read { message, taken })
+            *left = &bytes[view.taken() as usize..];
+            Ok(view)
         }
         Err(refusal) => {
             *left = &bytes[refusal.at as usize..];

@@ -1,5 +1,6 @@
 //! The command, over any source and sink.
 ghost use Rattle.std.specs.Prelude.{◌≡◌, false, map, string_bytes};
+ghost use Rattle.ndef_message.specs.Sources.{supply};
 ghost use Rattle.ndef_tool.specs.Output.{ending_line, status_of};
 ghost use Rattle.ndef_tool.specs.Runs.{Ends, Runs};
 
@@ -52,7 +53,7 @@ pub fn run<S: Source, K: Sink>(
 ) -> Status
     ensures { K.has_failed sink.old ≡ false
         → Runs ⟦<Typed as Language>⟧.set ⟦<Typed as Language>⟧.holds (map string_bytes words.now)
-        (S.coming source.old) (S.coming source.new) (S.has_failed source.new)
+        (supply (S.coming source.old) (S.taken source.old)) (supply (S.coming source.new) (S.taken source.new)) (S.has_failed source.new)
         (K.written sink.old) (K.written sink.new) (K.has_failed sink.new) result }
 {
     match choose(alloc, words) {

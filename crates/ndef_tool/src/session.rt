@@ -1,19 +1,30 @@
 //! The messages of an input, handled one after another.
-ghost use Rattle.std.specs.Prelude.{◌≡◌, false, true};
+ghost use Rattle.std.specs.Prelude.{◌≡◌, ◌≤◌, false, true};
+ghost use Rattle.ndef_message.specs.Sending.{MarksOf, Sent};
+ghost use Rattle.ndef_message.specs.Sources.{supply};
 ghost use Rattle.ndef_nest.specs.Typed.{IsTypedPayload, TypedReason};
+ghost use Rattle.ndef_tool.specs.Blocks.{text_of};
 ghost use Rattle.ndef_tool.specs.Chosen.{HasSize};
 ghost use Rattle.ndef_tool.specs.Inputs.{ReadsIn};
 ghost use Rattle.ndef_tool.specs.Output.{FitsPlace};
-ghost use Rattle.ndef_tool.specs.Sessions.{Handles, IsSession};
+ghost use Rattle.ndef_tool.specs.Sessions.{Handles, HasTaken, IsSession, PrintsNext, TakesNext};
 
-use crate::block::block_for;
-use crate::choice::Choice;
+use crate::block::{Block, check_block, encode_block, show_block};
+use crate::choice::{Action, Choice};
 use crate::ending::Ending;
 use crate::hexadecimal::read_hexadecimal;
 use crate::reading::{FromBytes, FromSource, Reading};
-use ndef_message::{Sink, Source, send};
+use ndef_message::{Sink, Source, WriteFault, send};
 use ndef_nest::Typed;
 use std::alloc::Global;
+
+/// What is printed of a message.
+#[derive(Drop)]
+pub(crate) struct Printed {
+    block: Block,
+    /// The bytes of the message, all of which were taken.
+    taken: u64,
+}
 
 /// How the messages of a source ended.
 #[derive(Clone, Copy, Debug)]
@@ -21,6 +32,56 @@ pub struct Session {
     /// The bytes of the messages that were read.
     pub at: u64,
     pub ending: Ending,
+}
+
+/// All that is printed of the next message, after so many, of which so many bytes come before, or how
+/// the messages end here.
+fn print_next<R: Reading<Typed, S>, S>(
+    alloc: Global,
+    choice: &Choice,
+    count: u64,
+    at: u64,
+    from: &mut S,
+) -> Result<Printed, Ending>
+    requires count { count ≤ 10000 }
+    requires size { HasSize choice.now.action }
+    ensures prints { PrintsNext IsTypedPayload TypedReason choice.now count at
+        (R.coming from.old) (R.coming from.new) (R.has_failed from.new) result }
+    ensures taken { TakesNext (λ printed. printed.taken) choice.now.limits (R.taken from.old) (R.taken from.new) result }
+{
+    let limits = choice.limits;
+    let number = count + 1;
+    match choice.action {
+        Action::Show => {
+            let read = R::read(alloc, limits, count, from)?;
+            Ok(Printed {
+                block: show_block(alloc, limits.profile(), number, at, &read)?,
+                taken: read.taken,
+            })
+        }
+        Action::Check => {
+            let checked = R::check(limits, count, from)?;
+            Ok(Printed {
+                block: check_block(number, at, checked),
+                taken: checked.taken,
+            })
+        }
+        Action::Encode(form, size) => {
+            let read = R::read(alloc, limits, count, from)?;
+            Ok(Printed {
+                block: encode_block(alloc, choice.hex, form, size, &read.message)?,
+                taken: read.taken,
+            })
+        }
+    }
+}
+
+/// Writes what is printed of a message.
+fn send_block<K: Sink>(block: Block, sink: &mut K) -> Result<u64, WriteFault>
+    ensures sent { Sent 0 (K.written sink.old) (K.written sink.new) (text_of block) result }
+    ensures mark { MarksOf (K.has_failed sink.old) (K.has_failed sink.new) (text_of block) result }
+{
+    send(0, block.as_slice(), sink)
 }
 
 /// Reads the messages to their end and writes each one's block before the next is read.
@@ -32,26 +93,23 @@ fn handle_messages<R: Reading<Typed, S>, S, K: Sink>(
 ) -> Session
     requires { HasSize choice.now.action }
     ensures handled { K.has_failed sink.old ≡ false
-        → Handles (IsSession IsTypedPayload TypedReason choice.now.limits (R.coming from.old) (R.coming from.new)
-        (R.has_failed from.new) (K.has_failed sink.new))
+        → Handles (IsSession choice.now.action IsTypedPayload TypedReason choice.now.limits
+        (R.coming from.old) (R.coming from.new) (R.has_failed from.new) (K.has_failed sink.new))
         choice.now (K.written sink.old) (K.written sink.new) (K.has_failed sink.new) result }
+    ensures taken { HasTaken choice.now.limits result.at (R.taken from.old) (R.taken from.new) result.ending }
     ensures room { FitsPlace result.at result.ending }
 {
     choice.limits.profile();
     let mut count = 0;
     let mut at = 0;
     loop {
-        let read = match R::next(alloc, choice.limits, count, from) {
-            Ok(read) => read,
+        let printed = match print_next::<R, S>(alloc, choice, count, at, from) {
+            Ok(printed) => printed,
             Err(ending) => return Session { at, ending },
         };
         count += 1;
-        let Ok(block) = block_for(alloc, choice, count, at, &read) else {
-            let ending = Ending::Memory;
-            return Session { at, ending };
-        };
-        at += read.taken;
-        let Ok(_) = send(0, block.as_slice(), sink) else {
+        at += printed.taken;
+        let Ok(_) = send_block(printed.block, sink) else {
             let ending = Ending::Writing;
             return Session { at, ending };
         };
@@ -67,7 +125,8 @@ fn handle_text<S: Source, K: Sink>(
 ) -> Session
     requires { HasSize choice.now.action }
     ensures handled { K.has_failed sink.old ≡ false
-        → Handles (ReadsIn true IsTypedPayload TypedReason choice.now.limits (S.coming source.old) (S.coming source.new)
+        → Handles (ReadsIn true choice.now.action IsTypedPayload TypedReason choice.now.limits
+        (supply (S.coming source.old) (S.taken source.old)) (supply (S.coming source.new) (S.taken source.new))
         (S.has_failed source.new) (K.has_failed sink.new))
         choice.now (K.written sink.old) (K.written sink.new) (K.has_failed sink.new) result }
     ensures room { FitsPlace result.at result.ending }
@@ -90,7 +149,8 @@ pub fn handle<S: Source, K: Sink>(
 ) -> Session
     requires { HasSize choice.now.action }
     ensures handled { K.has_failed sink.old ≡ false
-        → Handles (ReadsIn choice.now.hex IsTypedPayload TypedReason choice.now.limits (S.coming source.old) (S.coming source.new)
+        → Handles (ReadsIn choice.now.hex choice.now.action IsTypedPayload TypedReason choice.now.limits
+        (supply (S.coming source.old) (S.taken source.old)) (supply (S.coming source.new) (S.taken source.new))
         (S.has_failed source.new) (K.has_failed sink.new))
         choice.now (K.written sink.old) (K.written sink.new) (K.has_failed sink.new) result }
     ensures room { FitsPlace result.at result.ending }

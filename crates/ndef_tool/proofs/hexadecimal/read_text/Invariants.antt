@@ -1,12 +1,12 @@
 use Rattle.std.proofs.Common.{◌≤◌, ◌-◌, length}
-use Rattle.std.specs.Io.KnownBytes.{Consumes}
+use Rattle.ndef_message.specs.Sources.{Gave, supply}
 use Rattle.ndef_tool.proofs.hexadecimal.read_text.Given as goal
 
-abbrev pub invariant-loop-bytes : goal.invariant-loop-bytes
-invariant-loop-bytes g l = record {
+abbrev pub invariant-loop-text : goal.invariant-loop-text
+invariant-loop-text g l = record {
   few : length l.text.items ≤ 16777216;
-  taken : Consumes (g.S.Source.coming l.initial.source) (g.S.Source.coming l.source) l.text.items;
+  taken : Gave (supply (g.S.Source.coming l.initial.source) (g.S.Source.taken l.initial.source)) (supply (g.S.Source.coming l.source) (g.S.Source.taken l.source)) l.text.items;
 }
 
-abbrev pub decreases-loop-bytes : goal.decreases-loop-bytes
-decreases-loop-bytes g l = 16777216 - length l.text.items
+abbrev pub decreases-loop-text : goal.decreases-loop-text
+decreases-loop-text g l = 16777216 - length l.text.items

@@ -13,7 +13,7 @@ use Rattle.ndef_tool.proofs.running.run.Goals as goal
 pub returns-in-Err-NoMemory : goal.returns-in-Err-NoMemory
 returns-in-Err-NoMemory g c = λ clear.
     let out = nothing_out (g.K.Sink.written c.args.sink.now) (g.K.Sink.has_failed c.args.sink.now) clear in
-    (Err NoMemory, tt, ([], status.Fault, (refl, refl), out.0, out.1))
+    (Err NoMemory, tt, ([], status.Fault, (refl, refl, refl), out.0, out.1))
 
 pub returns-in-Err-Usage : goal.returns-in-Err-Usage
 returns-in-Err-Usage g c = λ clear. (
@@ -22,7 +22,7 @@ returns-in-Err-Usage g c = λ clear. (
   (
     usage_line,
     status.Usage,
-    (refl, refl),
+    (refl, refl, refl),
     goes_behind _ _ _ (g.K.Sink.has_failed c.args.sink.now) _ [] usage_line c.send.result clear (Appends-nil _) c.send.ensures.sent c.send.ensures.mark,
     usage_status (g.K.Sink.has_failed c.args.sink.now) _ usage_line c.send.result status.Usage _ clear c.send.ensures.mark c.end.ensures,
   ),
@@ -32,9 +32,9 @@ pub returns-in-Ok : goal.returns-in-Ok
 returns-in-Ok g c = λ clear.
     let session = c.handle-session.result in
     let choice = c.in-Ok.choice in
-    let done = session_ends (ReadsIn choice.hex IsTypedPayload TypedReason choice.limits _ _ _ _) (ReadsIn choice.hex IsTypedPayload TypedReason choice.limits _ _ _ _) choice _ _ _
+    let done = session_ends (ReadsIn choice.hex choice.action IsTypedPayload TypedReason choice.limits _ _ _ _) (ReadsIn choice.hex choice.action IsTypedPayload TypedReason choice.limits _ _ _ _) choice _ _ _
     (g.K.Sink.has_failed c.handle-session.new.sink) _ session c.as_slice.result.now c.send-in-Ok.result c.end-in-Ok.result
-    (λ reads on h. reads_on choice.hex IsTypedPayload TypedReason choice.limits _ _ _ _ _ reads session.ending on h)
+    (λ reads on h. reads_on choice.hex choice.action IsTypedPayload TypedReason choice.limits _ _ _ _ _ reads session.ending on h)
     (c.handle-session.ensures.handled clear) (c.as_slice.ensures.value ∙ c.ending_line-line.ensures)
     c.send-in-Ok.ensures.sent c.send-in-Ok.ensures.mark (rw c.status_of.ensures at c.end-in-Ok.ensures) in (
       Ok choice,

@@ -1,30 +1,31 @@
-use Rattle.std.proofs.Common.{◌∙◌, ◌+◌, arith}
+use Rattle.std.proofs.Common.{◌∙◌, arith}
 use Rattle.ndef_nest.specs.Typed.{IsTypedPayload, TypedReason}
-use Rattle.ndef_tool.specs.Output.{IsBlock}
-use Rattle.ndef_tool.proofs.Members.{next_typed}
-use Rattle.ndef_tool.proofs.Handling.{handled_more, handled_in_part}
+use Rattle.ndef_tool.proofs.Bounded.{greatest_small}
+use Rattle.ndef_tool.proofs.Handling.{counts_more, fits_behind, handled_more, handled_in_part}
 use Rattle.ndef_tool.proofs.session.handle_messages.Goals as goal
 
-pub loop-read-preserved : goal.loop-read-preserved
-loop-read-preserved g c =
-    let next = c.in-Ok.ensures.next in
-    let before = c.loop-read.invariant in
-    let block : IsBlock c.args.choice.now (c.loop-read.count + 1) c.loop-read.at c.in-Ok.read c.as_slice.result.now = rw c.as_slice.ensures c.in-Ok-block_for.ensures in
+pub returns-in-Err-clause-room : goal.returns-in-Err-clause-room
+returns-in-Err-clause-room g c =
+    let before = c.loop-printed.invariant in
+    fits_behind c.args.choice.now.limits c.loop-printed.count c.loop-printed.at _ _ c.in-Err.ending c.profile.ensures.range before.few before.room c.in-Err.ensures.taken
+
+pub returns-in_default-clause-handled : goal.returns-in_default-clause-handled
+returns-in_default-clause-handled g c = λ clear.
+    let before = c.loop-printed.invariant in
+    handled_in_part IsTypedPayload TypedReason c.args.choice.now _ _ _ _ _ _ c.loop-printed.count c.loop-printed.at c.in-Ok.printed
+    _ _ (g.K.Sink.has_failed c.loop-printed.sink) _ c.in_default.field-0 before.so_far c.in-Ok.ensures.prints (before.mark ∙ clear)
+    c.in_default.ensures.sent c.in_default.ensures.mark
+
+pub loop-printed-preserved : goal.loop-printed-preserved
+loop-printed-preserved g c =
+    let before = c.loop-printed.invariant in
+    let prints = c.in-Ok.ensures.prints in
+    let taken = c.in-Ok.ensures.taken in
     record {
-      few = omega (arith, next.0);
-      room = omega (arith, c.in-Ok.ensures.short);
-      mark = c.in-Ok-send.ensures.mark.0 ∙ before.mark;
-      so_far = handled_more IsTypedPayload TypedReason c.args.choice.now _ _ _ _ _ _ c.loop-read.count c.loop-read.at c.in-Ok.read c.as_slice.result.now
-          before.so_far next.2 block c.in-Ok-send.ensures.sent.0;
+      few = omega (arith, prints.1.0);
+      room = omega (arith, before.room, taken.0, greatest_small c.args.choice.now.limits c.profile.ensures.range);
+      taken = counts_more _ _ _ c.loop-printed.at c.in-Ok.printed.taken before.taken taken.1;
+      mark = c.in-Ok-send_block.ensures.mark.0 ∙ before.mark;
+      so_far = handled_more IsTypedPayload TypedReason c.args.choice.now _ _ _ _ _ _ c.loop-printed.count c.loop-printed.at _ c.in-Ok.printed
+          before.so_far prints c.in-Ok-send_block.ensures.sent.0;
     }
-
-pub returns-in_default-send-clause-handled : goal.returns-in_default-send-clause-handled
-returns-in_default-send-clause-handled g c = λ clear.
-    let next = c.in-Ok.ensures.next in
-    let before = c.loop-read.invariant in
-    let block : IsBlock c.args.choice.now (c.loop-read.count + 1) c.loop-read.at c.in-Ok.read c.as_slice.result.now = rw c.as_slice.ensures c.in-Ok-block_for.ensures in
-    handled_in_part IsTypedPayload TypedReason c.args.choice.now _ _ _ _ _ _ c.loop-read.count c.loop-read.at c.in-Ok.read c.as_slice.result.now
-    _ (g.K.Sink.has_failed c.loop-read.sink) _ c.in_default-send.field-0 before.so_far next.0 next.2 block (before.mark ∙ clear) c.in_default-send.ensures.sent c.in_default-send.ensures.mark
-
-pub block_for-requires-clause-typed : goal.block_for-requires-clause-typed
-block_for-requires-clause-typed g c = next_typed TypedReason c.args.choice.now.limits c.loop-read.count _ _ _ c.in-Ok.read c.profile.ensures.range c.in-Ok.ensures.next

@@ -1,16 +1,18 @@
 use Rattle.std.proofs.Common.{◌≡◌, ◌≤◌, ◌-◌, ◌*◌, ◌^◌}
 use Rattle.ndef_nest.specs.Typed.{IsTypedPayload, TypedReason}
+use Rattle.ndef_message.specs.Sources.{Counts}
 use Rattle.ndef_tool.proofs.Handling.{SoFar}
 use Rattle.ndef_tool.proofs.session.handle_messages.Given as goal
 
-abbrev pub invariant-loop-read : goal.invariant-loop-read
-invariant-loop-read g l = record {
+abbrev pub invariant-loop-printed : goal.invariant-loop-printed
+invariant-loop-printed g l = record {
   few : l.count ≤ 10000;
   room : l.at ≤ l.count * 2 ^ 49;
+  taken : Counts (g.R.Reading.taken l.initial.from) (g.R.Reading.taken l.from) l.at;
   mark : g.K.Sink.has_failed l.sink ≡ g.K.Sink.has_failed l.initial.sink;
   so_far : SoFar IsTypedPayload TypedReason l.choice (g.R.Reading.coming l.initial.from) (g.R.Reading.coming l.from)
       (g.K.Sink.written l.initial.sink) (g.K.Sink.written l.sink) l.count l.at;
 }
 
-abbrev pub decreases-loop-read : goal.decreases-loop-read
-decreases-loop-read g l = 10001 - l.count
+abbrev pub decreases-loop-printed : goal.decreases-loop-printed
+decreases-loop-printed g l = 10001 - l.count

@@ -1,0 +1,7 @@
+use Rattle.ndef_tool.proofs.Sessions.{viewed_unread}
+use Rattle.ndef_tool.proofs.reading.FromBytesReadingRefSliceU8.read.Goals as goal
+
+pub returns-in_err-to_message-clause-next : goal.returns-in_err-to_message-clause-next
+returns-in_err-to_message-clause-next g c =
+    viewed_unread g.L.Language.set g.L.Language.holds c.args.limits c.args.count _ _ c.in_ok-view.view c.from_residual-in_err-to_message.result
+    c.from_residual-in_err-to_message.ensures.1 c.in_ok-view.ensures.next c.in_ok-view.ensures.taken.0
