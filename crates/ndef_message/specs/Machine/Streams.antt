@@ -1,5 +1,5 @@
 -- What a source over a reader and a sink over a writer show.
-use Rattle.std.specs.Prelude.{◌≡◌, ◌-◌, ℕ, Bool, true, List, Option}
+use Rattle.std.specs.Prelude.{◌-◌, ℕ, Bool, List, Option}
 use Rattle.std.specs.declared.io.traits.BufRead.{Ghosts as BufferedOf}
 use Rattle.std.specs.declared.io.traits.Read.{Ghosts as ReadingOf}
 use Rattle.ndef_message.specs.Machine.Readers.{left_of}
@@ -22,9 +22,17 @@ reader_shown s = s.filled - s.taken
 abbrev pub reader_failed : {R : Type 0} {buffered : BufferedOf R} {reading : ReadingOf R} → StdSource R buffered reading → Bool
 reader_failed s = s.has_failed
 
--- where its reader showed bytes since it last consumed some, and stood behind all that was taken, it stands behind all again
-abbrev pub StaysBehind : {R : Type 0} {buffered : BufferedOf R} {reading : ReadingOf R} (old new : StdSource R buffered reading) → Type 0
-StaysBehind old new = old.fresh ≡ true → old.pending ≡ 0 → new.pending ≡ 0
+-- what its reader has left
+abbrev pub reader_left : {R : Type 0} {buffered : BufferedOf R} {reading : ReadingOf R} → StdSource R buffered reading → Option (List ℕ)
+reader_left {reading = reading} s = reading.remaining s.reader
+
+-- how many bytes were taken of it that its reader has left still
+abbrev pub waiting : {R : Type 0} {buffered : BufferedOf R} {reading : ReadingOf R} → StdSource R buffered reading → ℕ
+waiting s = s.pending
+
+-- its reader showed its bytes, and none was taken since
+abbrev pub is_fresh : {R : Type 0} {buffered : BufferedOf R} {reading : ReadingOf R} → StdSource R buffered reading → Bool
+is_fresh s = s.fresh
 
 -- the writer of a sink
 abbrev pub writer_of : {W : Type 0} → StdSink W → W

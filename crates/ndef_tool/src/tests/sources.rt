@@ -1,5 +1,5 @@
 //! Sources, over cuts and over readers.
-use super::streams::SlowReader;
+use super::streams::{OnceReader, SlowReader};
 use ndef_message::{SliceSource, Source, StdSource};
 use std::alloc::Global;
 use std::io::BufRead;
@@ -80,5 +80,20 @@ fn leaves_the_reader_behind_what_was_taken(rt: HostRuntime) -> Result<(), Fail> 
     source.take(1);
     let (mut behind, settled) = source.into_inner();
     assert!(rt; settled.is_ok() && behind.fill_buf()? == &BYTES[7..]);
+    Ok(())
+}
+
+// The first take behind a fill consumes at once, so that nothing more is asked of the reader.
+#[test]
+fn consumes_at_once_what_is_taken(rt: HostRuntime) -> Result<(), Fail> {
+    let mut source = StdSource::new(OnceReader {
+        bytes: &BYTES,
+        shown: false,
+    });
+    let shown = source.fill()?.len();
+    assert!(rt; shown == 12);
+    source.take(5);
+    let (reader, settled) = source.into_inner();
+    assert!(rt; settled.is_ok() && reader.bytes == &BYTES[5..]);
     Ok(())
 }

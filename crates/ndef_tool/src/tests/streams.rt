@@ -35,6 +35,38 @@ impl BufRead for SlowReader<'_> {
     }
 }
 
+/// A reader that shows its bytes once, and fails from then on.
+#[derive(Drop)]
+pub(super) struct OnceReader<'a> {
+    pub(super) bytes: &'a [u8],
+    pub(super) shown: bool,
+}
+
+impl Read for OnceReader<'_> {
+    fn read(&mut self, buf: &mut [u8]) -> io::Result<usize> {
+        let shown = self.fill_buf()?;
+        let count = shown.len().min(buf.len());
+        buf[..count].copy_from_slice(&shown[..count]);
+        self.consume(count);
+        Ok(count)
+    }
+}
+
+impl BufRead for OnceReader<'_> {
+    fn fill_buf(&mut self) -> io::Result<&[u8]> {
+        if self.shown {
+            return Err(io::Error::from(io::ErrorKind::Interrupted));
+        }
+        self.shown = true;
+        Ok(self.bytes)
+    }
+
+    fn consume(&mut self, amount: usize) {
+        let count = amount.min(self.bytes.len());
+        self.bytes = &self.bytes[count..];
+    }
+}
+
 /// A writer that takes so many bytes in all, two at a time, and then fails.
 #[derive(Drop)]
 pub(super) struct FullWriter<'a> {
