@@ -500,6 +500,30 @@ fn reads_16777216_bytes_of_text(rt: HostRuntime) -> Result<(), Fail> {
     Ok(())
 }
 
+// What comes and goes in many parts is neither cut nor changed.
+#[test]
+fn passes_2_megabytes(rt: HostRuntime) -> Result<(), Fail> {
+    let alloc = rt.alloc();
+    let payload = vec![in alloc; 0x5A; 2000000]?;
+    let mut bytes = Vec::new(alloc);
+    bytes.extend_from_slice(&[0xC5, 0x00, 0x00, 0x1E, 0x84, 0x80])?;
+    bytes.extend_from_slice(payload.as_slice())?;
+    let table: [(&str, &[u8]); 2] = [
+        ("check", b"message 1 at 0: records 1, bytes 2000006\n"),
+        ("encode", bytes.as_slice()),
+    ];
+    for (action, wanted) in table {
+        let words = words(alloc, &["ndef", action, "--payload", "2000000"])?;
+        let mut source = StdSource::new(bytes.as_slice());
+        let mut out = Vec::new(alloc);
+        let mut sink = StdSink::new(&mut out);
+        let status = run(alloc, words.as_slice(), &mut source, &mut sink);
+        drop(sink);
+        assert!(rt; status == Status::Clean && out.as_slice() == wanted);
+    }
+    Ok(())
+}
+
 #[test]
 fn tells_a_reading_fault(rt: HostRuntime) -> Result<(), Fail> {
     let alloc = rt.alloc();
