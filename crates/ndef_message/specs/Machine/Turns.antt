@@ -8,7 +8,7 @@ use Rattle.ndef_message.specs.Deep.{IsDeep, IsViable}
 use Rattle.ndef_message.specs.Feed.{Fronts, Leads}
 use Rattle.ndef_message.specs.Field.{Field}
 use Rattle.ndef_message.specs.Place.{Refuses}
-use Rattle.ndef_message.specs.Sources.{Counts, Supply, supply}
+use Rattle.ndef_message.specs.Sources.{Counts, Gave, Supply, supply}
 use Rattle.ndef_message.specs.declared.message_checking.Look.{Look}
 use Rattle.ndef_message.specs.declared.message_checking.Look.TheVariants as looks
 use Rattle.ndef_message.specs.declared.message_reading.Turn.{Turn}
@@ -18,10 +18,6 @@ use Rattle.ndef_message.specs.declared.source.Source.{Ghosts as SourceOf}
 -- what is known of a source
 abbrev pub supply_of : {S : Type 0} (source : SourceOf S) → S → Supply
 supply_of source s = supply (source.coming s) (source.taken s)
-
--- these bytes were taken, and counted
-abbrev pub Gave : Supply → Supply → List ℕ → Type 0
-Gave old new bytes = Consumes old.coming new.coming bytes × Counts old.taken new.taken (length bytes)
 
 -- the source showed these bytes, and this many of them were taken
 pub record Shown (before after : Supply) (bytes : List ℕ) (count : ℕ) : Type 0 where
