@@ -1,5 +1,5 @@
 -- What is seen of the sources and sinks that fail, or never end.
-use Rattle.std.specs.Prelude.{◌-◌, ℕ, Bool, true, false, List, [], ◌∷◌, length, Option, Some, None, ◌||◌, ◌==◌, min}
+use Rattle.std.specs.Prelude.{◌-◌, ℕ, Bool, false, List, [], ◌∷◌, length, Option, Some, None, ◌||◌, ◌==◌, min}
 use Rattle.ndef_message.specs.Machine.Slices.{Sliced}
 
 -- ---- a source that fails

@@ -1,6 +1,5 @@
 -- What is read and checked of a source, turn by turn.
 use Rattle.std.specs.Prelude.{◌≡◌, ◌<◌, ◌≤◌, ◌-◌, ℕ, Bool, true, false, List, [], ◌++◌, length, take, IfSome}
-use Rattle.std.specs.Io.KnownBytes.{Consumes}
 use Rattle.ndef_value.specs.Wire.{Item, LimitValues}
 use Rattle.ndef_lang.specs.Language.{Sets, Conditions}
 use Rattle.ndef_message.specs.Decoding.{Decodes}
@@ -8,7 +7,7 @@ use Rattle.ndef_message.specs.Deep.{IsDeep, IsViable}
 use Rattle.ndef_message.specs.Feed.{Fronts, Leads}
 use Rattle.ndef_message.specs.Field.{Field}
 use Rattle.ndef_message.specs.Place.{Refuses}
-use Rattle.ndef_message.specs.Sources.{Counts, Gave, Supply, supply}
+use Rattle.ndef_message.specs.Sources.{Gave, Supply, supply}
 use Rattle.ndef_message.specs.declared.message_checking.Look.{Look}
 use Rattle.ndef_message.specs.declared.message_checking.Look.TheVariants as looks
 use Rattle.ndef_message.specs.declared.message_reading.Turn.{Turn}
