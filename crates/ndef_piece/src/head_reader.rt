@@ -55,8 +55,8 @@ fn answer(spot: &Spot, octets: &mut [u8; 7], count: usize, octet: u8) -> Step
     }
 }
 
-/// Reads the head of one piece (NDEF 1.0, record layout), octet by octet. Clauses see its spot, its octets so far, a refused one with them,
-/// and the answer to the last.
+/// Reads the head of one piece (NDEF 1.0, record layout), octet by octet. Clauses see its spot, its
+/// octets so far, a refused one with them, and the answer to the last.
 #[derive(Debug, Drop)]
 pub struct HeadReader {
     spot: Spot,

@@ -295,9 +295,13 @@ pub record AreInRange (limits : LimitValues) : Type 0 where
   pub records : (1 ≤ limits.records) × (limits.records < 2 ^ 16)
   pub pieces : (1 ≤ limits.pieces) × (limits.pieces < 2 ^ 16)
 
+-- limits of a strict reader
+abbrev pub strict_limits : (payload records pieces : ℕ) → LimitValues
+strict_limits payload records pieces = record { payload = payload; records = records; pieces = pieces; profile = Strict }
+
 -- limits for usual tags
 abbrev pub usual_limits : LimitValues
-usual_limits = record { payload = 1048576; records = 1024; pieces = 4096; profile = Strict }
+usual_limits = strict_limits 1048576 1024 4096
 
 -- the runs are within the limits
 pub record IsWithin (limits : LimitValues) (runs : List Run) : Type 0 where

@@ -1,7 +1,6 @@
 //! How large a message may be, and who reads it.
 ghost use Rattle.std.specs.Prelude.{◌≡◌, IfOk, IsOk, ◌↔◌};
-ghost use Rattle.ndef_value.specs.declared.profile.Profile.TheVariants.{Strict};
-ghost use Rattle.ndef_value.specs.Wire.{LimitValues, AreInRange, usual_limits};
+ghost use Rattle.ndef_value.specs.Wire.{LimitValues, AreInRange, strict_limits, usual_limits};
 
 use crate::Profile;
 use std::marker::Model;
@@ -23,11 +22,26 @@ impl Model for Limits {
 
     ghost Value = { LimitValues };
 
-    ghost view = { λ l. record { payload = l.payload; records = l.records; pieces = l.pieces; profile = l.profile } };
+    ghost view = { λ l. record {
+      payload = l.payload;
+      records = l.records;
+      pieces = l.pieces;
+      profile = l.profile;
+    } };
 
-    ghost invariant = { λ l. AreInRange (record { payload = l.payload; records = l.records; pieces = l.pieces; profile = l.profile }) };
+    ghost invariant = { λ l. AreInRange (record {
+      payload = l.payload;
+      records = l.records;
+      pieces = l.pieces;
+      profile = l.profile;
+    }) };
 
-    ghost inverse = { λ v. record { payload = v.payload; records = v.records; pieces = v.pieces; profile = v.profile } };
+    ghost inverse = { λ v. record {
+      payload = v.payload;
+      records = v.records;
+      pieces = v.pieces;
+      profile = v.profile;
+    } };
 }
 
 /// A limit is out of its range. Nothing was made.
@@ -39,8 +53,8 @@ impl Limits {
     /// Strict limits: 1 to 4294967295 bytes of a payload, 1 to 65535 records of a message and 1 to
     /// 65535 pieces of a record; else `OutOfRange`.
     pub fn new(payload: u32, records: u32, pieces: u32) -> Result<Limits, OutOfRange>
-        ensures ok { IfOk result (λ l. l ≡ record { payload = payload; records = records; pieces = pieces; profile = Strict }) }
-        ensures accepts { IsOk result ↔ AreInRange (record { payload = payload; records = records; pieces = pieces; profile = Strict }) }
+        ensures ok { IfOk result (λ limits. limits ≡ strict_limits payload records pieces) }
+        ensures accepts { IsOk result ↔ AreInRange (strict_limits payload records pieces) }
     {
         let records_fit = 1 <= records && records <= 65535;
         let pieces_fit = 1 <= pieces && pieces <= 65535;
@@ -69,7 +83,7 @@ impl Limits {
 
     /// The same limits under another profile.
     pub fn with(self, profile: Profile) -> Limits
-        ensures { result ≡ record { payload = self.payload; records = self.records; pieces = self.pieces; profile = profile } }
+        ensures { result ≡ record self { profile = profile } }
     {
         Limits { profile, ..self }
     }

@@ -69,7 +69,8 @@ impl From<NoMemory> for RecordError {
 
 /// Whether the parts go together.
 fn is_shaped(tnf: Tnf, kind: &[u8], id: &[u8], payload: &[u8]) -> bool
-    ensures { IsTrue result ↔ IsShaped (record { tnf = tnf; kind = kind.now; id = id.now; payload = payload.now }) }
+    ensures { IsTrue result
+        ↔ IsShaped (record { tnf = tnf; kind = kind.now; id = id.now; payload = payload.now }) }
 {
     match tnf {
         Tnf::Empty => kind.is_empty() && id.is_empty() && payload.is_empty(),
@@ -81,7 +82,8 @@ fn is_shaped(tnf: Tnf, kind: &[u8], id: &[u8], payload: &[u8]) -> bool
 
 /// Whether each part is as long as a head can tell.
 fn has_lengths(tnf: Tnf, kind: &[u8], id: &[u8], payload: &[u8]) -> bool
-    ensures { IsTrue result ↔ HasLengths (record { tnf = tnf; kind = kind.now; id = id.now; payload = payload.now }) }
+    ensures { IsTrue result
+        ↔ HasLengths (record { tnf = tnf; kind = kind.now; id = id.now; payload = payload.now }) }
 {
     kind.len() <= 255 && id.len() <= 255 && payload.len() <= 4294967295
 }
@@ -95,7 +97,8 @@ impl Record {
         id: &[u8],
         payload: &[u8],
     ) -> Result<Record, RecordError>
-        ensures ok { IfOk result (λ r. r ≡ record { tnf = tnf; kind = kind.now; id = id.now; payload = payload.now }) }
+        ensures ok { IfOk result (λ r.
+            r ≡ record { tnf = tnf; kind = kind.now; id = id.now; payload = payload.now }) }
         ensures bad_shape { IsErrOf result RecordError.BadShape
             ↔ ¬ IsShaped (record { tnf = tnf; kind = kind.now; id = id.now; payload = payload.now }) }
         ensures too_long { IsErrOf result RecordError.TooLong
