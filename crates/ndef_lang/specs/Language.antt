@@ -1,5 +1,5 @@
 -- What the laws of a payload language say.
-use Rattle.std.specs.Prelude.{◌≡◌, ℕ, ◌+◌, ◌-◌, ◌<◌, ◌≤◌, List, ◌++◌, length, take, ◌↔◌, ◌⊎◌}
+use Rattle.std.specs.Prelude.{◌≡◌, ℕ, ◌+◌, ◌-◌, ◌<◌, ◌≤◌, List, ◌++◌, length, take, slice_index, ◌↔◌, ◌⊎◌}
 use Rattle.ndef_value.specs.Reason.{rank_of}
 use Rattle.ndef_value.specs.declared.profile.Profile.{Profile}
 use Rattle.ndef_value.specs.declared.reason.Reason.{Reason}
@@ -51,10 +51,22 @@ pub record StepsFront (old new : List ℕ → Type 0) (bytes : List ℕ) (count 
   pub stepped : Follows old new (take count bytes)
   pub fits : (lo hi : ℕ) → count ≤ lo → PassesBetween old lo hi → PassesBetween new (lo - count) (hi - count)
 
+-- .. whatever the kind, the number of records and the profile
+abbrev pub ReachesEach : (old new : Sets) → List ℕ → Type 0
+ReachesEach old new octets = (kind : Kind) (records : ℕ) (profile : Profile) → Reaches (old kind records profile) (new kind records profile) octets
+
 -- of the reasons that hold the one that is tried first
 pub record IsLowest (holds : Reason → Type 0) (reason : Reason) : Type 0 where
   pub it : holds reason
   pub first : (other : Reason) → holds other → rank_of reason ≤ rank_of other
+
+-- Whatever octets were reached, after which something could still follow: the reason is the one of the octet behind them.
+abbrev pub TellsWhy : (reached future : List ℕ → Type 0) → (holds : List ℕ → ℕ → Reason → Type 0) → (octet : ℕ) → Reason → Type 0
+TellsWhy reached future holds octet reason = (s : List ℕ) → reached s → Passes future → IsLowest (holds s octet) reason
+
+-- Whatever octets were reached: the reason is the one of the octet at this place of those that came behind them.
+abbrev pub TellsWhyAt : (reached : List ℕ → Type 0) → (holds : List ℕ → ℕ → Reason → Type 0) → (octets : List ℕ) → (place : ℕ) → Reason → Type 0
+TellsWhyAt reached holds octets place reason = (s : List ℕ) → reached s → IsLowest (holds (s ++ take place octets) (slice_index octets place)) reason
 
 -- where one condition applies: its reason holds where it does, and always that nothing fits
 abbrev pub OneReason : Reason → Type 0 → Reason → Type 0

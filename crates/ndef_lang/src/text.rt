@@ -1,9 +1,10 @@
 //! Payloads of Text records.
 ghost use Rattle.std.specs.Prelude.{◌≡◌, ℕ, List, [], ◌∷◌, take};
 ghost use Rattle.ndef_value.specs.declared.reason.Reason.TheVariants.{DoesNotFit};
-ghost use Rattle.ndef_lang.specs.Language.{Follows, Reaches, StepsFront, Passes, IsLowest};
+ghost use Rattle.ndef_lang.specs.Language.{Follows, Reaches, StepsFront, TellsWhy};
 ghost use Rattle.ndef_lang.specs.Octets.{Octets};
-ghost use Rattle.ndef_lang.specs.Text.{IsText, IsTextIn, IsCodeOctet, CompletesText, TextReached, UpToCode, TextReason, text_told, text_lengths};
+ghost use Rattle.ndef_lang.specs.Text.{IsText, IsTextIn, IsCodeOctet, TextReason};
+ghost use Rattle.ndef_lang.specs.Text.{CompletesText, TextReached, UpToCode, text_told, text_lengths};
 
 use super::kind::Kind;
 use super::language::Language;
@@ -53,7 +54,7 @@ impl TextLang {
     pub(crate) fn after(self, byte: u8) -> TextLang
         ensures future { Follows (CompletesText self) (CompletesText result) (byte ∷ []) }
         ensures reached { Reaches (TextReached self) (TextReached result) (byte ∷ []) }
-        ensures reason { (s : List ℕ) → TextReached self s → Passes (CompletesText self) → IsLowest (TextReason s byte) (text_told result) }
+        ensures reason { TellsWhy (TextReached self) (CompletesText self) TextReason byte (text_told result) }
     {
         match self {
             TextLang::Start => {
@@ -123,7 +124,7 @@ impl TextLang {
 
 impl Language for TextLang {
     ghost use Rattle.ndef_lang.specs.Lengths.{meets};
-    ghost use Rattle.ndef_lang.specs.LengthLaws.{lengths_fit};
+    ghost use Rattle.ndef_lang.specs.LengthLaws.{states_fit};
     ghost use Rattle.ndef_lang.specs.TextLaws.{text_octets, completes_text_octets, are_text_lengths};
 
     ghost set = { λ kind records profile s. IsText s };
@@ -177,7 +178,7 @@ impl Language for TextLang {
         self.told()
     }
 
-    ghost exact = { λ state lo hi small. lengths_fit (CompletesText state) (text_lengths state) lo hi (are_text_lengths state) };
+    ghost exact = { states_fit CompletesText text_lengths are_text_lengths };
 
     ghost future_octets = { completes_text_octets };
 
