@@ -1,5 +1,6 @@
 pub mod Following
 pub mod KindLemmas
+pub mod Members
 pub mod PlaceLemmas
 pub mod Reasons
 pub mod TextLemmas

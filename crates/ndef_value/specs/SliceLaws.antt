@@ -13,7 +13,7 @@ octet_at [] k h = omega arith
 octet_at (x ∷ s) zero h = h.0
 octet_at (x ∷ s) (suc k) h = octet_at s k h.1
 
-octets_drop : (n : ℕ) (s : List ℕ) → AreOctets s → AreOctets (drop n s)
+pub octets_drop : (n : ℕ) (s : List ℕ) → AreOctets s → AreOctets (drop n s)
 octets_drop zero s h = h
 octets_drop (suc n) [] h = tt
 octets_drop (suc n) (x ∷ s) h = octets_drop n s h.1
@@ -28,7 +28,11 @@ behind_drop n s = take_all (length s - n) (drop n s) (omega (arith, length-drop 
 pub octets_behind : (n : ℕ) (s : List ℕ) → AreOctets s → AreOctets (behind n s)
 octets_behind n s h = subst AreOctets (sym (behind_drop n s)) (octets_drop n s h)
 
--- the first two elements and the rest
+-- the first elements and the rest
+pub cut_one : (s : List ℕ) → 1 ≤ length s → get_or s 0 0 ∷ behind 1 s ≡ s
+cut_one [] h = absurd (omega arith)
+cut_one (x ∷ s) h = ap (λ t. x ∷ t) (behind_drop 1 (x ∷ s))
+
 pub cut_two : (s : List ℕ) → 2 ≤ length s → get_or s 0 0 ∷ get_or s 1 0 ∷ behind 2 s ≡ s
 cut_two [] h = absurd (omega arith)
 cut_two (x ∷ []) h = absurd (omega arith)

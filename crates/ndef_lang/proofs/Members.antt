@@ -1,0 +1,131 @@
+-- Payloads from their parts, as a slice's pattern cuts them.
+use Rattle.std.proofs.Common.{◌≡◌, ℕ, zero, suc, ◌+◌, ◌*◌, ◌/◌, ◌%◌, ◌<◌, ◌≤◌, ◌⊎◌, inl, inr, Bool, true, false, if◌then◌else◌, List, [], ◌∷◌, length, get_or, take, drop, refl, sym, ◌∙◌, ap, subst, arith}
+use Rattle.std.proofs.lemmas.Str.{IsUtf8-from_ascii}
+use Rattle.std.specs.List.{AllByRecursion}
+use Rattle.std.specs.Prelude.{IsUtf8}
+use Rattle.ndef_value.specs.Wire.{AreOctets}
+use Rattle.ndef_value.specs.SliceLaws.{behind, behind_drop, octet_at, octets_drop, octets_behind, cut_one, cut_two}
+use Rattle.ndef_lang.specs.Octets.{IsOctet, Octets}
+use Rattle.ndef_lang.specs.Text.{IsCodeOctet, IsTextIn, IsText, is_wide}
+use Rattle.ndef_lang.specs.Alternative.{IsAlternative, AreAuxiliary, AreReferences}
+use Rattle.ndef_lang.specs.Carrier.{IsCarrier}
+use Rattle.ndef_lang.specs.Utf16.{IsSpelled, spelled}
+use Rattle.ndef_lang.specs.Utf16Laws.{units_alone, units_paired, no_units}
+
+-- ---- fields
+
+pub field_from : (passes : ℕ → Type 0) (n : ℕ) (set : List ℕ → Type 0) (s : List ℕ) → n ≤ length s → AllByRecursion passes (take n s) → set (drop n s) → Octets passes n set s
+field_from passes zero set s l h t = t
+field_from passes (suc n) set [] l h t = absurd (omega arith)
+field_from passes (suc n) set (x ∷ s) l h t = (h.0, field_from passes n set s (omega arith) h.1 t)
+
+pub any_from : (n : ℕ) (set : List ℕ → Type 0) (s : List ℕ) → n ≤ length s → AreOctets s → set (drop n s) → Octets IsOctet n set s
+any_from zero set s l h t = t
+any_from (suc n) set [] l h t = absurd (omega arith)
+any_from (suc n) set (x ∷ s) l h t = (h.0, any_from n set s (omega arith) h.1 t)
+
+pub ascii_is_utf8 : (s : List ℕ) → AllByRecursion IsCodeOctet s → IsUtf8 s
+ascii_is_utf8 s h = IsUtf8-from_ascii s (each s h)
+  where
+    each : (s : List ℕ) → AllByRecursion IsCodeOctet s → (k : ℕ) → get_or s k 0 < 128
+    each [] h k = omega arith
+    each (x ∷ s) h zero = omega (arith, h.0)
+    each (x ∷ s) h (suc k) = each s h.1 k
+
+-- a status octet, a code of length k and a text
+pub text_from : (s : List ℕ) (k : ℕ) → AreOctets s → 1 ≤ length s → get_or s 0 0 % 128 < 64 → k ≡ get_or s 0 0 % 64 → k ≤ length (behind 1 s)
+    → AllByRecursion IsCodeOctet (take k (behind 1 s)) → IsTextIn (is_wide (get_or s 0 0)) (drop k (behind 1 s)) → IsText s
+text_from s k octets some plain is long code text =
+    let status = get_or s 0 0 in
+    let wide = is_wide status in
+    let small = octet_at s 0 octets in
+    let rest = behind 1 s in
+    let tail : Octets IsCodeOctet (status % 64) (IsTextIn wide) rest = subst (λ k. Octets IsCodeOctet k (IsTextIn wide) rest) is (field_from IsCodeOctet k (IsTextIn wide) rest long code text) in
+    subst IsText (cut_one s some) (small, (λ h. omega arith), tail)
+
+-- a format, a type behind its length, and any octets
+pub carrier_from : (s : List ℕ) → AreOctets s → 2 ≤ length s → get_or s 1 0 ≤ length (behind 2 s) → IsCarrier s
+carrier_from s octets some long =
+    let rest = octets_behind 2 s octets in
+    subst IsCarrier (cut_two s some) (octet_at s 0 octets, (octet_at s 1 octets, any_from (get_or s 1 0) AreOctets (behind 2 s) long rest (octets_drop (get_or s 1 0) (behind 2 s) rest)))
+
+-- a reference behind its length k, and n more of them
+pub reference_from : (n m k : ℕ) (s : List ℕ) → m ≡ suc n → AreOctets s → 1 ≤ length s → k ≡ get_or s 0 0 → k ≤ length (behind 1 s) → AreReferences n (behind k (behind 1 s)) → AreReferences m s
+reference_from n m k s e octets some is long h =
+    let rest = behind 1 s in
+    let tail : AreReferences n (drop (get_or s 0 0) rest) = subst (λ k. AreReferences n (drop k rest)) is (subst (AreReferences n) (behind_drop k rest) h) in
+    let l : get_or s 0 0 ≤ length rest = omega arith in
+    subst (λ m. AreReferences m s) (sym e) (subst (AreReferences (suc n)) (cut_one s some) (octet_at s 0 octets, any_from (get_or s 0 0) (AreReferences n) rest l (octets_behind 1 s octets) tail))
+
+-- none is left
+pub no_references : (n : ℕ) (s : List ℕ) → n ≡ 0 → AreOctets s → AreReferences n s
+no_references n s e octets = subst (λ n. AreReferences n s) (sym e) octets
+
+-- a power state, a reference behind its length k, and auxiliary references
+pub alternative_from : (s : List ℕ) (k : ℕ) → AreOctets s → 2 ≤ length s → k ≡ get_or s 1 0 → k ≤ length (behind 2 s) → 1 ≤ length (behind k (behind 2 s))
+    → AreReferences (get_or (behind k (behind 2 s)) 0 0) (behind 1 (behind k (behind 2 s))) → IsAlternative s
+alternative_from s k octets two is long some h =
+    let rest = behind 2 s in
+    let octets_rest = octets_behind 2 s octets in
+    let count = octet_at (behind k rest) 0 (octets_behind k rest octets_rest) in
+    let auxiliary : AreAuxiliary (behind k rest) = subst AreAuxiliary (cut_one (behind k rest) some) (count, h) in
+    let tail : AreAuxiliary (drop (get_or s 1 0) rest) = subst (λ k. AreAuxiliary (drop k rest)) is (subst AreAuxiliary (behind_drop k rest) auxiliary) in
+    let l : get_or s 1 0 ≤ length rest = omega arith in
+    subst IsAlternative (cut_two s two) (octet_at s 0 octets, (octet_at s 1 octets, any_from (get_or s 1 0) AreAuxiliary rest l octets_rest tail))
+
+-- ---- units of UTF-16
+
+-- the most significant octet of the unit of these two
+abbrev pub most_of : Bool → ℕ → ℕ → ℕ
+most_of little a b = if little then b else a
+
+abbrev pub least_of : Bool → ℕ → ℕ → ℕ
+least_of little a b = if little then a else b
+
+abbrev unit_of : Bool → ℕ → ℕ → ℕ
+unit_of little a b = most_of little a b * 256 + least_of little a b
+
+spelled_unit : (little : Bool) (a b : ℕ) (us : List ℕ) → a < 256 → b < 256 → spelled little (unit_of little a b ∷ us) ≡ a ∷ b ∷ spelled little us
+spelled_unit false a b us h k = let x : (a * 256 + b) / 256 ≡ a = omega arith in let y : (a * 256 + b) % 256 ≡ b = omega arith in λ i. x i ∷ y i ∷ spelled false us
+spelled_unit true a b us h k = let x : (b * 256 + a) / 256 ≡ b = omega arith in let y : (b * 256 + a) % 256 ≡ a = omega arith in λ i. y i ∷ x i ∷ spelled true us
+
+most_small : (little : Bool) (a b : ℕ) → a < 256 → b < 256 → (most_of little a b < 256) × (least_of little a b < 256)
+most_small true a b h k = (k, h)
+most_small false a b h k = (h, k)
+
+pub unit_alone : (little : Bool) (a b : ℕ) (s : List ℕ) → a < 256 → b < 256 → (most_of little a b < 0xd8) ⊎ (0xe0 ≤ most_of little a b) → IsSpelled little s → IsSpelled little (a ∷ b ∷ s)
+unit_alone little a b s p q h r =
+    let m = most_small little a b p q in
+    (unit_of little a b ∷ r.0, (units_alone _ r.0 (omega arith) (elim h [ inl x ↦ inl (omega arith) | inr x ↦ inr (omega arith) ]) r.1.0, spelled_unit little a b r.0 p q ∙ ap (λ t. a ∷ b ∷ t) r.1.1))
+
+pub unit_pair : (little : Bool) (a b c d : ℕ) (s : List ℕ) → a < 256 → b < 256 → c < 256 → d < 256 → 0xd8 ≤ most_of little a b → most_of little a b < 0xdc
+    → 0xdc ≤ most_of little c d → most_of little c d < 0xe0 → IsSpelled little s → IsSpelled little (a ∷ b ∷ c ∷ d ∷ s)
+unit_pair little a b c d s p q x y h k l m r =
+    let m1 = most_small little a b p q in
+    let m2 = most_small little c d x y in (
+      unit_of little a b ∷ unit_of little c d ∷ r.0,
+      (
+        units_paired _ _ (omega arith) (omega arith) (omega arith, omega arith, r.1.0),
+        spelled_unit little a b (unit_of little c d ∷ r.0) p q ∙ ap (λ t. a ∷ b ∷ t) (spelled_unit little c d r.0 x y ∙ ap (λ t. c ∷ d ∷ t) r.1.1),
+      ),
+    )
+
+pub no_spelled : (little : Bool) (s : List ℕ) → length s ≡ 0 → IsSpelled little s
+no_spelled little [] e = ([], (no_units, refl))
+no_spelled little (x ∷ s) e = absurd (omega arith)
+
+-- two octets and the rest, by the most significant one
+pub alone_at : (little : Bool) (most : ℕ) (s : List ℕ) → AreOctets s → 2 ≤ length s → most ≡ most_of little (get_or s 0 0) (get_or s 1 0) → (most < 0xd8) ⊎ (0xe0 ≤ most) → IsSpelled little (behind 2 s) → IsSpelled little s
+alone_at little most s octets two is h r =
+    subst (IsSpelled little) (cut_two s two) (unit_alone little _ _ (behind 2 s) (octet_at s 0 octets) (octet_at s 1 octets) (rw is at h) r)
+
+-- four octets and the rest
+pub pair_at : (little : Bool) (most second : ℕ) (s : List ℕ) → AreOctets s → 2 ≤ length s → 2 ≤ length (behind 2 s) → most ≡ most_of little (get_or s 0 0) (get_or s 1 0)
+    → second ≡ most_of little (get_or (behind 2 s) 0 0) (get_or (behind 2 s) 1 0) → 0xd8 ≤ most → most < 0xdc → 0xdc ≤ second → second < 0xe0
+    → IsSpelled little (behind 2 (behind 2 s)) → IsSpelled little s
+pair_at little most second s octets two four is is2 h k l m r =
+    let rest = behind 2 s in
+    let octets_rest = octets_behind 2 s octets in
+    let tail : IsSpelled little (get_or s 0 0 ∷ get_or s 1 0 ∷ get_or rest 0 0 ∷ get_or rest 1 0 ∷ behind 2 rest) =
+    unit_pair little _ _ _ _ (behind 2 rest) (octet_at s 0 octets) (octet_at s 1 octets) (octet_at rest 0 octets_rest) (octet_at rest 1 octets_rest) (omega arith) (omega arith) (omega arith) (omega arith) r in
+    subst (IsSpelled little) (cut_two s two) (subst (λ t. IsSpelled little (get_or s 0 0 ∷ get_or s 1 0 ∷ t)) (cut_two rest four) tail)

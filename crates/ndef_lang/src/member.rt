@@ -1,0 +1,171 @@
+//! Whole payloads: whether they are in their set. Only a true answer tells something.
+ghost use Rattle.std.specs.Prelude.{◌≡◌, ◌≤◌, ◌<◌, length, IsTrue, IsUtf8};
+ghost use Rattle.std.specs.List.{AllByRecursion};
+ghost use Rattle.ndef_lang.specs.Utf16.{IsSpelled, IsUtf16};
+ghost use Rattle.ndef_lang.specs.Text.{IsText, IsCodeOctet};
+ghost use Rattle.ndef_lang.specs.Uri.{IsUri};
+ghost use Rattle.ndef_lang.specs.Alternative.{IsAlternative, AreReferences};
+ghost use Rattle.ndef_lang.specs.HandoverError.{IsError};
+ghost use Rattle.ndef_lang.specs.Carrier.{IsCarrier};
+ghost use Rattle.ndef_lang.specs.Leaf.{IsPayload};
+
+use super::kind::Kind;
+use ndef_value::Profile;
+
+/// Whether all octets are ASCII.
+fn is_ascii(bytes: &[u8]) -> bool
+    ensures { IsTrue result → AllByRecursion IsCodeOctet bytes.now }
+{
+    bytes.iter().all(|b| *b <= 0x7f)
+}
+
+/// Whether it is a UTF-8 text.
+fn is_utf8(bytes: &[u8]) -> bool
+    ensures { IsTrue result → IsUtf8 bytes.now }
+{
+    if bytes.len() < 64 && is_ascii(bytes) {
+        return true;
+    }
+    simdutf8::is_utf8(bytes)
+}
+
+/// Whether it is UTF-16 units, each pair whole.
+fn are_units(bytes: &[u8], little: bool) -> bool
+    ensures { IsTrue result → IsSpelled little bytes.now }
+{
+    let mut rest = bytes;
+    while let [a, b, more @ ..] = rest {
+        let most = if little { *b } else { *a };
+        if most < 0xd8 || most >= 0xe0 {
+            rest = more;
+        } else {
+            let [c, d, behind @ ..] = more else {
+                return false;
+            };
+            let second = if little { *d } else { *c };
+            if most >= 0xdc || second < 0xdc || second >= 0xe0 {
+                return false;
+            }
+            rest = behind;
+        }
+    }
+    rest.is_empty()
+}
+
+/// Whether it is a UTF-16 text.
+fn is_utf16(bytes: &[u8]) -> bool
+    ensures { IsTrue result → IsUtf16 bytes.now }
+{
+    match bytes {
+        [0xfe, 0xff, rest @ ..] => are_units(rest, false),
+        [0xff, 0xfe, rest @ ..] => are_units(rest, true),
+        _ => are_units(bytes, false),
+    }
+}
+
+/// Whether it is the payload of a Text record.
+fn is_text(payload: &[u8]) -> bool
+    ensures { IsTrue result → IsText payload.now }
+{
+    let [status, rest @ ..] = payload else {
+        return false;
+    };
+    let length = usize::from(status % 64);
+    if status % 128 >= 64 || rest.len() < length {
+        return false;
+    }
+    let (code, text) = rest.split_at(length);
+    is_ascii(code)
+        && if *status < 128 {
+            is_utf8(text)
+        } else {
+            is_utf16(text)
+        }
+}
+
+/// Whether it is the payload of a URI record.
+fn is_uri(profile: Profile, payload: &[u8]) -> bool
+    ensures { IsTrue result → IsUri profile payload.now }
+{
+    let [code, rest @ ..] = payload else {
+        return false;
+    };
+    (*code <= 0x23 || matches!(profile, Profile::Standard)) && is_utf8(rest)
+}
+
+/// Whether so many references are at the front, each behind its length.
+fn are_references(count: u8, bytes: &[u8]) -> bool
+    ensures { IsTrue result → AreReferences count bytes.now }
+{
+    let mut rest = bytes;
+    for _ in 0..count {
+        let [length, more @ ..] = rest else {
+            return false;
+        };
+        let length = usize::from(*length);
+        if more.len() < length {
+            return false;
+        }
+        rest = &more[length..];
+    }
+    true
+}
+
+/// Whether it is the payload of an alternative carrier record.
+fn is_alternative(payload: &[u8]) -> bool
+    ensures { IsTrue result → IsAlternative payload.now }
+{
+    let [_, length, rest @ ..] = payload else {
+        return false;
+    };
+    let length = usize::from(*length);
+    if rest.len() < length {
+        return false;
+    }
+    let [count, references @ ..] = &rest[length..] else {
+        return false;
+    };
+    are_references(*count, references)
+}
+
+/// Whether it is the payload of a handover error record.
+fn is_error(payload: &[u8]) -> bool
+    ensures { IsTrue result → IsError payload.now }
+{
+    let [reason, data @ ..] = payload else {
+        return false;
+    };
+    match *reason {
+        1 | 3 => data.len() == 1,
+        2 => data.len() == 4,
+        _ => true,
+    }
+}
+
+/// Whether it is the payload of a handover carrier record.
+fn is_carrier(payload: &[u8]) -> bool
+    ensures { IsTrue result → IsCarrier payload.now }
+{
+    let [_, length, rest @ ..] = payload else {
+        return false;
+    };
+    usize::from(*length) <= rest.len()
+}
+
+/// Whether the payload is one of the kind; of a kind whose payloads are messages, any is.
+pub(crate) fn is_leaf_payload(kind: Kind, profile: Profile, payload: &[u8]) -> bool
+    ensures { IsTrue result → IsPayload kind profile payload.now }
+{
+    match kind {
+        Kind::Text => is_text(payload),
+        Kind::Uri => is_uri(profile, payload),
+        Kind::MediaType => is_utf8(payload),
+        Kind::Action => payload.len() == 1,
+        Kind::Size => payload.len() == 4,
+        Kind::Collision => payload.len() == 2,
+        Kind::Alternative => is_alternative(payload),
+        Kind::Error => is_error(payload),
+        Kind::Carrier => is_carrier(payload),
+        Kind::Other | Kind::SmartPoster | Kind::Request | Kind::Select => true,
+    }
+}
