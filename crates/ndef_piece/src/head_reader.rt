@@ -1,5 +1,5 @@
 //! The head of a piece, read octet by octet.
-ghost use Rattle.std.specs.Prelude.{◌≡◌, ◌≢◌, ◌<◌, true, false, [], ◌∷◌, ◌++◌, length, take, slice_index, slice_set, IfSome, IsSome};
+ghost use Rattle.std.specs.Prelude.{◌≡◌, ◌≢◌, ◌<◌, true, false, [], ◌∷◌, ◌++◌, length, take, slice_index, slice_set, IfSome, IsSome, IsTrue};
 ghost use Rattle.ndef_value.specs.Wire.{Fields, octets};
 ghost use Rattle.ndef_piece.specs.Header.{size};
 ghost use Rattle.ndef_piece.specs.Heads.{head, CanBeSpelled, IsOpen, IsViable, IsRange};
@@ -92,6 +92,13 @@ impl HeadReader {
             count: 0,
             answer: Step::More,
         }
+    }
+
+    /// Whether no octet has come.
+    pub fn is_fresh(&self) -> bool
+        ensures { IsTrue result → self.now.octets ≡ [] }
+    {
+        self.count == 0
     }
 
     /// Takes the next octet. A refused octet isn't part of the head; after a head or a refusal `step`

@@ -1,11 +1,13 @@
 //! A whole piece at the front of a slice, its parts left where they are.
-ghost use Rattle.std.specs.Prelude.{◌≡◌, ◌+◌, ◌^◌, ◌<◌, ◌++◌, false, true, length, IfNone, IfSome, Some, None, [], if◌then◌else◌};
-ghost use Rattle.ndef_value.specs.Wire.{FitsForm, id_length_octets, payload_length_octets, tnf_of};
+ghost use Rattle.std.specs.Prelude.{◌≡◌, ◌≢◌, ◌+◌, ◌^◌, ◌<◌, ◌≤◌, ◌++◌, false, true, length, IfNone, IfSome, IsTrue, Some, None, [], if◌then◌else◌};
+ghost use Rattle.ndef_value.specs.Wire.{FitsForm, HasShape, IsRead, id_length_octets, payload_length_octets, tnf_of};
 ghost use Rattle.ndef_piece.specs.Header.{is_set, tnf_number, width};
+ghost use Rattle.ndef_piece.specs.Pieces.{Stands};
 ghost use Rattle.ndef_piece.specs.Whole.{BeginWithPiece, IsSplit, shown};
 
-use crate::header::{CHUNK, ID_THERE, SHORT, header_tnf, is_set};
-use ndef_value::Tnf;
+use crate::Spot;
+use crate::header::{BEGIN, CHUNK, END, ID_THERE, SHORT, header_tnf, is_set, tnf_number};
+use ndef_value::{Profile, Tnf};
 
 /// A whole piece (NDEF 1.0, record layout), its parts being slices of the bytes that spell it, and
 /// what follows it there.
@@ -95,6 +97,19 @@ pub fn whole_piece(bytes: &[u8]) -> Option<WholePiece<'_>>
     })
 }
 
+/// Whether a record in one piece may have this type name format and these lengths.
+fn has_shape(profile: Profile, tnf: u8, kind: usize, id: usize, payload: usize) -> bool
+    ensures { IsTrue result → IsRead profile tnf × (tnf ≢ 6) × HasShape (tnf_of tnf) kind id payload }
+{
+    match tnf {
+        0 => kind == 0 && id == 0 && payload == 0,
+        1..=4 => kind > 0,
+        5 => kind == 0,
+        7 => matches!(profile, Profile::Standard) && kind == 0,
+        _ => false,
+    }
+}
+
 impl WholePiece<'_> {
     /// The type name format (NDEF 1.0, TNF), the reserved 7 being read as Unknown.
     pub fn tnf(&self) -> Tnf
@@ -108,5 +123,69 @@ impl WholePiece<'_> {
         ensures { result ≡ is_set 5 self.now.header }
     {
         is_set(CHUNK, self.header)
+    }
+    /// ME: whether it ends its message.
+    pub fn is_last(&self) -> bool
+        ensures { result ≡ is_set 6 self.now.header }
+    {
+        is_set(END, self.header)
+    }
+
+    /// Whether its flags may stand at the spot, and its payload has room there.
+    fn suits(&self, spot: &Spot) -> bool
+        ensures begins { IsTrue result → is_set 7 self.now.header ≡ spot.now.first }
+        ensures chunked { IsTrue result → is_set 5 self.now.header ≡ true
+            → (is_set 6 self.now.header ≡ false) × (spot.now.last_piece ≡ false) }
+        ensures followed { IsTrue result → is_set 5 self.now.header ≡ false → is_set 6 self.now.header ≡ false
+            → spot.now.last_record ≡ false }
+        ensures room { IsTrue result → length self.now.payload.now ≤ spot.now.room }
+    {
+        let followed = if self.is_chunked() {
+            !self.is_last() && !spot.last_piece
+        } else {
+            self.is_last() || !spot.last_record
+        };
+        followed
+            && is_set(BEGIN, self.header) == spot.first
+            && self.payload.len() <= spot.room as usize
+    }
+
+    /// Whether it is seen at once that it may stand at the spot and goes on the run there (NDEF 1.0,
+    /// chunked payloads).
+    pub fn goes_on_at(&self, spot: &Spot) -> bool
+        requires { spot.now.inside ≡ true }
+        ensures { IsTrue result → Stands spot.now (shown self.now) }
+    {
+        tnf_number(self.header) == 6
+            && self.kind.is_empty()
+            && !is_set(ID_THERE, self.header)
+            && self.suits(spot)
+    }
+
+    /// Whether it is seen at once that it may stand at the spot and begins a record there.
+    pub fn opens_at(&self, spot: &Spot) -> bool
+        ensures stands { IsTrue result → Stands spot.now (shown self.now) }
+        ensures outside { IsTrue result → spot.now.inside ≡ false }
+    {
+        let tnf = tnf_number(self.header);
+        !spot.inside
+            && self.suits(spot)
+            && (tnf > 0 || !self.is_chunked())
+            && has_shape(
+                spot.profile,
+                tnf,
+                self.kind.len(),
+                self.id.len(),
+                self.payload.len(),
+            )
+    }
+
+    /// Whether it is seen at once that it may stand at the spot and is a record in one piece.
+    pub fn is_record_at(&self, spot: &Spot) -> bool
+        ensures stands { IsTrue result → Stands spot.now (shown self.now) }
+        ensures one { IsTrue result → is_set 5 self.now.header ≡ false }
+        ensures outside { IsTrue result → spot.now.inside ≡ false }
+    {
+        !self.is_chunked() && self.opens_at(spot)
     }
 }
