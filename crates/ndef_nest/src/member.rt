@@ -1,0 +1,82 @@
+//! Whether whole payloads are nested messages. Only a true answer tells something.
+ghost use Rattle.std.specs.Prelude.{◌≡◌, ◌≤◌, ℕ, suc, IfSome, IsTrue};
+ghost use Rattle.ndef_nest.specs.Nested.{IsNest, Nested};
+ghost use Rattle.ndef_nest.specs.Demands.{Later, Rest, Tail};
+
+use crate::Table;
+use crate::context::Context;
+use crate::demand::Demand;
+use ndef_lang::{Leaf, OuterLanguage};
+use ndef_piece::{heads_are_of_pieces, whole_piece};
+use ndef_value::Profile;
+
+/// What follows the record at the front of the bytes, if it is seen at once that it may stand there: what
+/// is asked of it, whether the message ends there, and the bytes.
+fn behind_record(context: Context, first: bool, bytes: &[u8]) -> Option<(Demand, bool, &[u8])>
+    ensures { IfSome result (λ r. (others : ℕ) → context.records ≡ suc others
+        → Tail (Later context.profile context.table others) r.1 r.0 r.2.now
+        → Rest context.profile context.table context.records first context.demand bytes.now) }
+{
+    heads_are_of_pieces();
+    let piece = whole_piece(bytes)?;
+    if !piece.is_record_at(&context.spot(first)) {
+        return None;
+    }
+    let kind = context.table.kind(piece.tnf(), piece.kind);
+    if !context.demand.allows(kind)
+        || !Leaf::has(kind, context.records, context.profile, piece.payload)
+    {
+        return None;
+    }
+    Some((context.demand.after(kind), piece.is_last(), piece.rest))
+}
+
+/// Whether they are a message of at most so many records, each in one piece.
+fn are_records(table: Table, records: u32, profile: Profile, bytes: &[u8]) -> bool
+    ensures { IsTrue result → Nested table records profile bytes.now }
+{
+    let mut demand = Demand::first(table);
+    let mut first = true;
+    let mut rest = bytes;
+    let mut left = records;
+    while left > 0 {
+        let context = Context {
+            profile,
+            table,
+            demand,
+            records: left,
+        };
+        let Some((asked, last, behind)) = behind_record(context, first, rest) else {
+            return false;
+        };
+        if last {
+            return asked.is_met() && behind.is_empty();
+        }
+        demand = asked;
+        first = false;
+        rest = behind;
+        left -= 1;
+    }
+    false
+}
+
+/// Whether the payload is a nested message (RTD Smart Poster 1.0, Connection Handover 1.2).
+pub(crate) fn is_nested(table: Table, records: u32, profile: Profile, payload: &[u8]) -> bool
+    ensures { IsTrue result → IsNest table records profile payload.now }
+{
+    if let Table::SmartPoster = table {
+        return are_records(table, records, profile, payload);
+    }
+    let [version, rest @ ..] = payload else {
+        return false;
+    };
+    if *version < 0x10 || *version >= 0x20 {
+        return false;
+    }
+    if let Table::Select = table
+        && rest.is_empty()
+    {
+        return true;
+    }
+    are_records(table, records, profile, rest)
+}
