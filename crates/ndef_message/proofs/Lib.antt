@@ -2,7 +2,6 @@ pub mod Answered
 pub mod Befores
 pub mod Bodies
 pub mod CheckingOn
-pub mod CutParts
 pub mod CutSpelled
 pub mod CutSplits
 pub mod Decoded
@@ -38,5 +37,4 @@ pub mod Starts
 pub mod Taking
 pub mod Told
 pub mod Viable
-pub mod WrittenPieces
 pub mod WrittenRuns
