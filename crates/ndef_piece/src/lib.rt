@@ -24,6 +24,3 @@ pub use laws::{
 pub use spot::Spot;
 pub use whole::{WholePiece, whole_piece};
 pub use write::write_head;
-
-#[cfg(test)]
-mod tests;

@@ -25,6 +25,3 @@ pub use reason::Reason;
 pub use record::{Record, RecordError};
 pub use refusal::Refusal;
 pub use tnf::{Tnf, TnfError};
-
-#[cfg(test)]
-mod tests;

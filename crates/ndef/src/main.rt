@@ -6,29 +6,8 @@ ghost use Rattle.std.specs.Process.{exit_status};
 ghost use Rattle.ndef_tool.specs.Output.{number_of_status};
 ghost use Rattle.ndef_tool.specs.Runs.{status_after};
 
-mod block;
-mod choice;
-mod command;
-mod decimals;
-mod ending;
-mod handover_lines;
-mod hexadecimal;
-mod kinds;
-mod laws;
-mod line;
-mod linking;
-mod poster_lines;
-mod printing;
-mod quoting;
-mod reading;
-mod running;
-mod session;
-mod showing;
-mod value_lines;
-
-use crate::ending::Status;
-use crate::running::run;
 use ndef_message::{StdSink, StdSource};
+use ndef_tool::{Status, run};
 use std::io::{self, BufReader, BufWriter, Write};
 use std::process::ExitCode;
 

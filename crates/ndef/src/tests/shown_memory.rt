@@ -1,10 +1,8 @@
 //! Shown messages where memory is used up.
 use super::memory::{spare_blocks, use_up};
 use super::samples::{POSTER, SELECT};
-use crate::choice::{Action, Choice};
-use crate::ending::Ending;
-use crate::session::handle;
 use ndef_message::{SliceSource, StdSink};
+use ndef_tool::{Action, Choice, Ending, handle};
 use ndef_value::Limits;
 use std::alloc::Global;
 use std::test::Fail;

@@ -1,4 +1,5 @@
-use crate::{
+//! Names, byte strings, records, messages, limits, and the texts of reasons.
+use ndef_value::{
     Bytes, Limits, Message, MessageError, Name, NameError, OutOfRange, Profile, Reason, Record,
     RecordError, Refusal, Tnf, TnfError,
 };

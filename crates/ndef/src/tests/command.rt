@@ -2,9 +2,8 @@
 use super::faults::fails_in_turn;
 use super::samples::{CHUNKS, HELLO, TWO};
 use super::streams::{FullWriter, SlowReader};
-use crate::ending::Status;
-use crate::running::run;
 use ndef_message::{Sink, SliceSource, StdSink, StdSource};
+use ndef_tool::{Status, run};
 use std::alloc::Global;
 use std::test::Fail;
 

@@ -1,6 +1,7 @@
+//! Worked heads of pieces, read and written.
 ghost use Rattle.std.specs.Prelude.{◌≡◌, true, false};
 
-use super::*;
+use ndef_piece::{Bounds, Head, HeadReader, Spot, Step, write_head};
 use ndef_value::{Profile, Reason, Tnf};
 
 /// The first piece of a message, with the usual limits.

@@ -1,12 +1,12 @@
 //! Sources and sinks that fail at every place, and inputs without an end.
 use super::command::words;
 use super::samples::{HELLO, SELECT, at, read, usual};
-use crate::running::run;
 use ndef_message::{
     CheckError, EndlessSource, FailingSink, FailingSource, Form, ReadError, SliceSource, Source,
     StdSink, WriteFault, check_message, encode, read_message, write_message,
 };
 use ndef_nest::Typed;
+use ndef_tool::run;
 use ndef_value::{Reason, Refusal};
 use std::alloc::Global;
 use std::test::Fail;
