@@ -76,11 +76,19 @@ OneReason reason condition other = ((other ≡ reason) × condition) ⊎ (other 
 abbrev pub NoReason : Reason → Type 0
 NoReason other = other ≡ DoesNotFit
 
+-- the payloads of each kind are the same
+abbrev pub SameSets : (set other : Sets) → Type 0
+SameSets set other = (kind : Kind) (records : ℕ) (profile : Profile) (s : List ℕ) → set kind records profile s ↔ other kind records profile s
+
+-- the same reasons hold of each octet
+abbrev pub SameConditions : (holds other : Conditions) → Type 0
+SameConditions holds other =
+    (kind : Kind) (records : ℕ) (profile : Profile) (s : List ℕ) (b : ℕ) (reason : Reason) → holds kind records profile s b reason ↔ other kind records profile s b reason
+
 -- these are the sets, whatever the number of records
 abbrev pub AreSets : Sets → (Kind → Profile → List ℕ → Type 0) → Type 0
-AreSets set payloads = (kind : Kind) (records : ℕ) (profile : Profile) (s : List ℕ) → set kind records profile s ↔ payloads kind profile s
+AreSets set payloads = SameSets set (λ kind records. payloads kind)
 
 -- these are the conditions, whatever the number of records
 abbrev pub AreConditions : Conditions → (Kind → Profile → List ℕ → ℕ → Reason → Type 0) → Type 0
-AreConditions holds conditions =
-    (kind : Kind) (records : ℕ) (profile : Profile) (s : List ℕ) (b : ℕ) (reason : Reason) → holds kind records profile s b reason ↔ conditions kind profile s b reason
+AreConditions holds conditions = SameConditions holds (λ kind records. conditions kind)
