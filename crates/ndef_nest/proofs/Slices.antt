@@ -14,15 +14,16 @@ use Rattle.ndef_lang.specs.declared.leaf.Leaf.{Leaf}
 use Rattle.ndef_nest.specs.declared.table.Table.{Table}
 use Rattle.ndef_nest.specs.declared.table.Table.TheVariants.{SmartPoster, Request, Select}
 use Rattle.ndef_nest.specs.declared.context.Context.{Context}
+use Rattle.ndef_nest.specs.declared.phase.Body.{Body}
 use Rattle.ndef_nest.specs.declared.phase.Phase.{Phase}
 use Rattle.ndef_nest.specs.declared.phase.Phase.TheVariants as phases
 use Rattle.ndef_nest.specs.Nested.{kind_in, table_of}
-use Rattle.ndef_nest.specs.Phases.{Completes}
-use Rattle.ndef_nest.specs.Demands.{IsBody}
+use Rattle.ndef_nest.specs.Machine.Phases.{Completes}
+use Rattle.ndef_nest.specs.Machine.Demands.{IsBody}
 use Rattle.ndef_nest.specs.Conditions.{MessageReason, NestReason, OneField}
-use Rattle.ndef_nest.specs.Reached.{IsMessageOf, IsReached, HasCome, IsInBody}
-use Rattle.ndef_nest.specs.BodyLaws.{payload_step, body_as}
-use Rattle.ndef_nest.specs.SpanLaws.{leaf_at}
+use Rattle.ndef_nest.specs.Machine.Reached.{IsMessageOf, IsReached, HasCome, IsInBody}
+use Rattle.ndef_nest.specs.Machine.BodyLaws.{payload_step, body_as}
+use Rattle.ndef_nest.specs.Machine.SpanLaws.{leaf_at}
 use Rattle.ndef_nest.proofs.Reasons.{told_behind, told_of_payload}
 use Rattle.ndef_nest.proofs.Steps.{chain}
 
@@ -102,10 +103,10 @@ leaf_fits leaf tail id payload lo hi p = (leaf_at leaf payload).1 (p.passed.cont
 
 -- ---- what has come
 
-pub payload_come : (c : Context) (old new : Leaf) (last : Bool) (payload records : ℕ) (m t : List ℕ) → AreOctets t → length t ≤ payload
-    → ((kind : Kind) → Reaches (LeafReached old kind c.profile) (LeafReached new kind c.profile) t)
-    → IsInBody c old last 0 payload records m → IsInBody c new last 0 (payload - length t) records (m ++ t)
-payload_come c old new last payload records m t are few step x = record {
+pub payload_come : (c : Context) (body : Body) (leaf : Leaf) (left records : ℕ) (m t : List ℕ) → body.id ≡ 0 → AreOctets t → length t + left ≡ body.payload
+    → ((kind : Kind) → Reaches (LeafReached body.leaf kind c.profile) (LeafReached leaf kind c.profile) t)
+    → IsInBody c body records m → IsInBody c (record body { leaf = leaf; payload = left }) records (m ++ t)
+payload_come c body leaf left records m t none are few step x = record {
   demand = x.demand;
   done = x.done;
   fields = x.fields;
@@ -122,7 +123,7 @@ payload_come c old new last payload records m t are few step x = record {
   name_is = x.name_is;
   id_left = x.id_left;
   payload_left = omega (arith, x.payload_left, length-append x.content t);
-  in_order = λ h. absurd (omega arith);
+  in_order = λ h. absurd (omega (arith, h, none));
   last_is = x.last_is;
   leaf_is = step (kind_in c.table (tnf_of x.fields.tnf) x.name) x.content x.leaf_is;
   demand_is = x.demand_is;
@@ -132,17 +133,17 @@ payload_come c old new last payload records m t are few step x = record {
     regroup d h k i z w = simp append_assoc
 
 -- why the octet behind these is refused
-pub told_behind_payload : (one : OneField) (c : Context) (leaf : Leaf) (last : Bool) (payload records : ℕ) (m t : List ℕ) (b : ℕ) (r : Reason) → length t < payload
-    → ((kind : Kind) (profile : Profile) (s : List ℕ) → LeafReached leaf kind profile s → IsLowest (PayloadReason kind profile (s ++ t) b) r)
-    → IsInBody c leaf last 0 payload records m → IsLowest (MessageReason c.table records c.profile (m ++ t) b) r
-told_behind_payload one c leaf last payload records m t b r few why x =
+pub told_behind_payload : (one : OneField) (c : Context) (body : Body) (records : ℕ) (m t : List ℕ) (b : ℕ) (r : Reason) → body.id ≡ 0 → length t < body.payload
+    → ((kind : Kind) (profile : Profile) (s : List ℕ) → LeafReached body.leaf kind profile s → IsLowest (PayloadReason kind profile (s ++ t) b) r)
+    → IsInBody c body records m → IsLowest (MessageReason c.table records c.profile (m ++ t) b) r
+told_behind_payload one c body records m t b r none few why x =
     told_of_payload one c.table records c.profile (m ++ t) b x.done x.fields x.name x.id_octets (x.content ++ t) r
     record {
       front = x.past.front;
       spelled = ap (λ z. z ++ t) x.past.spelled ∙ regroup x.past.front (octets x.fields) x.name x.id_octets x.content t;
       whole = x.past.before.whole;
       going_on = x.past.before.going_on;
-      to_come = (x.past.can, x.name_is, omega (arith, x.id_left), omega (arith, x.payload_left, length-append x.content t));
+      to_come = (x.past.can, x.name_is, omega (arith, none, x.id_left), omega (arith, x.payload_left, length-append x.content t));
     }
     (why (kind_in c.table (tnf_of x.fields.tnf) x.name) c.profile x.content x.leaf_is)
   where

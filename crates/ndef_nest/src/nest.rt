@@ -1,19 +1,20 @@
 //! A nested message, read octet by octet, its payloads in slices.
-ghost use Rattle.std.specs.Prelude.{◌≡◌, ◌≤◌, ◌<◌, ◌+◌, ◌^◌, length, take, slice_index, ◌-◌, ◌↔◌, ℕ, Bool, true, List, [], ◌∷◌, ◌++◌};
+ghost use Rattle.std.specs.Prelude.{◌≡◌, ◌≤◌, ◌<◌, ◌+◌, ◌-◌, ◌^◌, ◌↔◌, ℕ, Bool, true, List, [], ◌∷◌, length, take};
 ghost use Rattle.ndef_piece.specs.declared.head_reader.Step.TheVariants as steps;
 ghost use Rattle.ndef_value.specs.declared.reason.Reason.TheVariants as reasons;
-ghost use Rattle.ndef_lang.specs.Language.{Follows, Reaches, Passes, PassesBetween, StepsAll, IsLowest, OneReason};
+ghost use Rattle.ndef_lang.specs.Language.{Follows, Reaches, ReachesEach, PassesBetween, StepsAll};
+ghost use Rattle.ndef_lang.specs.Language.{IsLowest, OneReason, TellsWhy, TellsWhyAt};
 ghost use Rattle.ndef_value.specs.declared.profile.Profile.{Profile};
 ghost use Rattle.ndef_lang.specs.declared.kind.Kind.{Kind};
 ghost use Rattle.ndef_nest.specs.Nested.{IsNest, IsVersion, table_of};
-ghost use Rattle.ndef_nest.specs.Demands.{suits, spot};
-ghost use Rattle.ndef_nest.specs.Spans.{least, most};
-ghost use Rattle.ndef_nest.specs.Phases.{Completes, CompletesVersion, is_sound, start_fits, fits, span_of, head_span};
+ghost use Rattle.ndef_nest.specs.Machine.Demands.{suits, spot};
+ghost use Rattle.ndef_nest.specs.Machine.Spans.{least, most};
+ghost use Rattle.ndef_nest.specs.Machine.Phases.{Completes, CompletesVersion, is_sound, start_fits};
 ghost use Rattle.ndef_nest.specs.Conditions.{MessageReason, NestReason};
-ghost use Rattle.ndef_nest.specs.Reached.{IsNew, HasCome};
-ghost use Rattle.ndef_nest.specs.Told.{may_have, head_told};
-ghost use Rattle.ndef_nest.specs.Fronts.{FrontAt};
-ghost use Rattle.ndef_nest.specs.FrontLaws.{front_at_prop};
+ghost use Rattle.ndef_nest.specs.Machine.Reached.{IsNew, HasCome};
+ghost use Rattle.ndef_nest.specs.Machine.Told.{may_have, head_told};
+ghost use Rattle.ndef_nest.specs.Machine.Fronts.{FrontAt};
+ghost use Rattle.ndef_nest.specs.Machine.FrontLaws.{front_at_prop};
 
 use crate::Table;
 use crate::context::Context;
@@ -98,7 +99,7 @@ fn start_fits(context: &Context, lo: u64, hi: u64) -> bool
 }
 
 impl Nest {
-    ghost use Rattle.ndef_nest.specs.Nests.{future, come, reached};
+    ghost use Rattle.ndef_nest.specs.Machine.Nests.{come, future, nest_head_span, nest_span, nest_told, reached};
 
     /// Before the first octet of the payload; its message has at most `records` records, 1 to 65535.
     pub fn new(table: Table, records: u32, profile: Profile) -> Self
@@ -120,21 +121,10 @@ impl Nest {
         }
     }
 
-    /// The same as `fits`, by the ranges.
-    fn fitting(&self, lo: u64, hi: u64) -> bool
-        ensures { result ≡ fits self.now.context self.now.reader.spot.first self.now.reader.octets self.now.phase lo hi }
-    {
-        match self.phase {
-            Phase::Version => hi > 0 && start_fits(&self.context, lo.max(1) - 1, hi - 1),
-            Phase::Start => start_fits(&self.context, lo, hi),
-            _ => meets(self.span(), lo, hi),
-        }
-    }
-
     /// The least and the greatest number of octets that complete the message, once it has begun:
     /// none do where the second is less.
     fn span(&self) -> (u64, u64)
-        ensures { result ≡ span_of self.now.context self.now.reader.spot.first self.now.reader.octets self.now.phase }
+        ensures { result ≡ nest_span self.now }
     {
         match self.phase {
             Phase::Version | Phase::Start | Phase::Refused => (1, 0),
@@ -151,7 +141,7 @@ impl Nest {
     /// The same in a head.
     fn head_span(&self) -> (u64, u64)
         requires { self.now.phase ≡ Phase.Head }
-        ensures { result ≡ head_span self.now.context self.now.reader.spot.first self.now.reader.octets }
+        ensures { result ≡ nest_head_span self.now }
     {
         match self.reader.bounds() {
             Some(bounds) => Open::of_head(self.context.demand, &bounds).span(self.context.demand),
@@ -168,12 +158,14 @@ impl Nest {
         requires fits { PassesBetween (future self.old) lo hi }
         ensures some { 0 < result.0 }
         ensures most { result.0 ≤ length bytes.now }
-        ensures steps { StepsAll (future self.old) (future self.new) (take result.0 bytes.now) lo hi result.1 }
-        ensures reached { (kind : Kind) (records : ℕ) (profile : Profile)
-            → Reaches (reached self.old kind records profile) (reached self.new kind records profile) (take (result.1 + 1) (take result.0 bytes.now)) }
-        ensures reason { result.1 < result.0 → (kind : Kind) (records : ℕ) (profile : Profile) (s : List ℕ)
-            → reached self.old kind records profile s
-            → IsLowest (NestReason (table_of kind) records profile (s ++ take result.1 (take result.0 bytes.now)) (slice_index (take result.0 bytes.now) result.1)) self.new.told }
+        ensures steps { StepsAll (future self.old) (future self.new)
+            (take result.0 bytes.now) lo hi result.1 }
+        ensures reached { ReachesEach (reached self.old) (reached self.new)
+            (take (result.1 + 1) (take result.0 bytes.now)) }
+        ensures reason { result.1 < result.0 → (kind : Kind) (records : ℕ) (profile : Profile)
+            → TellsWhyAt (reached self.old kind records profile)
+            (NestReason (table_of kind) records profile)
+            (take result.0 bytes.now) result.1 (nest_told self.new) }
     {
         if let Phase::Body(body) = self.phase {
             if body.id == 0 {
@@ -186,7 +178,7 @@ impl Nest {
             }
         }
         self.step(bytes[0]);
-        if self.fitting(lo - 1, hi - 1) {
+        if self.fits(lo - 1, hi - 1) {
             (1, 1)
         } else {
             (1, 0)
@@ -197,11 +189,12 @@ impl Nest {
     fn at_head(&mut self, byte: u8)
         requires { self.old.phase ≡ Phase.Head }
         ensures future { Follows (future self.old) (future self.new) (byte ∷ []) }
-        ensures come { (records : ℕ) (m : List ℕ) → come self.old records m → come self.new records (m ++ byte ∷ []) }
-        ensures kept { (self.new.context.table ≡ self.old.context.table) × (self.new.context.profile ≡ self.old.context.profile) }
-        ensures reason { (records : ℕ) (m : List ℕ) → come self.old records m → Passes (future self.old)
-            → IsLowest (MessageReason self.old.context.table records self.old.context.profile m byte)
-            self.new.told }
+        ensures come { (records : ℕ) → Reaches (come self.old records) (come self.new records) (byte ∷ []) }
+        ensures kept { (self.new.context.table ≡ self.old.context.table)
+            × (self.new.context.profile ≡ self.old.context.profile) }
+        ensures reason { (records : ℕ) → TellsWhy (come self.old records) (future self.old)
+            (MessageReason self.old.context.table records self.old.context.profile)
+            byte (nest_told self.new) }
     {
         lengths_are_independent();
         heads_are_apart();
@@ -230,22 +223,21 @@ impl Nest {
 }
 
 impl Language for Nest {
-    ghost use Rattle.std.proofs.Common.{subst};
-    ghost use Rattle.ndef_nest.specs.Nests.{future, reached};
-    ghost use Rattle.ndef_nest.specs.SpanLaws.{fits_exactly};
-    ghost use Rattle.ndef_nest.specs.OctetLaws.{completes_octets, nest_octets};
+    ghost use Rattle.ndef_nest.specs.Machine.Nests.{future, nest_fits, nest_told, reached};
+    ghost use Rattle.ndef_nest.specs.Machine.SpanLaws.{nest_fits_exactly};
+    ghost use Rattle.ndef_nest.specs.Machine.OctetLaws.{nest_completes_octets, nest_octets};
 
-    ghost set = { λ kind records profile s. IsNest (table_of kind) records profile s };
+    ghost set = { λ kind. IsNest (table_of kind) };
 
-    ghost holds = { λ kind records profile s b. NestReason (table_of kind) records profile s b };
+    ghost holds = { λ kind. NestReason (table_of kind) };
 
     ghost future = { future };
 
     ghost reached = { reached };
 
-    ghost fitting = { λ nest. fits nest.context nest.reader.spot.first nest.reader.octets nest.phase };
+    ghost fitting = { nest_fits };
 
-    ghost told = { λ nest. nest.told };
+    ghost told = { nest_told };
 
     fn start(kind: Kind, records: u32, profile: Profile) -> Self {
         Nest::new(Table::of(kind), records, profile)
@@ -297,19 +289,20 @@ impl Language for Nest {
     }
 
     fn fits(&self, lo: u64, hi: u64) -> bool {
-        self.fitting(lo, hi)
+        match self.phase {
+            Phase::Version => hi > 0 && start_fits(&self.context, lo.max(1) - 1, hi - 1),
+            Phase::Start => start_fits(&self.context, lo, hi),
+            _ => meets(self.span(), lo, hi),
+        }
     }
 
     fn reason(&self) -> Reason {
         self.told
     }
 
-    ghost exact = { λ nest lo hi small. fits_exactly
-        nest.context nest.reader.spot.first nest.reader.octets nest.phase lo hi nest.suited nest.sound
-        (subst (λ p. FrontAt p nest.reader.octets) nest.spot nest.front) small };
+    ghost exact = { nest_fits_exactly };
 
-    ghost future_octets = { λ nest r h. completes_octets
-        nest.context nest.reader.spot.first nest.reader.octets nest.phase r h };
+    ghost future_octets = { nest_completes_octets };
 
-    ghost set_octets = { λ kind records profile s h. nest_octets (table_of kind) records profile s h };
+    ghost set_octets = { λ kind. nest_octets (table_of kind) };
 }

@@ -1,10 +1,9 @@
-use Rattle.std.proofs.Common.{◌-◌, ◌++◌, take, subst, arith}
+use Rattle.std.proofs.Common.{◌-◌, ◌++◌, take, arith}
 use Rattle.ndef_lang.specs.StepLaws.{rest, rest_length, follows_none, reaches_none, passes_none, steps_on, reaches_on, reason_on, all_reached}
 use Rattle.ndef_nest.specs.Conditions.{NestReason}
-use Rattle.ndef_nest.specs.Fronts.{FrontAt}
 use Rattle.ndef_nest.specs.Nested.{table_of}
-use Rattle.ndef_nest.specs.Nests.{future, reached}
-use Rattle.ndef_nest.specs.SpanLaws.{fits_exactly}
+use Rattle.ndef_nest.specs.Machine.Nests.{future, reached}
+use Rattle.ndef_nest.specs.Machine.SpanLaws.{nest_fits_exactly}
 use Rattle.ndef_nest.proofs.Slices.{steps_front, reaches_front, reason_front, run_on, run_reached}
 use Rattle.ndef_nest.proofs.nest.NestLanguage.step_all.Goals as goal
 
@@ -15,7 +14,7 @@ loop-at-init c =
       within = omega arith;
       follows = follows_none (future n);
       reached = λ kind records profile. reaches_none (reached n kind records profile);
-      fits = passes_none ((fits_exactly n.context n.reader.spot.first n.reader.octets n.phase c.args.lo c.args.hi n.suited n.sound (subst (λ p. FrontAt p n.reader.octets) n.spot n.front) c.requires.small).0 c.requires.fits);
+      fits = passes_none ((nest_fits_exactly n c.args.lo c.args.hi c.requires.small).0 c.requires.fits);
     }
 
 pub loop-at-preserved : goal.loop-at-preserved

@@ -3,8 +3,7 @@ use Rattle.ndef_value.specs.ListLaws.{octets_taken}
 use Rattle.ndef_lang.specs.Language.{PassesBetween, StepsAll}
 use Rattle.ndef_lang.specs.Leaf.{CompletesLeaf}
 use Rattle.ndef_lang.specs.StepLaws.{octets_each}
-use Rattle.ndef_nest.specs.Demands.{IsBody, Later, Tail}
-use Rattle.ndef_nest.specs.Reached.{IsInBody}
+use Rattle.ndef_nest.specs.Machine.Demands.{IsBody, Later, Tail}
 use Rattle.ndef_nest.proofs.Slices.{body_steps, steps_as, payload_come}
 use Rattle.ndef_nest.proofs.phase.Body.step_all.Goals as goal
 
@@ -35,11 +34,9 @@ returns-clause-come c records m h =
     let front = take (count + 1) bytes in
     let z = c.requires.behind_id in
     let few = c.requires.few in
-    let taken : length front ≡ c.min-taken.result = omega (arith, c.min-taken.ensures, length-take (count + 1) bytes) in
-    let come = payload_come x s.leaf new s.last s.payload records m front (octets_taken (count + 1) bytes (octets_each _ c.type_inv.bytes)) (omega (arith, length-take (count + 1) bytes))
-    (λ kind. c.step_all-count.ensures.reached kind 1 x.profile) (subst (λ i. IsInBody x s.leaf s.last i s.payload records m) z h) in
-    c.settled.ensures.come records (m ++ front)
-    (subst (λ n. IsInBody x new s.last s.id (s.payload - n) records (m ++ front)) taken (subst (λ i. IsInBody x new s.last i (s.payload - length front) records (m ++ front)) (sym z) come))
+    let come = payload_come x s new (s.payload - c.min-taken.result) records m front z (octets_taken (count + 1) bytes (octets_each _ c.type_inv.bytes)) (omega (arith, c.min-taken.ensures, length-take (count + 1) bytes))
+    (λ kind. c.step_all-count.ensures.reached kind 1 x.profile) h in
+    c.settled.ensures.come records (m ++ front) come
 
 pub returns-clause-reason : goal.returns-clause-reason
 returns-clause-reason c less kind profile s reached = rw c.reason.ensures (c.step_all-count.ensures.reason less kind 1 profile s reached)
