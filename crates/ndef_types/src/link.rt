@@ -160,7 +160,8 @@ fn index_of(records: &[Record], id: &[u8]) -> Option<usize>
 
 /// The links of the alternative carriers of a handover, to records of the outer message.
 fn links_of(alloc: Global, outer: &[Record], handover: &[Record]) -> Result<Links, NoMemory>
-    requires { AllByRecursion (λ i. kind_of i.tnf i.kind ≡ kinds.Alternative → IsAlternative i.payload) handover.now }
+    requires { AllByRecursion
+        (λ i. kind_of i.tnf i.kind ≡ kinds.Alternative → IsAlternative i.payload) handover.now }
     ensures { IfOk result (AreLinks outer.now (alternatives handover.now)) }
 {
     let mut links = Links::new(alloc);
