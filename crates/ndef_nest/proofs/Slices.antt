@@ -1,5 +1,5 @@
 -- Octets of a nested record's payload that are taken at once.
-use Rattle.std.proofs.Common.{◌≡◌, ◌≢◌, IsTrue, ℕ, zero, suc, ◌+◌, ◌-◌, ◌<◌, ◌≤◌, ◌↔◌, inl, inr, Bool, false, List, [], ◌∷◌, ◌++◌, length, take, get_or, length-append, refl, sym, ◌∙◌, ap, subst, arith, append_assoc}
+use Rattle.std.proofs.Common.{◌≡◌, IsTrue, ℕ, zero, suc, ◌+◌, ◌-◌, ◌<◌, ◌≤◌, ◌↔◌, Bool, false, List, [], ◌∷◌, ◌++◌, length, take, get_or, length-append, refl, sym, ◌∙◌, ap, subst, arith, append_assoc}
 use Rattle.std.proofs.lemmas.List.{append-nil, take_all, take-take, length-take, length-take-le, get_or-take}
 use Rattle.ndef_value.specs.ListLaws.{octets_append}
 use Rattle.ndef_value.specs.Wire.{AreOctets, octets, tnf_of}
@@ -11,20 +11,17 @@ use Rattle.ndef_lang.specs.Lengths.{meets}
 use Rattle.ndef_lang.specs.StepLaws.{rest, follows_none, follows_more, reaches_more, passes_none, steps_done, steps_whole, steps_refused, take_rests}
 use Rattle.ndef_lang.specs.declared.kind.Kind.{Kind}
 use Rattle.ndef_lang.specs.declared.leaf.Leaf.{Leaf}
-use Rattle.ndef_nest.specs.declared.table.Table.{Table}
-use Rattle.ndef_nest.specs.declared.table.Table.TheVariants.{SmartPoster, Request, Select}
 use Rattle.ndef_nest.specs.declared.context.Context.{Context}
 use Rattle.ndef_nest.specs.declared.phase.Body.{Body}
 use Rattle.ndef_nest.specs.declared.phase.Phase.{Phase}
-use Rattle.ndef_nest.specs.declared.phase.Phase.TheVariants as phases
-use Rattle.ndef_nest.specs.Nested.{kind_in, table_of}
+use Rattle.ndef_nest.specs.Nested.{kind_in}
 use Rattle.ndef_nest.specs.Machine.Phases.{Completes}
 use Rattle.ndef_nest.specs.Machine.Demands.{IsBody}
-use Rattle.ndef_nest.specs.Conditions.{MessageReason, NestReason, OneField}
-use Rattle.ndef_nest.specs.Machine.Reached.{IsMessageOf, IsReached, HasCome, IsInBody}
+use Rattle.ndef_nest.specs.Conditions.{MessageReason, OneField}
+use Rattle.ndef_nest.specs.Machine.Reached.{IsInBody}
 use Rattle.ndef_nest.specs.Machine.BodyLaws.{payload_step, body_as}
 use Rattle.ndef_nest.specs.Machine.SpanLaws.{leaf_at}
-use Rattle.ndef_nest.proofs.Reasons.{told_behind, told_of_payload}
+use Rattle.ndef_nest.proofs.Reasons.{told_of_payload}
 use Rattle.ndef_nest.proofs.Steps.{chain}
 
 -- ---- what completes them
@@ -149,26 +146,6 @@ told_behind_payload one c body records m t b r none few why x =
   where
     regroup : (d h k i z w : List ℕ) → (d ++ (h ++ (k ++ (i ++ z)))) ++ w ≡ d ++ (h ++ (k ++ (i ++ (z ++ w))))
     regroup d h k i z w = simp append_assoc
-
--- ---- the payload that holds the message
-
-message_all : (table : Table) (m s t : List ℕ) → IsMessageOf table m s → IsMessageOf table (m ++ t) (s ++ t)
-message_all SmartPoster m s t e = ap (λ z. z ++ t) e
-message_all Request m s t e = (e.0, ap (λ z. z ++ t) e.1)
-message_all Select m s t e = (e.0, ap (λ z. z ++ t) e.1)
-
-pub reached_all : (c next : Context) (f g : Bool) (xs ys : List ℕ) (old new : Phase) (records : ℕ) (s t : List ℕ) → old ≢ phases.Version → next.table ≡ c.table
-    → ((m : List ℕ) → HasCome c f xs old records m → HasCome next g ys new records (m ++ t)) → IsReached c f xs old records s → IsReached next g ys new records (s ++ t)
-reached_all c next f g xs ys old new records s t h e step (inl x) = absurd (h x.0)
-reached_all c next f g xs ys old new records s t h e step (inr x) =
-    inr (x.0 ++ t, subst (λ k. IsMessageOf k (x.0 ++ t) (s ++ t)) (sym e) (message_all c.table x.0 s t x.1), step x.0 x.2)
-
-pub told_all : (c : Context) (f : Bool) (xs : List ℕ) (phase : Phase) (kind : Kind) (records : ℕ) (profile : Profile) (s t : List ℕ) (b : ℕ) (r : Reason) → phase ≢ phases.Version → c.table ≡ table_of kind → c.profile ≡ profile
-    → ((m : List ℕ) → HasCome c f xs phase records m → IsLowest (MessageReason c.table records c.profile (m ++ t) b) r) → IsReached c f xs phase records s → IsLowest (NestReason (table_of kind) records profile (s ++ t) b) r
-told_all c f xs phase kind records profile s t b r h e p told (inl x) = absurd (h x.0)
-told_all c f xs phase kind records profile s t b r h e p told (inr x) =
-    subst (λ k. IsLowest (NestReason k records profile (s ++ t) b) r) e
-    (subst (λ q. IsLowest (NestReason c.table records q (s ++ t) b) r) p (told_behind c.table records c.profile (x.0 ++ t) (s ++ t) b r (message_all c.table x.0 s t x.1) (told x.0 x.2)))
 
 -- ---- a front of the octets
 
