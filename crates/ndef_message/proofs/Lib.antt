@@ -1,3 +1,4 @@
+pub mod Accepting
 pub mod Answered
 pub mod Befores
 pub mod Bodies

@@ -1,7 +1,9 @@
-//! The checker of a message: bytes of one field after another.
-ghost use Rattle.std.specs.Prelude.{◌≡◌, ◌+◌, ◌<◌, ◌≤◌, ◌++◌, ◌∷◌, [], ℕ, List, length, take, None};
+//! The checker of a message: whole records, and else bytes of one field, one after another.
+ghost use Rattle.std.specs.Prelude.{◌≡◌, ◌+◌, ◌-◌, ◌<◌, ◌≤◌, ◌++◌, ◌∷◌, [], ℕ, List, length, take, None, IfSome, if◌then◌else◌};
 ghost use Rattle.ndef_value.specs.Wire.{greatest_length};
-ghost use Rattle.ndef_message.specs.Feed.{SomeLed, WhateverLed, Feeds, Ends, IsAccepted};
+ghost use Rattle.ndef_piece.specs.Header.{is_set};
+ghost use Rattle.ndef_message.specs.Feed.{Leads, SomeLed, WhateverLed, Feeds, Ends, IsAccepted};
+ghost use Rattle.ndef_message.specs.Machine.Accepted.{BeginsWith, IsFresh, LeadsBetween, record_of};
 ghost use Rattle.ndef_message.specs.Machine.State.{answer_of, Knows, Onward};
 
 use crate::Fed;
@@ -9,7 +11,7 @@ use crate::format::format_laws;
 use crate::phase::{Phase, Place};
 use crate::state::State;
 use ndef_lang::{Kind, Language, OuterLanguage};
-use ndef_piece::HeadReader;
+use ndef_piece::{HeadReader, WholePiece};
 use ndef_value::{Limits, Reason, Refusal};
 
 /// Checks one message in memory of fixed size.
@@ -64,7 +66,7 @@ impl<L: OuterLanguage> Checker<L> {
             if let Some(answer) = self.answer(at) {
                 return answer;
             }
-            at += self.step(&bytes[at..]);
+            at += self.advance(&bytes[at..]);
         }
         match self.answer(bytes.len()) {
             Some(answer) => answer,
@@ -121,6 +123,66 @@ impl<L: OuterLanguage> Checker<L> {
             Phase::Refused { refusal } => Some(Fed::Refused(refusal)),
             _ => None,
         }
+    }
+
+    /// Takes whole records where that can be done at once, and else the next bytes, as far as they are of
+    /// one field, up to the first that is refused; answers how many, a refused one too.
+    fn advance(&mut self, bytes: &[u8]) -> usize
+        requires going { answer_of self.old.state.phase 0 ≡ None }
+        requires some { 0 < length bytes.now }
+        ensures limits { self.new.limits ≡ self.old.limits }
+        ensures some { 0 < result }
+        ensures most { result ≤ length bytes.now }
+        ensures onward { WhateverLed (CheckerReached self.old) (λ front given field.
+            Leads (CheckerReached self.new) (front ++ take result bytes.now)) }
+    {
+        let taken = self.take_records(bytes);
+        if taken > 0 {
+            return taken;
+        }
+        self.step(bytes)
+    }
+
+    /// Takes as many whole records at the front of the bytes as are seen at once to be right, where one
+    /// may begin; answers how many bytes they have.
+    fn take_records(&mut self, bytes: &[u8]) -> usize
+        requires going { answer_of self.old.state.phase 0 ≡ None }
+        ensures limits { self.new.limits ≡ self.old.limits }
+        ensures none { result ≡ 0 → answer_of self.new.state.phase 0 ≡ None }
+        ensures most { result ≤ length bytes.now }
+        ensures onward { WhateverLed (CheckerReached self.old) (λ front given field.
+            Leads (CheckerReached self.new) (front ++ take result bytes.now)) }
+    {
+        format_laws(&self.limits);
+        let taken = self.state.take_records(&self.limits, bytes);
+        self.taken += taken as u64;
+        taken
+    }
+
+    /// The record in one piece at the front of the bytes, where one may begin and it is seen at once to
+    /// be right.
+    pub(crate) fn whole_record<'a>(&self, bytes: &'a [u8]) -> Option<WholePiece<'a>>
+        ensures fresh { IfSome result (λ w. IsFresh self.now.state) }
+        ensures begins { IfSome result (λ w. BeginsWith L.set self.now.limits self.now.state.place bytes.now w) }
+    {
+        self.state.whole_record(&self.limits, bytes)
+    }
+
+    /// Goes on behind that record.
+    pub(crate) fn pass_record(&mut self, bytes: &[u8], piece: &WholePiece<'_>)
+        requires fresh { IsFresh self.old.state }
+        requires begins { BeginsWith L.set self.old.limits self.old.state.place bytes.now piece.now }
+        ensures limits { self.new.limits ≡ self.old.limits }
+        ensures taken { self.new.taken ≡ self.old.taken + (length bytes.now - length piece.now.rest.now) }
+        ensures phase { self.new.state.phase ≡ (if is_set 6 piece.now.header then Phase.Done else Phase.Head) }
+        ensures onward { WhateverLed (CheckerReached self.old) (λ front given field.
+            let count = length bytes.now - length piece.now.rest.now in
+            LeadsBetween (CheckerReached self.new) (front ++ take count bytes.now) (given ++ record_of piece.now ∷ [])) }
+    {
+        format_laws(&self.limits);
+        let taken = bytes.len() - piece.rest.len();
+        self.state.pass_record(&self.limits, piece);
+        self.taken += taken as u64;
     }
 
     /// Takes the next bytes, as far as they are of one field, up to the first that is refused; answers

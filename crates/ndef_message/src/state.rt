@@ -1,12 +1,14 @@
-//! Bytes of one field of a message.
-ghost use Rattle.std.specs.Prelude.{◌≡◌, ◌≢◌, ◌++◌, ◌∷◌, [], ◌-◌, ◌<◌, ◌≤◌, ◌^◌, ◌⊎◌, ◌↔◌, ℕ, List, length, take, IsTrue, true};
+//! Whole records of a message, and bytes of one field of it.
+ghost use Rattle.std.specs.Prelude.{◌≡◌, ◌≢◌, ◌++◌, ◌∷◌, [], ◌-◌, ◌<◌, ◌≤◌, ◌^◌, ◌⊎◌, ◌↔◌, ℕ, List, length, take, IfSome, IsTrue, true, false};
 ghost use Rattle.ndef_value.specs.Wire.{Item, Fields};
+ghost use Rattle.ndef_piece.specs.Header.{is_set};
 ghost use Rattle.ndef_piece.specs.Walk.{Before};
 
+use crate::accepted::{accepted_records, whole_record};
 use crate::format::format_laws;
 use crate::phase::{Phase, Place, greatest, phase_after};
 use ndef_lang::{Kind, KindReader, Language, OuterLanguage};
-use ndef_piece::{Head, HeadReader, Step};
+use ndef_piece::{Head, HeadReader, Step, WholePiece};
 use ndef_value::{Limits, Reason, Refusal};
 
 /// What a checker keeps.
@@ -19,11 +21,72 @@ pub(crate) struct State<L: OuterLanguage> {
 }
 
 impl<L: OuterLanguage> State<L> {
-    ghost use Rattle.ndef_message.specs.Feed.{SomeLed, WhateverLed};
+    ghost use Rattle.ndef_message.specs.Feed.{Leads, SomeLed, WhateverLed};
     ghost use Rattle.ndef_message.specs.Field.{Field};
     ghost use Rattle.ndef_message.specs.Machine.State.{Stands, StandsBehind, Stopped, Came, Onward};
-    ghost use Rattle.ndef_message.specs.Machine.State.{InBody, SomeBody, WholeHead, SomeWhole, IsWithinHead, CanGoOn};
+    ghost use Rattle.ndef_message.specs.Machine.State.{InBody, SomeBody, WholeHead, SomeWhole, IsWithinHead, CanGoOn, behind_record};
+    ghost use Rattle.ndef_message.specs.Machine.Accepted.{BeginsWith, IsBehind, IsFresh};
     ghost use Rattle.ndef_message.specs.Deep.{IsViable};
+
+    /// Whether a record may begin here, and no octet of it has come.
+    fn is_fresh(&self) -> bool
+        ensures { IsTrue result → IsFresh self.now }
+    {
+        matches!(self.phase, Phase::Head) && self.reader.is_fresh() && !self.place.inside
+    }
+
+    /// Goes on behind whole records, where another may begin or the message ends.
+    fn go_behind(&mut self, limits: &Limits, place: Place, last: bool)
+        requires { place.inside ≡ false }
+        ensures { IsBehind limits.now self.new place last }
+    {
+        self.place = place;
+        self.reader = HeadReader::new(place.spot(limits.profile()));
+        self.phase = if last { Phase::Done } else { Phase::Head };
+    }
+
+    /// Takes as many whole records at the front of the bytes as are seen at once to be right, where one
+    /// may begin; answers how many bytes they have.
+    pub(crate) fn take_records(&mut self, limits: &Limits, bytes: &[u8]) -> usize
+        ensures within { result ≤ length bytes.now }
+        ensures none { result ≡ 0 → self.new.phase ≡ self.old.phase }
+        ensures onward { WhateverLed (Stands L.Language limits.now self.old) (λ front given field.
+            Leads (Stands L.Language limits.now self.new) (front ++ take result bytes.now)) }
+    {
+        format_laws(limits);
+        if !self.is_fresh() {
+            return 0;
+        }
+        let (taken, place, last) = accepted_records::<L>(limits, self.place, bytes);
+        if taken > 0 {
+            self.go_behind(limits, place, last);
+        }
+        taken
+    }
+
+    /// The record in one piece at the front of the bytes, where one may begin and it is seen at once to
+    /// be right.
+    pub(crate) fn whole_record<'a>(
+        &self,
+        limits: &Limits,
+        bytes: &'a [u8],
+    ) -> Option<WholePiece<'a>>
+        ensures fresh { IfSome result (λ w. IsFresh self.now) }
+        ensures begins { IfSome result (λ w. BeginsWith L.set limits.now self.now.place bytes.now w) }
+    {
+        if !self.is_fresh() {
+            return None;
+        }
+        whole_record::<L>(limits, &self.place, bytes)
+    }
+
+    /// Goes on behind that record.
+    pub(crate) fn pass_record(&mut self, limits: &Limits, piece: &WholePiece<'_>)
+        ensures { IsBehind limits.now self.new (behind_record limits.now self.old.place) (is_set 6 piece.now.header) }
+    {
+        let place = self.place.behind_record(limits);
+        self.go_behind(limits, place, piece.is_last());
+    }
 
     /// Takes the next bytes, after `at` others, as far as they are of one field, up to the first that
     /// is refused; answers how many, a refused one too.

@@ -1,6 +1,6 @@
-use Rattle.std.proofs.Common.{◌≡◌, length, take, refl, sym, ◌∙◌, subst, arith}
+use Rattle.std.proofs.Common.{◌≡◌, length, refl, sym, ◌∙◌, subst, arith}
 use Rattle.ndef_value.specs.Wire.{AreInRange}
-use Rattle.ndef_lang.specs.StepLaws.{rest, rest_length}
+use Rattle.ndef_lang.specs.StepLaws.{rest_length}
 use Rattle.ndef_message.specs.Machine.Checkers.{CheckerReached}
 use Rattle.ndef_message.proofs.Feeding as feeding
 use Rattle.ndef_message.proofs.checker.Checker.feed.Goals as goal
@@ -10,18 +10,15 @@ loop-at-init g c = record { within = omega arith; limits = refl; sofar = feeding
 
 pub loop-at-preserved : goal.loop-at-preserved
 loop-at-preserved g c =
-    let n = c.step-at.new.self in
+    let n = c.advance-at.new.self in
     let inv = c.loop-at.invariant in
     let bytes = c.args.bytes.now in
     let at = c.loop-at.at in
-    let most = c.step-at.ensures.most in
+    let most = c.advance-at.ensures.most in
     record {
       within = omega (arith, rest_length bytes at);
-      limits = c.step-at.ensures.limits ∙ inv.limits;
-      sofar = feeding.sofar_some (CheckerReached c.args.self.now) (CheckerReached c.loop-at.self) (CheckerReached n) bytes at c.step-at.result inv.sofar
-          (λ front given field k.
-          let w = c.step-at.ensures.onward front given field k in
-          feeding.knows_on g.L.Language n.limits n.state front given field (take c.step-at.result (rest bytes at)) n.taken w.0 w.1);
+      limits = c.advance-at.ensures.limits ∙ inv.limits;
+      sofar = feeding.sofar_some (CheckerReached c.args.self.now) (CheckerReached c.loop-at.self) (CheckerReached n) bytes at c.advance-at.result inv.sofar c.advance-at.ensures.onward;
     }
 
 pub returns-in-Some-clause-fed : goal.returns-in-Some-clause-fed

@@ -1,0 +1,121 @@
+-- Whole records at the front of some bytes, seen at once.
+use Rattle.std.specs.Prelude.{◌≡◌, ◌-◌, ◌<◌, ◌≤◌, ℕ, Bool, false, List, [], ◌∷◌, ◌++◌, length, take, None, if◌then◌else◌}
+use Rattle.std.specs.List.{AllByRecursion}
+use Rattle.ndef_value.specs.Wire.{Piece, Item, LimitValues, AreOctets, SpellAll, tnf_of}
+use Rattle.ndef_lang.specs.Language.{Sets}
+use Rattle.ndef_piece.specs.Header.{is_set, tnf_number}
+use Rattle.ndef_piece.specs.Heads.{IsOpen}
+use Rattle.ndef_piece.specs.Pieces as pieces
+use Rattle.ndef_piece.specs.Walk.{Before, inside, outside, Walked}
+use Rattle.ndef_piece.specs.Whole.{IsSplit, shown}
+use Rattle.ndef_piece.specs.declared.head_reader.Step.TheVariants as steps
+use Rattle.ndef_piece.specs.declared.whole.WholePiece.{WholePiece}
+use Rattle.ndef_message.specs.Deep.{IsMember}
+use Rattle.ndef_message.specs.Feed.{Fronts}
+use Rattle.ndef_message.specs.Field.{Field}
+use Rattle.ndef_message.specs.Opened.{IsBetween}
+use Rattle.ndef_message.specs.Machine.State.{numbers, spot_of}
+use Rattle.ndef_message.specs.declared.phase.Place.{Place}
+use Rattle.ndef_message.specs.declared.phase.Phase.TheVariants as phases
+use Rattle.ndef_message.specs.declared.state.State.{State}
+
+-- the record in one piece
+abbrev pub record_of : WholePiece → Item
+record_of w = record { tnf = tnf_of (tnf_number w.header); kind = w.kind.now; id = w.id.now; payload = w.payload.now }
+
+-- NDEF 1.0, record layout: the bytes begin with a record in one piece, which may stand at the place, with a payload of its kind
+pub record BeginsWith (set : Sets) (limits : LimitValues) (place : Place) (bytes : List ℕ) (w : WholePiece) : Type 0 where
+  pub outer : place.inside ≡ false
+  pub split : IsSplit (shown w) (is_set 4 w.header) w.rest.now bytes
+  pub no_id : is_set 3 w.header ≡ false → w.id.now ≡ []
+  pub stands : pieces.Stands (spot_of limits.profile place) (shown w)
+  pub one : is_set 5 w.header ≡ false
+  pub member : IsMember set limits (record_of w)
+
+-- NDEF 1.0, messages: the bytes are whole pieces, from where a record may begin to where one may or the message ends, and so many
+-- records may still end then; these records have come, each with a payload of its kind
+pub record EndsRecords (set : Sets) (limits : LimitValues) (c : Before) (items : List Item) (left : ℕ) (last : Bool) (bytes : List ℕ) : Type 0 where
+  pub pieces : List Piece
+  pub spelled : SpellAll pieces bytes
+  pub walked : Walked limits c pieces items (outside limits false last left)
+  pub members : AllByRecursion (IsMember set limits) items
+
+-- one record has come, from the place
+abbrev pub EndsRecord : Sets → LimitValues → Place → (last : Bool) → List ℕ → Type 0
+EndsRecord set limits place last bytes = (c : Before) → place ≡ numbers c → c.begun ≡ None → c.over ≡ false
+    → (item : Item) × EndsRecords set limits c (item ∷ []) (c.records - 1) last bytes
+
+-- .. by so many of the bytes
+pub record IsRecord (set : Sets) (limits : LimitValues) (place : Place) (bytes : List ℕ) (taken : ℕ) (last : Bool) : Type 0 where
+  pub some : 0 < taken
+  pub within : taken ≤ length bytes
+  pub outer : place.inside ≡ false
+  pub ends : EndsRecord set limits place last (take taken bytes)
+
+-- .. or none or more have, and this place is reached
+pub record Comes (set : Sets) (limits : LimitValues) (c : Before) (bytes : List ℕ) (place' : Place) (last : Bool) : Type 0 where
+  pub there : Before
+  pub place_is : place' ≡ numbers there
+  pub no_run : there.begun ≡ None
+  pub over : there.over ≡ last
+  pub some : 0 < length bytes → there ≡ outside limits false last there.records
+  pub pieces : List Piece
+  pub items : List Item
+  pub spelled : SpellAll pieces bytes
+  pub walked : Walked limits c pieces items there
+  pub members : AllByRecursion (IsMember set limits) items
+
+-- .. by so many of the bytes
+pub record AreRecords (set : Sets) (limits : LimitValues) (place : Place) (bytes : List ℕ) (taken : ℕ) (place' : Place) (last : Bool) : Type 0 where
+  pub within : taken ≤ length bytes
+  pub comes : (c : Before) → place ≡ numbers c → c.begun ≡ None → c.over ≡ false → Comes set limits c (take taken bytes) place' last
+
+-- ---- the pieces of a run
+
+-- the record with more payload
+abbrev pub with_payload : Item → List ℕ → Item
+with_payload m payload = record m { payload = m.payload ++ payload }
+
+-- NDEF 1.0, chunked payloads: the bytes are the pieces that an open run goes on by up to its end, with this payload
+pub record EndsRun (limits : LimitValues) (records pieces room : ℕ) (m : Item) (bytes : List ℕ) (last : Bool) : Type 0 where
+  pub later : List Piece
+  pub payload : List ℕ
+  pub octets : AreOctets payload
+  pub spelled : SpellAll later bytes
+  pub walked : Walked limits (inside records pieces room m) later (with_payload m payload ∷ []) (outside limits false last (records - 1))
+
+-- .. from the place
+abbrev pub IsRunEnd : LimitValues → Place → List ℕ → Bool → Type 0
+IsRunEnd limits place bytes last = (records pieces room : ℕ) (m : Item) → place ≡ numbers (inside records pieces room m) → EndsRun limits records pieces room m bytes last
+
+-- an open run as far as it has come, with the bytes to come
+pub record GoesOn (limits : LimitValues) (records pieces room : ℕ) (m : Item) (place : Place) (bytes rest : List ℕ) : Type 0 where
+  pub later : List Piece
+  pub payload : List ℕ
+  pub front : List ℕ
+  pub pieces_left : ℕ
+  pub room_left : ℕ
+  pub place_is : place ≡ numbers (inside records pieces_left room_left (with_payload m payload))
+  pub joined : bytes ≡ front ++ rest
+  pub octets : AreOctets payload
+  pub spelled : SpellAll later front
+  pub walked : Walked limits (inside records pieces room m) later [] (inside records pieces_left room_left (with_payload m payload))
+
+-- ---- a checker between records
+
+-- a record may begin, and no octet of it has come
+pub record IsFresh {L : Type 0} (state : State L) : Type 0 where
+  pub phase_is : state.phase ≡ phases.Head
+  pub empty : state.reader.octets ≡ []
+  pub outer : state.place.inside ≡ false
+
+-- whole records have led to this place, where another may begin or the message ends
+pub record IsBehind {L : Type 0} (limits : LimitValues) (state : State L) (place : Place) (last : Bool) : Type 0 where
+  pub place_is : state.place ≡ place
+  pub reader_is : state.reader ≡ record { spot = spot_of limits.profile place; octets = []; answer = steps.More }
+  pub opens : IsOpen (spot_of limits.profile place) []
+  pub phase_is : state.phase ≡ (if last then phases.Done else phases.Head)
+
+-- the bytes end these records, and no record is begun
+abbrev pub LeadsBetween : Fronts → List ℕ → List Item → Type 0
+LeadsBetween reached bytes given = (next : Field) × IsBetween next × reached bytes given next

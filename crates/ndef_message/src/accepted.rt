@@ -1,0 +1,118 @@
+//! Whole records at the front of a slice, seen at once to be right. What isn't seen may be right too.
+ghost use Rattle.std.specs.Prelude.{◌≡◌, ◌≤◌, length, take, true, false, IfSome, IsTrue};
+ghost use Rattle.ndef_piece.specs.Header.{is_set};
+ghost use Rattle.ndef_piece.specs.Pieces as pieces;
+ghost use Rattle.ndef_piece.specs.Whole.{shown};
+ghost use Rattle.ndef_message.specs.Deep.{IsMember};
+ghost use Rattle.ndef_message.specs.Machine.Accepted.{AreRecords, BeginsWith, IsRecord, IsRunEnd, record_of};
+ghost use Rattle.ndef_message.specs.Machine.State.{spot_of};
+
+use crate::phase::Place;
+use ndef_lang::{Kind, OuterLanguage};
+use ndef_piece::{WholePiece, whole_piece};
+use ndef_value::Limits;
+
+/// The bytes with which the run at the place goes on to its end, and whether the message ends there;
+/// none where that isn't seen at once. Its payload isn't looked into.
+fn accepted_run(limits: &Limits, place: Place, bytes: &[u8]) -> Option<(usize, bool)>
+    requires { place.inside ≡ true }
+    ensures within { IfSome result (λ r. r.0 ≤ length bytes.now) }
+    ensures ends { IfSome result (λ r. IsRunEnd limits.now place (take r.0 bytes.now) r.1) }
+{
+    let profile = limits.profile();
+    let mut at = place;
+    let mut rest = bytes;
+    for _ in 0..limits.pieces() {
+        let piece = whole_piece(rest)?;
+        if !piece.goes_on_at(&at.spot(profile)) {
+            return None;
+        }
+        rest = piece.rest;
+        if !piece.is_chunked() {
+            return Some((bytes.len() - rest.len(), piece.is_last()));
+        }
+        at = at.behind_chunk(piece.payload.len() as u32);
+    }
+    None
+}
+
+/// Whether the piece is a record, which may stand at the place, with a payload of its kind.
+fn is_record<L: OuterLanguage>(limits: &Limits, place: &Place, piece: &WholePiece<'_>) -> bool
+    ensures stands { IsTrue result → pieces.Stands (spot_of limits.now.profile place.now) (shown piece.now) }
+    ensures one { IsTrue result → is_set 5 piece.now.header ≡ false }
+    ensures outer { IsTrue result → place.now.inside ≡ false }
+    ensures member { IsTrue result → IsMember L.set limits.now (record_of piece.now) }
+{
+    let profile = limits.profile();
+    if !piece.is_record_at(&place.spot(profile)) {
+        return false;
+    }
+    let kind = Kind::of(piece.tnf(), piece.kind);
+    L::has(kind, limits.records(), profile, piece.payload)
+}
+
+/// The record in one piece at the front of the bytes.
+pub(crate) fn whole_record<'a, L: OuterLanguage>(
+    limits: &Limits,
+    place: &Place,
+    bytes: &'a [u8],
+) -> Option<WholePiece<'a>>
+    ensures { IfSome result (λ w. BeginsWith L.set limits.now place.now bytes.now w) }
+{
+    let piece = whole_piece(bytes)?;
+    if !is_record::<L>(limits, place, &piece) {
+        return None;
+    }
+    Some(piece)
+}
+
+/// The bytes of the record at the front of these, in one piece or more, and whether it ends the message.
+/// In more pieces, any payload has to be one of its kind.
+fn accepted_record<L: OuterLanguage>(
+    limits: &Limits,
+    place: &Place,
+    bytes: &[u8],
+) -> Option<(usize, bool)>
+    ensures { IfSome result (λ r. IsRecord L.set limits.now place.now bytes.now r.0 r.1) }
+{
+    let piece = whole_piece(bytes)?;
+    let taken = bytes.len() - piece.rest.len();
+    if !piece.is_chunked() {
+        if !is_record::<L>(limits, place, &piece) {
+            return None;
+        }
+        return Some((taken, piece.is_last()));
+    }
+    let kind = Kind::of(piece.tnf(), piece.kind);
+    if !piece.opens_at(&place.spot(limits.profile())) || !L::takes_all(kind) {
+        return None;
+    }
+    let next = place.behind_chunk(piece.payload.len() as u32);
+    let (more, last) = accepted_run(limits, next, piece.rest)?;
+    Some((taken + more, last))
+}
+
+/// As many whole records at the front of the bytes as are seen at once to be right: their bytes, the
+/// place behind them, and whether the message ends there.
+pub(crate) fn accepted_records<L: OuterLanguage>(
+    limits: &Limits,
+    place: Place,
+    bytes: &[u8],
+) -> (usize, Place, bool)
+    ensures records { AreRecords L.set limits.now place bytes.now result.0 result.1 result.2 }
+    ensures outer { place.inside ≡ false → result.1.inside ≡ false }
+{
+    let mut at = 0;
+    let mut found = place;
+    while at < bytes.len() {
+        let Some((taken, last)) = accepted_record::<L>(limits, &found, &bytes[at..]) else {
+            return (at, found, false);
+        };
+        at += taken;
+        found = found.behind_record(limits);
+        if last {
+            return (at, found, true);
+        }
+    }
+    (at, found, false)
+}
