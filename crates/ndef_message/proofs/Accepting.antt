@@ -3,8 +3,9 @@ use Rattle.std.proofs.Common.{◌≡◌, ℕ, ◌+◌, ◌-◌, ◌<◌, ◌≤�
 use Rattle.std.specs.Prelude.{is_some, if◌then◌else◌}
 use Rattle.std.proofs.lemmas.List.{length-take-le, append-nil}
 use Rattle.std.proofs.Math.Seq.{take-append_seam, take-append-add}
-use Rattle.ndef_value.specs.Wire.{Item, Piece, LimitValues, AreInRange, AreOctets, Spells, SpellAll, body, fields, octets, tnf_of}
+use Rattle.ndef_value.specs.Wire.{HasShape, IsItem, Item, Piece, LimitValues, AreInRange, AreOctets, Spells, SpellAll, body, fields, octets, tnf_of}
 use Rattle.ndef_value.specs.ListLaws.{octets_append}
+use Rattle.ndef_value.specs.TnfLaws.{changed_name}
 use Rattle.ndef_value.specs.declared.profile.Profile.{Profile}
 use Rattle.ndef_lang.specs.declared.kind.Kind.{Kind}
 use Rattle.ndef_lang.specs.declared.kind.Kind.TheVariants.{Other}
@@ -43,7 +44,7 @@ member_at set kind kind' records records' profile profile' s ek en ep h =
 -- ---- pieces
 
 -- what is in front of what is left
-front_of : (bytes front rest : List ℕ) (n : ℕ) → bytes ≡ front ++ rest → n ≡ length bytes - length rest → (n ≤ length bytes) × (take n bytes ≡ front)
+pub front_of : (bytes front rest : List ℕ) (n : ℕ) → bytes ≡ front ++ rest → n ≡ length bytes - length rest → (n ≤ length bytes) × (take n bytes ≡ front)
 front_of bytes front rest n e is =
     let l : length bytes ≡ length front + length rest = omega (arith, ap length e, length-append front rest) in
     let m : n ≡ length front = omega arith in
@@ -87,7 +88,8 @@ split_shorter p short rest bytes split =
 
 -- ---- a record in one piece
 
-record_is : (w : WholePiece) → (is_set 3 w.header ≡ false → w.id.now ≡ []) → record_of w ≡ extended None (shown w)
+-- what it is
+pub record_is : (w : WholePiece) → (is_set 3 w.header ≡ false → w.id.now ≡ []) → record_of w ≡ extended None (shown w)
 record_is w none = by_flag (is_set 3 w.header) refl
   where
     by_flag : (there : Bool) → is_set 3 w.header ≡ there → record_of w ≡ extended None (shown w)
@@ -114,6 +116,24 @@ module _ (set : Sets) (limits : LimitValues) (place : Place) (bytes : List ℕ) 
   record_from =
       let short = split_shorter p (is_set 4 w.header) w.rest.now bytes b.split in
       record { some = omega arith; within = omega arith; outer = b.outer; ends = λ c e none over. (record_of w, one_record c e none over) }
+
+  -- its parts are those of a record
+  pub is_item : IsItem (record_of w)
+  is_item =
+      let q = b.split.spells.piece in
+      let initial = b.stands.initial b.outer in
+      let same = record_is w b.no_id in
+      let id = ap (λ m. m.id) same in
+      record {
+        shaped = record {
+          changed = changed_name p.tnf q.tnf initial.0.changed;
+          shape = subst (λ m. HasShape m.tnf (length m.kind) (length m.id) (length m.payload)) (sym same) initial.1;
+        };
+        lengths = record { kind = q.kind_length; id = subst (λ x. length x < 256) (sym id) q.id_length; payload = q.payload_length };
+        kind = q.kind;
+        id = subst AreOctets (sym id) q.id;
+        payload = q.payload;
+      }
 
 -- ---- a record in pieces
 pub run_start : (limits : LimitValues) (records count room : ℕ) (m : Item) (place : Place) (bytes : List ℕ) → place ≡ numbers (inside records count room m) → GoesOn limits records count room m place bytes bytes

@@ -3,6 +3,7 @@ pub mod Answered
 pub mod Befores
 pub mod Bodies
 pub mod CheckingOn
+pub mod Copying
 pub mod CutSpelled
 pub mod CutSplits
 pub mod Decoded

@@ -4,7 +4,8 @@ use Rattle.std.specs.Prelude.{unwrap_or}
 use Rattle.std.proofs.lemmas.List.{append-nil}
 use Rattle.ndef_value.specs.Wire.{Piece, Run, Item, HasShape, IsShaped, IsInitial, Follow, payload_of, joined, tnf_of}
 use Rattle.ndef_value.specs.declared.profile.Profile.{Profile}
-use Rattle.ndef_piece.proofs.Sorts.{empty, named, unnamed, sort, other_payload, read_small, changed_name}
+use Rattle.ndef_value.specs.TnfLaws.{changed_name}
+use Rattle.ndef_piece.proofs.Sorts.{empty, named, unnamed, sort, other_payload, read_small}
 
 -- an initial piece and what follows it
 abbrev pub run : Piece → List Piece → Run

@@ -4,7 +4,6 @@ use Rattle.std.specs.Prelude.{◌↔◌}
 use Rattle.ndef_value.specs.Wire.{HasShape, IsRead, tnf_of}
 use Rattle.ndef_value.specs.declared.profile.Profile.{Profile}
 use Rattle.ndef_value.specs.declared.profile.Profile.TheVariants.{Strict, Standard}
-use Rattle.ndef_value.specs.declared.tnf.Tnf.TheVariants.{Unchanged}
 
 -- the shapes that they ask for: of 0 nothing but the head, of 1 to 4 a type, of the others none
 pub data Sort (t : ℕ) : Type 0 where
@@ -45,15 +44,3 @@ empty_lengths t k i n s e =
 pub read_small : (profile : Profile) (n : ℕ) → IsRead profile n → n < 8
 read_small Strict n h = omega arith
 read_small Standard n h = h
-
--- a number below 8 other than 6 does not stand for Unchanged
-pub changed_name : (n : ℕ) → n < 8 → n ≢ 6 → tnf_of n ≢ Unchanged
-changed_name zero h d = λ e. cc
-changed_name (suc zero) h d = λ e. cc
-changed_name (suc (suc zero)) h d = λ e. cc
-changed_name (suc (suc (suc zero))) h d = λ e. cc
-changed_name (suc (suc (suc (suc zero)))) h d = λ e. cc
-changed_name (suc (suc (suc (suc (suc zero))))) h d = λ e. cc
-changed_name (suc (suc (suc (suc (suc (suc zero)))))) h d = absurd (d refl)
-changed_name (suc (suc (suc (suc (suc (suc (suc zero))))))) h d = λ e. cc
-changed_name (suc (suc (suc (suc (suc (suc (suc (suc n)))))))) h d = absurd (omega arith)

@@ -1,5 +1,5 @@
 -- The numbers of type name formats.
-use Rattle.std.proofs.Common.{◌≡◌, ◌≢◌, ℕ, ◌<◌, refl, sym, ◌∙◌, ap, arith}
+use Rattle.std.proofs.Common.{◌≡◌, ◌≢◌, ℕ, zero, suc, ◌<◌, refl, sym, ◌∙◌, ap, arith}
 use Rattle.ndef_value.specs.Wire.{code, tnf_of, IsRead}
 use Rattle.ndef_value.specs.declared.profile.Profile.{Profile}
 use Rattle.ndef_value.specs.declared.profile.Profile.TheVariants.{Strict, Standard}
@@ -35,3 +35,15 @@ changed_code t d e = d (sym (same_tnf t) ∙ ap tnf_of e)
 pub read_by_all : (profile : Profile) (n : ℕ) → IsRead Strict n → IsRead profile n
 read_by_all Strict n h = h
 read_by_all Standard n h = omega arith
+
+-- a number below 8 other than 6 does not stand for Unchanged
+pub changed_name : (n : ℕ) → n < 8 → n ≢ 6 → tnf_of n ≢ Unchanged
+changed_name zero h d = λ e. cc
+changed_name (suc zero) h d = λ e. cc
+changed_name (suc (suc zero)) h d = λ e. cc
+changed_name (suc (suc (suc zero))) h d = λ e. cc
+changed_name (suc (suc (suc (suc zero)))) h d = λ e. cc
+changed_name (suc (suc (suc (suc (suc zero))))) h d = λ e. cc
+changed_name (suc (suc (suc (suc (suc (suc zero)))))) h d = absurd (d refl)
+changed_name (suc (suc (suc (suc (suc (suc (suc zero))))))) h d = λ e. cc
+changed_name (suc (suc (suc (suc (suc (suc (suc (suc n)))))))) h d = absurd (omega arith)

@@ -1,5 +1,5 @@
 -- What is kept of the open record, behind octets of one field.
-use Rattle.std.specs.Prelude.{◌+◌, ◌<◌, ◌≤◌, ℕ, List, ◌++◌, length, Option, Some, None, unwrap_or, ⊤}
+use Rattle.std.specs.Prelude.{◌+◌, ◌<◌, ◌≤◌, ℕ, List, ◌++◌, length, Option, Some, None, unwrap_or, ⊤, ◌⊎◌}
 use Rattle.ndef_value.specs.Wire.{Item}
 use Rattle.ndef_value.specs.declared.tnf.Tnf.{Tnf}
 use Rattle.ndef_value.specs.declared.tnf.Tnf.TheVariants.{Unknown}
@@ -37,3 +37,7 @@ WantsMemory (phases.Type head left kind) o t = (0 < length t) × (32 < length o.
 WantsMemory (phases.Id head left) o t = (0 < length t) × (32 < length o.id + length t)
 WantsMemory (phases.Payload head left) o t = 0 < length t
 WantsMemory _ o t = ⊥
+
+-- a copy of the record may take memory
+abbrev pub AsksMemory : Item → Type 0
+AsksMemory m = (32 < length m.kind) ⊎ ((32 < length m.id) ⊎ (0 < length m.payload))
