@@ -1,0 +1,236 @@
+-- The pieces that follow one another at the front of some bytes.
+use Rattle.std.proofs.Common.{◌≡◌, ℕ, ◌+◌, ◌≤◌, ◌∷◌, [], sym, refl, ◌∙◌, ap, ap₂, subst, arith, List, ◌++◌, length, length-append, append_assoc, append-nil, Bool, true, false, true≢false}
+use Rattle.ndef_value.specs.PieceLaws.{same_body}
+use Rattle.ndef_value.specs.Wire.{Piece, Run, Spells, SpellAll, Follow, IsInitial, IsLater, payload_of, fields, octets, body}
+use Rattle.ndef_value.specs.declared.profile.Profile.TheVariants.{Standard}
+use Rattle.ndef_piece.specs.Heads.{CanBeSpelled, HeadsAreApart}
+use Rattle.ndef_piece.specs.Whole.{IsSplit, BeginWithPiece}
+use Rattle.ndef_c.specs.Walks.{BeginsWith, OneRecordIsThere, ends_message}
+use Rattle.std.specs.Prelude.{unwrap_or, Option, None, Some}
+use Rattle.std.specs.Option.{option_map}
+
+-- ---- one piece
+
+id_count : (id : Option (List ℕ)) → unwrap_or (option_map length id) 0 ≡ length (unwrap_or id [])
+id_count None = refl
+id_count (Some x) = refl
+
+can_be_spelled : (p : Piece) (short : Bool) (front : List ℕ) → Spells p short front → CanBeSpelled (fields p short)
+can_be_spelled p short front s = record {
+  tnf = s.piece.tnf;
+  kind = s.piece.kind_length;
+  payload = s.piece.payload_length;
+  form = s.form;
+  id = let n = id_count p.id in let k = s.piece.id_length in omega (arith, n, k);
+}
+
+head_first : (p : Piece) (short : Bool) (rest bytes : List ℕ) → (i : IsSplit p short rest bytes) → bytes ≡ octets (fields p short) ++ (body p ++ rest)
+head_first p short rest bytes i = i.joined ∙ ap (λ x. x ++ rest) i.spells.spelled ∙ append_assoc (octets (fields p short)) (body p) rest
+
+-- at the front of some bytes is one piece alone
+pub same_split : HeadsAreApart → (p q : Piece) (s t : Bool) (x y bytes : List ℕ) → IsSplit p s x bytes → IsSplit q t y bytes → (p ≡ q) × (x ≡ y)
+same_split apart p q s t x y bytes a b =
+    let w = apart (fields p s) (fields q t) (body p ++ x) (body q ++ y) (can_be_spelled p s a.front a.spells) (can_be_spelled q t b.front b.spells)
+    (sym (head_first p s x bytes a) ∙ head_first q t y bytes b) in
+    let short : s ≡ t = ap (λ f. f.short) w.0 in
+    same_body p q s x y (w.0 ∙ ap (fields q) (sym short)) w.1
+
+-- it has more octets than its payload
+pub split_size : (p : Piece) (s : Bool) (x bytes : List ℕ) → IsSplit p s x bytes → 1 + length p.payload + length x ≤ length bytes
+split_size p s x bytes i =
+    let a = ap length i.joined ∙ length-append i.front x in
+    let b = ap length i.spells.spelled ∙ length-append (octets (fields p s)) (body p) in
+    let c = length-append p.kind (unwrap_or p.id [] ++ p.payload) in
+    let d = length-append (unwrap_or p.id []) p.payload in
+    omega (arith, a, b, c, d)
+
+-- ---- those behind it
+
+-- the bytes begin with these pieces, which are what follows a piece with such a CF, and then come others
+pub record Later (chunked : Bool) (ps : List Piece) (rest bytes : List ℕ) : Type 0 where
+  pub follow : Follow chunked ps
+  pub front : List ℕ
+  pub spelled : SpellAll ps front
+  pub joined : bytes ≡ front ++ rest
+
+-- the first of them, and the others
+pub record Next (ps : List Piece) (rest bytes : List ℕ) : Type 0 where
+  pub piece : Piece
+  pub more : List Piece
+  pub are : ps ≡ piece ∷ more
+  pub is_later : IsLater piece
+  pub short : Bool
+  pub behind : List ℕ
+  pub split : IsSplit piece short behind bytes
+  pub others : Later piece.chunked more rest behind
+
+pub later_none : (ps : List Piece) (rest bytes : List ℕ) → Later false ps rest bytes → (ps ≡ []) × (rest ≡ bytes)
+later_none [] rest bytes l = (refl, sym (l.joined ∙ ap (λ x. x ++ rest) l.spelled))
+later_none (q ∷ qs) rest bytes l = absurd (true≢false (sym l.follow.0))
+
+pub later_nil : (bytes : List ℕ) → Later false [] bytes bytes
+later_nil bytes = record { follow = refl; front = []; spelled = refl; joined = refl }
+
+pub later_next : (ps : List Piece) (rest bytes : List ℕ) → Later true ps rest bytes → Next ps rest bytes
+later_next [] rest bytes l = absurd (true≢false l.follow)
+later_next (q ∷ qs) rest bytes l =
+    let s = l.spelled in
+    record {
+      piece = q;
+      more = qs;
+      are = refl;
+      is_later = l.follow.1;
+      short = s.0;
+      behind = s.2 ++ rest;
+      split = record { front = s.1; spells = s.4; joined = l.joined ∙ ap (λ x. x ++ rest) s.3 ∙ append_assoc s.1 s.2 rest };
+      others = record { follow = l.follow.2; front = s.2; spelled = s.5; joined = refl };
+    }
+
+pub later_cons : (q : Piece) (qs : List Piece) (short : Bool) (rest behind bytes : List ℕ) → IsLater q → IsSplit q short behind bytes → Later q.chunked qs rest behind → Later true (q ∷ qs) rest bytes
+later_cons q qs short rest behind bytes is i l = record {
+  follow = (refl, is, l.follow);
+  front = i.front ++ l.front;
+  spelled = (short, i.front, l.front, refl, i.spells, l.spelled);
+  joined = i.joined ∙ ap (λ x. i.front ++ x) l.joined ∙ sym (append_assoc i.front l.front rest);
+}
+
+same_later : HeadsAreApart → (chunked : Bool) (ps qs : List Piece) (x y bytes : List ℕ) → Later chunked ps x bytes → Later chunked qs y bytes → (ps ≡ qs) × (x ≡ y)
+same_later apart false ps qs x y bytes a b =
+    let l = later_none ps x bytes a in let m = later_none qs y bytes b in (l.0 ∙ sym m.0, l.1 ∙ sym m.1)
+same_later apart true [] qs x y bytes a b = absurd (true≢false a.follow)
+same_later apart true (p ∷ ps) [] x y bytes a b = absurd (true≢false b.follow)
+same_later apart true (p ∷ ps) (q ∷ qs) x y bytes a b =
+    let l = later_next (p ∷ ps) x bytes a in
+    let m = later_next (q ∷ qs) y bytes b in
+    let s = same_split apart p q a.spelled.0 b.spelled.0 (a.spelled.2 ++ x) (b.spelled.2 ++ y) bytes
+    (record { front = a.spelled.1; spells = a.spelled.4; joined = a.joined ∙ ap (λ z. z ++ x) a.spelled.3 ∙ append_assoc a.spelled.1 a.spelled.2 x })
+    (record { front = b.spelled.1; spells = b.spelled.4; joined = b.joined ∙ ap (λ z. z ++ y) b.spelled.3 ∙ append_assoc b.spelled.1 b.spelled.2 y }) in
+    let c : p.chunked ≡ q.chunked = ap (λ r. r.chunked) s.0 in
+    let t = same_later apart p.chunked ps qs x y (a.spelled.2 ++ x)
+    (record { follow = a.follow.2; front = a.spelled.2; spelled = a.spelled.5; joined = refl })
+    (record { follow = subst (λ k. Follow k qs) (sym c) b.follow.2; front = b.spelled.2; spelled = b.spelled.5; joined = s.1 }) in
+    (ap₂ (λ r rs. r ∷ rs) s.0 t.0, t.1)
+
+-- ---- runs
+
+-- a run is its initial piece, and what follows it
+pub record Initial (run : Run) (rest bytes : List ℕ) : Type 0 where
+  pub is_initial : IsInitial Standard run.initial
+  pub short : Bool
+  pub behind : List ℕ
+  pub split : IsSplit run.initial short behind bytes
+  pub others : Later run.initial.chunked run.later rest behind
+
+pub initial_of : (run : Run) (rest bytes : List ℕ) → BeginsWith run rest bytes → Initial run rest bytes
+initial_of run rest bytes b =
+    let s = b.spelled in
+    record {
+      is_initial = b.read.initial;
+      short = s.0;
+      behind = s.2 ++ rest;
+      split = record { front = s.1; spells = s.4; joined = b.joined ∙ ap (λ x. x ++ rest) s.3 ∙ append_assoc s.1 s.2 rest };
+      others = record { follow = b.read.follow; front = s.2; spelled = s.5; joined = refl };
+    }
+
+pub begins_with : (p : Piece) (ps : List Piece) (short : Bool) (rest behind bytes : List ℕ) → IsInitial Standard p → IsSplit p short behind bytes → Later p.chunked ps rest behind
+    → BeginsWith (record { initial = p; later = ps }) rest bytes
+begins_with p ps short rest behind bytes is i l = record {
+  read = record { initial = is; follow = l.follow };
+  front = i.front ++ l.front;
+  spelled = (short, i.front, l.front, refl, i.spells, l.spelled);
+  joined = i.joined ∙ ap (λ x. i.front ++ x) l.joined ∙ sym (append_assoc i.front l.front rest);
+}
+
+pub begins_with_piece : (run : Run) (rest bytes : List ℕ) → BeginsWith run rest bytes → BeginWithPiece bytes
+begins_with_piece run rest bytes b = let i = initial_of run rest bytes b in record { piece = run.initial; short = i.short; rest = i.behind; split = i.split }
+
+pub one_record : HeadsAreApart → OneRecordIsThere
+one_record apart r s x y bytes a b =
+    let i = initial_of r x bytes a in
+    let j = initial_of s y bytes b in
+    let p = same_split apart r.initial s.initial i.short j.short i.behind j.behind bytes i.split j.split in
+    let c : r.initial.chunked ≡ s.initial.chunked = ap (λ p. p.chunked) p.0 in
+    let l = same_later apart r.initial.chunked r.later s.later x y i.behind i.others
+    (record { follow = subst (λ k. Follow k s.later) (sym c) j.others.follow; front = j.others.front; spelled = j.others.spelled; joined = p.1 ∙ j.others.joined }) in
+    (ap₂ (λ p ps. record { initial = p; later = ps }) p.0 l.0, l.1)
+
+-- the run with which the bytes begin, where this piece is there
+pub record From (p : Piece) (run : Run) (end behind : List ℕ) : Type 0 where
+  pub same : run.initial ≡ p
+  pub is_initial : IsInitial Standard p
+  pub others : Later p.chunked run.later end behind
+
+pub from_piece : HeadsAreApart → (p : Piece) (short : Bool) (behind bytes : List ℕ) → IsSplit p short behind bytes → (run : Run) (end : List ℕ) → BeginsWith run end bytes → From p run end behind
+from_piece apart p short behind bytes s run end b =
+    let i = initial_of run end bytes b in
+    let e = same_split apart run.initial p i.short short i.behind behind bytes i.split s in
+    record {
+      same = e.0;
+      is_initial = subst (IsInitial Standard) e.0 i.is_initial;
+      others = subst (λ z. Later p.chunked run.later end z) e.1 (subst (λ q. Later q.chunked run.later end i.behind) e.0 i.others);
+    }
+
+-- ---- a run that is read piece by piece
+
+-- of a run with the initial piece p these pieces were read, the last of them q, and these bytes are left
+pub record Reading (p q : Piece) (behind rest : List ℕ) (size count : ℕ) : Type 0 where
+  pub done : List Piece
+  pub onto : (ps : List Piece) (end : List ℕ) → Later q.chunked ps end rest → Later p.chunked (done ++ ps) end behind
+  pub back : (ps : List Piece) (end : List ℕ) → Later p.chunked ps end behind → (qs : List Piece) × (ps ≡ done ++ qs) × Later q.chunked qs end rest
+  pub size_is : size ≡ length (payload_of (p ∷ done))
+  pub count_is : count ≡ length (p ∷ done)
+  pub last_is : q.last ≡ ends_message p done
+
+pub reading_at : (p : Piece) (behind : List ℕ) → Reading p p behind behind (length p.payload) 1
+reading_at p behind = record {
+  done = [];
+  onto = λ ps end l. l;
+  back = λ ps end l. (ps, refl, l);
+  size_is = ap length (sym (append-nil p.payload));
+  count_is = refl;
+  last_is = refl;
+}
+
+last_of : (p q : Piece) (ps : List Piece) → q.last ≡ ends_message p (ps ++ q ∷ [])
+last_of p q [] = refl
+last_of p q (r ∷ ps) = last_of r q ps
+
+payload_more : (ps : List Piece) (q : Piece) → length (payload_of (ps ++ q ∷ [])) ≡ length (payload_of ps) + length q.payload
+payload_more [] q = let e = ap length (append-nil q.payload) in omega (arith, e)
+payload_more (p ∷ ps) q =
+    let a = length-append p.payload (payload_of (ps ++ q ∷ [])) in
+    let b = length-append p.payload (payload_of ps) in
+    let c = payload_more ps q in
+    omega (arith, a, b, c)
+
+-- one more
+pub reading_on : HeadsAreApart → {p q r : Piece} {behind rest more : List ℕ} {size count : ℕ} (short : Bool) → Reading p q behind rest size count → q.chunked ≡ true → IsLater r → IsSplit r short more rest
+    → Reading p r behind more (size + length r.payload) (count + 1)
+reading_on apart {p} {q} {r} {behind} {rest} {more} {size} {count} short g c is i = record {
+  done = g.done ++ r ∷ [];
+  onto = λ ps end l. subst (λ z. Later p.chunked z end behind) (sym (append_assoc g.done (r ∷ []) ps))
+      (g.onto (r ∷ ps) end (subst (λ k. Later k (r ∷ ps) end rest) (sym c) (later_cons r ps short end more rest is i l)));
+  back = λ ps end l.
+      let b = g.back ps end l in
+      let n = later_next b.0 end rest (subst (λ k. Later k b.0 end rest) c b.2) in
+      let s = same_split apart n.piece r n.short short n.behind more rest n.split i in
+      let chunked : n.piece.chunked ≡ r.chunked = ap (λ p. p.chunked) s.0 in (
+        n.more,
+        b.1 ∙ ap (λ z. g.done ++ z) (n.are ∙ ap (λ p. p ∷ n.more) s.0) ∙ sym (append_assoc g.done (r ∷ []) n.more),
+        subst (λ z. Later r.chunked n.more end z) s.1 (subst (λ k. Later k n.more end n.behind) chunked n.others),
+      );
+  size_is = let e = g.size_is in let a = payload_more (p ∷ g.done) r in omega (arith, e, a);
+  count_is = let e = g.count_is in let a = length-append g.done (r ∷ []) in omega (arith, e, a);
+  last_is = last_of p r g.done;
+}
+
+-- where it goes on a later piece is there
+pub goes_on : {p q : Piece} {behind rest : List ℕ} {size count : ℕ} (g : Reading p q behind rest size count) → q.chunked ≡ true → (ps : List Piece) (end : List ℕ) → Later p.chunked ps end behind
+    → (qs : List Piece) × Next qs end rest
+goes_on {p} {q} {behind} {rest} g c ps end l =
+    let b = g.back ps end l in (b.0, later_next b.0 end rest (subst (λ k. Later k b.0 end rest) c b.2))
+
+-- where it ends all of it was read
+pub is_read : {p q : Piece} {behind rest : List ℕ} {size count : ℕ} (g : Reading p q behind rest size count) → q.chunked ≡ false → Later p.chunked g.done rest behind
+is_read {p} {q} {behind} {rest} g c =
+    subst (λ z. Later p.chunked z rest behind) (append-nil g.done) (g.onto [] rest (subst (λ k. Later k [] rest rest) (sym c) (later_nil rest)))

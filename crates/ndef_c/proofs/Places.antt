@@ -1,0 +1,82 @@
+-- Where the parts of a record lie.
+use Rattle.std.proofs.Common.{◌≡◌, ℕ, ◌+◌, ◌-◌, ◌<◌, ◌≤◌, [], take, drop, refl, sym, ◌∙◌, ap, arith, List, ◌++◌, length, length-append, length-drop, append_assoc, take_at, drop_at, Bool, true, false}
+use Rattle.std.specs.Prelude.{unwrap_or, Some, None, if◌then◌else◌}
+use Rattle.std.proofs.lemmas.List.{take-append-drop}
+use Rattle.ndef_value.specs.Wire.{Run, fields, octets}
+use Rattle.ndef_piece.specs.Header.{is_set}
+use Rattle.ndef_piece.specs.Whole.{IsSplit, piece_of}
+use Rattle.ndef_c.specs.Walks.{BeginsWith, IsRecordThere, Lies}
+use Rattle.ndef_c.proofs.Followed.{initial_of, split_size}
+
+-- a part between others
+pub lies : (bytes front part rest : List ℕ) (at count : ℕ) → bytes ≡ front ++ (part ++ rest) → count ≡ length part → at + (count + length rest) ≡ length bytes → Lies bytes at count part
+lies bytes front part rest at count e n a =
+    let whole = ap length e ∙ length-append front (part ++ rest) in
+    let tail = length-append part rest in
+    let place : length front ≡ at = omega (arith, whole, tail, n, a) in
+    record { are = ap (λ x. take count (drop at x)) e ∙ ap (take count) (drop_at front (part ++ rest) at place) ∙ take_at part rest count (sym n); count_is = n }
+
+-- what is behind a record
+pub record Ends (bytes rest : List ℕ) (at : ℕ) : Type 0 where
+  pub rest_is : drop (length bytes - length rest) bytes ≡ rest
+  pub onward : at < length bytes - length rest
+
+pub ends : (run : Run) (bytes behind rest : List ℕ) (at : ℕ) → at ≤ length bytes → behind ≡ drop at bytes → BeginsWith run rest behind → Ends bytes rest at
+ends run bytes behind rest at h e b =
+    let i = initial_of run rest behind b in
+    let l = split_size run.initial i.short i.behind behind i.split in
+    let m = ap length i.others.joined ∙ length-append i.others.front rest in
+    let n = ap length e ∙ length-drop at bytes in
+    let all : bytes ≡ (take at bytes ++ b.front) ++ rest = sym (take-append-drop at bytes) ∙ ap (λ x. take at bytes ++ x) (sym e ∙ b.joined) ∙ sym (append_assoc (take at bytes) b.front rest) in
+    let k = ap length all ∙ length-append (take at bytes ++ b.front) rest in
+    let place : length (take at bytes ++ b.front) ≡ length bytes - length rest = omega (arith, k) in
+    record { rest_is = ap (drop (length bytes - length rest)) all ∙ drop_at _ rest _ place; onward = omega (arith, l, m, n, h) }
+
+-- the id that is there, or none
+pub id_is : (there : Bool) (id : List ℕ) → (there ≡ false → id ≡ []) → unwrap_or (if there then Some id else None) [] ≡ id
+id_is true id none = refl
+id_is false id none = sym (none refl)
+
+-- the parts of a piece that is shown
+pub record Shown (header : ℕ) (kind id payload rest bytes : List ℕ) : Type 0 where
+  pub head : List ℕ
+  pub joined : bytes ≡ head ++ (kind ++ (id ++ (payload ++ rest)))
+
+pub shown_parts : (header : ℕ) (short : Bool) (kind id payload rest behind bytes : List ℕ) (at : ℕ) → behind ≡ drop at bytes → (is_set 3 header ≡ false → id ≡ []) → IsSplit (piece_of header kind id payload) short rest behind
+    → Shown header kind id payload rest bytes
+shown_parts header short kind id payload rest behind bytes at e none i =
+    let o = octets (fields (piece_of header kind id payload) short) in
+    let j : behind ≡ o ++ (kind ++ (id ++ (payload ++ rest))) =
+    i.joined ∙ ap (λ x. x ++ rest) (i.spells.spelled ∙ ap (λ x. o ++ (kind ++ (x ++ payload))) (id_is (is_set 3 header) id none))
+    ∙ append_assoc o (kind ++ (id ++ payload)) rest ∙ ap (λ x. o ++ x) (append_assoc kind (id ++ payload) rest ∙ ap (λ x. kind ++ x) (append_assoc id payload rest)) in
+    record {
+      head = take at bytes ++ o;
+      joined = sym (take-append-drop at bytes) ∙ ap (λ x. take at bytes ++ x) (sym e ∙ j) ∙ sym (append_assoc (take at bytes) o _);
+    }
+
+-- they lie one before another
+pub record LieIn (bytes kind id payload rest : List ℕ) : Type 0 where
+  pub kind_lies : Lies bytes (length bytes - length rest - length payload - length id - length kind) (length kind) kind
+  pub id_lies : Lies bytes (length bytes - length rest - length payload - length id) (length id) id
+  pub payload_lies : Lies bytes (length bytes - length rest - length payload) (length payload) payload
+
+pub lie_in : (header : ℕ) (kind id payload rest bytes : List ℕ) → Shown header kind id payload rest bytes → LieIn bytes kind id payload rest
+lie_in header kind id payload rest bytes s =
+    let h = s.head in
+    let n = ap length s.joined ∙ length-append h (kind ++ (id ++ (payload ++ rest))) in
+    let a = length-append kind (id ++ (payload ++ rest)) in
+    let b = length-append id (payload ++ rest) in
+    let d = length-append payload rest in
+    record {
+      kind_lies = lies bytes h kind (id ++ (payload ++ rest)) _ _ s.joined refl (omega (arith, n, a, b, d));
+      id_lies = lies bytes (h ++ kind) id (payload ++ rest) _ _ (s.joined ∙ sym (append_assoc h kind _)) refl (omega (arith, n, a, b, d));
+      payload_lies = lies bytes ((h ++ kind) ++ id) payload rest _ _ (s.joined ∙ sym (append_assoc h kind _) ∙ sym (append_assoc (h ++ kind) id _)) refl (omega (arith, n, a, b, d));
+    }
+
+-- behind the end of the bytes is no record
+pub none_beyond : (bytes : List ℕ) (at : ℕ) → length bytes ≤ at → IsRecordThere bytes at → ⊥
+none_beyond bytes at h r =
+    let i = initial_of r.0 r.1 (drop at bytes) r.2 in
+    let n = split_size r.0.initial i.short i.behind (drop at bytes) i.split in
+    let k = length-drop at bytes in
+    omega (arith, n, k, h)

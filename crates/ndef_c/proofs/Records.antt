@@ -1,0 +1,60 @@
+-- The octets of a record, piece after piece.
+use Rattle.std.proofs.Common.{◌≡◌, ◌<◌, ◌≤◌, ◌==◌, ◌+◌, ◌^◌, ℕ, Bool, true, false, List, [], ◌∷◌, ◌++◌, Option, Some, None, ◌&&◌, not, length, length-append, take, drop, refl, sym, ap, ap₂, ◌∙◌, arith}
+use Rattle.std.specs.Prelude.{unwrap_or}
+use Rattle.std.specs.List.{flat_map}
+use Rattle.std.proofs.lemmas.Grind.{flat_map-append}
+use Rattle.ndef_value.specs.Wire.{Item, fields, pieces, all_pieces, is_nil}
+use Rattle.ndef_piece.specs.Heads.{written}
+use Rattle.ndef_piece.specs.declared.head.Head.{Head}
+use Rattle.ndef_message.specs.declared.form.Form.{Form}
+use Rattle.ndef_message.specs.Cut.{first_piece, later_piece, later_pieces, all_parts, cut_run, cut_runs}
+use Rattle.ndef_message.specs.Written.{written_piece, is_short}
+use Rattle.ndef_message.specs.WrittenLaws.{first_is, later_is, first-step, later-step, later-end, whole_run}
+use Rattle.ndef_c.specs.Writes.{piece_octets, record_octets, octets_by, one_by_one, asked_octets, form_of, is_first, is_last, size_of}
+use Rattle.ndef_c.specs.declared.writing.NdefWriting.{NdefWriting}
+use Rattle.ndef_c.specs.declared.writing.Way.{Way}
+
+-- the octets of what is left of a payload
+abbrev pub left_octets : Form → Bool → ℕ → List ℕ → List ℕ
+left_octets form last size rest = flat_map (written_piece form) (later_pieces last (all_parts size rest))
+
+pub first_octets : (form : Form) (first last alone : Bool) (size : ℕ) (m : Item) (head : Head) (part rest : List ℕ) → 1 ≤ size → part ≡ take size m.payload → rest ≡ drop size m.payload → alone ≡ (length rest == 0)
+    → written head ≡ fields (first_piece first (alone && last) (not alone) m part) (is_short form (length part))
+    → piece_octets head m.kind m.id part ++ left_octets form last size rest ≡ record_octets form first last (Some size) m
+first_octets form first last alone size m head part rest h e f n w =
+    ap (λ x. x ++ left_octets form last size rest) (first_is form first (alone && last) (not alone) m part (written head) m.kind m.id w refl refl)
+    ∙ first-step form first last alone size m m.payload part rest h refl e f n
+
+pub later_octets : (form : Form) (last ends : Bool) (size : ℕ) (rest part later : List ℕ) (head : Head) → 1 ≤ size → 0 < length rest → part ≡ take size rest → later ≡ drop size rest → ends ≡ (length later == 0)
+    → written head ≡ fields (later_piece (ends && last) (not ends) part) (is_short form (length part))
+    → piece_octets head [] [] part ++ left_octets form last size later ≡ left_octets form last size rest
+later_octets form last ends size rest part later head h some e f n w =
+    ap (λ x. x ++ left_octets form last size later) (later_is form (ends && last) (not ends) part (written head) w)
+    ∙ later-step form last ends size rest part later h some e f n
+
+pub none_is_left : (form : Form) (last : Bool) (size : ℕ) (rest : List ℕ) → 1 ≤ size → (length rest == 0) ≡ true → [] ≡ left_octets form last size rest
+none_is_left form last size rest h n = later-end form last size rest [] (left_octets form last size rest) h n refl
+
+pub in_lengths : (xs ys zs : List ℕ) → xs ++ ys ≡ zs → length xs + length ys ≡ length zs
+in_lengths xs ys zs e = sym (length-append xs ys) ∙ ap length e
+
+-- the records one after another are those of the message
+pub records_joined : (first : Bool) (form : Form) (size : Option ℕ) (m : List Item) → one_by_one form first size m ≡ flat_map (written_piece form) (all_pieces (cut_runs first size m))
+records_joined first form size [] = refl
+records_joined first form size (m ∷ ms) =
+    ap (λ x. record_octets form first (is_nil ms) size m ++ x) (records_joined false form size ms)
+    ∙ sym (flat_map-append (written_piece form) (pieces (cut_run first (is_nil ms) size m)) (all_pieces (cut_runs false size ms)))
+
+-- a size that no payload goes beyond is none
+pub octets_most : (form : Form) (first last : Bool) (size : Option ℕ) (most : ℕ) (m : Item) → most ≡ unwrap_or size 4294967295 → length m.payload < 2 ^ 32
+    → record_octets form first last (Some most) m ≡ record_octets form first last size m
+octets_most form first last None most m e small = ap (λ r. flat_map (written_piece form) (pieces r)) (whole_run first last most m (omega arith) small)
+octets_most form first last (Some size) most m e small = ap (λ n. record_octets form first last (Some n) m) e
+
+-- what is written so is what is asked
+pub asked_by : (how : NdefWriting) (way : Way) (m : Item) → way.first ≡ is_first how → way.last ≡ is_last how → way.form ≡ form_of how → way.size ≡ unwrap_or (size_of how) 4294967295 → length m.payload < 2 ^ 32
+    → octets_by way m ≡ asked_octets how m
+asked_by how way m f l o s small =
+    ap (λ x. record_octets x way.first way.last (Some way.size) m) o
+    ∙ ap₂ (λ x y. record_octets (form_of how) x y (Some way.size) m) f l
+    ∙ octets_most (form_of how) (is_first how) (is_last how) (size_of how) way.size m s small

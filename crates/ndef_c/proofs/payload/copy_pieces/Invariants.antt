@@ -1,0 +1,21 @@
+use Rattle.std.proofs.Common.{◌≡◌, ℕ, List, length}
+use Rattle.ndef_value.specs.Wire.{Run, joined}
+use Rattle.ndef_c.specs.Rooms.{IsPut}
+use Rattle.ndef_c.specs.Walks.{BeginsWith}
+use Rattle.ndef_c.proofs.Copied.{Copying}
+use Rattle.ndef_c.proofs.payload.copy_pieces.Given as goal
+
+abbrev pub invariant-loop-piece : goal.invariant-loop-piece
+invariant-loop-piece l = record {
+  run : Run;
+  end : List ℕ;
+  begins : BeginsWith run end l.bytes;
+  done : List ℕ;
+  copying : Copying (joined run).payload end l.rest done;
+  put : IsPut 0 done l.fn.room l.room;
+  at : l.at ≡ length done;
+  size : length l.room ≡ length l.fn.room;
+}
+
+abbrev pub decreases-loop-piece : goal.decreases-loop-piece
+decreases-loop-piece l = length l.rest

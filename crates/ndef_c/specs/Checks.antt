@@ -1,0 +1,46 @@
+-- What a check of some bytes answers.
+use Rattle.std.specs.Prelude.{◌≡◌, ℕ, ◌≤◌, ◌%◌, ◌==◌, Ok, length, ◌⊎◌, if◌then◌else◌, List}
+use Rattle.ndef_value.specs.Wire.{LimitValues, AreInRange}
+use Rattle.ndef_value.specs.Reason.{number_of}
+use Rattle.ndef_value.specs.declared.refusal.Refusal.{Refusal}
+use Rattle.ndef_value.specs.declared.profile.Profile.TheVariants.{Strict, Standard}
+use Rattle.ndef_lang.specs.Language.{Sets, Conditions}
+use Rattle.ndef_message.specs.Place.{Refuses}
+use Rattle.ndef_message.specs.Views.{Viewed, Views}
+use Rattle.ndef_c.specs.declared.status.TheConstants.{OK, REFUSED}
+use Rattle.ndef_c.specs.declared.limits.NdefLimits.{NdefLimits}
+use Rattle.ndef_c.specs.declared.checking.NdefChecked.{NdefChecked}
+
+-- the limits of these numbers
+abbrev pub limits_of : NdefLimits → LimitValues
+limits_of n = record {
+  payload = n.payload;
+  records = n.records;
+  pieces = n.pieces;
+  profile = if n.flags % 2 == 1 then Standard else Strict;
+}
+
+-- they are in range, and no unknown flag is set
+abbrev pub MayBeSet : NdefLimits → Type 0
+MayBeSet n = AreInRange (limits_of n) × (n.flags ≤ 3)
+
+-- NDEF 1.0, messages: the bytes begin with a message of so many bytes and records
+pub record Takes (set : Sets) (holds : Conditions) (limits : LimitValues) (bytes : List ℕ) (out : NdefChecked) : Type 0 where
+  pub viewed : Viewed
+  pub views : Views set holds limits bytes (Ok viewed)
+  pub place : out.place ≡ viewed.taken
+  pub records : out.records ≡ length viewed.runs
+  pub reason : out.reason ≡ 0
+
+-- they are refused, there and for that reason
+pub record RefusesAt (set : Sets) (holds : Conditions) (limits : LimitValues) (bytes : List ℕ) (out : NdefChecked) : Type 0 where
+  pub refusal : Refusal
+  pub refused : Refuses set holds limits bytes refusal
+  pub place : out.place ≡ refusal.at
+  pub records : out.records ≡ 0
+  pub reason : out.reason ≡ number_of refusal.reason
+
+-- one or the other, as the status says
+abbrev pub ChecksTo : Sets → Conditions → LimitValues → List ℕ → (status : ℕ) → NdefChecked → Type 0
+ChecksTo set holds limits bytes status out =
+    ((status ≡ OK) × Takes set holds limits bytes out) ⊎ ((status ≡ REFUSED) × RefusesAt set holds limits bytes out)

@@ -1,0 +1,5 @@
+pub mod Checks
+pub mod Rooms
+pub mod Runs
+pub mod Walks
+pub mod Writes

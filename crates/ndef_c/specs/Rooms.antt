@@ -1,0 +1,25 @@
+-- What a call leaves in the room that it is given.
+use Rattle.std.specs.Prelude.{◌≡◌, ℕ, ◌<◌, ◌≤◌, List, ◌++◌, ◌+◌, length, take, drop}
+use Rattle.ndef_value.specs.Reason.{number_of, name_of}
+use Rattle.ndef_value.specs.declared.reason.Reason.{Reason}
+use Rattle.ndef_c.specs.declared.status.TheConstants.{OK, NO_ROOM}
+
+-- these bytes stand at the front of the room, and behind them it is as it was
+abbrev pub written_over : List ℕ → List ℕ → List ℕ
+written_over text room = text ++ drop (length text) room
+
+-- the bytes are written to the room where it is large enough, else it is as it was; how many they are is told
+pub record Gives (text before after : List ℕ) (count status : ℕ) : Type 0 where
+  pub count_is : count ≡ length text
+  pub fits : length text ≤ length before → (status ≡ OK) × (after ≡ written_over text before)
+  pub too_small : length before < length text → (status ≡ NO_ROOM) × (after ≡ before)
+
+-- these bytes stand at the place, and all others are as they were
+pub record IsPut (at : ℕ) (text old new : List ℕ) : Type 0 where
+  pub is : new ≡ take at old ++ (text ++ drop (at + length text) old)
+
+-- the name of the reason with this number is given
+pub record GivesName (number : ℕ) (before after : List ℕ) (count status : ℕ) : Type 0 where
+  pub reason : Reason
+  pub number_is : number_of reason ≡ number
+  pub gives : Gives (name_of reason) before after count status

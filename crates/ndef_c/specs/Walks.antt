@@ -1,0 +1,73 @@
+-- Where the records of some bytes lie.
+use Rattle.std.specs.Prelude.{◌≡◌, ℕ, ◌<◌, ◌≤◌, Bool, true, false, List, [], ◌∷◌, ◌++◌, length, take, drop, Ok}
+use Rattle.ndef_value.specs.Wire.{Piece, Run, IsRun, SpellAll, pieces, joined, code, bit, LimitValues}
+use Rattle.ndef_value.specs.declared.profile.Profile.TheVariants.{Standard}
+use Rattle.ndef_lang.specs.Language.{Sets, Conditions}
+use Rattle.ndef_message.specs.Views.{Viewed, Views}
+use Rattle.ndef_c.specs.Rooms.{Gives}
+use Rattle.ndef_c.specs.declared.record.NdefRecord.{NdefRecord}
+
+-- NDEF 1.0, chunked payloads: the bytes begin with the pieces of a run, all of them whole, and these follow
+pub record BeginsWith (run : Run) (rest bytes : List ℕ) : Type 0 where
+  pub read : IsRun Standard run
+  pub front : List ℕ
+  pub spelled : SpellAll (pieces run) front
+  pub joined : bytes ≡ front ++ rest
+
+-- NDEF 1.0, chunked payloads: a record begins at the place, and all of it is there
+abbrev pub IsRecordThere : List ℕ → ℕ → Type 0
+IsRecordThere bytes at = (run : Run) × (rest : List ℕ) × BeginsWith run rest (drop at bytes)
+
+-- NDEF 1.0, ME: the last of some pieces ends its message
+abbrev pub ends_message : Piece → List Piece → Bool
+ends_message p [] = p.last
+ends_message p (q ∷ qs) = ends_message q qs
+
+-- so many bytes from a place on are the part
+pub record Lies (bytes : List ℕ) (at count : ℕ) (part : List ℕ) : Type 0 where
+  pub are : take count (drop at bytes) ≡ part
+  pub count_is : count ≡ length part
+
+-- NDEF 1.0, record layout and chunked payloads: this is the record at the place, and where its parts lie
+pub record IsRecordAt (bytes : List ℕ) (at : ℕ) (r : NdefRecord) : Type 0 where
+  pub run : Run
+  pub begins : BeginsWith run (drop r.end bytes) (drop at bytes)
+  pub at_is : r.at ≡ at
+  pub onward : at < r.end
+  pub within : r.end ≤ length bytes
+  pub tnf : r.tnf ≡ code (joined run).tnf
+  pub kind : Lies bytes r.type_at r.type_length (joined run).kind
+  pub id : Lies bytes r.id_at r.id_length (joined run).id
+  pub part : Lies bytes r.payload_at r.part_length run.initial.payload
+  pub payload : r.payload_length ≡ length (joined run).payload
+  pub pieces_are : r.pieces ≡ length (pieces run)
+  pub last : r.last ≡ bit (ends_message run.initial run.later)
+
+-- the payload of the record at the place is given
+pub record GivesPayload (bytes : List ℕ) (at : ℕ) (before after : List ℕ) (count status : ℕ) : Type 0 where
+  pub run : Run
+  pub rest : List ℕ
+  pub begins : BeginsWith run rest (drop at bytes)
+  pub gives : Gives (joined run).payload before after count status
+
+-- ---- laws
+
+-- At a place begins one record, and it ends at one place.
+abbrev pub OneRecordIsThere : Type 0
+OneRecordIsThere = (r s : Run) (x y bytes : List ℕ) → BeginsWith r x bytes → BeginsWith s y bytes → (r ≡ s) × (x ≡ y)
+
+-- no run follows
+abbrev pub is_last : List Run → Bool
+is_last [] = true
+is_last (r ∷ rs) = false
+
+-- these runs lie one after another from a place to another, and the last of them alone ends its message
+abbrev pub AreWalked : List ℕ → (at : ℕ) → List Run → (end : ℕ) → Type 0
+AreWalked bytes at [] end = at ≡ end
+AreWalked bytes at (r ∷ rs) end =
+    (next : ℕ) × BeginsWith r (drop next bytes) (drop at bytes) × (ends_message r.initial r.later ≡ is_last rs) × AreWalked bytes next rs end
+
+-- What a check takes is walked from 0 to its end, in bytes that go no less far.
+abbrev pub ChecksAreWalked : Sets → Conditions → Type 0
+ChecksAreWalked set holds = (limits : LimitValues) (input : List ℕ) (v : Viewed) (count : ℕ) → Views set holds limits input (Ok v)
+    → v.taken ≤ count → AreWalked (take count input) 0 v.runs v.taken

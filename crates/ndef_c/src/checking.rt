@@ -1,0 +1,68 @@
+//! Checks the message at the front of some bytes.
+ghost use Rattle.std.specs.Prelude.{◌≡◌, ◌<◌, ◌≤◌, ◌↔◌};
+ghost use Rattle.ndef_c.specs.Checks.{limits_of, MayBeSet, ChecksTo};
+
+use crate::limits::{NdefLimits, limits_of};
+use crate::status::{BAD_ARGUMENT, OK, REFUSED};
+use ndef_lang::{Language, Opaque, OuterLanguage};
+use ndef_message::view;
+use ndef_nest::Typed;
+use ndef_value::Limits;
+
+/// What a check answers.
+#[repr(C)]
+#[derive(Clone, Copy, Drop)]
+pub struct NdefChecked {
+    /// The bytes of the message, or the place of the refusal.
+    pub place: u64,
+    /// The records of the message, 0 where it is refused.
+    pub records: u32,
+    /// 0, or the number of the reason.
+    pub reason: u32,
+}
+
+/// Checks with the payloads of a language.
+fn check_in<L: OuterLanguage>(bytes: &[u8], limits: Limits, out: &mut NdefChecked) -> u32
+    ensures { ChecksTo L.set L.holds limits bytes.now result out.new }
+{
+    match view::<L>(bytes, limits) {
+        Ok(view) => {
+            *out = NdefChecked {
+                place: view.taken(),
+                records: view.records(),
+                reason: 0,
+            };
+            OK
+        }
+        Err(refusal) => {
+            *out = NdefChecked {
+                place: refusal.at,
+                records: 0,
+                reason: u32::from(refusal.reason.number()),
+            };
+            REFUSED
+        }
+    }
+}
+
+/// Checks the message with which the bytes begin.
+#[unsafe(no_mangle)]
+pub extern "C" fn ndef_check(bytes: &[u8], limits: &NdefLimits, out: &mut NdefChecked) -> u32
+    ensures bad { result ≡ BAD_ARGUMENT ↔ ¬ MayBeSet limits.now }
+    ensures kept { result ≡ BAD_ARGUMENT → out.new ≡ out.old }
+    ensures typed { MayBeSet limits.now → limits.now.flags < 2
+        → ChecksTo ⟦<Typed as Language>⟧.set ⟦<Typed as Language>⟧.holds (limits_of limits.now)
+        bytes.now result out.new }
+    ensures opaque { MayBeSet limits.now → 2 ≤ limits.now.flags
+        → ChecksTo ⟦<Opaque as Language>⟧.set ⟦<Opaque as Language>⟧.holds (limits_of limits.now)
+        bytes.now result out.new }
+{
+    let Some((limits, looks)) = limits_of(limits) else {
+        return BAD_ARGUMENT;
+    };
+    if looks {
+        check_in::<Typed>(bytes, limits, out)
+    } else {
+        check_in::<Opaque>(bytes, limits, out)
+    }
+}

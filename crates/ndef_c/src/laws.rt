@@ -1,0 +1,25 @@
+//! What holds of the calls together.
+ghost use Rattle.ndef_c.specs.Walks.{ChecksAreWalked, OneRecordIsThere};
+ghost use Rattle.ndef_c.specs.Writes.{RecordsMakeAMessage};
+
+use ndef_lang::OuterLanguage;
+use ndef_piece::heads_are_apart;
+
+/// What a check takes is walked from place 0 on: its records lie one after another, each where the one
+/// before it ends, and the last of them alone is told as the last.
+pub fn checks_are_walked<L: OuterLanguage>()
+    ensures { ChecksAreWalked L.set L.holds }
+{}
+
+/// At a place begins one record, if any, and it ends at one place.
+pub fn one_record_is_there()
+    ensures { OneRecordIsThere }
+{
+    heads_are_apart();
+}
+
+/// Records that are written one after another, the first and the last told as such, are the bytes that
+/// `encode` and `encode_chunked` make of their message.
+pub fn records_make_a_message()
+    ensures { RecordsMakeAMessage }
+{}

@@ -1,0 +1,23 @@
+//! The library as C calls it: no memory is taken, and nothing is kept between calls. `include/ndef.h`
+//! says what each call demands, answers and leaves.
+#![tactic(auto)]
+
+mod checking;
+mod laws;
+mod limits;
+mod payload;
+mod reasons;
+mod record;
+mod room;
+mod run;
+mod status;
+mod writing;
+
+pub use checking::{NdefChecked, ndef_check};
+pub use laws::{checks_are_walked, one_record_is_there, records_make_a_message};
+pub use limits::{NdefLimits, ndef_usual_limits};
+pub use payload::ndef_payload;
+pub use reasons::ndef_reason_name;
+pub use record::{NdefRecord, ndef_record_at};
+pub use status::{BAD_ARGUMENT, END, NO_ROOM, OK, REFUSED};
+pub use writing::{NdefWriting, ndef_write_record};

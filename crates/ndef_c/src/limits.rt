@@ -1,0 +1,56 @@
+//! Limits as numbers.
+ghost use Rattle.std.specs.Prelude.{◌≡◌, ◌<◌, ◌↔◌, IfSome, IsSome, IsTrue};
+ghost use Rattle.ndef_value.specs.Wire.{usual_limits};
+ghost use Rattle.ndef_c.specs.Checks.{limits_of, MayBeSet};
+
+use ndef_value::{Limits, Profile};
+
+/// Limits, and how bytes are checked.
+#[repr(C)]
+#[derive(Clone, Copy, Drop)]
+pub struct NdefLimits {
+    /// The greatest number of bytes of a payload, its pieces joined, 1 to 4294967295.
+    pub payload: u32,
+    /// The greatest number of records of a message, 1 to 65535.
+    pub records: u32,
+    /// The greatest number of pieces of a record, 1 to 65535.
+    pub pieces: u32,
+    /// 1 for the profile Standard, 2 for a look into no payload, 3 for both.
+    pub flags: u32,
+}
+
+/// The limits of these numbers, and whether payloads are looked into.
+pub(crate) fn limits_of(numbers: &NdefLimits) -> Option<(Limits, bool)>
+    ensures some { IsSome result ↔ MayBeSet numbers.now }
+    ensures limits { IfSome result (λ r. r.0 ≡ limits_of numbers.now) }
+    ensures looks { IfSome result (λ r. IsTrue r.1 ↔ (numbers.now.flags < 2)) }
+{
+    if numbers.flags > 3 {
+        return None;
+    }
+    let Ok(limits) = Limits::new(numbers.payload, numbers.records, numbers.pieces) else {
+        return None;
+    };
+    let profile = if numbers.flags % 2 == 1 {
+        Profile::Standard
+    } else {
+        Profile::Strict
+    };
+    Some((limits.with(profile), numbers.flags < 2))
+}
+
+/// Writes the limits for usual tags: 1048576 bytes, 1024 records and 4096 pieces, strict, with a look
+/// into payloads.
+#[unsafe(no_mangle)]
+pub extern "C" fn ndef_usual_limits(out: &mut NdefLimits)
+    ensures limits { limits_of out.new ≡ usual_limits }
+    ensures looks { out.new.flags < 2 }
+{
+    let limits = Limits::usual();
+    *out = NdefLimits {
+        payload: limits.payload(),
+        records: limits.records(),
+        pieces: limits.pieces(),
+        flags: 0,
+    };
+}

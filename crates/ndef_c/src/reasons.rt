@@ -1,0 +1,58 @@
+//! The names of reasons.
+ghost use Rattle.std.specs.Prelude.{◌≡◌, ◌≢◌, ◌<◌, ◌≤◌, ◌⊎◌, ◌↔◌, IfSome, IsSome};
+ghost use Rattle.ndef_value.specs.Reason.{number_of};
+ghost use Rattle.ndef_c.specs.Rooms.{GivesName};
+
+use crate::room::give;
+use crate::status::BAD_ARGUMENT;
+use ndef_value::Reason;
+
+/// The reason with a number.
+fn reason_of(number: u32) -> Option<Reason>
+    ensures told { IfSome result (λ r. number_of r ≡ number) }
+    ensures some { IsSome result ↔ ((1 ≤ number) × (number ≤ 25)) }
+{
+    let reason = match number {
+        1 => Reason::ReservedTnf,
+        2 => Reason::BeginMissing,
+        3 => Reason::BeginAgain,
+        4 => Reason::UnchangedOutside,
+        5 => Reason::ChangedInside,
+        6 => Reason::IdInside,
+        7 => Reason::ChunkAtEnd,
+        8 => Reason::ChunkOfEmpty,
+        9 => Reason::TooManyPieces,
+        10 => Reason::TooManyRecords,
+        11 => Reason::TypeNotEmpty,
+        12 => Reason::TypeEmpty,
+        13 => Reason::EmptyNotEmpty,
+        14 => Reason::PayloadTooLarge,
+        15 => Reason::TextBit,
+        16 => Reason::Language,
+        17 => Reason::Utf8,
+        18 => Reason::Utf16,
+        19 => Reason::UriCode,
+        20 => Reason::UriMissing,
+        21 => Reason::UriAgain,
+        22 => Reason::Version,
+        23 => Reason::DoesNotFit,
+        24 => Reason::EndOfInput,
+        25 => Reason::CollisionMissing,
+        _ => return None,
+    };
+    Some(reason)
+}
+
+/// Writes the name of the reason with a number, in ASCII and with no NUL behind it, to the room.
+#[unsafe(no_mangle)]
+pub extern "C" fn ndef_reason_name(reason: u32, room: &mut [u8], count: &mut usize) -> u32
+    ensures bad { result ≡ BAD_ARGUMENT ↔ ((reason ≡ 0) ⊎ (25 < reason)) }
+    ensures kept { result ≡ BAD_ARGUMENT → (room.new ≡ room.old) × (count.new ≡ count.old) }
+    ensures name { result ≢ BAD_ARGUMENT → GivesName reason room.old room.new count.new result }
+    ensures short { result ≢ BAD_ARGUMENT → count.new ≤ 16 }
+{
+    let Some(reason) = reason_of(reason) else {
+        return BAD_ARGUMENT;
+    };
+    give(reason.name(), room, count)
+}

@@ -1,0 +1,82 @@
+//! A record at the front of some bytes, whatever these are.
+ghost use Rattle.std.specs.Prelude.{◌≡◌, ◌≤◌, ◌<◌, ◌↔◌, length, IfNone, IfSome, IsTrue};
+ghost use Rattle.ndef_value.specs.Wire.{IsInitial, IsLater};
+ghost use Rattle.ndef_value.specs.declared.profile.Profile.TheVariants.{Standard};
+ghost use Rattle.ndef_piece.specs.Header.{is_set};
+ghost use Rattle.ndef_piece.specs.Whole.{shown};
+ghost use Rattle.ndef_c.specs.Runs.{HasRun, IsFirst};
+
+use ndef_piece::{WholePiece, heads_are_apart, whole_piece};
+
+/// A run at the front of some bytes (NDEF 1.0, chunked payloads).
+#[derive(Clone, Copy)]
+pub(crate) struct FirstRun<'a> {
+    /// Its initial piece.
+    pub(crate) first: WholePiece<'a>,
+    /// The bytes of its payload, the pieces joined.
+    pub(crate) payload: usize,
+    /// Its pieces.
+    pub(crate) pieces: usize,
+    /// Whether it ends its message.
+    pub(crate) last: bool,
+    /// The bytes behind it.
+    pub(crate) rest: &'a [u8],
+}
+
+/// Whether the piece may be the initial piece of a run.
+fn is_initial(piece: &WholePiece<'_>) -> bool
+    ensures { IsTrue result ↔ IsInitial Standard (shown piece.now) }
+{
+    let tnf = piece.header % 8;
+    tnf != 6 && (tnf != 0 || !piece.is_chunked())
+}
+
+/// Whether the piece may be a middle or terminating piece of a run.
+fn is_later(piece: &WholePiece<'_>) -> bool
+    ensures { IsTrue result ↔ IsLater (shown piece.now) }
+{
+    let has_id = piece.header >> 3 & 1 == 1;
+    piece.header % 8 == 6 && piece.kind.is_empty() && !has_id
+}
+
+/// ME: whether the piece ends its message.
+fn is_last(piece: &WholePiece<'_>) -> bool
+    ensures { result ≡ is_set 6 piece.now.header }
+{
+    piece.header >> 6 & 1 == 1
+}
+
+/// The run with which the bytes begin, if all of it is there.
+pub(crate) fn first_run(bytes: &[u8]) -> Option<FirstRun<'_>>
+    ensures none { IfNone result (¬ HasRun bytes.now) }
+    ensures some { IfSome result (IsFirst bytes.now) }
+{
+    heads_are_apart();
+    let Some(first) = whole_piece(bytes) else {
+        return None;
+    };
+    if !is_initial(&first) {
+        return None;
+    }
+    let mut piece = first;
+    let mut payload = first.payload.len();
+    let mut pieces = 1;
+    while piece.is_chunked() {
+        let Some(next) = whole_piece(piece.rest) else {
+            return None;
+        };
+        if !is_later(&next) {
+            return None;
+        }
+        payload += next.payload.len();
+        pieces += 1;
+        piece = next;
+    }
+    Some(FirstRun {
+        first,
+        payload,
+        pieces,
+        last: is_last(&piece),
+        rest: piece.rest,
+    })
+}

@@ -1,0 +1,273 @@
+//! Writes a record.
+ghost use Rattle.std.specs.Prelude.{◌≡◌, ◌≢◌, ◌+◌, ◌*◌, ◌≤◌, ◌<◌, ◌^◌, ◌++◌, ◌&&◌, [], not, take, drop, length, unwrap_or, Some, IfSome, IsNone, IsTrue, ◌↔◌};
+ghost use Rattle.ndef_value.specs.Wire.{FitsForm, IsShaped, HasLengths, fields, tnf_of};
+ghost use Rattle.ndef_piece.specs.Heads.{written};
+ghost use Rattle.ndef_message.specs.Cut.{first_piece, later_piece};
+ghost use Rattle.ndef_message.specs.Written.{is_short};
+ghost use Rattle.ndef_c.specs.Rooms.{Gives, IsPut};
+ghost use Rattle.ndef_c.specs.Writes.{item_of, octets_by, piece_octets, asked, asked_octets, is_first, is_last, form_of, size_of, MayBeWritten};
+
+use crate::room::put;
+use crate::status::{BAD_ARGUMENT, NO_ROOM, OK};
+use ndef_message::Form;
+use ndef_piece::{Head, write_head};
+use ndef_value::Tnf;
+
+/// How a record is written.
+#[repr(C)]
+#[derive(Clone, Copy, Drop)]
+pub struct NdefWriting {
+    /// The type name format, 0 to 5.
+    pub tnf: u32,
+    /// 1 for the first record of the message, 2 for the last, 3 for both, and 4 more for the long form.
+    pub flags: u32,
+    /// The payload bytes of a piece, or 0 for one piece.
+    pub chunk: u32,
+}
+
+/// The parts of a record.
+#[derive(Clone, Copy)]
+struct Parts<'a> {
+    tnf: Tnf,
+    kind: &'a [u8],
+    id: &'a [u8],
+    payload: &'a [u8],
+}
+
+/// Where a record stands, and how it is written.
+#[derive(Clone, Copy)]
+struct Way {
+    first: bool,
+    last: bool,
+    form: Form,
+    /// The payload bytes of a piece, at least 1.
+    size: usize,
+}
+
+/// The type name format of a record with a number (NDEF 1.0, TNF).
+fn tnf_of(number: u32) -> Option<Tnf>
+    ensures some { IfSome result (λ t. t ≡ tnf_of number) }
+    ensures known { IfSome result (λ _. number ≤ 5) }
+    ensures none { IsNone result → 5 < number }
+{
+    match number {
+        0 => Some(Tnf::Empty),
+        1 => Some(Tnf::WellKnown),
+        2 => Some(Tnf::Media),
+        3 => Some(Tnf::AbsoluteUri),
+        4 => Some(Tnf::External),
+        5 => Some(Tnf::Unknown),
+        _ => None,
+    }
+}
+
+/// Whether the parts go together.
+fn is_shaped(parts: &Parts<'_>) -> bool
+    ensures { IsTrue result ↔ IsShaped (item_of parts.now) }
+{
+    match parts.tnf {
+        Tnf::Empty => parts.kind.is_empty() && parts.id.is_empty() && parts.payload.is_empty(),
+        Tnf::WellKnown | Tnf::Media | Tnf::AbsoluteUri | Tnf::External => !parts.kind.is_empty(),
+        Tnf::Unknown => parts.kind.is_empty(),
+        Tnf::Unchanged => false,
+    }
+}
+
+/// Whether a piece can tell their lengths.
+fn has_lengths(parts: &Parts<'_>) -> bool
+    ensures { IsTrue result ↔ HasLengths (item_of parts.now) }
+{
+    parts.kind.len() <= 255 && parts.id.len() <= 255 && parts.payload.len() <= u32::MAX as usize
+}
+
+/// Whether a piece of so many payload bytes is written in the short form.
+fn is_short(form: Form, length: usize) -> bool
+    ensures { result ≡ is_short form length }
+{
+    match form {
+        Form::Short => length <= 255,
+        Form::Long => false,
+    }
+}
+
+/// The head of the first piece of a record, which has this part of the payload, alone or not.
+fn first_head(parts: &Parts<'_>, way: Way, alone: bool, part: &[u8]) -> Head
+    requires part { length part.now < 2 ^ 32 }
+    requires lengths { HasLengths (item_of parts.now) }
+    ensures head { written result
+        ≡ fields (first_piece way.first (alone && way.last) (not alone) (item_of parts.now) part.now)
+        (is_short way.form (length part.now)) }
+    ensures form { FitsForm result.short result.payload_length }
+{
+    Head {
+        first: way.first,
+        last: alone && way.last,
+        chunked: !alone,
+        short: is_short(way.form, part.len()),
+        tnf: parts.tnf,
+        kind_length: parts.kind.len() as u8,
+        payload_length: part.len() as u32,
+        id_length: if parts.id.is_empty() {
+            None
+        } else {
+            Some(parts.id.len() as u8)
+        },
+    }
+}
+
+/// The head of a later piece of a record, which has this part of the payload, the last one or not.
+fn later_head(way: Way, ends: bool, part: &[u8]) -> Head
+    requires { length part.now < 2 ^ 32 }
+    ensures head { written result ≡ fields (later_piece (ends && way.last) (not ends) part.now)
+        (is_short way.form (length part.now)) }
+    ensures form { FitsForm result.short result.payload_length }
+{
+    Head {
+        first: false,
+        last: ends && way.last,
+        chunked: !ends,
+        short: is_short(way.form, part.len()),
+        tnf: Tnf::Unchanged,
+        kind_length: 0,
+        payload_length: part.len() as u32,
+        id_length: None,
+    }
+}
+
+/// Writes a piece at a place of the room, and answers the place behind it.
+fn put_piece(room: &mut [u8], at: usize, head: &Head, kind: &[u8], id: &[u8], part: &[u8]) -> usize
+    requires form { FitsForm head.now.short head.now.payload_length }
+    requires room { at + length (piece_octets head.now kind.now id.now part.now) ≤ length room.old }
+    ensures put { IsPut at (piece_octets head.now kind.now id.now part.now) room.old room.new }
+    ensures size { length room.new ≡ length room.old }
+    ensures behind { result ≡ at + length (piece_octets head.now kind.now id.now part.now) }
+{
+    let mut octets = [0; 7];
+    let count = write_head(head, &mut octets);
+    let after_head = put(room, at, &octets[..count]);
+    let after_kind = put(room, after_head, kind);
+    let after_id = put(room, after_kind, id);
+    put(room, after_id, part)
+}
+
+/// The bytes of a piece.
+fn piece_length(head: &Head, kind: &[u8], id: &[u8], part: &[u8]) -> usize
+    requires form { FitsForm head.now.short head.now.payload_length }
+    requires part { length part.now < 2 ^ 32 }
+    requires kind { length kind.now < 256 }
+    requires id { length id.now < 256 }
+    ensures value { result ≡ length (piece_octets head.now kind.now id.now part.now) }
+    ensures most { result ≤ 7 + (length kind.now + (length id.now + length part.now)) }
+{
+    let mut octets = [0; 7];
+    let count = write_head(head, &mut octets);
+    count + kind.len() + id.len() + part.len()
+}
+
+/// The first part of a payload, and what is left of it.
+fn first_part(payload: &[u8], size: usize) -> (&[u8], &[u8])
+    ensures part { result.0.now ≡ take size payload.now }
+    ensures rest { result.1.now ≡ drop size payload.now }
+{
+    payload.split_at(payload.len().min(size))
+}
+
+/// The bytes of a record that is written so.
+fn record_length(parts: &Parts<'_>, way: Way) -> usize
+    requires lengths { HasLengths (item_of parts.now) }
+    requires some { 1 ≤ way.size }
+    ensures { result ≡ length (octets_by way (item_of parts.now)) }
+{
+    let (part, behind) = first_part(parts.payload, way.size);
+    let head = first_head(parts, way, behind.is_empty(), part);
+    let mut total = piece_length(&head, parts.kind, parts.id, part);
+    let mut rest = behind;
+    while !rest.is_empty() {
+        let (part, later) = first_part(rest, way.size);
+        let head = later_head(way, later.is_empty(), part);
+        total += piece_length(&head, &[], &[], part);
+        rest = later;
+    }
+    total
+}
+
+/// Writes a record so to the front of the room.
+fn put_record(room: &mut [u8], parts: &Parts<'_>, way: Way)
+    requires lengths { HasLengths (item_of parts.now) }
+    requires some { 1 ≤ way.size }
+    requires room { length (octets_by way (item_of parts.now)) ≤ length room.old }
+    ensures { IsPut 0 (octets_by way (item_of parts.now)) room.old room.new }
+{
+    let (part, behind) = first_part(parts.payload, way.size);
+    let head = first_head(parts, way, behind.is_empty(), part);
+    let mut at = put_piece(room, 0, &head, parts.kind, parts.id, part);
+    let mut rest = behind;
+    while !rest.is_empty() {
+        let (part, later) = first_part(rest, way.size);
+        let head = later_head(way, later.is_empty(), part);
+        at = put_piece(room, at, &head, &[], &[], part);
+        rest = later;
+    }
+}
+
+/// Where a record stands, and how it is written, as the numbers say.
+fn way_of(how: &NdefWriting) -> Way
+    ensures first { result.first ≡ is_first how.now }
+    ensures last { result.last ≡ is_last how.now }
+    ensures form { result.form ≡ form_of how.now }
+    ensures size { result.size ≡ unwrap_or (size_of how.now) 4294967295 }
+{
+    Way {
+        first: how.flags % 2 == 1,
+        last: how.flags / 2 % 2 == 1,
+        form: if how.flags >= 4 {
+            Form::Long
+        } else {
+            Form::Short
+        },
+        size: if how.chunk == 0 {
+            u32::MAX as usize
+        } else {
+            how.chunk as usize
+        },
+    }
+}
+
+/// Writes a record to the room (NDEF 1.0, record layout and chunked payloads), as the numbers say; an
+/// empty id isn't written.
+#[unsafe(no_mangle)]
+pub extern "C" fn ndef_write_record(
+    kind: &[u8],
+    id: &[u8],
+    payload: &[u8],
+    how: &NdefWriting,
+    room: &mut [u8],
+    count: &mut usize,
+) -> u32
+    ensures bad { result ≡ BAD_ARGUMENT ↔ ¬ MayBeWritten how.now (asked how.now kind.now id.now payload.now) }
+    ensures kept { result ≡ BAD_ARGUMENT → (room.new ≡ room.old) × (count.new ≡ count.old) }
+    ensures written { MayBeWritten how.now (asked how.now kind.now id.now payload.now)
+        → Gives (asked_octets how.now (asked how.now kind.now id.now payload.now))
+        room.old room.new count.new result }
+{
+    let Some(tnf) = tnf_of(how.tnf) else {
+        return BAD_ARGUMENT;
+    };
+    let parts = Parts {
+        tnf,
+        kind,
+        id,
+        payload,
+    };
+    if how.flags > 7 || !is_shaped(&parts) || !has_lengths(&parts) {
+        return BAD_ARGUMENT;
+    }
+    let way = way_of(how);
+    let needed = record_length(&parts, way);
+    *count = needed;
+    if room.len() < needed {
+        return NO_ROOM;
+    }
+    put_record(room, &parts, way);
+    OK
+}
