@@ -1,0 +1,148 @@
+/* ndef.h: messages of the NFC Data Exchange Format (NFC Forum, NDEF 1.0), checked, walked and written.
+ *
+ * No call takes memory, blocks, keeps anything between calls, or reads or writes anything but its arguments; so any
+ * thread may make any call, an interrupt handler too. Each call ends, whatever bytes it is given.
+ *
+ * Of the caller it is asked alone that
+ *   - a pointer with a length points to so many bytes, and any other pointer to a value of its type;
+ *     no pointer is NULL (where a length is 0, any other pointer serves);
+ *   - what a call writes (`out`, `count`, a room) overlaps nothing else that the call is given;
+ *   - no array has more than PTRDIFF_MAX bytes.
+ * Whatever else the numbers, bytes and structs hold, the answer is defined.
+ *
+ * A call answers a status. Where it is NDEF_BAD_ARGUMENT or NDEF_END nothing is written; where it is NDEF_NO_ROOM
+ * *count alone. A room of 0 bytes asks for the length. */
+#ifndef NDEF_H
+#define NDEF_H
+
+#include <stddef.h>
+#include <stdint.h>
+
+#ifdef __cplusplus
+extern "C" {
+#endif
+
+enum ndef_status {
+    NDEF_OK = 0,
+    NDEF_REFUSED = 1,      /* the bytes begin with no message: the answer has the place and the reason */
+    NDEF_NO_ROOM = 2,      /* the room is too small: *count has what is needed, and the room is as it was */
+    NDEF_BAD_ARGUMENT = 3, /* as each call says */
+    NDEF_END = 4           /* no record is left */
+};
+
+/* Why the byte at a place cannot stand there. The names are those that ndef_reason_name gives. */
+enum ndef_reason {
+    NDEF_RESERVED_TNF = 1,
+    NDEF_BEGIN_MISSING = 2,
+    NDEF_BEGIN_AGAIN = 3,
+    NDEF_UNCHANGED_OUTSIDE = 4,
+    NDEF_CHANGED_INSIDE = 5,
+    NDEF_ID_INSIDE = 6,
+    NDEF_CHUNK_AT_END = 7,
+    NDEF_CHUNK_OF_EMPTY = 8,
+    NDEF_TOO_MANY_PIECES = 9,
+    NDEF_TOO_MANY_RECORDS = 10,
+    NDEF_TYPE_NOT_EMPTY = 11,
+    NDEF_TYPE_EMPTY = 12,
+    NDEF_EMPTY_NOT_EMPTY = 13,
+    NDEF_PAYLOAD_TOO_LARGE = 14,
+    NDEF_TEXT_BIT = 15,
+    NDEF_LANGUAGE = 16,
+    NDEF_UTF8 = 17,
+    NDEF_UTF16 = 18,
+    NDEF_URI_CODE = 19,
+    NDEF_URI_MISSING = 20,
+    NDEF_URI_AGAIN = 21,
+    NDEF_VERSION = 22,
+    NDEF_DOES_NOT_FIT = 23,
+    NDEF_END_OF_INPUT = 24,
+    NDEF_COLLISION_MISSING = 25
+};
+
+/* The type name formats (NDEF 1.0, TNF). */
+enum ndef_tnf {
+    NDEF_EMPTY = 0,
+    NDEF_WELL_KNOWN = 1,
+    NDEF_MEDIA = 2,
+    NDEF_ABSOLUTE_URI = 3,
+    NDEF_EXTERNAL = 4,
+    NDEF_UNKNOWN = 5 /* the reserved 7 too, where the profile is Standard */
+};
+
+/* ---- check */
+
+/* How large a message may be: 1 to 4294967295 bytes of a record's payload, its pieces joined, 1 to 65535 records, and
+ * 1 to 65535 pieces of a record. Flags: NDEF_STANDARD reads reserved values as the standard says, where a strict
+ * reader refuses them; NDEF_OPAQUE looks into no payload, where else texts, URIs, smart posters and handovers are
+ * looked into. */
+typedef struct ndef_limits {
+    uint32_t payload, records, pieces, flags;
+} ndef_limits;
+enum { NDEF_STANDARD = 1, NDEF_OPAQUE = 2 };
+
+/* Writes the limits for usual tags: 1048576 bytes, 1024 records and 4096 pieces, no flag. */
+void ndef_usual_limits(ndef_limits *out);
+
+typedef struct ndef_checked {
+    uint64_t place;   /* the bytes of the message, or the place of the first byte that is refused */
+    uint32_t records; /* its records; 0 where it is refused */
+    uint32_t reason;  /* 0, or an ndef_reason; NDEF_END_OF_INPUT, at `length`, where the bytes end too early */
+} ndef_checked;
+
+/* Checks the message with which the bytes begin; other bytes may follow it.
+ * NDEF_OK: out->place bytes are a message. NDEF_REFUSED: out tells where and why no message goes on.
+ * NDEF_BAD_ARGUMENT: a limit is out of its range, or an unknown flag is set. */
+uint32_t ndef_check(const uint8_t *bytes, size_t length, const ndef_limits *limits, ndef_checked *out);
+
+/* Writes the name of a reason to the front of the room, in ASCII and with no NUL behind it, and its length, at most
+ * 16, to *count. NDEF_OK, NDEF_NO_ROOM; NDEF_BAD_ARGUMENT: no such reason. */
+uint32_t ndef_reason_name(uint32_t reason, uint8_t *room, size_t size, size_t *count);
+
+/* ---- walk */
+
+/* A record, by places and lengths in the bytes. */
+typedef struct ndef_record {
+    size_t at;             /* where it begins */
+    size_t end;            /* where the next one begins */
+    size_t type_at, type_length;
+    size_t id_at, id_length; /* an empty id stands for none too */
+    size_t payload_at;     /* where the payload of its first piece begins */
+    size_t part_length;    /* .. and its length: of the whole payload, where there is one piece */
+    size_t payload_length; /* of the whole payload, its pieces joined */
+    size_t pieces;         /* 1, unless it is chunked */
+    uint32_t tnf;          /* an ndef_tnf */
+    uint32_t last;         /* 1 for the last of the message, else 0 */
+} ndef_record;
+
+/* The record at a place. The first one of a message is at 0, the next one at the `end` of the one before, up to the
+ * one that is the last. What ndef_check took is walked so; of other bytes it is told whether they have a record at the
+ * place: an initial piece and, where it is chunked, the pieces that follow it, all of them whole.
+ * NDEF_END: the place is `length`. NDEF_BAD_ARGUMENT: any other place at which no record begins. */
+uint32_t ndef_record_at(const uint8_t *bytes, size_t length, size_t at, ndef_record *out);
+
+/* Writes the payload of the record at a place, its pieces joined, to the front of the room, and its length to *count.
+ * NDEF_OK, NDEF_NO_ROOM; NDEF_BAD_ARGUMENT: no record begins at the place, `length` too. */
+uint32_t ndef_payload(const uint8_t *bytes, size_t length, size_t at, uint8_t *room, size_t size, size_t *count);
+
+/* ---- write */
+
+/* How a record is written. Flags: NDEF_FIRST and NDEF_LAST of its message, and NDEF_LONG, by which no payload length is
+ * written in one octet. chunk: the payload bytes of each piece but the last; 0 asks for one piece. */
+typedef struct ndef_writing {
+    uint32_t tnf, flags, chunk;
+} ndef_writing;
+enum { NDEF_FIRST = 1, NDEF_LAST = 2, NDEF_LONG = 4 };
+
+/* Writes a record to the front of the room, and its length to *count; an empty id isn't written. Records that are
+ * written one after another, the first and the last with those flags, are a message.
+ * NDEF_OK, NDEF_NO_ROOM; NDEF_BAD_ARGUMENT: no such type name format or flag; a type or an id of more than 255 bytes; a
+ * payload of more than 4294967295; a type with NDEF_UNKNOWN; none with NDEF_WELL_KNOWN, NDEF_MEDIA, NDEF_ABSOLUTE_URI
+ * or NDEF_EXTERNAL; anything with NDEF_EMPTY. */
+uint32_t ndef_write_record(const uint8_t *type, size_t type_length, const uint8_t *id, size_t id_length,
+                           const uint8_t *payload, size_t payload_length, const ndef_writing *how,
+                           uint8_t *room, size_t size, size_t *count);
+
+#ifdef __cplusplus
+}
+#endif
+#endif
