@@ -1,0 +1,124 @@
+/* Runs the cases that are given as lines: name | languages | profile | limits | bytes | answer | records.
+ * Each goes through check, walk, payload and write; a line that fails is printed. */
+#include "ndef.h"
+
+#include <stdio.h>
+#include <stdlib.h>
+#include <string.h>
+
+/* The structs lie as the library's do. */
+typedef char limits_lie[sizeof(ndef_limits) == 16 && offsetof(ndef_limits, flags) == 12 ? 1 : -1];
+typedef char checked_lies[sizeof(ndef_checked) == 16 && offsetof(ndef_checked, records) == 8 ? 1 : -1];
+typedef char record_lies[sizeof(ndef_record) == 88 && offsetof(ndef_record, tnf) == 80 ? 1 : -1];
+typedef char writing_lies[sizeof(ndef_writing) == 12 && offsetof(ndef_writing, chunk) == 8 ? 1 : -1];
+
+enum { FIELDS = 7, LINE = 1 << 22 };
+
+static char line[LINE];
+static uint8_t bytes[LINE], payload[LINE], written[LINE];
+
+/* The next field of a line, without the spaces around it. */
+static char *field(char **rest) {
+    char *at = *rest, *end = strchr(at, '|');
+    *rest = end ? end + 1 : at + strlen(at);
+    if (end) *end = 0;
+    while (*at == ' ') at++;
+    for (end = at + strlen(at); end > at && (end[-1] == ' ' || end[-1] == '\n'); end--) end[-1] = 0;
+    return at;
+}
+
+static size_t from_hex(const char *text, uint8_t *out) {
+    size_t count = 0;
+    unsigned octet;
+    for (; *text; text++)
+        if (*text != ' ' && sscanf(text, "%2x", &octet) == 1) out[count++] = (uint8_t)octet, text++;
+    return count;
+}
+
+static int is_part(const char *text, const uint8_t *part, size_t length) {
+    if (strcmp(text, "-") == 0) text = "";
+    return strlen(text) == length && memcmp(text, part, length) == 0;
+}
+
+/* Whether the record, which is written behind what was, is the one that the text tells. */
+static int is_record(const char *text, const ndef_record *record, const uint8_t *whole, size_t *end) {
+    static char hexadecimal[LINE];
+    static uint8_t told[LINE];
+    unsigned tnf;
+    char type[512], id[512];
+    size_t count = 0;
+    if (sscanf(text, "%u %511s %511s %4194303s", &tnf, type, id, hexadecimal) != 4 || tnf != record->tnf) return 0;
+    if (!is_part(type, bytes + record->type_at, record->type_length)) return 0;
+    if (!is_part(id, bytes + record->id_at, record->id_length)) return 0;
+    size_t length = strcmp(hexadecimal, "-") ? from_hex(hexadecimal, told) : 0;
+    if (length != record->payload_length) return 0;
+    if (ndef_payload(whole, record->end, record->at, payload, length ? length - 1 : 0, &count) != (length ? NDEF_NO_ROOM : NDEF_OK)) return 0;
+    if (count != length || ndef_payload(whole, record->end, record->at, payload, length, &count) != NDEF_OK) return 0;
+    if (memcmp(payload, told, length)) return 0;
+    if (record->pieces == 1 && (record->part_length != length || memcmp(whole + record->payload_at, told, length))) return 0;
+    ndef_writing how = { tnf, (*end == 0 ? (uint32_t)NDEF_FIRST : 0) | (record->last ? (uint32_t)NDEF_LAST : 0), 0 };
+    if (ndef_write_record(bytes + record->type_at, record->type_length, bytes + record->id_at, record->id_length, payload,
+                          length, &how, written + *end, sizeof written - *end, &count) != NDEF_OK) return 0;
+    *end += count;
+    return 1;
+}
+
+/* Whether the records are those that the text tells, and what is written of them is read again. */
+static int are_records(char *text, const ndef_limits *limits, const ndef_checked *checked) {
+    ndef_checked again;
+    ndef_record record;
+    size_t end = 0, at = 0;
+    uint32_t records = 0;
+    while (ndef_record_at(bytes, (size_t)checked->place, at, &record) == NDEF_OK) {
+        char *next = strchr(text, ',');
+        if (next) *next = 0;
+        if (!is_record(text, &record, bytes, &end)) return 0;
+        records++;
+        if (record.last != (record.end == checked->place) || (record.last == 0) != (next != NULL)) return 0;
+        text = next ? next + 1 : text;
+        at = record.end;
+    }
+    return at == checked->place && records == checked->records && ndef_check(written, end, limits, &again) == NDEF_OK
+        && again.place == end && again.records == records;
+}
+
+static int is_answered(char *limit_words, const char *profile, int opaque, size_t length, const char *answer, char *records) {
+    ndef_limits limits;
+    ndef_checked checked;
+    unsigned long long place = 0;
+    unsigned reason = 0;
+    ndef_usual_limits(&limits);
+    for (char *word = strtok(limit_words, " "); word; word = strtok(NULL, " ")) {
+        if (!strcmp(word, "payload")) limits.payload = (uint32_t)strtoul(strtok(NULL, " "), NULL, 10);
+        if (!strcmp(word, "records")) limits.records = (uint32_t)strtoul(strtok(NULL, " "), NULL, 10);
+        if (!strcmp(word, "pieces")) limits.pieces = (uint32_t)strtoul(strtok(NULL, " "), NULL, 10);
+    }
+    limits.flags = (strcmp(profile, "standard") ? 0u : NDEF_STANDARD) | (opaque ? NDEF_OPAQUE : 0u);
+    uint32_t status = ndef_check(bytes, length, &limits, &checked);
+    if (sscanf(answer, "accepted %llu", &place) == 1)
+        return status == NDEF_OK && checked.place == place && checked.reason == 0 && are_records(records, &limits, &checked);
+    if (sscanf(answer, "refused %llu %u", &place, &reason) != 2 && sscanf(answer, "more %llu", &place) == 1)
+        reason = NDEF_END_OF_INPUT;
+    return status == NDEF_REFUSED && checked.place == place && checked.reason == reason && checked.records == 0;
+}
+
+int main(void) {
+    size_t run = 0, failed = 0;
+    while (fgets(line, sizeof line, stdin)) {
+        static char copy[LINE];
+        char *fields[FIELDS], *rest = copy;
+        strcpy(copy, line);
+        for (int i = 0; i < FIELDS; i++) fields[i] = field(&rest);
+        size_t length = from_hex(fields[4], bytes);
+        for (int opaque = 0; opaque < 2; opaque++) {
+            if (!strstr(fields[1], opaque ? "opaque" : "typed")) continue;
+            char limits[128], records[1 << 16];
+            snprintf(limits, sizeof limits, "%s", fields[3]);
+            snprintf(records, sizeof records, "%s", fields[6]);
+            run++;
+            if (!is_answered(limits, fields[2], opaque, length, fields[5], records)) failed++, printf("%s", line);
+        }
+    }
+    printf("cases %zu, failed %zu\n", run, failed);
+    return failed || !run;
+}
