@@ -23,6 +23,7 @@ pub mod Opening
 pub mod Parts
 pub mod Places
 pub mod ReadBack
+pub mod Readers
 pub mod ReadingOn
 pub mod Rests
 pub mod SeenBytes

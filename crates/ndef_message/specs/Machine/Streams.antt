@@ -1,14 +1,18 @@
 -- What a source over a reader and a sink over a writer show.
-use Rattle.std.specs.Prelude.{◌-◌, ℕ, Bool, List, Option}
+use Rattle.std.specs.Prelude.{◌-◌, ℕ, Bool, List, Option, slice_range}
 use Rattle.std.specs.declared.io.traits.BufRead.{Ghosts as BufferedOf}
 use Rattle.std.specs.declared.io.traits.Read.{Ghosts as ReadingOf}
 use Rattle.ndef_message.specs.Machine.Readers.{left_of}
 use Rattle.ndef_message.specs.declared.std_sink.StdSink.{StdSink}
 use Rattle.ndef_message.specs.declared.std_source.StdSource.{StdSource}
 
+-- the bytes of the copy that are shown
+abbrev pub bytes_shown : {R : Type 0} {buffered : BufferedOf R} {reading : ReadingOf R} → StdSource R buffered reading → List ℕ
+bytes_shown s = slice_range s.copy s.window.start s.window.end
+
 -- the bytes to come of a source
 abbrev pub reader_coming : {R : Type 0} {buffered : BufferedOf R} {reading : ReadingOf R} → StdSource R buffered reading → Option (List ℕ)
-reader_coming {buffered = buffered} {reading} s = left_of (reading.remaining s.reader) (buffered.consumable_len s.reader) s.fresh s.filled s.pending
+reader_coming {buffered = buffered} {reading} s = left_of (reading.remaining s.reader) (buffered.consumable_len s.reader) s.fresh (bytes_shown s) s.pending
 
 -- how many bytes were taken of it
 abbrev pub reader_taken : {R : Type 0} {buffered : BufferedOf R} {reading : ReadingOf R} → StdSource R buffered reading → ℕ
@@ -16,7 +20,7 @@ reader_taken s = s.count
 
 -- how many it shows that are not taken yet
 abbrev pub reader_shown : {R : Type 0} {buffered : BufferedOf R} {reading : ReadingOf R} → StdSource R buffered reading → ℕ
-reader_shown s = s.filled - s.taken
+reader_shown s = s.window.end - s.window.start
 
 -- it has failed
 abbrev pub reader_failed : {R : Type 0} {buffered : BufferedOf R} {reading : ReadingOf R} → StdSource R buffered reading → Bool
