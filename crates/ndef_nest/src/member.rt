@@ -1,7 +1,7 @@
 //! Whether whole payloads are nested messages. Only a true answer tells something.
 ghost use Rattle.std.specs.Prelude.{◌≡◌, ◌≤◌, ℕ, suc, IfSome, IsTrue};
 ghost use Rattle.ndef_nest.specs.Nested.{IsNest, Nested};
-ghost use Rattle.ndef_nest.specs.Demands.{Later, Rest, Tail};
+ghost use Rattle.ndef_nest.specs.Machine.Demands.{Later, Rest, Tail};
 
 use crate::Table;
 use crate::context::Context;

@@ -3,7 +3,7 @@ use Rattle.ndef_piece.specs.Header.{is_set}
 use Rattle.ndef_piece.specs.Pieces.{Stands}
 use Rattle.ndef_piece.specs.Whole.{piece_of}
 use Rattle.ndef_nest.specs.Nested.{kind_in}
-use Rattle.ndef_nest.specs.Demands.{Tail, Later}
+use Rattle.ndef_nest.specs.Machine.Demands.{Tail, Later}
 use Rattle.ndef_nest.proofs.Members.{record_from}
 use Rattle.ndef_nest.proofs.member.behind_record.Goals as goal
 
