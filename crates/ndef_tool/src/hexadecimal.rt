@@ -1,7 +1,7 @@
 //! Hexadecimal text, read whole.
 ghost use Rattle.std.specs.Prelude.{◌≡◌, ◌++◌, codes, false, string_bytes, IfErr, IfOk};
 ghost use Rattle.hex.specs.Hex.{encode_lower};
-ghost use Rattle.ndef_message.specs.Sources.{supply};
+ghost use Rattle.ndef_message.specs.Machine.Turns.{supply_of};
 ghost use Rattle.ndef_tool.specs.Hexadecimal.{IsDecoded, IsInput, IsText, digits_of, fault_of, is_space, items_of};
 ghost use Rattle.ndef_tool.specs.Output.{FitsPlace};
 ghost use Rattle.ndef_tool.specs.Sessions.{is_writing};
@@ -17,7 +17,7 @@ const MOST: usize = 16777216;
 
 /// Reads the text to its end.
 fn read_text<S: Source>(alloc: Global, source: &mut S) -> Result<Vec<u8>, Ending>
-    ensures text { IsText (supply (S.coming source.old) (S.taken source.old)) (supply (S.coming source.new) (S.taken source.new))
+    ensures text { IsText (supply_of S.Source source.old) (supply_of S.Source source.new)
         (S.has_failed source.new) (items_of result) }
 {
     let mut text = Vec::new(alloc);
@@ -76,7 +76,7 @@ fn decode_text(alloc: Global, text: Vec<u8>) -> Result<Vec<u8>, Ending>
 
 /// The bytes that the text of the source stands for.
 pub fn read_hexadecimal<S: Source>(alloc: Global, source: &mut S) -> Result<Vec<u8>, Ending>
-    ensures input { IsInput (supply (S.coming source.old) (S.taken source.old)) (supply (S.coming source.new) (S.taken source.new))
+    ensures input { IsInput (supply_of S.Source source.old) (supply_of S.Source source.new)
         (S.has_failed source.new) (items_of result) }
     ensures room { IfErr result (λ ending. FitsPlace 0 ending) }
     ensures mark { IfErr result (λ ending. is_writing ending ≡ false) }

@@ -4,7 +4,7 @@ ghost use Rattle.ndef_tool.specs.Output.{FitsPlace, ending_line, ending_text, he
 
 use crate::choice::Action;
 use crate::ending::{Ending, HexFault};
-use crate::line::Line;
+use crate::line::{Line, ROOM};
 use ndef_value::Refusal;
 
 /// The line of a message, with its number from 1 and its place in the input.
@@ -59,7 +59,7 @@ fn hex_line(fault: HexFault) -> Line
 
 /// A line of this text.
 fn text_line(text: &[u8]) -> Line
-    requires { length text.now ≤ 160 }
+    requires { length text.now ≤ ROOM }
     ensures { result ≡ text.now }
 {
     let mut line = Line::new();

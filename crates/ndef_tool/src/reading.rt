@@ -11,7 +11,7 @@ use ndef_value::{Limits, messages_are_bounded};
 use std::alloc::Global;
 
 /// The most messages that are handled.
-const MOST: u64 = 10000;
+pub(crate) const MOST: u64 = 10000;
 
 /// A way to read the messages of an `S`, one after another.
 pub(crate) trait Reading<L: OuterLanguage, S> {
@@ -26,14 +26,14 @@ pub(crate) trait Reading<L: OuterLanguage, S> {
 
     /// The next message, after so many, or how the messages end here.
     fn read(alloc: Global, limits: Limits, count: u64, from: &mut S) -> Result<Read, Ending>
-        requires { count ≤ 10000 }
+        requires { count ≤ MOST }
         ensures next { IsNext L.set L.holds limits count
             (coming from.old) (coming from.new) (has_failed from.new) result }
         ensures taken { TakesNext (λ read. read.taken) limits (taken from.old) (taken from.new) result };
 
     /// Checks the next message, after so many, or tells how the messages end here. It takes no memory.
     fn check(limits: Limits, count: u64, from: &mut S) -> Result<Checked, Ending>
-        requires { count ≤ 10000 }
+        requires { count ≤ MOST }
         ensures next { ChecksNext L.set L.holds limits count
             (coming from.old) (coming from.new) (has_failed from.new) result }
         ensures taken { TakesNext (λ checked. checked.taken) limits (taken from.old) (taken from.new) result };
@@ -104,7 +104,7 @@ impl<'a, L: OuterLanguage> Reading<L, &'a [u8]> for FromBytes {
 
 /// Whether one message more is handled behind so many, where these bytes come next.
 fn go_on(count: u64, bytes: &[u8]) -> Result<(), Ending>
-    requires { count ≤ 10000 }
+    requires { count ≤ MOST }
     ensures { GoesOn count bytes.now result }
 {
     if bytes.is_empty() {
@@ -118,7 +118,7 @@ fn go_on(count: u64, bytes: &[u8]) -> Result<(), Ending>
 
 /// The same of a source, of which nothing is taken.
 fn look_ahead<S: Source>(count: u64, source: &mut S) -> Result<(), Ending>
-    requires { count ≤ 10000 }
+    requires { count ≤ MOST }
     ensures ahead { LooksAhead count (S.coming source.old) (S.coming source.new) (S.has_failed source.new) result }
     ensures taken { S.taken source.new ≡ S.taken source.old }
 {
@@ -132,7 +132,7 @@ fn view_next<'a, L: OuterLanguage>(
     count: u64,
     left: &mut &'a [u8],
 ) -> Result<View<'a>, Ending>
-    requires { count ≤ 10000 }
+    requires { count ≤ MOST }
     ensures next { ViewsNext L.set L.holds limits count left.old.now left.new.now result }
     ensures taken { TakesNext (λ viewed. viewed.taken) limits (2 ^ 64) (2 ^ 64) result }
 {

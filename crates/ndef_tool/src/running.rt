@@ -1,6 +1,6 @@
 //! The command, over any source and sink.
 ghost use Rattle.std.specs.Prelude.{◌≡◌, false, map, string_bytes};
-ghost use Rattle.ndef_message.specs.Sources.{supply};
+ghost use Rattle.ndef_message.specs.Machine.Turns.{supply_of};
 ghost use Rattle.ndef_tool.specs.Output.{ending_line, status_of};
 ghost use Rattle.ndef_tool.specs.Runs.{Ends, Runs};
 
@@ -15,7 +15,8 @@ use std::alloc::Global;
 
 /// What is printed where the words don't parse.
 const USAGE: &[u8] =
-    b"usage: ndef show|check|encode [--hex] [--payload N] [--records N] [--pieces N] [--form short|long] [--chunk N] [--profile strict|standard]\n";
+    b"usage: ndef show|check|encode [--hex] [--payload N] [--records N] [--pieces N] \
+    [--form short|long] [--chunk N] [--profile strict|standard]\n";
 
 /// The status of an ending.
 fn status_of(ending: Ending) -> Status
@@ -53,7 +54,8 @@ pub fn run<S: Source, K: Sink>(
 ) -> Status
     ensures { K.has_failed sink.old ≡ false
         → Runs ⟦<Typed as Language>⟧.set ⟦<Typed as Language>⟧.holds (map string_bytes words.now)
-        (supply (S.coming source.old) (S.taken source.old)) (supply (S.coming source.new) (S.taken source.new)) (S.has_failed source.new)
+        (supply_of S.Source source.old) (supply_of S.Source source.new)
+        (S.has_failed source.new)
         (K.written sink.old) (K.written sink.new) (K.has_failed sink.new) result }
 {
     match choose(alloc, words) {

@@ -1,7 +1,7 @@
 //! The messages of an input, handled one after another.
 ghost use Rattle.std.specs.Prelude.{◌≡◌, ◌≤◌, false, true};
 ghost use Rattle.ndef_message.specs.Sending.{MarksOf, Sent};
-ghost use Rattle.ndef_message.specs.Sources.{supply};
+ghost use Rattle.ndef_message.specs.Machine.Turns.{supply_of};
 ghost use Rattle.ndef_nest.specs.Typed.{IsTypedPayload, TypedReason};
 ghost use Rattle.ndef_tool.specs.Blocks.{text_of};
 ghost use Rattle.ndef_tool.specs.Chosen.{HasSize};
@@ -13,7 +13,7 @@ use crate::block::{Block, check_block, encode_block, show_block};
 use crate::choice::{Action, Choice};
 use crate::ending::Ending;
 use crate::hexadecimal::read_hexadecimal;
-use crate::reading::{FromBytes, FromSource, Reading};
+use crate::reading::{FromBytes, FromSource, MOST, Reading};
 use ndef_message::{Sink, Source, WriteFault, send};
 use ndef_nest::Typed;
 use std::alloc::Global;
@@ -43,11 +43,12 @@ fn print_next<R: Reading<Typed, S>, S>(
     at: u64,
     from: &mut S,
 ) -> Result<Printed, Ending>
-    requires count { count ≤ 10000 }
+    requires count { count ≤ MOST }
     requires size { HasSize choice.now.action }
     ensures prints { PrintsNext IsTypedPayload TypedReason choice.now count at
         (R.coming from.old) (R.coming from.new) (R.has_failed from.new) result }
-    ensures taken { TakesNext (λ printed. printed.taken) choice.now.limits (R.taken from.old) (R.taken from.new) result }
+    ensures taken { TakesNext (λ printed. printed.taken) choice.now.limits
+        (R.taken from.old) (R.taken from.new) result }
 {
     let limits = choice.limits;
     let number = count + 1;
@@ -126,7 +127,7 @@ fn handle_text<S: Source, K: Sink>(
     requires { HasSize choice.now.action }
     ensures handled { K.has_failed sink.old ≡ false
         → Handles (ReadsIn true choice.now.action IsTypedPayload TypedReason choice.now.limits
-        (supply (S.coming source.old) (S.taken source.old)) (supply (S.coming source.new) (S.taken source.new))
+        (supply_of S.Source source.old) (supply_of S.Source source.new)
         (S.has_failed source.new) (K.has_failed sink.new))
         choice.now (K.written sink.old) (K.written sink.new) (K.has_failed sink.new) result }
     ensures room { FitsPlace result.at result.ending }
@@ -150,7 +151,7 @@ pub fn handle<S: Source, K: Sink>(
     requires { HasSize choice.now.action }
     ensures handled { K.has_failed sink.old ≡ false
         → Handles (ReadsIn choice.now.hex choice.now.action IsTypedPayload TypedReason choice.now.limits
-        (supply (S.coming source.old) (S.taken source.old)) (supply (S.coming source.new) (S.taken source.new))
+        (supply_of S.Source source.old) (supply_of S.Source source.new)
         (S.has_failed source.new) (K.has_failed sink.new))
         choice.now (K.written sink.old) (K.written sink.new) (K.has_failed sink.new) result }
     ensures room { FitsPlace result.at result.ending }

@@ -22,7 +22,8 @@ fn push_told(
     item: &Record,
 ) -> Result<(), NoMemory>
     requires { IsTyped profile item.now }
-    ensures { OnOk result (Adds line.old line.new (Tells (kind_of item.now.tnf item.now.kind) profile item.now.payload)) }
+    ensures { OnOk result (Adds line.old line.new
+        (Tells (kind_of item.now.tnf item.now.kind) profile item.now.payload)) }
 {
     let payload = item.payload();
     match kind_of(item) {
