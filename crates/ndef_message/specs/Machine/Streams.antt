@@ -5,10 +5,15 @@ use Rattle.std.specs.declared.io.traits.Read.{Ghosts as ReadingOf}
 use Rattle.ndef_message.specs.Machine.Readers.{left_of}
 use Rattle.ndef_message.specs.declared.std_sink.StdSink.{StdSink}
 use Rattle.ndef_message.specs.declared.std_source.StdSource.{StdSource}
+use Rattle.ndef_message.specs.declared.std_source.Window.{Window}
 
--- the bytes of the copy that are shown
+-- the bytes of a copy in a window
+abbrev pub bytes_in : List ℕ → Window → List ℕ
+bytes_in copy window = slice_range copy window.start window.end
+
+-- the bytes that are shown
 abbrev pub bytes_shown : {R : Type 0} {buffered : BufferedOf R} {reading : ReadingOf R} → StdSource R buffered reading → List ℕ
-bytes_shown s = slice_range s.copy s.window.start s.window.end
+bytes_shown s = bytes_in s.copy s.window
 
 -- the bytes to come of a source
 abbrev pub reader_coming : {R : Type 0} {buffered : BufferedOf R} {reading : ReadingOf R} → StdSource R buffered reading → Option (List ℕ)
