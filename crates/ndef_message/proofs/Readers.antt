@@ -104,9 +104,12 @@ left_some xs limit fresh s p begins within =
 pub left_keeps : (r : Option (List ℕ)) (limit : Option ℕ) (fresh : Bool) (s : List ℕ) (p : ℕ) → Keeps (left_of r limit fresh s p) (known_from (option_map (drop p) r) s)
 left_keeps r limit fresh s p = Keeps-from _ _ (λ ys e. (left_is r limit fresh s p ys e).1)
 
+pub left_kept : (r after : Option (List ℕ)) (limit : Option ℕ) (fresh : Bool) (s : List ℕ) (p : ℕ) → Keeps (known_from (option_map (drop p) r) s) after → Keeps (left_of r limit fresh s p) after
+left_kept r after limit fresh s p h = Keeps-trans _ _ _ (left_keeps r limit fresh s p) h
+
 -- what is left is what the reader has, once it has settled
 pub settled : (r after : Option (List ℕ)) (limit : Option ℕ) (fresh : Bool) (s : List ℕ) (p : ℕ) → Keeps (option_map (drop p) r) after → Keeps (left_of r limit fresh s p) after
-settled r after limit fresh s p h = Keeps-trans _ _ _ (left_keeps r limit fresh s p) (known_keeps _ after s h)
+settled r after limit fresh s p h = left_kept r after limit fresh s p (known_keeps _ after s h)
 
 -- where nothing is pending, what is left is what the reader has
 pub left_behind : (r : Option (List ℕ)) (limit : Option ℕ) (fresh : Bool) (s : List ℕ) (p : ℕ) → p ≡ 0 → Keeps (left_of r limit fresh s p) r
