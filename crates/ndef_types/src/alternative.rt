@@ -9,7 +9,7 @@ ghost use Rattle.ndef_types.specs.EqualityLaws.{ac_alike, ac_equiv, ac_per};
 ghost use Rattle.ndef_types.specs.Values.{StandsForAc, StandForAuxiliary, StandForNames, IsAcValue, IsReference, ac_payload, counted};
 ghost use Rattle.ndef_types.specs.Alternatives.{MakesAc};
 
-use crate::accept::{MOST, accept};
+use crate::accepting::{MOST, accept};
 use crate::fields::{behind_first, split_counted};
 use crate::{DecodeError, EncodeError, Power};
 use ndef_lang::{AcLang, Kind};

@@ -5,7 +5,7 @@ ghost use Rattle.ndef_lang.specs.Language.{NoReason};
 ghost use Rattle.ndef_types.specs.Decoding.{Decodes};
 ghost use Rattle.ndef_types.specs.Values.{StandsForCarrier, IsCarrierValue, carrier_payload};
 
-use crate::accept::{MOST, accept};
+use crate::accepting::{MOST, accept};
 use crate::{DecodeError, EncodeError};
 use ndef_lang::{HcLang, Kind};
 use ndef_value::{Bytes, Name, NoMemory, Profile};

@@ -6,7 +6,7 @@ ghost use Rattle.ndef_types.specs.declared.handover_error.DetailError.TheVariant
 ghost use Rattle.ndef_types.specs.Decoding.{Decodes};
 ghost use Rattle.ndef_types.specs.Values.{StandsForError, IsErrorValue, error_payload};
 
-use crate::accept::{MOST, accept};
+use crate::accepting::{MOST, accept};
 use crate::{DecodeError, EncodeError};
 use ndef_lang::{ErrLang, Kind};
 use ndef_value::{Bytes, NoMemory, Profile};

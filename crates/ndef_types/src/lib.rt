@@ -2,7 +2,7 @@
 //! Smart Poster 1.0 and Connection Handover 1.2).
 #![tactic(auto)]
 
-mod accept;
+mod accepting;
 mod action;
 mod alternative;
 mod carrier;
@@ -26,6 +26,7 @@ mod texts;
 mod uri;
 mod utf16;
 
+pub use accepting::accept;
 pub use action::Action;
 pub use alternative::{Ac, TooMany};
 pub use carrier::Carrier;
@@ -40,6 +41,7 @@ pub use link::{Link, LinkError, Links, carriers, carriers_as, carriers_view};
 pub use message_laws::{posters_are_exact, requests_are_exact, selects_are_exact};
 pub use not_handover::NotHandover;
 pub use power::Power;
+pub use prefixes::{prefix, split};
 pub use request::Request;
 pub use select::Select;
 pub use smart_poster::{NotPoster, SmartPoster};

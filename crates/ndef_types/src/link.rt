@@ -16,7 +16,7 @@ ghost use Rattle.ndef_types.specs.declared.link.LinkError.TheVariants as errors;
 ghost use Rattle.ndef_types.specs.Links.{AreLinks, FindsLinks, IsHandover, IsIndexOf, LinksOf, StandsForLinks, alternatives, is_handover};
 
 use crate::Ac;
-use crate::accept::accept;
+use crate::accepting::accept;
 use crate::alternative::read_ac;
 use crate::contents::is_kind;
 use crate::fields::behind_first;

@@ -6,7 +6,7 @@ ghost use Rattle.ndef_nest.specs.declared.table.Table.{Table};
 ghost use Rattle.ndef_types.specs.Contents.{StandsForMessage};
 
 use crate::EncodeError;
-use crate::accept::{MOST, RECORDS};
+use crate::accepting::{MOST, RECORDS};
 use ndef_lang::Opaque;
 use ndef_message::{Form, encode, encoded_length, short_is_canonical, view, views_are_exact};
 use ndef_value::{Bytes, Limits, Message, NoMemory, Profile};

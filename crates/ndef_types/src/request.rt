@@ -8,7 +8,7 @@ ghost use Rattle.ndef_nest.specs.declared.table.Table.TheVariants as tables;
 ghost use Rattle.ndef_types.specs.Decoding.{Decodes};
 ghost use Rattle.ndef_types.specs.Handovers.{IsCollisionOf, MakesRequest, StandsForRequest, WritesRequest};
 
-use crate::accept::accept;
+use crate::accepting::accept;
 use crate::contents::first_wrong;
 use crate::fields::behind_first;
 use crate::nested::{encode_behind, read_nested};

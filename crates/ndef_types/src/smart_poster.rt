@@ -11,7 +11,7 @@ ghost use Rattle.ndef_types.specs.Contents.{IsFirst, IsFirstWrong, IsOfKind};
 ghost use Rattle.ndef_types.specs.Decoding.{Decodes};
 ghost use Rattle.ndef_types.specs.Posters.{IsUriOf, LacksUri, MakesPoster, Says, StandForTexts, StandsForPoster, WritesPoster, action_in, plain, size_in, titles};
 
-use crate::accept::{MOST, accept};
+use crate::accepting::{MOST, accept};
 use crate::contents::{first_of, first_wrong, is_kind};
 use crate::nested::read_nested;
 use crate::text::read_text;

@@ -7,7 +7,7 @@ ghost use Rattle.ndef_types.specs.declared.text.TextError.TheVariants as errors;
 ghost use Rattle.ndef_types.specs.Decoding.{Decodes};
 ghost use Rattle.ndef_types.specs.Values.{StandsForText, SpellsText, IsTextValue, is_utf16, language_octets, encoded_octets, status_octet, text_octets, text_payload};
 
-use crate::accept::{MOST, accept};
+use crate::accepting::{MOST, accept};
 use crate::fields::behind_first;
 use crate::utf16::{push_text, read_utf16, units_len};
 use crate::{DecodeError, EncodeError, Encoding};

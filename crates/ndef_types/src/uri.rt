@@ -10,7 +10,7 @@ ghost use Rattle.ndef_value.specs.declared.profile.Profile.TheVariants.{Strict};
 ghost use Rattle.ndef_types.specs.Decoding.{Decodes, IsTooLong};
 ghost use Rattle.ndef_types.specs.Values.{StandsForUri, WritesUri};
 
-use crate::accept::{MOST, accept};
+use crate::accepting::{MOST, accept};
 use crate::prefixes::{prefix, split};
 use crate::{DecodeError, EncodeError};
 use ndef_lang::{Kind, UriLang};

@@ -13,11 +13,7 @@ pub(crate) const RECORDS: u32 = 65535;
 
 /// Nothing where the payload is in the set of its kind and of at most 4294967295 bytes, else where and
 /// why it is refused.
-pub(crate) fn accept<L: Language>(
-    kind: Kind,
-    profile: Profile,
-    payload: &[u8],
-) -> Result<(), Refusal>
+pub fn accept<L: Language>(kind: Kind, profile: Profile, payload: &[u8]) -> Result<(), Refusal>
     ensures ok { OnOk result ((length payload.now < 2 ^ 32) × L.set kind 65535 profile payload.now) }
     ensures err { IfErr result
         (RefusesPayload (L.set kind 65535 profile) (L.holds kind 65535 profile) payload.now) }
