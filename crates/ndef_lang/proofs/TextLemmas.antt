@@ -83,7 +83,7 @@ utf8_text_reason old new b s h step = rw h.1.0 (utf8_reason new b h.0 (follows_m
 pub utf16_text_reason : (old new : Utf16State) (b : ℕ) (s : List ℕ) → TextReached (InUtf16 old) s → Follows (CompletesUtf16 old) (CompletesUtf16 new) (b ∷ []) → IsLowest (TextReason s b) (utf16_told new)
 utf16_text_reason old new b s h step = rw h.1.0 (utf16_reason new b h.0 (follows_more IsUtf16 (CompletesUtf16 old) (CompletesUtf16 new) h.0 (b ∷ []) h.1.1 step))
 
--- .. behind those that were stepped
+-- the reason of an octet of a UTF-8 text, behind those that were stepped
 pub utf8_all_text_reason : (old new : Utf8Lang) (bytes : List ℕ) (lo hi count : ℕ) → StepsAll (CompletesUtf8 old) (CompletesUtf8 new) bytes lo hi count → count < length bytes → (s : List ℕ) → TextReached (InUtf8 old) s
     → IsLowest (TextReason (s ++ take count bytes) (get_or bytes count 0)) (utf8_told new)
 utf8_all_text_reason old new bytes lo hi count t l s h = rw (utf8_field_on s h.0 (take count bytes) h.1.0) (utf8_all_reason old new bytes lo hi count t l h.0 h.1.1)

@@ -21,7 +21,7 @@ rest_reached profile old new t s h step = (h.0, h.1 ++ t, (ap (λ x. x ++ t) h.2
 pub rest_reason : (profile : Profile) (old new : Utf8Lang) (b : ℕ) (s : List ℕ) → UriReached (Rest old) profile s → Follows (CompletesUtf8 old) (CompletesUtf8 new) (b ∷ []) → IsLowest (UriReason profile s b) (utf8_told new)
 rest_reason profile old new b s h step = rw h.2.0 (utf8_reason new b h.1 (follows_more IsUtf8 (CompletesUtf8 old) (CompletesUtf8 new) h.1 (b ∷ []) h.2.1 step))
 
--- .. behind those that were stepped
+-- the reason of an octet of the text, behind those that were stepped
 pub rest_all_reason : (profile : Profile) (old new : Utf8Lang) (bytes : List ℕ) (lo hi count : ℕ) → StepsAll (CompletesUtf8 old) (CompletesUtf8 new) bytes lo hi count → count < length bytes → (s : List ℕ) → UriReached (Rest old) profile s
     → IsLowest (UriReason profile (s ++ take count bytes) (get_or bytes count 0)) (utf8_told new)
 rest_all_reason profile old new bytes lo hi count t l s h = rw h.2.0 (utf8_all_reason old new bytes lo hi count t l h.1 h.2.1)

@@ -51,7 +51,7 @@ pub record StepsFront (old new : List ℕ → Type 0) (bytes : List ℕ) (count 
   pub stepped : Follows old new (take count bytes)
   pub fits : (lo hi : ℕ) → count ≤ lo → PassesBetween old lo hi → PassesBetween new (lo - count) (hi - count)
 
--- .. whatever the kind, the number of records and the profile
+-- The octets lead on, whatever the kind, the number of records and the profile.
 abbrev pub ReachesEach : (old new : Sets) → List ℕ → Type 0
 ReachesEach old new octets = (kind : Kind) (records : ℕ) (profile : Profile) → Reaches (old kind records profile) (new kind records profile) octets
 

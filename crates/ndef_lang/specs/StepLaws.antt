@@ -81,7 +81,7 @@ steps_whole old new bytes lo hi f p = record {
   refused = λ l. absurd (omega arith);
 }
 
--- .. one of them is refused
+-- one of them is refused, those before it were stepped
 pub steps_refused : (old mid new : List ℕ → Type 0) (bytes : List ℕ) (lo hi at : ℕ) → at < length bytes → Follows old mid (take at bytes) → PassesBetween mid (lo - at) (hi - at) → Follows mid new (get_or bytes at 0 ∷ [])
     → (PassesBetween new (lo - (at + 1)) (hi - (at + 1)) → ⊥) → StepsAll old new bytes lo hi at
 steps_refused old mid new bytes lo hi at l f p g bad = record {

@@ -50,7 +50,7 @@ front_of bytes front rest n e is =
     let m : n ≡ length front = omega arith in
     (omega arith, ap (λ n. take n bytes) m ∙ ap (take (length front)) e ∙ take-append_seam front rest)
 
--- .. and more of it
+-- what is in front of what is left, and more of it
 front_and : (bytes front rest : List ℕ) (n k : ℕ) → bytes ≡ front ++ rest → n ≡ length bytes - length rest → k ≤ length rest → (n + k ≤ length bytes) × (take (n + k) bytes ≡ front ++ take k rest)
 front_and bytes front rest n k e is small =
     let l : length bytes ≡ length front + length rest = omega (arith, ap length e, length-append front rest) in
@@ -73,7 +73,7 @@ walked_end limits c p o s e =
     let w = walked_snoc limits [] c c [] p (refl, refl) o s in
     subst (Walked limits c (p ∷ []) (extended c.begun p ∷ [])) (after_end limits c p e) (subst (λ x. Walked limits c (p ∷ []) x (after limits c p)) (ended_one c p e) w)
 
--- .. and one that doesn't
+-- a piece that doesn't end its record
 walked_on : (limits : LimitValues) (c : Before) (p : Piece) → c.over ≡ false → pieces.Stands (spot limits.profile c) p → p.chunked ≡ true
     → Walked limits c (p ∷ []) [] (inside c.records (c.pieces - 1) (c.room - length p.payload) (extended c.begun p))
 walked_on limits c p o s e =

@@ -53,7 +53,7 @@ module _ {L : Type 0} (language : Ghosts L) (limits : LimitValues) (state : Stat
 abbrev pub Sofar : Fronts → Fronts → List ℕ → ℕ → Type 0
 Sofar old new bytes at = WhateverLed old (λ front given field. Leads new (front ++ take at bytes))
 
--- .. from this front
+-- what led to this front leads on with so many of these bytes to the new fields
 abbrev pub Here : Fronts → (front bytes : List ℕ) → ℕ → Type 0
 Here new front bytes at = Leads new (front ++ take at bytes)
 

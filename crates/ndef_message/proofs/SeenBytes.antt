@@ -89,7 +89,7 @@ piece_told p short front rest s =
     let behind : drop (size (header f)) (octets f ++ z) ≡ z = drop_at (octets f) z _ (octets_size f l.tnf) in
     ap piece_at (head_first p short front rest s) ∙ ap₂ piece_with (head_told f z l) behind ∙ parts_told p short rest
 
--- .. and so is how many there are
+-- how many octets a piece has is told by them, whatever follows
 size_told : (p : Piece) (short : Bool) (front rest : List ℕ) → Spells p short front → size_at (front ++ rest) ≡ length front
 unfolding size_at
 size_told p short front rest s =

@@ -16,7 +16,7 @@ number_of_some A m n some f = ∥∥₁_elim some (hlevel props) f
 pub never_some : (A : Type 0) → ∥ A ∥₁ → (A → ⊥) → ⊥
 never_some A some f = ∥∥₁_elim some (hlevel props) f
 
--- .. and what is shaped so, or has room
+-- a shape, or room, that follows of what is only known to be there
 shape_of_some : (A : Type 0) (tnf : Tnf) (kind id payload : ℕ) → ∥ A ∥₁ → (A → HasShape tnf kind id payload) → HasShape tnf kind id payload
 shape_of_some A Empty kind id payload some f = (∥∥₁_elim some (hlevel props) (λ a. (f a).0), ∥∥₁_elim some (hlevel props) (λ a. (f a).1), ∥∥₁_elim some (hlevel props) (λ a. (f a).2))
 shape_of_some A WellKnown kind id payload some f = number_of_some A 1 kind some f

@@ -177,7 +177,8 @@ impl<L: OuterLanguage> Checker<L> {
         ensures phase { self.new.state.phase ≡ (if is_set 6 piece.now.header then Phase.Done else Phase.Head) }
         ensures onward { WhateverLed (CheckerReached self.old) (λ front given field.
             let count = length bytes.now - length piece.now.rest.now in
-            LeadsBetween (CheckerReached self.new) (front ++ take count bytes.now) (given ++ record_of piece.now ∷ [])) }
+            LeadsBetween (CheckerReached self.new) (front ++ take count bytes.now)
+            (given ++ record_of piece.now ∷ [])) }
     {
         format_laws(&self.limits);
         let taken = bytes.len() - piece.rest.len();

@@ -42,7 +42,8 @@ impl<'a> FailingSink<'a> {
     /// one is given. Nothing is written yet.
     pub fn new(room: &'a mut [u8], per: usize, stop: Option<u64>) -> FailingSink<'a>
         requires { 1 ≤ per }
-        ensures value { result ≡ record { written = []; room = length room.old; per = per; stop = stop; failed = false } }
+        ensures value { result
+            ≡ record { written = []; room = length room.old; per = per; stop = stop; failed = false } }
         ensures written { ⟦<FailingSink<'a> as Sink>⟧.written result ≡ Some [] }
         ensures mark { ⟦<FailingSink<'a> as Sink>⟧.has_failed result ≡ false }
     {

@@ -85,7 +85,7 @@ body_steps member next tail payload bytes lo hi count few steps p =
           most = omega arith;
         }
 
--- .. and so it does where the new state passes alike
+-- a state that passes alike takes the same octets
 pub steps_as : (old next new : List ℕ → Type 0) (bytes : List ℕ) (lo hi count : ℕ) → ((r : List ℕ) → new r ↔ next r) → StepsAll old next bytes lo hi count → StepsAll old new bytes lo hi count
 steps_as old next new bytes lo hi count same s = record {
   within = s.within;

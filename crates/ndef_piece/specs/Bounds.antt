@@ -50,7 +50,7 @@ bounds_of spot header xs = record {
   payload = range_of spot (header ∷ xs);
 }
 
--- .. where some octets are there
+-- the bounds after the octets of an open front, if any are there
 abbrev pub front_bounds : Spot → List ℕ → Option Bounds
 front_bounds spot [] = None
 front_bounds spot (header ∷ xs) = Some (bounds_of spot header xs)

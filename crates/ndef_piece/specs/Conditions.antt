@@ -33,12 +33,12 @@ abbrev pub in_header : Field → Bool
 in_header HeaderOctet = true
 in_header _ = false
 
--- .. in TYPE_LENGTH
+-- the octet stands in TYPE_LENGTH
 abbrev pub in_type_length : Field → Bool
 in_type_length TypeLength = true
 in_type_length _ = false
 
--- .. in PAYLOAD_LENGTH
+-- the octet stands in PAYLOAD_LENGTH
 abbrev pub in_payload_length : Field → Bool
 in_payload_length PayloadLength = true
 in_payload_length _ = false

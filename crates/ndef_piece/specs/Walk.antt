@@ -25,7 +25,7 @@ abbrev pub outside : LimitValues → (first over : Bool) → (records : ℕ) →
 outside limits first over records =
     record { first = first; over = over; records = records; pieces = limits.pieces; room = limits.payload; begun = None }
 
--- .. within a run that has begun this record
+-- NDEF 1.0, chunked payloads: within a run that has begun this record
 abbrev pub inside : (records pieces room : ℕ) → Item → Before
 inside records pieces room m =
     record { first = false; over = false; records = records; pieces = pieces; room = room; begun = Some m }

@@ -16,7 +16,7 @@ piece_of header kind id payload = record {
   payload = payload;
 }
 
--- .. the piece that is shown by its parts
+-- NDEF 1.0, record layout: the piece that is shown by its parts
 abbrev pub shown : WholePiece → Piece
 shown w = piece_of w.header w.kind.now w.id.now w.payload.now
 

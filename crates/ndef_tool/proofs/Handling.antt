@@ -97,7 +97,7 @@ may_write Show = tt
 may_write Check = refl
 may_write (Encode form size) = tt
 
--- .. of which a front went out
+-- one message more, and its block, of which a front went out
 pub handled_in_part : (set : Sets) (holds : Conditions) (choice : Choice) (a b c : Option (List ℕ)) (v w x : Option (List ℕ)) (count at : ℕ) (printed : Printed)
     (source_failed failed old new : Bool) (f : WriteFault) → SoFar set holds choice a b v w count at → PrintsNext set holds choice count at b c failed (Ok printed)
     → old ≡ false → Sent 0 w x (text_of printed.block) (Err f) → new ≡ true

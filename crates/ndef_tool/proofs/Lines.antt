@@ -24,7 +24,7 @@ on_ok (Err e) h f = tt
 pub two_parts : (x a word part n m : Text) → n ≡ x ++ a → m ≡ n ++ (word ++ part) → m ≡ x ++ (a ++ word ++ part)
 two_parts x a word part n m e f = f ∙ ap (λ t. t ++ (word ++ part)) e ∙ simp append_assoc
 
--- .. and three
+-- three parts of a line, one after another
 pub three_parts : (x a second b third c n m k : Text) → n ≡ x ++ a → m ≡ n ++ (second ++ b) → k ≡ m ++ (third ++ c) → k ≡ x ++ (a ++ second ++ b ++ third ++ c)
 three_parts x a second b third c n m k e f g = g ∙ ap (λ t. t ++ (third ++ c)) (two_parts x a second b n m e f) ∙ simp append_assoc
 

@@ -31,7 +31,7 @@ consumes_kept (Some x) None c bytes k h = absurd k
 consumes_kept (Some x) (Some y) None bytes k h = absurd h
 consumes_kept (Some x) (Some y) (Some z) bytes k h = sym k ∙ h
 
--- .. nor of what is read
+-- a look ahead changes nothing of what is read
 pub reads_kept : (set : Sets) (holds : Conditions) (limits : LimitValues) (a b c : Option (List ℕ)) (r : Result Read ReadError) → Keeps a b
     → ReadsFrom set holds limits b c r → ReadsFrom set holds limits a c r
 reads_kept set holds limits a b c (Ok read) k h = (h.0, consumes_kept a b c h.0 k h.1, h.2, h.3)
@@ -42,7 +42,7 @@ reads_kept set holds limits (Some x) (Some y) c (Err (errors.Refused r)) k h =
 reads_kept set holds limits a b c (Err errors.ReadFault) k h = tt
 reads_kept set holds limits a b c (Err errors.NoMemory) k h = (h.0, consumes_kept a b c h.0 k h.1, h.2)
 
--- .. nor of what is checked
+-- a look ahead changes nothing of what is checked
 pub checks_kept : (set : Sets) (holds : Conditions) (limits : LimitValues) (a b c : Option (List ℕ)) (r : Result Checked CheckError) → Keeps a b
     → ChecksFrom set holds limits b c r → ChecksFrom set holds limits a c r
 checks_kept set holds limits a b c (Ok checked) k h = (h.0, consumes_kept a b c h.0 k h.1, h.2, h.3)
@@ -78,7 +78,7 @@ viewed_read set holds limits input rest v h e =
     let split : input ≡ take v.taken input ++ rest = sym (take-append-drop v.taken input) ∙ ap (λ x. take v.taken input ++ x) (sym e) in
     (take v.taken input, split, sym (length-take-le v.taken input h.0), h.1.0)
 
--- .. unless memory is wanting
+-- what is viewed is read, unless memory is wanting
 pub viewed_unread : (set : Sets) (holds : Conditions) (limits : LimitValues) (count : ℕ) (input rest : List ℕ) (v : Viewed) (r : Result Read Ending) → IsErrAnd r (λ ending. ending ≡ Memory)
     → ViewsNext set holds limits count input rest (Ok v) → v.taken ≤ greatest_length limits → IsNext set holds limits count (Some input) (Some rest) false r
 viewed_unread set holds limits count input rest v (Ok read) h next few = absurd h
@@ -108,7 +108,7 @@ session_on action set holds limits a b failed old new reads ending on s = record
   may = s.may;
 }
 
--- .. and so of hexadecimal text
+-- messages of hexadecimal text end for the same reason where another sink failed
 pub reads_on : (hex : Bool) (action : Action) (set : Sets) (holds : Conditions) (limits : LimitValues) (a b : Supply) (failed old new : Bool) (reads : List Read) (ending : Ending) → (old ≡ true → new ≡ true)
     → ReadsIn hex action set holds limits a b failed old reads ending → ReadsIn hex action set holds limits a b failed new reads ending
 reads_on false action set holds limits a b failed old new reads how on h = (session_on action set holds limits a.coming b.coming failed old new reads how on h.0, h.1)

@@ -107,7 +107,7 @@ unless_fault (k ∷ ks) o = None
 abbrev pub choice_by : App → List Text → Option Choice
 choice_by app words = unless_fault (fault_of app words) (chosen_of (subcommand_of app words))
 
--- .. by the subcommands and options of ndef
+-- what the words choose by the subcommands and options of ndef
 abbrev pub choice_of : List Text → Option Choice
 choice_of words = choice_by ndef_app words
 
@@ -123,7 +123,7 @@ Chooses words (Err NoMemory) = ⊤
 abbrev pub HasSizeIfAny : Option ℕ → Type 0
 HasSizeIfAny size = ForSome size (λ n. 1 ≤ n)
 
--- .. of an action
+-- a size of chunks that an action has is at least 1
 abbrev pub HasSize : Action → Type 0
 HasSize Show = ⊤
 HasSize Check = ⊤

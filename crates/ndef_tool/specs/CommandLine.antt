@@ -21,11 +21,11 @@ abbrev pub limits_app : Text → App
 limits_app name = with_rule (with_rule (with_rule (with_rule (new_app name) hex_rule) (number_rule 4294967295 (codes "payload")))
     (number_rule 65535 (codes "records"))) (number_rule 65535 (codes "pieces"))
 
--- .. and the profile
+-- hexadecimal text, the limits and the profile
 abbrev pub reading_app : Text → App
 reading_app name = with_rule (limits_app name) (word_rule (codes "profile"))
 
--- .. and how messages are written
+-- the options of reading, and how messages are written
 abbrev pub encode_app : App
 encode_app = with_rule (with_rule (reading_app (codes "encode")) (word_rule (codes "form"))) (number_rule 4294967295 (codes "chunk"))
 

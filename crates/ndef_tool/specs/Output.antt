@@ -97,7 +97,7 @@ IsBlockBy Show profile hex number at read text = IsShown profile number at read 
 IsBlockBy Check profile hex number at read text = text ≡ message_line number at (length read.message) read.taken
 IsBlockBy (Encode form size) profile hex number at read text = text ≡ shown_in hex (encoded form size read.message)
 
--- .. as it was chosen
+-- what is printed of a message as it was chosen
 abbrev pub IsBlock : Choice → (number at : ℕ) → Read → Text → Type 0
 IsBlock choice number at read text = IsBlockBy choice.action choice.limits.profile choice.hex number at read text
 

@@ -57,7 +57,7 @@ same_prefix : (text p q : List ℕ) → Begins text p → Begins text q → leng
 same_prefix text p q a b e =
     sym (take-append_seam p a.0) ∙ ap (take (length p)) (sym a.1) ∙ ap (λ n. take n text) e ∙ ap (take (length q)) b.1 ∙ take-append_seam q b.0
 
--- .. of the codes below n
+-- the longest prefix of the codes below n
 pub record IsLongestBelow (text : List ℕ) (code n : ℕ) : Type 0 where
   pub below : code < n
   pub begins : Begins text (prefix_of code)
@@ -81,7 +81,7 @@ longer_longest text code n h b l = record { below = omega arith; begins = b; lon
         by_neq : (other : ℕ) → other < n + 1 → other ≢ n → other < n
         by_neq other m d = elim (cases_lt other n) [ inl x ↦ x | inr x ↦ absurd (d (omega arith)) ]
 
--- .. or it isn't
+-- the next one is no longer
 pub same_longest : (text : List ℕ) (code n : ℕ) → n < 36 → IsLongestBelow text code n → (Begins text (prefix_of n) → length (prefix_of n) ≤ length (prefix_of code)) → IsLongestBelow text code (n + 1)
 same_longest text code n small h f = record { below = omega (arith, h.below); begins = h.begins; longest = longest }
   where

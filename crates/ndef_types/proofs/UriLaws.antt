@@ -73,7 +73,7 @@ uris_round_trip profile = round_trip (IsUri profile) (UriReason profile) StandsF
 
 -- ---- what is written
 
--- .. of a URI is this alone
+-- what is written of a URI is this alone
 same_payload : (uri payload rest : List ℕ) (code : ℕ) → IsLongest uri code → uri ≡ prefix_of code ++ rest → WritesUri uri payload → payload ≡ code ∷ rest
 same_payload uri [] rest code l s w = absurd w
 same_payload uri (other ∷ more) rest code l s w =

@@ -20,7 +20,7 @@ pub record RequestValue : Type 0 where
   pub minor : ℕ
   pub items : List Item
 
--- .. which are those of a request
+-- Connection Handover 1.2, Handover Request record: the records are those of a request
 pub record IsRequestValue (v : RequestValue) : Type 0 where
   pub minor : v.minor < 16
   pub items : AreItems v.items
@@ -57,7 +57,7 @@ abbrev pub AreSelected : Option (List Item) → Type 0
 AreSelected None = Unit {0}
 AreSelected (Some items) = AreItems items × HasContents tables.Select Strict items
 
--- .. and its minor version
+-- Connection Handover 1.2, Handover Select record: the records and the minor version of a select
 pub record IsSelectValue (v : SelectValue) : Type 0 where
   pub minor : v.minor < 16
   pub message : AreSelected v.message

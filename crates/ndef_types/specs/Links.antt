@@ -18,7 +18,7 @@ use Rattle.ndef_types.specs.declared.link.LinkError.TheVariants as errors
 abbrev pub IsHandover : Item → Type 0
 IsHandover i = (kind_of i.tnf i.kind ≡ kinds.Request) ⊎ (kind_of i.tnf i.kind ≡ kinds.Select)
 
--- .. of this kind
+-- Connection Handover 1.2: a record of this kind is a handover request or select
 abbrev pub is_handover : Kind → Bool
 is_handover kinds.Request = true
 is_handover kinds.Select = true
@@ -42,7 +42,7 @@ is_alternative _ = false
 abbrev pub alternatives : List Item → List Item
 alternatives = filter (λ i. is_alternative (kind_of i.tnf i.kind))
 
--- .. which are those of the links; each link has the index of the record that it refers to
+-- Connection Handover 1.2: the links are those of the alternative carriers, in order, each with the index of the record that it refers to
 abbrev pub AreLinks : List Item → List Item → List Link → Type 0
 AreLinks outer [] [] = ⊤
 AreLinks outer (i ∷ items) (l ∷ links) = StandsForAc i.payload l.ac × IsIndexOf outer l.ac.reference l.index × AreLinks outer items links

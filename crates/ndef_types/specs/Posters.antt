@@ -25,12 +25,12 @@ pub record IsPosterValue (poster : List Item) : Type 0 where
 abbrev pub plain_code : ℕ → ℕ
 plain_code code = if nat_lt 0x23 code then 0 else code
 
--- .. in the payload of a URI
+-- RTD URI 1.0: the payload of a URI with a reserved code read as 0
 abbrev pub plain_payload : List ℕ → List ℕ
 plain_payload [] = []
 plain_payload (code ∷ rest) = plain_code code ∷ rest
 
--- .. in the record of a URI
+-- RTD URI 1.0: the record of a URI with a reserved code read as 0
 abbrev pub plain : Item → Item
 plain i = record i { payload = if is_uri (kind_in SmartPoster i.tnf i.kind) then plain_payload i.payload else i.payload }
 
@@ -65,7 +65,7 @@ Says kind value items result = (i : Option Item) × IsFirst (IsOfKind SmartPoste
 abbrev pub action_of : ℕ → Action
 action_of octet = if octet == 0 then Do else (if octet == 1 then Save else (if octet == 2 then Open else Other octet))
 
--- .. of a payload
+-- RTD Smart Poster 1.0, recommended action record: the action of a record
 abbrev pub action_in : Item → Action
 action_in i = action_of (slice_index i.payload 0)
 

@@ -271,7 +271,7 @@ abbrev pub is_nil : List Item → Bool
 is_nil [] = true
 is_nil (m ∷ ms) = false
 
--- .. and of each record
+-- the pieces of records, one each
 abbrev pub whole_pieces : (first : Bool) → List Item → List Piece
 whole_pieces first [] = []
 whole_pieces first (m ∷ ms) = whole_piece first (is_nil ms) m ∷ whole_pieces false ms

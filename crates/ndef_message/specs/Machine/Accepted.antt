@@ -45,14 +45,14 @@ abbrev pub EndsRecord : Sets → LimitValues → Place → (last : Bool) → Lis
 EndsRecord set limits place last bytes = (c : Before) → place ≡ numbers c → c.begun ≡ None → c.over ≡ false
     → (item : Item) × EndsRecords set limits c (item ∷ []) (c.records - 1) last bytes
 
--- .. by so many of the bytes
+-- one record has come, by so many of the bytes
 pub record IsRecord (set : Sets) (limits : LimitValues) (place : Place) (bytes : List ℕ) (taken : ℕ) (last : Bool) : Type 0 where
   pub some : 0 < taken
   pub within : taken ≤ length bytes
   pub outer : place.inside ≡ false
   pub ends : EndsRecord set limits place last (take taken bytes)
 
--- .. or none or more have, and this place is reached
+-- no record or more have come, and this place is reached
 pub record Comes (set : Sets) (limits : LimitValues) (c : Before) (bytes : List ℕ) (place' : Place) (last : Bool) : Type 0 where
   pub there : Before
   pub place_is : place' ≡ numbers there
@@ -65,7 +65,7 @@ pub record Comes (set : Sets) (limits : LimitValues) (c : Before) (bytes : List 
   pub walked : Walked limits c pieces items there
   pub members : AllByRecursion (IsMember set limits) items
 
--- .. by so many of the bytes
+-- records have come, by so many of the bytes
 pub record AreRecords (set : Sets) (limits : LimitValues) (place : Place) (bytes : List ℕ) (taken : ℕ) (place' : Place) (last : Bool) : Type 0 where
   pub within : taken ≤ length bytes
   pub comes : (c : Before) → place ≡ numbers c → c.begun ≡ None → c.over ≡ false → Comes set limits c (take taken bytes) place' last
@@ -84,7 +84,7 @@ pub record EndsRun (limits : LimitValues) (records pieces room : ℕ) (m : Item)
   pub spelled : SpellAll later bytes
   pub walked : Walked limits (inside records pieces room m) later (with_payload m payload ∷ []) (outside limits false last (records - 1))
 
--- .. from the place
+-- NDEF 1.0, chunked payloads: the bytes end the run that is open at the place
 abbrev pub IsRunEnd : LimitValues → Place → List ℕ → Bool → Type 0
 IsRunEnd limits place bytes last = (records pieces room : ℕ) (m : Item) → place ≡ numbers (inside records pieces room m) → EndsRun limits records pieces room m bytes last
 

@@ -40,11 +40,11 @@ spot_of profile p =
 abbrev pub behind_record : LimitValues → Place → Place
 behind_record limits p = record { first = false; inside = false; records = p.records - 1; pieces = limits.pieces; room = limits.payload }
 
--- .. and behind a piece with so many payload octets, behind which its record goes on
+-- what is kept behind a piece with so many payload octets, behind which its record goes on
 abbrev pub behind_chunk : Place → ℕ → Place
 behind_chunk p n = record { first = false; inside = true; records = p.records; pieces = p.pieces - 1; room = p.room - n }
 
--- .. and behind a piece with this head
+-- what is kept behind a piece with this head
 abbrev pub next : LimitValues → Place → Head → Place
 next limits p h = if h.chunked then behind_chunk p h.payload_length else behind_record limits p
 

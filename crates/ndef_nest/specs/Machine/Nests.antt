@@ -49,7 +49,7 @@ IsGap pass one low = (n : ℕ) → n < 2 ^ 32 → PassesAt pass n ↔ ((n ≡ on
 abbrev pub IsUnreadSelect : Nest → Type 0
 IsUnreadSelect n = (n.context.table ≡ Select) × (n.phase ≡ phases.Version)
 
--- .. and one behind it
+-- Connection Handover 1.2, version octet: a select behind it
 abbrev pub IsVersionedSelect : Nest → Type 0
 IsVersionedSelect n = (n.context.table ≡ Select) × (n.phase ≡ phases.Start)
 
