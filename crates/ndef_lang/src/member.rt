@@ -12,11 +12,19 @@ ghost use Rattle.ndef_lang.specs.Leaf.{IsPayload};
 use super::kind::Kind;
 use ndef_value::Profile;
 
-/// Whether all octets are ASCII.
+/// Whether all octets are ASCII; eight at a time.
 fn is_ascii(bytes: &[u8]) -> bool
     ensures { IsTrue result → AllByRecursion IsCodeOctet bytes.now }
 {
-    bytes.iter().all(|b| *b <= 0x7f)
+    let mut rest = bytes;
+    while let [a, b, c, d, e, f, g, h, more @ ..] = rest {
+        let union = *a | *b | *c | *d | *e | *f | *g | *h;
+        if union > 0x7f {
+            return false;
+        }
+        rest = more;
+    }
+    rest.iter().all(|b| *b <= 0x7f)
 }
 
 /// Whether it is a UTF-8 text.
