@@ -2,7 +2,8 @@
 use Rattle.std.proofs.Common.{◌≡◌, ℕ, ◌+◌, ◌-◌, ◌<◌, ◌≤◌, [], take, drop, refl, sym, ◌∙◌, ap, arith, List, ◌++◌, length, length-append, length-drop, append_assoc, take_at, drop_at, Bool, true, false}
 use Rattle.std.specs.Prelude.{unwrap_or, Some, None, if◌then◌else◌}
 use Rattle.std.proofs.lemmas.List.{take-append-drop}
-use Rattle.ndef_value.specs.Wire.{Run, fields, octets}
+use mir.Val.{bool_byte}
+use Rattle.ndef_value.specs.Wire.{bit, Run, fields, octets}
 use Rattle.ndef_piece.specs.Header.{is_set}
 use Rattle.ndef_piece.specs.Whole.{IsSplit, piece_of}
 use Rattle.ndef_c.specs.Walks.{BeginsWith, IsRecordThere, Lies}
@@ -80,3 +81,8 @@ none_beyond bytes at h r =
     let n = split_size r.0.initial i.short i.behind (drop at bytes) i.split in
     let k = length-drop at bytes in
     omega (arith, n, k, h)
+
+-- a flag as a number
+pub byte_is_bit : (b : Bool) → bool_byte b ≡ bit b
+byte_is_bit true = refl
+byte_is_bit false = refl

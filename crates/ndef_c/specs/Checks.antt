@@ -3,6 +3,7 @@ use Rattle.std.specs.Prelude.{◌≡◌, ℕ, ◌≤◌, ◌%◌, ◌==◌, Ok, 
 use Rattle.ndef_value.specs.Wire.{LimitValues, AreInRange}
 use Rattle.ndef_value.specs.Reason.{number_of}
 use Rattle.ndef_value.specs.declared.refusal.Refusal.{Refusal}
+use Rattle.ndef_value.specs.declared.profile.Profile.{Profile}
 use Rattle.ndef_value.specs.declared.profile.Profile.TheVariants.{Strict, Standard}
 use Rattle.ndef_lang.specs.Language.{Sets, Conditions}
 use Rattle.ndef_message.specs.Place.{Refuses}
@@ -11,13 +12,17 @@ use Rattle.ndef_c.specs.declared.status.TheConstants.{OK, REFUSED}
 use Rattle.ndef_c.specs.declared.limits.NdefLimits.{NdefLimits}
 use Rattle.ndef_c.specs.declared.checking.NdefChecked.{NdefChecked}
 
+-- 1 asks for the profile Standard
+abbrev pub profile_of : ℕ → Profile
+profile_of flags = if flags % 2 == 1 then Standard else Strict
+
 -- the limits of these numbers
 abbrev pub limits_of : NdefLimits → LimitValues
 limits_of n = record {
   payload = n.payload;
   records = n.records;
   pieces = n.pieces;
-  profile = if n.flags % 2 == 1 then Standard else Strict;
+  profile = profile_of n.flags;
 }
 
 -- they are in range, and no unknown flag is set

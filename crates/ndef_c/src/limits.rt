@@ -1,7 +1,7 @@
 //! Limits as numbers.
 ghost use Rattle.std.specs.Prelude.{◌≡◌, ◌<◌, ◌↔◌, IfSome, IsSome, IsTrue};
 ghost use Rattle.ndef_value.specs.Wire.{usual_limits};
-ghost use Rattle.ndef_c.specs.Checks.{limits_of, MayBeSet};
+ghost use Rattle.ndef_c.specs.Checks.{limits_of, profile_of, MayBeSet};
 
 use ndef_value::{Limits, Profile};
 
@@ -19,6 +19,17 @@ pub struct NdefLimits {
     pub flags: u32,
 }
 
+/// The profile that the flags ask for.
+pub(crate) fn profile_of(flags: u32) -> Profile
+    ensures { result ≡ profile_of flags }
+{
+    if flags % 2 == 1 {
+        Profile::Standard
+    } else {
+        Profile::Strict
+    }
+}
+
 /// The limits of these numbers, and whether payloads are looked into.
 pub(crate) fn limits_of(numbers: &NdefLimits) -> Option<(Limits, bool)>
     ensures some { IsSome result ↔ MayBeSet numbers.now }
@@ -31,12 +42,7 @@ pub(crate) fn limits_of(numbers: &NdefLimits) -> Option<(Limits, bool)>
     let Ok(limits) = Limits::new(numbers.payload, numbers.records, numbers.pieces) else {
         return None;
     };
-    let profile = if numbers.flags % 2 == 1 {
-        Profile::Standard
-    } else {
-        Profile::Strict
-    };
-    Some((limits.with(profile), numbers.flags < 2))
+    Some((limits.with(profile_of(numbers.flags)), numbers.flags < 2))
 }
 
 /// Writes the limits for usual tags: 1048576 bytes, 1024 records and 4096 pieces, strict, with a look

@@ -1,5 +1,5 @@
 //! The room of a caller.
-ghost use Rattle.std.specs.Prelude.{◌≡◌, ◌+◌, ◌≤◌, length};
+ghost use Rattle.std.specs.Prelude.{◌≡◌, ◌+◌, ◌<◌, ◌≤◌, ◌^◌, ◌++◌, length};
 ghost use Rattle.ndef_c.specs.Rooms.{Gives, IsPut};
 
 use crate::status::{NO_ROOM, OK};
@@ -25,5 +25,30 @@ pub(crate) fn give(bytes: &[u8], room: &mut [u8], count: &mut usize) -> u32
         return NO_ROOM;
     }
     room[..bytes.len()].copy_from_slice(bytes);
+    OK
+}
+
+/// Writes three parts, one behind another, to the room where it is large enough, tells how many bytes
+/// they are, and answers the status.
+pub(crate) fn give_parts(
+    first: &[u8],
+    second: &[u8],
+    third: &[u8],
+    room: &mut [u8],
+    count: &mut usize,
+) -> u32
+    requires first { length first.now < 2 ^ 32 }
+    requires second { length second.now < 2 ^ 32 }
+    requires third { length third.now < 2 ^ 32 }
+    ensures { Gives (first.now ++ (second.now ++ third.now)) room.old room.new count.new result }
+{
+    let needed = first.len() + second.len() + third.len();
+    *count = needed;
+    if room.len() < needed {
+        return NO_ROOM;
+    }
+    let after_first = put(room, 0, first);
+    let after_second = put(room, after_first, second);
+    let _end = put(room, after_second, third);
     OK
 }

@@ -1,15 +1,10 @@
-use Rattle.std.proofs.Common.{◌≡◌, Bool, true, false, [], ◌≤◌, ◌-◌, length, drop, refl, sym, ◌∙◌, ap, subst, arith}
+use Rattle.std.proofs.Common.{◌≡◌, [], ◌≤◌, ◌-◌, length, drop, refl, sym, ◌∙◌, ap, subst, arith}
 use Rattle.ndef_value.specs.Wire.{bit, code, tnf_of, joined}
 use Rattle.ndef_piece.specs.Header.{is_set}
 use Rattle.std.specs.Prelude.{unwrap_or}
-use mir.Val.{bool_byte}
 use Rattle.ndef_c.specs.Walks.{BeginsWith, Lies}
-use Rattle.ndef_c.proofs.Places.{ends, shown_parts, lie_in, id_is, none_beyond}
+use Rattle.ndef_c.proofs.Places.{ends, shown_parts, byte_is_bit, lie_in, id_is, none_beyond}
 use Rattle.ndef_c.proofs.record.record_at.Goals as goal
-
-byte_is_bit : (b : Bool) → bool_byte b ≡ bit b
-byte_is_bit true = refl
-byte_is_bit false = refl
 
 pub returns-then-at-bytes-clause-none : goal.returns-then-at-bytes-clause-none
 returns-then-at-bytes-clause-none c = none_beyond c.args.bytes.now c.args.at (omega arith)

@@ -1,0 +1,45 @@
+-- What is answered of the payload of a record, and what is written for a value.
+use Rattle.std.specs.Prelude.{◌≡◌, ℕ, ◌^◌, ◌<◌, List, length, slice_index}
+use Rattle.ndef_value.specs.Wire.{bit}
+use Rattle.ndef_value.specs.Reason.{number_of}
+use Rattle.ndef_value.specs.declared.refusal.Refusal.{Refusal}
+use Rattle.ndef_value.specs.declared.profile.Profile.{Profile}
+use Rattle.ndef_lang.specs.Text.{IsText, is_wide}
+use Rattle.ndef_lang.specs.Uri.{IsUri}
+use Rattle.ndef_types.specs.Decoding.{Payloads, Reasons, RefusesPayload, Writing}
+use Rattle.ndef_types.specs.Values.{StandsForUri, language_octets, encoded_octets}
+use Rattle.ndef_c.specs.Rooms.{Gives}
+use Rattle.ndef_c.specs.Walks.{Lies}
+use Rattle.ndef_c.specs.declared.checking.NdefChecked.{NdefChecked}
+use Rattle.ndef_c.specs.declared.text.NdefText.{NdefText}
+
+-- the payload isn't in its set: where and why is told
+pub record RefusesWith (set : Payloads) (holds : Reasons) (payload : List ℕ) (out : NdefChecked) : Type 0 where
+  pub refusal : Refusal
+  pub refused : RefusesPayload set holds payload refusal
+  pub place : out.place ≡ refusal.at
+  pub records : out.records ≡ 0
+  pub reason : out.reason ≡ number_of refusal.reason
+
+-- RTD URI 1.0: the payload is that of a URI, which is given with its prefix
+pub record GivesUri (profile : Profile) (payload before after : List ℕ) (count status : ℕ) : Type 0 where
+  pub in_set : IsUri profile payload
+  pub short : length payload < 2 ^ 32
+  pub uri : List ℕ
+  pub stands : StandsForUri payload uri
+  pub gives : Gives uri before after count status
+
+-- RTD Text 1.0: the payload is that of a text, and where its parts lie
+pub record IsTextAt (payload : List ℕ) (out : NdefText) : Type 0 where
+  pub in_set : IsText payload
+  pub short : length payload < 2 ^ 32
+  pub language : Lies payload out.language_at out.language_length (language_octets payload)
+  pub text : Lies payload out.text_at out.text_length (encoded_octets payload)
+  pub utf16 : out.utf16 ≡ bit (is_wide (slice_index payload 0))
+
+-- what is written for the value is given
+pub record GivesFor {V : Type 0} (written : Writing V) (value : V) (before after : List ℕ) (count status : ℕ) : Type 0 where
+  pub payload : List ℕ
+  pub is : written value payload
+  pub short : length payload < 2 ^ 32
+  pub gives : Gives payload before after count status

@@ -1,0 +1,19 @@
+//! Refusals as numbers.
+ghost use Rattle.std.specs.Prelude.{◌≡◌};
+ghost use Rattle.ndef_value.specs.Reason.{number_of};
+
+use crate::checking::NdefChecked;
+use ndef_value::Refusal;
+
+/// A refusal as numbers.
+pub(crate) fn refused_by(refusal: Refusal) -> NdefChecked
+    ensures place { result.place ≡ refusal.at }
+    ensures records { result.records ≡ 0 }
+    ensures reason { result.reason ≡ number_of refusal.reason }
+{
+    NdefChecked {
+        place: refusal.at,
+        records: 0,
+        reason: u32::from(refusal.reason.number()),
+    }
+}

@@ -1,0 +1,76 @@
+//! The payloads of URI records (RTD URI 1.0).
+ghost use Rattle.std.specs.Prelude.{◌≡◌, ◌≢◌, ◌<◌, ◌^◌, ◌↔◌, ◌⊎◌, ℕ, List, length, IsUtf8};
+ghost use Rattle.ndef_value.specs.declared.profile.Profile.{Profile};
+ghost use Rattle.ndef_lang.specs.Uri.{IsUri, UriReason};
+ghost use Rattle.ndef_types.specs.Decoding.{IsTooLong};
+ghost use Rattle.ndef_types.specs.Values.{StandsForUri, WritesUri};
+ghost use Rattle.ndef_c.specs.Checks.{profile_of};
+ghost use Rattle.ndef_c.specs.Payloads.{GivesFor, GivesUri, RefusesWith};
+ghost use Rattle.ndef_c.specs.Rooms.{Gives};
+
+use crate::checking::NdefChecked;
+use crate::limits::profile_of;
+use crate::refusal::refused_by;
+use crate::room::give_parts;
+use crate::status::{BAD_ARGUMENT, REFUSED};
+use ndef_lang::{Kind, UriLang};
+use ndef_types::{accept, prefix, split};
+
+/// Writes the URI for which a payload stands to the room.
+fn give_uri(payload: &[u8], room: &mut [u8], count: &mut usize) -> u32
+    requires uri { (profile : Profile) × IsUri profile payload.now }
+    requires short { length payload.now < 2 ^ 32 }
+    ensures { (uri : List ℕ) × StandsForUri payload.now uri × Gives uri room.old room.new count.new result }
+{
+    let [code, rest @ ..] = payload else {
+        unreachable!()
+    };
+    give_parts(&[], prefix(*code).as_bytes(), rest, room, count)
+}
+
+/// Writes the URI for which the payload of a URI record stands, its prefix written out, to the room.
+#[unsafe(no_mangle)]
+pub extern "C" fn ndef_uri(
+    payload: &[u8],
+    flags: u32,
+    room: &mut [u8],
+    count: &mut usize,
+    why: &mut NdefChecked,
+) -> u32
+    ensures bad { result ≡ BAD_ARGUMENT ↔ (1 < flags) }
+    ensures refused { result ≡ REFUSED
+        → RefusesWith (IsUri (profile_of flags)) (UriReason (profile_of flags)) payload.now why.new }
+    ensures uri { result ≢ BAD_ARGUMENT → result ≢ REFUSED
+        → GivesUri (profile_of flags) payload.now room.old room.new count.new result }
+    ensures kept { (result ≡ BAD_ARGUMENT) ⊎ (result ≡ REFUSED) → (room.new ≡ room.old) × (count.new ≡ count.old) }
+    ensures kept_why { result ≢ REFUSED → why.new ≡ why.old }
+{
+    if flags > 1 {
+        return BAD_ARGUMENT;
+    }
+    match accept::<UriLang>(Kind::Uri, profile_of(flags), payload) {
+        Ok(()) => give_uri(payload, room, count),
+        Err(refusal) => {
+            *why = refused_by(refusal);
+            REFUSED
+        }
+    }
+}
+
+/// Writes the payload of a URI record, by the longest prefix that begins the URI, to the room.
+#[unsafe(no_mangle)]
+pub extern "C" fn ndef_write_uri(uri: &[u8], room: &mut [u8], count: &mut usize) -> u32
+    ensures bad { result ≡ BAD_ARGUMENT → (¬ IsUtf8 uri.now) ⊎ IsTooLong WritesUri uri.now }
+    ensures kept { result ≡ BAD_ARGUMENT → (room.new ≡ room.old) × (count.new ≡ count.old) }
+    ensures utf8 { result ≢ BAD_ARGUMENT → IsUtf8 uri.now }
+    ensures payload { result ≢ BAD_ARGUMENT → GivesFor WritesUri uri.now room.old room.new count.new result }
+{
+    let Ok(text) = simdutf8::basic::from_utf8(uri) else {
+        return BAD_ARGUMENT;
+    };
+    let (code, rest) = split(text);
+    if rest.len() >= u32::MAX as usize {
+        return BAD_ARGUMENT;
+    }
+    give_parts(&[], &[code], rest, room, count)
+}
