@@ -24,7 +24,7 @@ extern "C" {
 
 enum ndef_status {
     NDEF_OK = 0,
-    NDEF_REFUSED = 1,      /* the bytes begin with no message: the answer has the place and the reason */
+    NDEF_REFUSED = 1,      /* no message, or no such payload: the answer has the place and the reason */
     NDEF_NO_ROOM = 2,      /* the room is too small: *count has what is needed, and the room is as it was */
     NDEF_BAD_ARGUMENT = 3, /* as each call says */
     NDEF_END = 4           /* no record is left */
@@ -91,7 +91,9 @@ typedef struct ndef_checked {
 
 /* Checks the message with which the bytes begin; other bytes may follow it.
  * NDEF_OK: out->place bytes are a message. NDEF_REFUSED: out tells where and why no message goes on.
- * NDEF_BAD_ARGUMENT: a limit is out of its range, or an unknown flag is set. */
+ * NDEF_BAD_ARGUMENT: a limit is out of its range, or an unknown flag is set.
+ * NDEF_REFUSED at `length` with NDEF_END_OF_INPUT says that the bytes begin a message and more are wanted, so bytes that
+ * come in parts are kept and checked again as more of them are there. */
 uint32_t ndef_check(const uint8_t *bytes, size_t length, const ndef_limits *limits, ndef_checked *out);
 
 /* Writes the name of a reason to the front of the room, in ASCII and with no NUL behind it, and its length, at most
@@ -141,6 +143,37 @@ enum { NDEF_FIRST = 1, NDEF_LAST = 2, NDEF_LONG = 4 };
 uint32_t ndef_write_record(const uint8_t *type, size_t type_length, const uint8_t *id, size_t id_length,
                            const uint8_t *payload, size_t payload_length, const ndef_writing *how,
                            uint8_t *room, size_t size, size_t *count);
+
+/* ---- payloads */
+
+/* Writes the URI for which the payload of a URI record stands, its prefix written out, in UTF-8 and with no NUL behind
+ * it, to the front of the room, and its length to *count. Flags: NDEF_STANDARD reads a reserved code as one of no prefix.
+ * NDEF_OK, NDEF_NO_ROOM. NDEF_REFUSED: it is no such payload; `why` tells where and why (and 0 records), and no more is
+ * written; else `why` is as it was. NDEF_BAD_ARGUMENT: an unknown flag. */
+uint32_t ndef_uri(const uint8_t *payload, size_t length, uint32_t flags, uint8_t *room, size_t size, size_t *count,
+                  ndef_checked *why);
+
+/* Writes the payload of a URI record, by the longest prefix that begins the URI, to the front of the room, and its length
+ * to *count. NDEF_OK, NDEF_NO_ROOM; NDEF_BAD_ARGUMENT: the URI isn't UTF-8, or no payload has room for it. */
+uint32_t ndef_write_uri(const uint8_t *uri, size_t length, uint8_t *room, size_t size, size_t *count);
+
+/* A text, by places and lengths in its payload. */
+typedef struct ndef_text_parts {
+    size_t language_at, language_length; /* the language code, up to 63 bytes of ASCII */
+    size_t text_at, text_length;
+    uint32_t utf16; /* 0: the text is UTF-8. 1: UTF-16, behind a byte order mark, or big-endian without one */
+} ndef_text_parts;
+
+/* Tells where the parts of a text lie in the payload of a Text record.
+ * NDEF_OK: `out` has them, and `why` is as it was. NDEF_REFUSED: it is no such payload; `why` tells where and why (and 0
+ * records), and `out` is as it was. */
+uint32_t ndef_text(const uint8_t *payload, size_t length, ndef_text_parts *out, ndef_checked *why);
+
+/* Writes the payload of a Text record in UTF-8 to the front of the room, and its length to *count.
+ * NDEF_OK, NDEF_NO_ROOM; NDEF_BAD_ARGUMENT: a language code of more than 63 bytes or that isn't ASCII, a text that isn't
+ * UTF-8, or no payload has room for them. */
+uint32_t ndef_write_text(const uint8_t *language, size_t language_length, const uint8_t *text, size_t text_length,
+                         uint8_t *room, size_t size, size_t *count);
 
 #ifdef __cplusplus
 }

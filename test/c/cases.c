@@ -10,6 +10,7 @@
 typedef char limits_lie[sizeof(ndef_limits) == 16 && offsetof(ndef_limits, flags) == 12 ? 1 : -1];
 typedef char checked_lies[sizeof(ndef_checked) == 16 && offsetof(ndef_checked, records) == 8 ? 1 : -1];
 typedef char record_lies[sizeof(ndef_record) == 88 && offsetof(ndef_record, tnf) == 80 ? 1 : -1];
+typedef char text_lies[sizeof(ndef_text_parts) == 40 && offsetof(ndef_text_parts, utf16) == 32 ? 1 : -1];
 typedef char writing_lies[sizeof(ndef_writing) == 12 && offsetof(ndef_writing, chunk) == 8 ? 1 : -1];
 
 enum { FIELDS = 7, LINE = 1 << 22 };
