@@ -1,30 +1,32 @@
-//! Worked rows, printed text, and memory, readers and writers that fail. Those of the crates below
-//! that take long to prove stand here too, since a crate with tests is proved a second time for them.
-mod answers;
+//! Worked rows, printed text, and memory, readers and writers that fail, of all crates: a crate with
+//! tests is proved a second time for them.
+mod case;
+mod cases;
 mod checking;
 mod command;
 mod comparing;
+mod doors;
 mod encoding;
 mod faults;
 mod handovers;
 mod heads;
 mod links;
+mod made;
 mod memory;
-mod nested;
 mod nested_memory;
 mod nested_payloads;
 mod payloads;
-mod posters;
+mod plain_values;
 mod reading;
-mod requests;
+mod records;
+mod run_memory;
+mod runs;
 mod samples;
-mod showing;
 mod shown_memory;
-mod slices;
 mod sources;
 mod streams;
+mod suite;
 mod texts;
 mod typed_memory;
-mod uris;
 mod values;
 mod views;

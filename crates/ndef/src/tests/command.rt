@@ -1,13 +1,11 @@
 //! What the command writes and the status that it ends with.
 use super::faults::fails_in_turn;
-use super::samples::{CHUNKS, HELLO, TWO};
+use super::samples::HELLO;
 use super::streams::{FullWriter, SlowReader};
 use ndef_message::{Sink, SliceSource, StdSink, StdSource};
 use ndef_tool::{Status, run};
 use std::alloc::Global;
 use std::test::Fail;
-
-const LONG: [u8; 6] = [0xC5, 0x00, 0x00, 0x00, 0x00, 0x00];
 
 const USAGE: &str =
     "usage: ndef show|check|encode [--hex] [--payload N] [--records N] [--pieces N] [--form short|long] [--chunk N] [--profile strict|standard]\n";
@@ -47,7 +45,7 @@ pub(super) fn ran(
 
 // The same, where the bytes come as hexadecimal text gives the same lines, or the digits of what is
 // written.
-fn ran_alike(
+pub(super) fn ran_alike(
     alloc: Global,
     texts: &[&str],
     bytes: &[u8],
@@ -78,117 +76,12 @@ fn ran_alike(
 }
 
 #[test]
-fn checks_the_table(rt: HostRuntime) -> Result<(), Fail> {
-    let alloc = rt.alloc();
-    let table: [(&[u8], u8, &str); 27] = [
-        (&HELLO, 0, "message 1 at 0: records 1, bytes 12\n"),
-        (
-            &[0xD0, 0x00, 0x00],
-            0,
-            "message 1 at 0: records 1, bytes 3\n",
-        ),
-        (
-            &[0xD8, 0x00, 0x00, 0x00],
-            0,
-            "message 1 at 0: records 1, bytes 4\n",
-        ),
-        (&LONG, 0, "message 1 at 0: records 1, bytes 6\n"),
-        (&CHUNKS, 0, "message 1 at 0: records 1, bytes 12\n"),
-        (&TWO, 0, "message 1 at 0: records 2, bytes 8\n"),
-        (
-            [HELLO, HELLO].as_flattened(),
-            0,
-            "message 1 at 0: records 1, bytes 12\nmessage 2 at 12: records 1, bytes 12\n",
-        ),
-        (
-            &[0xD0, 0x00, 0x00, 0xD0, 0x00, 0x00, 0xD5, 0x01],
-            1,
-            "message 1 at 0: records 1, bytes 3\nmessage 2 at 3: records 1, bytes 3\nrefused at 7: 11 TypeNotEmpty\n",
-        ),
-        (
-            &[0xD0, 0x00, 0x00, 0x51],
-            1,
-            "message 1 at 0: records 1, bytes 3\nrefused at 3: 2 BeginMissing\n",
-        ),
-        (&[], 0, ""),
-        (&HELLO[..11], 1, "refused at 11: 24 EndOfInput\n"),
-        (&[0xD7, 0x00, 0x00], 1, "refused at 0: 1 ReservedTnf\n"),
-        (&[0x51], 1, "refused at 0: 2 BeginMissing\n"),
-        (
-            &[0x91, 0x01, 0x00, 0x41, 0xD1],
-            1,
-            "refused at 4: 3 BeginAgain\n",
-        ),
-        (&[0xD6], 1, "refused at 0: 4 UnchangedOutside\n"),
-        (
-            &[0xB5, 0x00, 0x01, 0x41, 0x55],
-            1,
-            "refused at 4: 5 ChangedInside\n",
-        ),
-        (
-            &[0xB5, 0x00, 0x01, 0x41, 0x5E],
-            1,
-            "refused at 4: 6 IdInside\n",
-        ),
-        (&[0xF5], 1, "refused at 0: 7 ChunkAtEnd\n"),
-        (&[0xB0], 1, "refused at 0: 8 ChunkOfEmpty\n"),
-        (&[0xD5, 0x01], 1, "refused at 1: 11 TypeNotEmpty\n"),
-        (&[0xD1, 0x00], 1, "refused at 1: 12 TypeEmpty\n"),
-        (&[0xD0, 0x01], 1, "refused at 1: 13 EmptyNotEmpty\n"),
-        (&[0xD0, 0x00, 0x01], 1, "refused at 2: 13 EmptyNotEmpty\n"),
-        (
-            &[0xD8, 0x00, 0x00, 0x01],
-            1,
-            "refused at 3: 13 EmptyNotEmpty\n",
-        ),
-        (&[0xC5, 0x00, 0xFF], 1, "refused at 2: 14 PayloadTooLarge\n"),
-        (
-            &[0xC5, 0x00, 0x00, 0x10, 0x00, 0x00],
-            1,
-            "refused at 6: 24 EndOfInput\n",
-        ),
-        (
-            &[0xC5, 0x00, 0x00, 0x10, 0x00, 0x01],
-            1,
-            "refused at 5: 14 PayloadTooLarge\n",
-        ),
-    ];
-    for (bytes, wanted, text) in table {
-        let (status, out) = ran_alike(alloc, &["ndef", "check"], bytes, 0)?;
-        assert!(rt;
-            status == wanted && out.as_slice() == text.as_bytes(),
-            "{text}"
-        );
-    }
+fn checks_with_each_cut(rt: HostRuntime) -> Result<(), Fail> {
     for cut in 0..HELLO.len() {
-        let (status, out) = ran(alloc, &["ndef", "check"], &HELLO, cut)?;
+        let (status, out) = ran(rt.alloc(), &["ndef", "check"], &HELLO, cut)?;
         assert!(rt;
             status == 0 && out.as_slice() == b"message 1 at 0: records 1, bytes 12\n".as_slice()
         );
-    }
-    Ok(())
-}
-
-#[test]
-fn encodes(rt: HostRuntime) -> Result<(), Fail> {
-    let alloc = rt.alloc();
-    let table: [(&[u8], u8, &[u8]); 8] = [
-        (&HELLO, 0, &HELLO),
-        (&LONG, 0, &[0xD5, 0x00, 0x00]),
-        (&CHUNKS, 0, &[0xD5, 0x00, 0x03, 0x41, 0x42, 0x43]),
-        (&TWO, 0, &TWO),
-        (&[0xD8, 0x00, 0x00, 0x00], 0, &[0xD0, 0x00, 0x00]),
-        (
-            &[0xC5, 0x00, 0x00, 0x00, 0x00, 0x00, 0xD0, 0x00, 0x00, 0x51],
-            1,
-            &[0xD5, 0x00, 0x00, 0xD0, 0x00, 0x00],
-        ),
-        (&[], 0, &[]),
-        (&[0xF5], 1, &[]),
-    ];
-    for (bytes, wanted, text) in table {
-        let (status, out) = ran_alike(alloc, &["ndef", "encode"], bytes, 5)?;
-        assert!(rt; status == wanted && out.as_slice() == text);
     }
     Ok(())
 }
@@ -242,176 +135,39 @@ fn handles_10000_messages(rt: HostRuntime) -> Result<(), Fail> {
     Ok(())
 }
 
+/// Words that don't parse, behind the program's name.
+const NO_WORDS: &str = "
+decode
+--help
+help
+check --help
+check extra
+check --payload 0
+check --payload 4294967296
+check --payload many
+check --records 0
+encode --records 65536
+check --pieces 65536
+check --profile loose
+check --form short
+encode --form middle
+encode --chunk 0
+encode --chunk
+";
+
 #[test]
 fn prints_usage(rt: HostRuntime) -> Result<(), Fail> {
     let alloc = rt.alloc();
-    let table: [&[&str]; 18] = [
-        &["ndef"],
-        &[],
-        &["ndef", "decode"],
-        &["ndef", "--help"],
-        &["ndef", "help"],
-        &["ndef", "check", "--help"],
-        &["ndef", "check", "extra"],
-        &["ndef", "check", "--payload", "0"],
-        &["ndef", "check", "--payload", "4294967296"],
-        &["ndef", "check", "--payload", "many"],
-        &["ndef", "check", "--records", "0"],
-        &["ndef", "encode", "--records", "65536"],
-        &["ndef", "check", "--pieces", "65536"],
-        &["ndef", "check", "--profile", "loose"],
-        &["ndef", "check", "--form", "short"],
-        &["ndef", "encode", "--form", "middle"],
-        &["ndef", "encode", "--chunk", "0"],
-        &["ndef", "encode", "--chunk"],
-    ];
-    for texts in table {
-        let (status, out) = ran(alloc, texts, &HELLO, 0)?;
-        assert!(rt; status == 2 && out.as_slice() == USAGE.as_bytes());
-    }
-    Ok(())
-}
-
-#[test]
-fn keeps_the_limits(rt: HostRuntime) -> Result<(), Fail> {
-    let alloc = rt.alloc();
-    let table: [(&[&str], &[u8], &str); 12] = [
-        (
-            &["ndef", "check", "--payload", "10"],
-            &[0xD5, 0x00, 0x0B],
-            "refused at 2: 14 PayloadTooLarge\n",
-        ),
-        (
-            &["ndef", "check", "--payload=2"],
-            &[0xB5, 0x00, 0x02, 0x41, 0x42, 0x56, 0x00, 0x01],
-            "refused at 7: 14 PayloadTooLarge\n",
-        ),
-        (
-            &["ndef", "check", "--payload", "1000"],
-            &[0xC5, 0x00, 0x00, 0x00, 0x04],
-            "refused at 4: 14 PayloadTooLarge\n",
-        ),
-        (
-            &["ndef", "check", "--payload", "4294967295"],
-            &[0xC5, 0x00, 0xFF],
-            "refused at 3: 24 EndOfInput\n",
-        ),
-        (
-            &["ndef", "check", "--records", "1"],
-            &TWO,
-            "refused at 0: 10 TooManyRecords\n",
-        ),
-        (
-            &["ndef", "check", "--records", "2"],
-            &TWO,
-            "message 1 at 0: records 2, bytes 8\n",
-        ),
-        (
-            &["ndef", "check", "--pieces", "1"],
-            &[0xB5],
-            "refused at 0: 9 TooManyPieces\n",
-        ),
-        (
-            &["ndef", "check", "--pieces", "2"],
-            &CHUNKS,
-            "refused at 4: 9 TooManyPieces\n",
-        ),
-        (
-            &["ndef", "check", "--pieces", "3"],
-            &CHUNKS,
-            "message 1 at 0: records 1, bytes 12\n",
-        ),
-        (
-            &["ndef", "check", "--profile", "standard"],
-            &[0xD7, 0x00, 0x00],
-            "message 1 at 0: records 1, bytes 3\n",
-        ),
-        (
-            &["ndef", "check", "--profile", "strict"],
-            &[0xD7, 0x00, 0x00],
-            "refused at 0: 1 ReservedTnf\n",
-        ),
-        (
-            &[
-                "ndef",
-                "check",
-                "--records",
-                "65535",
-                "--pieces",
-                "65535",
-                "--payload",
-                "8",
-            ],
-            &HELLO,
-            "message 1 at 0: records 1, bytes 12\n",
-        ),
-    ];
-    for (texts, bytes, text) in table {
-        let (status, out) = ran_alike(alloc, texts, bytes, 2)?;
-        let refused = text.as_bytes()[0] == b'r';
-        assert!(rt; status == u8::from(refused) && out.as_slice() == text.as_bytes());
-    }
-    Ok(())
-}
-
-#[test]
-fn encodes_in_a_form(rt: HostRuntime) -> Result<(), Fail> {
-    let alloc = rt.alloc();
-    let table: [(&[&str], &[u8], &[u8]); 9] = [
-        (
-            &["ndef", "encode", "--form", "long"],
-            &HELLO,
-            &[
-                0xC1, 0x01, 0x00, 0x00, 0x00, 0x08, 0x54, 0x02, 0x65, 0x6E, 0x48, 0x65, 0x6C, 0x6C,
-                0x6F,
-            ],
-        ),
-        (
-            &["ndef", "encode", "--form", "short"],
-            &LONG,
-            &[0xD5, 0x00, 0x00],
-        ),
-        (
-            &["ndef", "encode", "--form", "long"],
-            &[0xD5, 0x00, 0x00],
-            &LONG,
-        ),
-        (
-            &["ndef", "encode", "--chunk", "3"],
-            &HELLO,
-            &[
-                0xB1, 0x01, 0x03, 0x54, 0x02, 0x65, 0x6E, 0x36, 0x00, 0x03, 0x48, 0x65, 0x6C, 0x56,
-                0x00, 0x02, 0x6C, 0x6F,
-            ],
-        ),
-        (
-            &["ndef", "encode", "--form", "long", "--chunk", "4"],
-            &HELLO,
-            &[
-                0xA1, 0x01, 0x00, 0x00, 0x00, 0x04, 0x54, 0x02, 0x65, 0x6E, 0x48, 0x46, 0x00, 0x00,
-                0x00, 0x00, 0x04, 0x65, 0x6C, 0x6C, 0x6F,
-            ],
-        ),
-        (
-            &["ndef", "encode", "--chunk", "1"],
-            &HELLO,
-            &[
-                0xB1, 0x01, 0x01, 0x54, 0x02, 0x36, 0x00, 0x01, 0x65, 0x36, 0x00, 0x01, 0x6E, 0x36,
-                0x00, 0x01, 0x48, 0x36, 0x00, 0x01, 0x65, 0x36, 0x00, 0x01, 0x6C, 0x36, 0x00, 0x01,
-                0x6C, 0x56, 0x00, 0x01, 0x6F,
-            ],
-        ),
-        (&["ndef", "encode", "--chunk", "8"], &HELLO, &HELLO),
-        (&["ndef", "encode", "--chunk", "4294967295"], &HELLO, &HELLO),
-        (
-            &["ndef", "encode", "--profile", "standard"],
-            &[0xD7, 0x00, 0x00],
-            &[0xD5, 0x00, 0x00],
-        ),
-    ];
-    for (texts, bytes, text) in table {
-        let (status, out) = ran_alike(alloc, texts, bytes, 4)?;
-        assert!(rt; status == 0 && out.as_slice() == text);
+    let (status, out) = ran(alloc, &[], &HELLO, 0)?;
+    assert!(rt; status == 2 && out.as_slice() == USAGE.as_bytes());
+    for line in NO_WORDS.lines() {
+        let mut texts = Vec::new(alloc);
+        texts.push("ndef")?;
+        for word in line.split_whitespace() {
+            texts.push(word)?;
+        }
+        let (status, out) = ran(alloc, texts.as_slice(), &HELLO, 0)?;
+        assert!(rt; status == 2 && out.as_slice() == USAGE.as_bytes(), "{line}");
     }
     Ok(())
 }

@@ -2,7 +2,7 @@
 ghost use Rattle.std.specs.Prelude.{◌≤◌};
 
 use super::samples::{HELLO, SELECT};
-use super::streams::FullWriter;
+use super::streams::{FullWriter, IdleWriter};
 use ndef_message::{
     Form, Sink, SinkFault, StdSink, WriteFault, encode, encode_chunked, encoded_length,
     write_message,
@@ -123,5 +123,16 @@ fn counts_what_went_out(rt: HostRuntime) -> Result<(), Fail> {
         room: 12,
     });
     assert!(rt; write_message(&hello, Form::Short, None, &mut sink) == Ok(12));
+    Ok(())
+}
+
+// What is offered and not taken at all counts as a fault, for good.
+#[test]
+fn tells_a_writer_that_takes_nothing(rt: HostRuntime) -> Result<(), Fail> {
+    let hello = hello(rt.alloc())?;
+    let mut sink = StdSink::new(IdleWriter);
+    let fault = write_message(&hello, Form::Short, None, &mut sink).err();
+    assert!(rt; fault == Some(WriteFault { written: 0 }));
+    assert!(rt; sink.write(&HELLO) == Err(SinkFault));
     Ok(())
 }

@@ -1,21 +1,65 @@
 //! The carriers of a message: the alternative carriers of its handover, and the records that they refer
 //! to.
+use super::case::{answer_of, bytes_of, field, profile_of};
 use super::samples::{HELLO, SELECT, read};
-use ndef_types::{LinkError, Power, carriers, carriers_as};
-use ndef_value::{Profile, Reason, Refusal};
+use ndef_types::{LinkError, Links, Power, carriers, carriers_as};
+use ndef_value::Profile;
 use std::alloc::Global;
 use std::test::Fail;
 
-/// The indices of the links of a message.
-fn indices(alloc: Global, bytes: &[u8]) -> Result<Vec<Option<usize>>, Fail> {
-    let links = carriers(alloc, &read(alloc, bytes)?)?;
-    let mut indices = Vec::new(alloc);
-    for place in 0..links.len() {
-        if let Some(link) = links.get(place) {
-            indices.push(link.index)?;
+/// Links by the indices of their records, `none` where there is none: `PROFILE | MESSAGE | INDEX ..`, or
+/// `PROFILE | MESSAGE | refused PLACE REASON`. Of two handovers the first counts, of two records with an
+/// id too, and a handover has an index itself.
+const LINKS: &str = "
+strict | D1 02 01 48 73 12 |
+strict | 99 02 0A 01 48 73 48 12 D1 02 04 61 63 01 01 48 00 5D 00 00 01 48 | 0
+strict | 91 02 12 48 73 12 91 02 03 61 63 01 00 00 51 02 04 61 63 01 01 78 00 58 00 00 00 | none none
+strict | 91 02 01 48 73 12 51 02 0A 48 73 12 D1 02 04 61 63 01 01 30 00 |
+strict | 9D 00 00 01 30 11 02 11 48 72 12 91 02 02 63 72 01 02 51 02 04 61 63 03 01 30 00 5D 00 00 01 30 | 0
+strict | D1 02 04 48 73 12 D7 00 00 | refused 1 1
+standard | D1 02 04 48 73 12 D7 00 00 |
+strict | D1 02 02 48 72 12 00 | refused 0 23
+";
+
+/// Whether the links have these indices.
+fn have_indices(links: &Links, indices: &str) -> Result<bool, Fail> {
+    let mut words = indices.split_whitespace();
+    for link in links {
+        let index = match words.next() {
+            None => return Ok(false),
+            Some("none") => None,
+            Some(index) => Some(index.parse::<usize>()?),
+        };
+        if link.index != index {
+            return Ok(false);
         }
     }
-    Ok(indices)
+    Ok(words.next().is_none())
+}
+
+/// Whether a line tells the links of its message.
+fn is_linked(alloc: Global, line: &str) -> Result<bool, Fail> {
+    let (profile, rest) = field(line);
+    let (bytes, rest) = field(rest);
+    let (answer, _) = field(rest);
+    let profile = profile_of(profile).ok_or("no such profile")?;
+    let bytes = bytes_of(alloc, bytes).ok_or("no bytes")?;
+    let message = read(alloc, bytes.as_slice())?;
+    match carriers_as(alloc, &message, profile) {
+        Ok(links) => have_indices(&links, answer),
+        Err(LinkError::Refused(refusal)) => {
+            Ok(answer_of(answer).map(|(answer, _)| answer) == Some(Err(refusal)))
+        }
+        Err(LinkError::NoMemory) => Err("no memory".into()),
+    }
+}
+
+#[test]
+fn first_records_are_linked(rt: HostRuntime) -> Result<(), Fail> {
+    for line in LINKS.trim().lines() {
+        assert!(rt; is_linked(rt.alloc(), line)?, "{line}");
+    }
+    Ok(())
 }
 
 #[test]
@@ -33,54 +77,6 @@ fn carriers_are_linked(rt: HostRuntime) -> Result<(), Fail> {
         let reference = link.map(|link| link.ac.reference().as_slice());
         assert!(rt; reference == Some(b"0".as_slice()), "{profile:?}");
     }
-    assert!(rt; indices(alloc, &HELLO)?.is_empty());
-    Ok(())
-}
-
-// Of two handovers the first counts, of two records with an id too, and a handover has an index itself.
-#[test]
-fn first_records_are_linked(rt: HostRuntime) -> Result<(), Fail> {
-    let alloc = rt.alloc();
-    let rows: [(&[u8], &[Option<usize>]); 5] = [
-        (b"\xd1\x02\x01Hs\x12", &[]),
-        (
-            b"\x99\x02\x0a\x01HsH\x12\xd1\x02\x04ac\x01\x01H\x00\x5d\x00\x00\x01H",
-            &[Some(0)],
-        ),
-        (
-            b"\x91\x02\x12Hs\x12\x91\x02\x03ac\x01\x00\x00\x51\x02\x04ac\x01\x01x\x00\x58\x00\x00\x00",
-            &[None, None],
-        ),
-        (
-            b"\x91\x02\x01Hs\x12\x51\x02\x0aHs\x12\xd1\x02\x04ac\x01\x010\x00",
-            &[],
-        ),
-        (
-            b"\x9d\x00\x00\x010\x11\x02\x11Hr\x12\x91\x02\x02cr\x01\x02\x51\x02\x04ac\x03\x010\x00\x5d\x00\x00\x010",
-            &[Some(0)],
-        ),
-    ];
-    for (bytes, wanted) in rows {
-        assert!(rt; indices(alloc, bytes)?.as_slice() == wanted, "{bytes:?}");
-    }
-    Ok(())
-}
-
-#[test]
-fn refused_handovers_have_no_links(rt: HostRuntime) -> Result<(), Fail> {
-    let alloc = rt.alloc();
-    let message = read(alloc, b"\xd1\x02\x04Hs\x12\xd7\x00\x00")?;
-    let refusal = Refusal {
-        at: 1,
-        reason: Reason::ReservedTnf,
-    };
-    assert!(rt; carriers(alloc, &message).err() == Some(LinkError::Refused(refusal)));
-    assert!(rt; carriers_as(alloc, &message, Profile::Standard)?.len() == 0);
-    let message = read(alloc, b"\xd1\x02\x02Hr\x12\x00")?;
-    let refusal = Refusal {
-        at: 0,
-        reason: Reason::DoesNotFit,
-    };
-    assert!(rt; carriers(alloc, &message).err() == Some(LinkError::Refused(refusal)));
+    assert!(rt; carriers(alloc, &read(alloc, &HELLO)?)?.is_empty());
     Ok(())
 }

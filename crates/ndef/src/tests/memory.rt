@@ -2,8 +2,8 @@
 use super::samples::HELLO;
 use ndef_lang::Opaque;
 use ndef_message::{
-    Decoder, Event, Form, Item, ReadError, SliceSource, View, check_message, encode,
-    encode_chunked, read_message, view,
+    Checker, Decoder, Event, FailingSink, Fed, Form, Item, ReadError, SliceSource, View,
+    check_message, encode, encode_chunked, read_message, view, write_message,
 };
 use ndef_value::{Bytes, Limits, Message, Name, NameError, NoMemory, Record, RecordError, Tnf};
 use std::alloc::Global;
@@ -130,16 +130,31 @@ fn joins_at_last(alloc: Global, item: &Item<'_>, spare: &mut Vec<Vec<u8>>) -> bo
     false
 }
 
-// What needs no memory: checking, a record without parts, and the head of a record.
+// What needs no memory: checking, viewing, a record without parts, and the head of a record.
 fn works_without_memory(alloc: Global) -> bool {
     let mut source = SliceSource::new(&HELLO, &[]);
     let checked = check_message::<Opaque, _>(&mut source, Limits::usual());
+    let mut checker = Checker::<Opaque>::new(Limits::usual());
+    let done = checker.feed(&HELLO) == Fed::Done { taken: 12 } && checker.end() == Ok(());
+    let viewed = view::<Opaque>(&HELLO, Limits::usual()).map(|view| view.taken());
     let mut decoder = Decoder::<Opaque>::new(alloc, Limits::usual());
     let empty = matches!(
         decoder.feed(&[0xD0, 0x00, 0x00]),
         (3, Event::Whole { last: true, .. })
     );
-    checked.is_ok() && empty
+    checked.map(|checked| checked.taken) == Ok(12) && done && viewed == Ok(12) && empty
+}
+
+// Nor does writing: whole, and in pieces.
+fn writes_without_memory(message: &Message, wanted: &[u8]) -> bool {
+    let mut room = [0; 256];
+    let mut sink = FailingSink::new(&mut room, 7, None);
+    let written = write_message(message, Form::Short, None, &mut sink);
+    let same = sink.written() == wanted;
+    let mut room = [0; 256];
+    let mut sink = FailingSink::new(&mut room, 256, None);
+    let pieces = write_message(message, Form::Long, Some(24), &mut sink);
+    written == Ok(wanted.len() as u64) && same && pieces == Ok(133)
 }
 
 fn reserves_nothing(alloc: Global) -> bool {
@@ -168,7 +183,7 @@ fn refuses_each_growth_of_a_message(rt: HostRuntime) -> Result<(), Fail> {
     let mut spare = spare_blocks(alloc)?;
     let mut held = Vec::with_capacity(alloc, 65536)?;
     let used_up = use_up(alloc, &mut held);
-    let whole = works_without_memory(alloc);
+    let whole = works_without_memory(alloc) && writes_without_memory(&wide, bytes.as_slice());
     let reserved = reserves_nothing(alloc);
     let failed = fails_for_good(alloc);
     let unread = is_read(alloc, &[0xD0, 0x00, 0x00]);

@@ -1,9 +1,12 @@
 //! Nested payloads, by themselves.
 ghost use Rattle.std.specs.Prelude.{◌≤◌, ◌<◌, ◌^◌};
 
+use super::case::{answer_of, bytes_of, field, profile_of};
 use ndef_lang::{Kind, Language, Leaf};
 use ndef_nest::{Nest, Typed};
 use ndef_value::{Profile, Reason};
+use std::alloc::Global;
+use std::test::Fail;
 
 /// What comes of the front of a payload.
 #[derive(Clone, Copy, Debug, PartialEq, Eq)]
@@ -59,149 +62,103 @@ fn both(kind: Kind, records: u32, profile: Profile, length: u32, front: &[u8]) -
     ]
 }
 
-/// The same of a strict reader that takes many records.
-fn strict(kind: Kind, length: u32, front: &[u8]) -> [Answer; 2] {
-    both(kind, 1024, Profile::Strict, length, front)
-}
+/// Payloads by their fronts: `TYPE | RECORDS | PROFILE | LENGTH | OCTETS | ANSWER`, the answer being
+/// `no length`, `refused PLACE REASON`, `goes on` or `whole`.
+const PAYLOADS: &str = "
+poster | 1024 | strict | 6 | D1 01 02 55 00 61 | whole
+poster | 1024 | strict | 8 | 90 00 00 51 01 01 55 00 | whole
+poster | 1024 | strict | 13 | 91 01 02 55 00 61 51 03 01 61 63 74 03 | whole
+poster | 1024 | strict | 4 |  | no length
+poster | 1024 | strict | 5 | D1 01 01 54 | refused 3 20
+poster | 1024 | strict | 5 | D5 | refused 0 20
+poster | 1024 | strict | 6 | D1 02 | refused 1 20
+poster | 1024 | strict | 5 | D7 | refused 0 1
+poster | 1024 | strict | 6 | B1 | refused 0 9
+poster | 1024 | strict | 6 | 90 | refused 0 23
+poster | 1024 | strict | 7 | D1 01 02 | refused 2 23
+poster | 1024 | strict | 1000 | D1 | refused 0 23
+poster | 1024 | strict | 6 | D1 01 02 55 FF 61 | refused 4 19
+poster | 1024 | strict | 11 | 91 01 01 55 00 51 01 02 55 | refused 8 21
+poster | 1024 | strict | 14 | 91 01 02 55 00 61 51 03 02 61 63 74 | refused 11 23
+poster | 1024 | strict | 4294967295 | C1 01 FF FF FF F7 | refused 5 23
+poster | 1024 | strict | 4294967295 | C1 01 FF FF FF F8 | goes on
+select | 1024 | strict | 1 | 12 | whole
+select | 1024 | strict | 4 | 12 D0 00 00 | whole
+select | 1024 | strict | 9 | 12 D1 03 02 65 72 72 01 40 | whole
+select | 1024 | strict | 10 | 12 D1 02 04 61 63 01 01 30 00 | whole
+select | 1024 | strict | 0 |  | no length
+select | 1024 | strict | 2 |  | no length
+select | 1024 | strict | 1 | 22 | refused 0 22
+select | 1024 | strict | 9 | 12 D1 03 02 65 72 72 02 | refused 7 23
+request | 1024 | strict | 8 | 12 D1 02 02 63 72 01 02 | whole
+request | 1024 | strict | 3 |  | no length
+request | 1024 | strict | 4 |  | no length
+request | 1024 | strict | 7 |  | no length
+request | 1024 | strict | 8 | 22 | refused 0 22
+request | 1024 | strict | 8 | 12 D0 | refused 1 25
+request | 1024 | strict | 8 | 12 D7 | refused 1 1
+request | 1024 | strict | 8 | 12 D1 01 | refused 2 25
+request | 1024 | strict | 8 | 12 D1 00 | refused 2 12
+request | 1024 | strict | 8 | 12 D1 02 03 | refused 3 23
+request | 1024 | strict | 8 | 12 D1 02 02 63 73 | refused 5 25
+request | 1024 | standard | 8 | 12 D7 | refused 1 25
+poster | 1024 | standard | 5 | D7 | refused 0 20
+poster | 1024 | standard | 6 | D1 01 02 55 FF 61 | whole
+poster | 1 | strict | 6 | D1 01 02 55 00 61 | whole
+poster | 1 | strict | 6 | 91 | refused 0 10
+request | 1 | strict | 267 |  | goes on
+request | 1 | strict | 268 |  | no length
+";
 
-#[test]
-fn posters(rt: HostRuntime) {
-    let table: [(u32, &[u8], Answer); 17] = [
-        (6, b"\xd1\x01\x02U\x00a", Whole),
-        (8, b"\x90\x00\x00Q\x01\x01U\x00", Whole),
-        (13, b"\x91\x01\x02U\x00aQ\x03\x01act\x03", Whole),
-        (4, b"", NoLength),
-        (5, b"\xd1\x01\x01T", Refused(3, Reason::UriMissing)),
-        (5, b"\xd5", Refused(0, Reason::UriMissing)),
-        (6, b"\xd1\x02", Refused(1, Reason::UriMissing)),
-        (5, b"\xd7", Refused(0, Reason::ReservedTnf)),
-        (6, b"\xb1", Refused(0, Reason::TooManyPieces)),
-        (6, b"\x90", Refused(0, Reason::DoesNotFit)),
-        (7, b"\xd1\x01\x02", Refused(2, Reason::DoesNotFit)),
-        (1000, b"\xd1", Refused(0, Reason::DoesNotFit)),
-        (6, b"\xd1\x01\x02U\xffa", Refused(4, Reason::UriCode)),
-        (
-            11,
-            b"\x91\x01\x01U\x00Q\x01\x02U",
-            Refused(8, Reason::UriAgain),
-        ),
-        (
-            14,
-            b"\x91\x01\x02U\x00aQ\x03\x02act",
-            Refused(11, Reason::DoesNotFit),
-        ),
-        (
-            u32::MAX,
-            b"\xc1\x01\xff\xff\xff\xf7",
-            Refused(5, Reason::DoesNotFit),
-        ),
-        (u32::MAX, b"\xc1\x01\xff\xff\xff\xf8", GoesOn),
-    ];
-    for (length, front, answer) in table {
-        assert_eq!(rt; strict(Kind::SmartPoster, length, front), [answer; 2]);
-    }
-}
-
-#[test]
-fn handovers(rt: HostRuntime) {
-    let table: [(Kind, u32, &[u8], Answer); 19] = [
-        (Kind::Select, 1, b"\x12", Whole),
-        (Kind::Select, 4, b"\x12\xd0\x00\x00", Whole),
-        (Kind::Select, 9, b"\x12\xd1\x03\x02err\x01@", Whole),
-        (Kind::Select, 10, b"\x12\xd1\x02\x04ac\x01\x010\x00", Whole),
-        (Kind::Select, 0, b"", NoLength),
-        (Kind::Select, 2, b"", NoLength),
-        (Kind::Select, 1, b"\x22", Refused(0, Reason::Version)),
-        (
-            Kind::Select,
-            9,
-            b"\x12\xd1\x03\x02err\x02",
-            Refused(7, Reason::DoesNotFit),
-        ),
-        (Kind::Request, 8, b"\x12\xd1\x02\x02cr\x01\x02", Whole),
-        (Kind::Request, 3, b"", NoLength),
-        (Kind::Request, 4, b"", NoLength),
-        (Kind::Request, 7, b"", NoLength),
-        (Kind::Request, 8, b"\x22", Refused(0, Reason::Version)),
-        (
-            Kind::Request,
-            8,
-            b"\x12\xd0",
-            Refused(1, Reason::CollisionMissing),
-        ),
-        (
-            Kind::Request,
-            8,
-            b"\x12\xd7",
-            Refused(1, Reason::ReservedTnf),
-        ),
-        (
-            Kind::Request,
-            8,
-            b"\x12\xd1\x01",
-            Refused(2, Reason::CollisionMissing),
-        ),
-        (
-            Kind::Request,
-            8,
-            b"\x12\xd1\x00",
-            Refused(2, Reason::TypeEmpty),
-        ),
-        (
-            Kind::Request,
-            8,
-            b"\x12\xd1\x02\x03",
-            Refused(3, Reason::DoesNotFit),
-        ),
-        (
-            Kind::Request,
-            8,
-            b"\x12\xd1\x02\x02cs",
-            Refused(5, Reason::CollisionMissing),
-        ),
-    ];
-    for (kind, length, front, answer) in table {
-        assert_eq!(rt; strict(kind, length, front), [answer; 2]);
+fn kind_of(text: &str) -> Option<Kind> {
+    match text {
+        "poster" => Some(Kind::SmartPoster),
+        "request" => Some(Kind::Request),
+        "select" => Some(Kind::Select),
+        _ => None,
     }
 }
 
+fn answer_in(text: &str) -> Option<Answer> {
+    match text {
+        "no length" => Some(NoLength),
+        "goes on" => Some(GoesOn),
+        "whole" => Some(Whole),
+        _ => match answer_of(text)? {
+            (Err(refusal), _) => Some(Refused(refusal.at as usize, refusal.reason)),
+            _ => None,
+        },
+    }
+}
+
+/// What a line tells, and what is answered.
+fn answers(alloc: Global, line: &str) -> Option<(Answer, [Answer; 2])> {
+    let (kind, line) = field(line);
+    let (records, line) = field(line);
+    let (profile, line) = field(line);
+    let (length, line) = field(line);
+    let (octets, line) = field(line);
+    let (told, _) = field(line);
+    let records = u32::from(records.parse::<u16>().ok()?).max(1);
+    let length = length.parse::<u32>().ok()?;
+    let front = bytes_of(alloc, octets)?;
+    let given = both(
+        kind_of(kind)?,
+        records,
+        profile_of(profile)?,
+        length,
+        front.as_slice(),
+    );
+    Some((answer_in(told)?, given))
+}
+
 #[test]
-fn profiles_and_limits(rt: HostRuntime) {
-    let table: [(Kind, u32, &[u8], Answer); 3] = [
-        (
-            Kind::Request,
-            8,
-            b"\x12\xd7",
-            Refused(1, Reason::CollisionMissing),
-        ),
-        (
-            Kind::SmartPoster,
-            5,
-            b"\xd7",
-            Refused(0, Reason::UriMissing),
-        ),
-        (Kind::SmartPoster, 6, b"\xd1\x01\x02U\xffa", Whole),
-    ];
-    for (kind, length, front, answer) in table {
-        assert_eq!(rt;
-            both(kind, 1024, Profile::Standard, length, front),
-            [answer; 2]
-        );
+fn nested_payloads(rt: HostRuntime) -> Result<(), Fail> {
+    for line in PAYLOADS.trim().lines() {
+        let (told, given) = answers(rt.alloc(), line).ok_or("a line that can't be read")?;
+        assert_eq!(rt; given, [told; 2], "{line}");
     }
-    let table: [(Kind, u32, &[u8], Answer); 4] = [
-        (Kind::SmartPoster, 6, b"\xd1\x01\x02U\x00a", Whole),
-        (
-            Kind::SmartPoster,
-            6,
-            b"\x91",
-            Refused(0, Reason::TooManyRecords),
-        ),
-        (Kind::Request, 267, b"", GoesOn),
-        (Kind::Request, 268, b"", NoLength),
-    ];
-    for (kind, length, front, answer) in table {
-        assert_eq!(rt; both(kind, 1, Profile::Strict, length, front), [answer; 2]);
-    }
+    Ok(())
 }
 
 /// A poster that comes in pieces: how many octets may follow the first of them.

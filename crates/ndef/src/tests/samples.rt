@@ -1,7 +1,6 @@
 //! Messages that several tests use.
 use ndef_lang::Opaque;
 use ndef_message::{SliceSource, read_message};
-use ndef_types::DecodeError;
 use ndef_value::{Limits, Message, Profile, Reason, Refusal};
 use std::alloc::Global;
 use std::test::Fail;
@@ -30,14 +29,6 @@ pub(super) const POSTER: [u8; 11] = [
     0xD1, 0x02, 0x06, 0x53, 0x70, 0xD1, 0x01, 0x02, 0x55, 0x00, 0x61,
 ];
 
-/// The usual limits, but for bytes of a payload, records and pieces.
-pub(super) fn limits(payload: u32, records: u32, pieces: u32) -> Limits {
-    match Limits::new(payload, records, pieces) {
-        Ok(limits) => limits,
-        Err(_) => Limits::usual(),
-    }
-}
-
 pub(super) fn usual() -> Limits {
     Limits::usual()
 }
@@ -49,14 +40,6 @@ pub(super) fn standard() -> Limits {
 /// A refusal.
 pub(super) fn at<T>(at: u64, reason: Reason) -> Result<T, Refusal> {
     Err(Refusal { at, reason })
-}
-
-/// Where and why a payload is refused, if it is.
-pub(super) fn refused<T: Drop>(decoded: Result<T, DecodeError>) -> Option<(u64, Reason)> {
-    match decoded {
-        Err(DecodeError::Refused(refusal)) => Some((refusal.at, refusal.reason)),
-        _ => None,
-    }
 }
 
 /// The message that the bytes begin with, whatever its payloads.

@@ -89,3 +89,17 @@ impl Write for FullWriter<'_> {
         Ok(())
     }
 }
+
+/// A writer that takes nothing, and doesn't fail either.
+#[derive(Drop)]
+pub(super) struct IdleWriter;
+
+impl Write for IdleWriter {
+    fn write(&mut self, _buf: &[u8]) -> io::Result<usize> {
+        Ok(0)
+    }
+
+    fn flush(&mut self) -> io::Result<()> {
+        Ok(())
+    }
+}

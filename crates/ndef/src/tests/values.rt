@@ -1,219 +1,232 @@
-//! Names, byte strings, records, messages, limits, and the texts of reasons.
-use ndef_value::{
-    Bytes, Limits, Message, MessageError, Name, NameError, OutOfRange, Profile, Reason, Record,
-    RecordError, Refusal, Tnf, TnfError,
+//! Typed values as lines of text: `TYPE | PROFILE | PAYLOAD | refused PLACE REASON`, or
+//! `TYPE | PROFILE | PAYLOAD | VALUE | WRITTEN`. Octets are hexadecimal, `-` where there is none; a value
+//! is told as the function of its type writes it, and WRITTEN is the payload that is written for it.
+use super::case::{Answer, answer_of, bytes_of, field, profile_of};
+use ndef_types::{
+    Ac, Carrier, DecodeError, HandoverError, Request, Select, SmartPoster, Text, Uri,
 };
+use ndef_value::{Bytes, Name, Profile};
 use std::alloc::Global;
-use std::hash::{DefaultHasher, Hash, Hasher};
+use std::process::Abort;
 use std::test::Fail;
 
-const LETTERS: [u8; 256] = [0x41; 256];
-
-fn item(alloc: Global, payload: &[u8]) -> Result<Record, Fail> {
-    Ok(Record::new(alloc, Tnf::WellKnown, b"T", b"", payload)?)
+/// What is told of a value, and the payload that is written for it.
+#[derive(Drop)]
+struct Value {
+    words: String,
+    written: Bytes,
 }
 
-#[test]
-fn makes_names(rt: HostRuntime) -> Result<(), Fail> {
-    let alloc = rt.alloc();
-    let name = Name::from_slice(alloc, b"T")?;
-    assert!(rt; name.as_slice() == b"T".as_slice());
-    let long = Name::from_slice(alloc, &LETTERS[..33])?;
-    assert!(rt; long.as_slice() == &LETTERS[..33]);
-    assert!(rt; Name::from_slice(alloc, &LETTERS).err() == Some(NameError::TooLong));
-    let mut pushed = Name::new(alloc);
-    for _ in 0..33u8 {
-        assert!(rt; pushed.as_slice().len() < 255);
-        pushed.push(0x41)?;
+/// Octets in hexadecimal, or `-`.
+fn digits(alloc: Global, octets: &[u8]) -> Result<String, Fail> {
+    if octets.is_empty() {
+        return Ok(String::from_str(alloc, "-")?);
     }
-    assert!(rt; pushed.as_slice() == &LETTERS[..33]);
-    Ok(())
+    Ok(hex::encode_upper(alloc, octets)?)
 }
 
-#[test]
-fn makes_byte_strings(rt: HostRuntime) -> Result<(), Fail> {
-    let alloc = rt.alloc();
-    assert!(rt; Bytes::new(alloc).as_slice().is_empty());
-    let mut bytes = Bytes::from_slice(alloc, &[0x02, 0x65, 0x6E])?;
-    bytes.extend(&[0x48, 0x65, 0x6C, 0x6C, 0x6F])?;
-    let whole: &[u8] = &[0x02, 0x65, 0x6E, 0x48, 0x65, 0x6C, 0x6C, 0x6F];
-    assert!(rt; bytes.as_slice() == whole);
-    Ok(())
-}
-
-#[test]
-fn makes_records(rt: HostRuntime) -> Result<(), Fail> {
-    let alloc = rt.alloc();
-    let hello = item(alloc, &[0x02, 0x65, 0x6E, 0x48, 0x65, 0x6C, 0x6C, 0x6F])?;
-    assert!(rt; hello.tnf() == Tnf::WellKnown && hello.tnf().code() == 1);
-    assert!(rt; hello.kind() == b"T".as_slice() && hello.id().is_empty());
-    assert!(rt; hello.payload().len() == 8);
-    let bad = Some(RecordError::BadShape);
-    assert!(rt; Record::new(alloc, Tnf::Unknown, b"T", b"", b"").err() == bad);
-    assert!(rt; Record::new(alloc, Tnf::Unknown, &LETTERS, b"", b"").err() == bad);
-    assert!(rt; Record::new(alloc, Tnf::Unchanged, b"", b"", b"").err() == bad);
-    let long = Some(RecordError::TooLong);
-    assert!(rt; Record::new(alloc, Tnf::Media, &LETTERS, b"", b"").err() == long);
-    let parts = Record::from_parts(
-        Tnf::Empty,
-        Name::new(alloc),
-        Name::new(alloc),
-        Bytes::new(alloc),
-    );
-    assert!(rt; parts.tnf() == Tnf::Empty);
-    Ok(())
-}
-
-#[test]
-fn makes_messages(rt: HostRuntime) -> Result<(), Fail> {
-    let alloc = rt.alloc();
-    let none = Message::new(Vec::new(alloc));
-    assert!(rt; matches!(none, Err(MessageError::NoRecords(_))));
-    let mut records = Vec::new(alloc);
-    records.push(item(alloc, b"one")?)?;
-    records.push(item(alloc, b"two")?)?;
-    let message = Message::new(records)?;
-    assert!(rt; message.len() == 2);
-    let second = message.get(1).ok_or("a second record")?;
-    assert!(rt; second.payload() == b"two".as_slice());
-    assert!(rt; message.get(2).is_none());
-    let payloads = [b"one", b"two"];
-    for (record, payload) in (&message).into_iter().zip(payloads.iter()) {
-        assert!(rt; record.payload() == payload.as_slice());
+/// What is written for a value that was made of parts and for one that was decoded.
+fn alike(made: Bytes, decoded: Bytes) -> Result<Bytes, Fail> {
+    if made == decoded {
+        Ok(made)
+    } else {
+        Err("what was made is written otherwise".into())
     }
-    assert!(rt; message.iter().count() == 2);
-    Ok(())
 }
 
-fn message(alloc: Global, payload: &[u8]) -> Result<Message, Fail> {
-    let mut records = Vec::new(alloc);
-    records.push(item(alloc, payload)?)?;
-    Ok(Message::new(records)?)
+/// Encoding, language code and the octets of the text in UTF-8.
+fn text(alloc: Global, text: &Text) -> Result<Value, Fail> {
+    let encoding = text.encoding();
+    let language = digits(alloc, text.language().as_bytes())?;
+    let octets = digits(alloc, text.text().as_bytes())?;
+    let made = Text::new(alloc, encoding, text.language(), text.text())?;
+    Ok(Value {
+        words: format!(in alloc; "{encoding:?} {language} {octets}")?,
+        written: alike(made.encode(alloc)?, text.encode(alloc)?)?,
+    })
 }
 
-fn hash_of<T: Hash>(value: &T) -> u64 {
-    let mut state = DefaultHasher::new();
-    value.hash(&mut state);
-    state.finish()
+/// The whole URI.
+fn uri(alloc: Global, uri: &Uri) -> Result<Value, Fail> {
+    let made = Uri::new(alloc, uri.text())?;
+    Ok(Value {
+        words: String::from_str(alloc, uri.text())?,
+        written: alike(made.encode(alloc)?, uri.encode(alloc)?)?,
+    })
 }
 
-fn are_same<T: Eq + Hash>(one: &T, other: &T) -> bool {
-    *one == *other && hash_of(one) == hash_of(other)
+/// Power state, reference, the number of auxiliary names and the first of them, and what is behind them.
+fn alternative(alloc: Global, ac: &Ac) -> Result<Value, Fail> {
+    let power = ac.power();
+    let reference = digits(alloc, ac.reference().as_slice())?;
+    let count = ac.auxiliary_count();
+    let first = ac.auxiliary(0).map(Name::as_slice).unwrap_or_default();
+    let auxiliary = digits(alloc, first)?;
+    let rest = digits(alloc, ac.rest())?;
+    Ok(Value {
+        words: format!(in alloc; "{power:?} {reference} {count} {auxiliary} {rest}")?,
+        written: ac.encode(alloc)?,
+    })
 }
 
-#[test]
-fn compares_values(rt: HostRuntime) -> Result<(), Fail> {
-    let alloc = rt.alloc();
-    let (one, same) = (message(alloc, b"one")?, message(alloc, b"one")?);
-    assert!(rt; are_same(&one, &same) && one != message(alloc, b"two")?);
-    assert!(rt; are_same(&item(alloc, b"one")?, &item(alloc, b"one")?));
-    assert!(rt;
-        are_same(
-            &Name::from_slice(alloc, b"T")?,
-            &Name::from_slice(alloc, b"T")?
-        )
-    );
-    assert!(rt;
-        are_same(
-            &Bytes::from_slice(alloc, b"T")?,
-            &Bytes::from_slice(alloc, b"T")?
-        )
-    );
-    assert!(rt; Bytes::from_slice(alloc, b"T")? != Bytes::from_slice(alloc, b"U")?);
-    assert!(rt; are_same(&Limits::usual(), &Limits::default()));
-    assert!(rt; Limits::default() != Limits::usual().with(Profile::Standard));
-    assert!(rt; Profile::default() == Profile::Strict);
-    Ok(())
+/// Reason and data.
+fn error(alloc: Global, error: &HandoverError) -> Result<Value, Fail> {
+    let reason = error.reason();
+    let detail = digits(alloc, error.detail())?;
+    let made = HandoverError::new(alloc, reason, error.detail())?;
+    Ok(Value {
+        words: format!(in alloc; "{reason} {detail}")?,
+        written: alike(made.encode(alloc)?, error.encode(alloc)?)?,
+    })
 }
 
-#[test]
-fn prints_type_name_formats(rt: HostRuntime) -> Result<(), Fail> {
-    let table = [
-        (0, "0 Empty"),
-        (1, "1 WellKnown"),
-        (2, "2 Media"),
-        (3, "3 AbsoluteUri"),
-        (4, "4 External"),
-        (5, "5 Unknown"),
-        (6, "6 Unchanged"),
-    ];
-    for (number, text) in table {
-        let tnf = Tnf::try_from(number)?;
-        assert!(rt; tnf.code() == number);
-        assert!(rt; format!(in rt.alloc(); "{tnf}")?.as_str() == text);
+/// Format, type and data.
+fn carrier(alloc: Global, carrier: &Carrier) -> Result<Value, Fail> {
+    let format = carrier.format();
+    let kind = digits(alloc, carrier.kind().as_slice())?;
+    let carried = digits(alloc, carrier.carried())?;
+    Ok(Value {
+        words: format!(in alloc; "{format} {kind} {carried}")?,
+        written: carrier.encode(alloc)?,
+    })
+}
+
+/// The texts of the titles, with commas between.
+fn titles(alloc: Global, poster: &SmartPoster) -> Result<String, Fail> {
+    let mut all = String::new(alloc);
+    for title in &poster.titles(alloc)? {
+        if !all.is_empty() {
+            all.push_str(",")?;
+        }
+        all.push_str(title.text())?;
     }
-    assert!(rt; Tnf::try_from(7u8) == Err(TnfError(7)));
-    let text = format!(in rt.alloc(); "{}", TnfError(7))?;
-    assert!(rt; text.as_str() == "no type name format has the number 7");
-    Ok(())
+    Ok(all)
 }
 
-#[test]
-fn prints_reasons(rt: HostRuntime) -> Result<(), Fail> {
-    let table = [
-        (Reason::ReservedTnf, "1 ReservedTnf"),
-        (Reason::BeginMissing, "2 BeginMissing"),
-        (Reason::BeginAgain, "3 BeginAgain"),
-        (Reason::UnchangedOutside, "4 UnchangedOutside"),
-        (Reason::ChangedInside, "5 ChangedInside"),
-        (Reason::IdInside, "6 IdInside"),
-        (Reason::ChunkAtEnd, "7 ChunkAtEnd"),
-        (Reason::ChunkOfEmpty, "8 ChunkOfEmpty"),
-        (Reason::TooManyPieces, "9 TooManyPieces"),
-        (Reason::TooManyRecords, "10 TooManyRecords"),
-        (Reason::TypeNotEmpty, "11 TypeNotEmpty"),
-        (Reason::TypeEmpty, "12 TypeEmpty"),
-        (Reason::EmptyNotEmpty, "13 EmptyNotEmpty"),
-        (Reason::PayloadTooLarge, "14 PayloadTooLarge"),
-        (Reason::TextBit, "15 TextBit"),
-        (Reason::Language, "16 Language"),
-        (Reason::Utf8, "17 Utf8"),
-        (Reason::Utf16, "18 Utf16"),
-        (Reason::UriCode, "19 UriCode"),
-        (Reason::UriMissing, "20 UriMissing"),
-        (Reason::UriAgain, "21 UriAgain"),
-        (Reason::Version, "22 Version"),
-        (Reason::DoesNotFit, "23 DoesNotFit"),
-        (Reason::EndOfInput, "24 EndOfInput"),
-        (Reason::CollisionMissing, "25 CollisionMissing"),
-    ];
-    for (reason, text) in table {
-        assert!(rt; format!(in rt.alloc(); "{reason}")?.as_str() == text);
+/// The number of records, URI, titles, action, size and media type.
+fn poster(alloc: Global, poster: &SmartPoster) -> Result<Value, Fail> {
+    let records = poster.message().len();
+    let uri = poster.uri(alloc)?;
+    let uri = uri.text();
+    let titles = titles(alloc, poster)?;
+    let action = poster.action();
+    let size = poster.size();
+    let media = poster.media(alloc)?;
+    let media = digits(
+        alloc,
+        media.as_ref().map(Bytes::as_slice).unwrap_or_default(),
+    )?;
+    Ok(Value {
+        words: format!(in alloc; "{records} {uri} [{titles}] {action:?} {size:?} {media}")?,
+        written: poster.encode(alloc)?,
+    })
+}
+
+/// Minor version, the number that resolves a collision and the number of records.
+fn request(alloc: Global, request: &Request) -> Result<Value, Fail> {
+    let minor = request.minor();
+    let collision = request.collision();
+    let records = request.message().len();
+    Ok(Value {
+        words: format!(in alloc; "{minor} {collision} {records}")?,
+        written: request.encode(alloc)?,
+    })
+}
+
+/// Minor version and the number of records.
+fn select(alloc: Global, select: &Select) -> Result<Value, Fail> {
+    let minor = select.minor();
+    let records = select.message().map(|message| message.len());
+    Ok(Value {
+        words: format!(in alloc; "{minor} {records:?}")?,
+        written: select.encode(alloc)?,
+    })
+}
+
+/// What is told of the value for which a payload stands.
+fn told(alloc: Global, kind: &str, profile: Profile, payload: &[u8]) -> Result<Value, Fail> {
+    match kind {
+        "text" => text(alloc, &Text::decode(alloc, payload)?),
+        "URI" => uri(alloc, &Uri::decode_as(alloc, payload, profile)?),
+        "alternative carrier" => alternative(alloc, &Ac::decode(alloc, payload)?),
+        "error" => error(alloc, &HandoverError::decode(alloc, payload)?),
+        "carrier" => carrier(alloc, &Carrier::decode(alloc, payload)?),
+        "poster" => poster(alloc, &SmartPoster::decode_as(alloc, payload, profile)?),
+        "request" => request(alloc, &Request::decode_as(alloc, payload, profile)?),
+        "select" => select(alloc, &Select::decode_as(alloc, payload, profile)?),
+        _ => Err("no such type".into()),
     }
-    Ok(())
 }
 
-#[test]
-fn makes_limits(rt: HostRuntime) -> Result<(), Fail> {
-    assert!(rt; Limits::new(0, 1, 1).err() == Some(OutOfRange));
-    let widest = Limits::new(4294967295, 65535, 65535)?;
-    assert!(rt; widest.payload() == 4294967295 && widest.records() == 65535);
-    assert!(rt; widest.pieces() == 65535 && widest.profile() == Profile::Strict);
-    let usual = Limits::usual();
-    assert!(rt; usual.payload() == 1048576 && usual.records() == 1024 && usual.pieces() == 4096);
-    assert!(rt; usual.with(Profile::Standard).profile() == Profile::Standard);
-    Ok(())
-}
-
-#[test]
-fn names_reasons(rt: HostRuntime) -> Result<(), Fail> {
-    let table = [
-        (Reason::ReservedTnf, 1, 1, "ReservedTnf"),
-        (Reason::PayloadTooLarge, 14, 14, "PayloadTooLarge"),
-        (Reason::Version, 22, 22, "Version"),
-        (Reason::CollisionMissing, 25, 23, "CollisionMissing"),
-        (Reason::DoesNotFit, 23, 24, "DoesNotFit"),
-        (Reason::EndOfInput, 24, 25, "EndOfInput"),
-    ];
-    for (reason, number, rank, name) in table {
-        assert!(rt; reason.number() == number && reason.rank() == rank);
-        assert!(rt; reason.name() == name.as_bytes());
+/// The refusal of a payload, if it is refused.
+fn refusal<T: Drop>(decoded: Result<T, DecodeError>) -> Option<Answer> {
+    match decoded {
+        Err(DecodeError::Refused(refusal)) => Some(Err(refusal)),
+        _ => None,
     }
-    let refusal = Refusal {
-        at: 11,
-        reason: Reason::EndOfInput,
-    };
-    let text = format!(in rt.alloc(); "{refusal}")?;
-    assert!(rt; text.as_str() == "refused at 11: 24 EndOfInput");
+}
+
+/// Where and why a payload is refused, by the calls without a profile and with it.
+fn refusals(alloc: Global, kind: &str, profile: Profile, payload: &[u8]) -> [Option<Answer>; 2] {
+    match kind {
+        "text" => [refusal(Text::decode(alloc, payload)); 2],
+        "URI" => [
+            refusal(Uri::decode(alloc, payload)),
+            refusal(Uri::decode_as(alloc, payload, profile)),
+        ],
+        "alternative carrier" => [refusal(Ac::decode(alloc, payload)); 2],
+        "error" => [refusal(HandoverError::decode(alloc, payload)); 2],
+        "carrier" => [refusal(Carrier::decode(alloc, payload)); 2],
+        "poster" => [
+            refusal(SmartPoster::decode(alloc, payload)),
+            refusal(SmartPoster::decode_as(alloc, payload, profile)),
+        ],
+        "request" => [
+            refusal(Request::decode(alloc, payload)),
+            refusal(Request::decode_as(alloc, payload, profile)),
+        ],
+        "select" => [
+            refusal(Select::decode(alloc, payload)),
+            refusal(Select::decode_as(alloc, payload, profile)),
+        ],
+        _ => [None, None],
+    }
+}
+
+/// Whether a payload is refused so; without a profile it is read as by a strict reader.
+fn is_refused(
+    alloc: Global,
+    kind: &str,
+    profile: Profile,
+    payload: &[u8],
+    answer: Option<Answer>,
+) -> bool {
+    let [strict, by_profile] = refusals(alloc, kind, profile, payload);
+    answer.is_some() && by_profile == answer && (strict == answer || profile != Profile::Strict)
+}
+
+/// Whether a line tells what its payload stands for.
+fn is_told(alloc: Global, line: &str) -> Result<bool, Fail> {
+    let (kind, line) = field(line);
+    let (profile, line) = field(line);
+    let (payload, line) = field(line);
+    let (value, line) = field(line);
+    let (written, _) = field(line);
+    let profile = profile_of(profile).ok_or("no such profile")?;
+    let payload = bytes_of(alloc, payload).ok_or("no bytes")?;
+    if value.starts_with("refused") {
+        let answer = answer_of(value).map(|(answer, _)| answer);
+        return Ok(is_refused(alloc, kind, profile, payload.as_slice(), answer));
+    }
+    let told = told(alloc, kind, profile, payload.as_slice())?;
+    let written = bytes_of(alloc, written).ok_or("no bytes")?;
+    Ok(told.words.as_str() == value && told.written.as_slice() == written.as_slice())
+}
+
+/// Checks the values of a text, one a line.
+pub(super) fn check_values(rt: &(impl Abort + AllocGlobal), values: &str) -> Result<(), Fail> {
+    for line in values.trim().lines() {
+        assert!(rt; is_told(rt.alloc(), line)?, "{line}");
+    }
     Ok(())
 }

@@ -1,0 +1,56 @@
+//! Payloads of more octets than one word or one vector of them.
+use super::super::suite::run_cases;
+
+/// Whole texts, and such with an octet that nothing completes behind many, at the end, in a later piece or behind an id.
+const TEXTS: &str = "
+ASCII and longer characters | typed leaf | strict | usual | D1 01 34 54 02 65 6E 61 61 61 61 61 61 61 61 61 61 61 61 61 61 61 61 61 61 61 61 C3 A9 E2 82 AC F0 9F 98 80 62 62 62 62 62 62 62 62 62 62 62 62 62 62 62 62 62 62 62 62 | accepted 56 | 1 T - 02656E6161616161616161616161616161616161616161C3A9E282ACF09F98806262626262626262626262626262626262626262
+ASCII and longer characters, not looked into | opaque | strict | usual | D1 01 34 54 02 65 6E 61 61 61 61 61 61 61 61 61 61 61 61 61 61 61 61 61 61 61 61 C3 A9 E2 82 AC F0 9F 98 80 62 62 62 62 62 62 62 62 62 62 62 62 62 62 62 62 62 62 62 62 | accepted 56 | 1 T - 02656E6161616161616161616161616161616161616161C3A9E282ACF09F98806262626262626262626262626262626262626262
+an octet that no character has | typed leaf | strict | usual | D1 01 2C 54 02 65 6E 61 61 61 61 61 61 61 61 61 61 61 61 61 61 61 61 61 61 61 61 FF 62 62 62 62 62 62 62 62 62 62 62 62 62 62 62 62 62 62 62 62 | refused 27 17
+an octet that no character has, not looked into | opaque | strict | usual | D1 01 2C 54 02 65 6E 61 61 61 61 61 61 61 61 61 61 61 61 61 61 61 61 61 61 61 61 FF 62 62 62 62 62 62 62 62 62 62 62 62 62 62 62 62 62 62 62 62 | accepted 48 | 1 T - 02656E6161616161616161616161616161616161616161FF6262626262626262626262626262626262626262
+a surrogate | typed leaf | strict | usual | D1 01 2E 54 02 65 6E 61 61 61 61 61 61 61 61 61 61 61 61 61 61 61 61 61 61 61 61 ED A0 80 62 62 62 62 62 62 62 62 62 62 62 62 62 62 62 62 62 62 62 62 | refused 28 17
+a surrogate, not looked into | opaque | strict | usual | D1 01 2E 54 02 65 6E 61 61 61 61 61 61 61 61 61 61 61 61 61 61 61 61 61 61 61 61 ED A0 80 62 62 62 62 62 62 62 62 62 62 62 62 62 62 62 62 62 62 62 62 | accepted 50 | 1 T - 02656E6161616161616161616161616161616161616161EDA0806262626262626262626262626262626262626262
+no room for two octets | typed leaf | strict | usual | D1 01 2C 54 02 65 6E 61 61 61 61 61 61 61 61 61 61 61 61 61 61 61 61 61 61 61 61 61 61 61 61 61 61 61 61 61 61 61 61 61 61 61 61 61 61 61 61 C3 | refused 47 23
+no room for two octets, not looked into | opaque | strict | usual | D1 01 2C 54 02 65 6E 61 61 61 61 61 61 61 61 61 61 61 61 61 61 61 61 61 61 61 61 61 61 61 61 61 61 61 61 61 61 61 61 61 61 61 61 61 61 61 61 C3 | accepted 48 | 1 T - 02656E61616161616161616161616161616161616161616161616161616161616161616161616161616161C3
+no room for three octets | typed leaf | strict | usual | D1 01 2C 54 02 65 6E 61 61 61 61 61 61 61 61 61 61 61 61 61 61 61 61 61 61 61 61 61 61 61 61 61 61 61 61 61 61 61 61 61 61 61 61 61 61 61 61 E2 | refused 47 23
+no room for three octets, not looked into | opaque | strict | usual | D1 01 2C 54 02 65 6E 61 61 61 61 61 61 61 61 61 61 61 61 61 61 61 61 61 61 61 61 61 61 61 61 61 61 61 61 61 61 61 61 61 61 61 61 61 61 61 61 E2 | accepted 48 | 1 T - 02656E61616161616161616161616161616161616161616161616161616161616161616161616161616161E2
+UTF-16 | typed leaf | strict | usual | D1 01 2F 54 82 65 6E FE FF 00 61 00 61 00 61 00 61 00 61 00 61 00 61 00 61 00 61 00 61 D8 3D DE 00 D8 3D DE 00 D8 3D DE 00 D8 3D DE 00 D8 3D DE 00 00 62 | accepted 51 | 1 T - 82656EFEFF0061006100610061006100610061006100610061D83DDE00D83DDE00D83DDE00D83DDE00D83DDE000062
+UTF-16, not looked into | opaque | strict | usual | D1 01 2F 54 82 65 6E FE FF 00 61 00 61 00 61 00 61 00 61 00 61 00 61 00 61 00 61 00 61 D8 3D DE 00 D8 3D DE 00 D8 3D DE 00 D8 3D DE 00 D8 3D DE 00 00 62 | accepted 51 | 1 T - 82656EFEFF0061006100610061006100610061006100610061D83DDE00D83DDE00D83DDE00D83DDE00D83DDE000062
+UTF-16, little-endian | typed leaf | strict | usual | D1 01 2F 54 82 65 6E FF FE 61 00 61 00 61 00 61 00 61 00 61 00 61 00 61 00 61 00 61 00 3D D8 00 DE 3D D8 00 DE 3D D8 00 DE 3D D8 00 DE 3D D8 00 DE 62 00 | accepted 51 | 1 T - 82656EFFFE61006100610061006100610061006100610061003DD800DE3DD800DE3DD800DE3DD800DE3DD800DE6200
+UTF-16, little-endian, not looked into | opaque | strict | usual | D1 01 2F 54 82 65 6E FF FE 61 00 61 00 61 00 61 00 61 00 61 00 61 00 61 00 61 00 61 00 3D D8 00 DE 3D D8 00 DE 3D D8 00 DE 3D D8 00 DE 3D D8 00 DE 62 00 | accepted 51 | 1 T - 82656EFFFE61006100610061006100610061006100610061003DD800DE3DD800DE3DD800DE3DD800DE3DD800DE6200
+UTF-16 without a mark | typed leaf | strict | usual | D1 01 19 54 82 65 6E D8 3D DE 00 D8 3D DE 00 D8 3D DE 00 D8 3D DE 00 D8 3D DE 00 00 62 | accepted 29 | 1 T - 82656ED83DDE00D83DDE00D83DDE00D83DDE00D83DDE000062
+UTF-16 without a mark, not looked into | opaque | strict | usual | D1 01 19 54 82 65 6E D8 3D DE 00 D8 3D DE 00 D8 3D DE 00 D8 3D DE 00 D8 3D DE 00 00 62 | accepted 29 | 1 T - 82656ED83DDE00D83DDE00D83DDE00D83DDE00D83DDE000062
+a low surrogate | typed leaf | strict | usual | D1 01 25 54 82 65 6E FE FF 00 61 00 61 00 61 00 61 00 61 00 61 00 61 00 61 00 61 00 61 DE 00 00 62 00 62 00 62 00 62 00 62 | refused 29 18
+a low surrogate, not looked into | opaque | strict | usual | D1 01 25 54 82 65 6E FE FF 00 61 00 61 00 61 00 61 00 61 00 61 00 61 00 61 00 61 00 61 DE 00 00 62 00 62 00 62 00 62 00 62 | accepted 41 | 1 T - 82656EFEFF0061006100610061006100610061006100610061DE0000620062006200620062
+a low surrogate, little-endian | typed leaf | strict | usual | D1 01 25 54 82 65 6E FF FE 61 00 61 00 61 00 61 00 61 00 61 00 61 00 61 00 61 00 61 00 00 DE 62 00 62 00 62 00 62 00 62 00 | refused 30 18
+a low surrogate, little-endian, not looked into | opaque | strict | usual | D1 01 25 54 82 65 6E FF FE 61 00 61 00 61 00 61 00 61 00 61 00 61 00 61 00 61 00 61 00 00 DE 62 00 62 00 62 00 62 00 62 00 | accepted 41 | 1 T - 82656EFFFE610061006100610061006100610061006100610000DE62006200620062006200
+a high surrogate before a letter | typed leaf | strict | usual | D1 01 25 54 82 65 6E FE FF 00 61 00 61 00 61 00 61 00 61 00 61 00 61 00 61 00 61 00 61 D8 3D 00 62 00 62 00 62 00 62 00 62 | refused 31 18
+a high surrogate before a letter, not looked into | opaque | strict | usual | D1 01 25 54 82 65 6E FE FF 00 61 00 61 00 61 00 61 00 61 00 61 00 61 00 61 00 61 00 61 D8 3D 00 62 00 62 00 62 00 62 00 62 | accepted 41 | 1 T - 82656EFEFF0061006100610061006100610061006100610061D83D00620062006200620062
+no room for the low surrogate | typed leaf | strict | usual | D1 01 1B 54 82 65 6E FE FF 00 61 00 61 00 61 00 61 00 61 00 61 00 61 00 61 00 61 00 61 D8 3D | refused 29 23
+no room for the low surrogate, not looked into | opaque | strict | usual | D1 01 1B 54 82 65 6E FE FF 00 61 00 61 00 61 00 61 00 61 00 61 00 61 00 61 00 61 00 61 D8 3D | accepted 31 | 1 T - 82656EFEFF0061006100610061006100610061006100610061D83D
+no room for the low surrogate, little-endian | typed leaf | strict | usual | D1 01 1B 54 82 65 6E FF FE 61 00 61 00 61 00 61 00 61 00 61 00 61 00 61 00 61 00 61 00 3D D8 | refused 30 23
+no room for the low surrogate, little-endian, not looked into | opaque | strict | usual | D1 01 1B 54 82 65 6E FF FE 61 00 61 00 61 00 61 00 61 00 61 00 61 00 61 00 61 00 61 00 3D D8 | accepted 31 | 1 T - 82656EFFFE61006100610061006100610061006100610061003DD8
+a character in two pieces | typed leaf | strict | usual | B1 01 0F 54 02 65 6E 61 61 61 61 61 61 61 61 61 61 E2 82 56 00 0B AC 62 62 62 62 62 62 62 62 62 62 | accepted 33 | 1 T - 02656E61616161616161616161E282AC62626262626262626262
+a character in two pieces, not looked into | opaque | strict | usual | B1 01 0F 54 02 65 6E 61 61 61 61 61 61 61 61 61 61 E2 82 56 00 0B AC 62 62 62 62 62 62 62 62 62 62 | accepted 33 | 1 T - 02656E61616161616161616161E282AC62626262626262626262
+an octet that no character has, behind an id | typed leaf | strict | usual | D9 01 05 28 54 69 69 69 69 69 69 69 69 69 69 69 69 69 69 69 69 69 69 69 69 69 69 69 69 69 69 69 69 69 69 69 69 69 69 69 69 69 69 69 69 02 65 6E 61 FF | refused 49 17
+an octet that no character has, behind an id, not looked into | opaque | strict | usual | D9 01 05 28 54 69 69 69 69 69 69 69 69 69 69 69 69 69 69 69 69 69 69 69 69 69 69 69 69 69 69 69 69 69 69 69 69 69 69 69 69 69 69 69 69 02 65 6E 61 FF | accepted 50 | 1 T iiiiiiiiiiiiiiiiiiiiiiiiiiiiiiiiiiiiiiii 02656E61FF
+";
+
+#[test]
+fn texts(rt: HostRuntime) {
+    run_cases(&rt, TEXTS);
+}
+
+/// The same of URIs, also in smart posters.
+const URIS: &str = "
+a URI with an octet that no character has | typed leaf | strict | usual | D1 01 11 55 01 61 61 61 61 61 61 61 61 61 61 FF 62 62 62 62 62 | refused 15 17
+a URI with an octet that no character has, not looked into | opaque | strict | usual | D1 01 11 55 01 61 61 61 61 61 61 61 61 61 61 FF 62 62 62 62 62 | accepted 21 | 1 U - 0161616161616161616161FF6262626262
+a poster with an octet that no character has | typed | strict | usual | D1 02 15 53 70 D1 01 11 55 01 61 61 61 61 61 61 61 61 61 61 FF 62 62 62 62 62 | refused 20 17
+a poster with an octet that no character has, not looked into | leaf opaque | strict | usual | D1 02 15 53 70 D1 01 11 55 01 61 61 61 61 61 61 61 61 61 61 FF 62 62 62 62 62 | accepted 26 | 1 Sp - D10111550161616161616161616161FF6262626262
+a poster of a URI and a title | typed leaf | strict | usual | D1 02 2A 53 70 91 01 15 55 01 61 61 61 61 61 61 61 61 61 61 61 61 61 61 61 61 61 61 61 61 51 01 0D 54 02 65 6E 63 63 63 63 63 63 63 63 63 63 | accepted 47 | 1 Sp - 9101155501616161616161616161616161616161616161616151010D5402656E63636363636363636363
+a poster of a URI and a title, not looked into | opaque | strict | usual | D1 02 2A 53 70 91 01 15 55 01 61 61 61 61 61 61 61 61 61 61 61 61 61 61 61 61 61 61 61 61 51 01 0D 54 02 65 6E 63 63 63 63 63 63 63 63 63 63 | accepted 47 | 1 Sp - 9101155501616161616161616161616161616161616161616151010D5402656E63636363636363636363
+";
+
+#[test]
+fn uris_and_posters(rt: HostRuntime) {
+    run_cases(&rt, URIS);
+}
