@@ -37,6 +37,43 @@ fn is_cut(written: &[u8], wanted: &Wanted<'_>) -> bool {
     wanted.all.starts_with(blocks) && wanted.blocks.iter().any(|count| *count == blocks.len())
 }
 
+/// Whether all is written.
+fn is_all(written: &[u8], wanted: &Wanted<'_>) -> bool {
+    written == wanted.all
+}
+
+/// How one run ends where memory may be wanting.
+enum Ended {
+    /// With status 0, all written or not.
+    Clean(bool),
+    /// For want of memory, with nothing written.
+    Nothing,
+    /// For want of memory, with whole blocks and the line of the fault.
+    Fault,
+    /// Otherwise.
+    Otherwise,
+}
+
+/// Runs the command once.
+fn run_once(
+    alloc: Global,
+    words: &[String],
+    bytes: &[u8],
+    wanted: &Wanted<'_>,
+    room: &mut [u8],
+) -> Ended {
+    let mut source = SliceSource::whole(bytes);
+    let mut sink = FailingSink::new(room, 4096, None);
+    let status = run(alloc, words, &mut source, &mut sink);
+    let written = sink.written();
+    match status {
+        Status::Clean => Ended::Clean(is_all(written, wanted)),
+        Status::Fault if written.is_empty() => Ended::Nothing,
+        Status::Fault if is_cut(written, wanted) => Ended::Fault,
+        _ => Ended::Otherwise,
+    }
+}
+
 /// Runs the command again and again, letting a block go each time, until memory isn't wanting.
 fn runs_at_last(
     alloc: Global,
@@ -52,18 +89,14 @@ fn runs_at_last(
         whole: false,
     };
     for _ in 0..=spare.len() {
-        let mut source = SliceSource::whole(bytes);
-        let mut sink = FailingSink::new(room, 4096, None);
-        let status = run(alloc, words, &mut source, &mut sink);
-        let written = sink.written();
-        match status {
-            Status::Clean => {
-                seen.whole = written == wanted.all;
+        match run_once(alloc, words, bytes, wanted, room) {
+            Ended::Clean(whole) => {
+                seen.whole = whole;
                 return Some(seen);
             }
-            Status::Fault if written.is_empty() => seen.nothing = true,
-            Status::Fault if is_cut(written, wanted) => seen.fault = true,
-            _ => return None,
+            Ended::Nothing => seen.nothing = true,
+            Ended::Fault => seen.fault = true,
+            Ended::Otherwise => return None,
         }
         let _ = spare.pop();
     }
