@@ -2,7 +2,7 @@
 use Rattle.std.proofs.Common.{◌≡◌, ℕ, ◌+◌, ◌≤◌, ◌∷◌, [], sym, refl, ◌∙◌, ap, subst, arith, List, ◌++◌, length, length-append, append_assoc, append-nil, Bool, true, false}
 use Rattle.ndef_value.specs.Wire.{Piece, Run, joined, payload_of}
 use Rattle.ndef_piece.specs.Heads.{HeadsAreApart}
-use Rattle.ndef_piece.specs.Whole.{IsSplit, BeginWithPiece}
+use Rattle.ndef_piece.specs.Whole.{IsSplit}
 use Rattle.ndef_c.specs.Walks.{BeginsWith}
 use Rattle.ndef_c.proofs.Followed.{Later, initial_of, later_none, later_next, same_split}
 
@@ -20,10 +20,6 @@ pub copying_at : (run : Run) (end bytes : List ℕ) → BeginsWith run end bytes
 copying_at run end bytes b =
     let i = initial_of run end bytes b in
     record { next = run.initial; later = run.later; short = i.short; behind = i.behind; split = i.split; others = i.others; left = refl }
-
--- the piece that is there is the next one
-pub next_begins : {payload end rest done : List ℕ} → Copying payload end rest done → BeginWithPiece rest
-next_begins k = record { piece = k.next; short = k.short; rest = k.behind; split = k.split }
 
 -- it has room where the payload has
 pub part_fits : {payload end rest done : List ℕ} (k : Copying payload end rest done) (room : ℕ) → length payload ≤ room → length done + length k.next.payload ≤ room
