@@ -26,6 +26,10 @@ follows_text s t r = (
   λ u. behind_chars t.0 r t.1.0 (subst (λ x. IsUtf8 (x ++ r)) (sym t.1.1) u),
 )
 
+-- a text at the front, and one behind it
+pub text_parts : (bytes : List ℕ) (at n : ℕ) → IsUtf8 (take at bytes) → IsUtf8 (take n (drop at bytes)) → IsUtf8 (take (at + n) bytes)
+text_parts bytes at n front behind = subst IsUtf8 (sym (take_parts bytes at n)) (IsUtf8-append (take at bytes) (take n (drop at bytes)) front behind)
+
 -- the least length may grow less, and the greatest too
 text_between : (lo hi n : ℕ) → n ≤ lo → PassesBetween IsUtf8 lo hi → PassesBetween IsUtf8 (lo - n) (hi - n)
 text_between lo hi n l p =

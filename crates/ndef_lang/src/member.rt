@@ -27,6 +27,10 @@ fn is_ascii(bytes: &[u8]) -> bool
     rest.iter().all(|b| *b <= 0x7f)
 }
 
+/// The most octets of a text that are tested at once. A longer one is taken block by block, so that one
+/// that is refused at its end isn't tested twice.
+const MOST_AT_ONCE: usize = 16384;
+
 /// Whether it is a UTF-8 text.
 fn is_utf8(bytes: &[u8]) -> bool
     ensures { IsTrue result → IsUtf8 bytes.now }
@@ -34,7 +38,7 @@ fn is_utf8(bytes: &[u8]) -> bool
     if bytes.len() < 64 && is_ascii(bytes) {
         return true;
     }
-    simdutf8::is_utf8(bytes)
+    bytes.len() <= MOST_AT_ONCE && simdutf8::is_utf8(bytes)
 }
 
 /// Whether it is UTF-16 units, each pair whole.
