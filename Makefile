@@ -1,0 +1,69 @@
+# Builds and installs the commands, the library for C and the Python module. Needs rt and a C compiler.
+#
+#   make             makes all of it; what has changed is proved and built first, which takes some minutes
+#   make python      makes the Python module alone, in out/python
+#   make install     puts it below PREFIX, and below DESTDIR where that is given
+#   make uninstall   takes away what make install puts
+#   make check       runs the gate
+#   make deb         makes a Debian package of it in out
+
+PREFIX ?= /usr/local
+LIBDIR ?= $(PREFIX)/lib
+PYTHON ?= python3
+PYTHONDIR ?= $(shell packaging/python_folder $(PYTHON) $(PREFIX))
+VERSION := 0.1.0
+
+program := crates/ndef/out/ndef
+archive := crates/ndef_c/out/libndef_c.a
+below_c := ndef_value ndef_piece ndef_lang ndef_nest ndef_message ndef_types ndef_c
+sources = $(shell find $(foreach crate,$(1),$(wildcard $(addprefix crates/$(crate)/,src specs proofs))) -type f)
+modules := $(wildcard python/simbegyor_ndef/*.py)
+module := out/python/simbegyor_ndef
+pages := $(wildcard man/*.1)
+completions := $(wildcard share/completion/*)
+
+all: $(program) $(archive) python
+
+# `./ndef` proves and builds the program where it is older than its sources.
+$(program): crates.txt $(call sources,$(notdir $(wildcard crates/*)))
+	./ndef encode </dev/null
+
+$(archive): crates.txt $(call sources,$(below_c))
+	cd crates/ndef_c && rt lib
+	touch $@
+
+python: $(module)/libndef.so $(patsubst python/%,out/python/%,$(modules))
+
+out/python/%.py: python/%.py
+	install -D -m 644 $< $@
+
+$(module)/libndef.so: $(archive) packaging/ndef.map
+	mkdir -p $(@D)
+	$(CC) -shared -o $@ -Wl,--version-script=packaging/ndef.map -Wl,-z,defs -Wl,-z,relro -Wl,-z,now \
+	    -Wl,--whole-archive $(archive) -Wl,--no-whole-archive
+
+install: all
+	install -d $(addprefix $(DESTDIR),$(PREFIX)/bin $(PREFIX)/include $(LIBDIR)/pkgconfig $(PYTHONDIR)/simbegyor_ndef \
+	    $(PREFIX)/share/man/man1 $(PREFIX)/share/bash-completion/completions)
+	install -m 755 $(program) $(DESTDIR)$(PREFIX)/bin
+	install -m 644 include/ndef.h $(DESTDIR)$(PREFIX)/include
+	install -m 644 $(archive) $(DESTDIR)$(LIBDIR)/libndef.a
+	sed 's,@PREFIX@,$(PREFIX),; s,@LIBDIR@,$(LIBDIR),; s,@VERSION@,$(VERSION),' packaging/ndef.pc.in >$(DESTDIR)$(LIBDIR)/pkgconfig/ndef.pc
+	install -m 644 $(modules) $(module)/libndef.so $(DESTDIR)$(PYTHONDIR)/simbegyor_ndef
+	install -m 644 $(pages) $(DESTDIR)$(PREFIX)/share/man/man1
+	install -m 644 $(completions) $(DESTDIR)$(PREFIX)/share/bash-completion/completions
+
+uninstall:
+	rm -f $(DESTDIR)$(PREFIX)/bin/ndef $(DESTDIR)$(PREFIX)/include/ndef.h
+	rm -f $(DESTDIR)$(LIBDIR)/libndef.a $(DESTDIR)$(LIBDIR)/pkgconfig/ndef.pc
+	rm -rf $(DESTDIR)$(PYTHONDIR)/simbegyor_ndef
+	rm -f $(addprefix $(DESTDIR)$(PREFIX)/share/man/man1/,$(notdir $(pages)))
+	rm -f $(addprefix $(DESTDIR)$(PREFIX)/share/bash-completion/completions/,$(notdir $(completions)))
+
+check:
+	.ci/run
+
+deb: all
+	packaging/make_deb $(VERSION)
+
+.PHONY: all python install uninstall check deb

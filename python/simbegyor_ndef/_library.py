@@ -1,0 +1,96 @@
+"""The calls of the library, as ndef.h declares them: structs, numbers and one way to fill a room."""
+import ctypes
+import os
+
+from .errors import DecodeError, EncodeError
+
+OK, REFUSED, NO_ROOM, BAD_ARGUMENT, END = range(5)
+STANDARD, OPAQUE = 1, 2
+FIRST, LAST = 1, 2
+END_OF_INPUT = 24
+
+_u32, _size, _octets, _to = ctypes.c_uint32, ctypes.c_size_t, ctypes.c_char_p, ctypes.c_void_p
+
+
+def _numbers(names):
+    return [(name, _u32) for name in names.split()]
+
+
+def _sizes(names):
+    return [(name, _size) for name in names.split()]
+
+
+class Limits(ctypes.Structure):
+    _fields_ = _numbers('payload records pieces flags')
+
+
+class Checked(ctypes.Structure):
+    _fields_ = [('place', ctypes.c_uint64)] + _numbers('records reason')
+
+
+class RecordParts(ctypes.Structure):
+    _fields_ = _sizes('at end type_at type_length id_at id_length payload_at part_length payload_length pieces') + _numbers('tnf last')
+
+
+class Writing(ctypes.Structure):
+    _fields_ = _numbers('tnf flags chunk')
+
+
+class TextParts(ctypes.Structure):
+    _fields_ = _sizes('language_at language_length text_at text_length') + _numbers('utf16')
+
+
+_shared = ctypes.CDLL(os.path.join(os.path.dirname(os.path.abspath(__file__)), 'libndef.so'))
+
+
+def _call(name, *arguments, result=_u32):
+    call = getattr(_shared, name)
+    call.restype, call.argtypes = result, arguments
+    return call
+
+
+_room = (_to, _size, _to)
+_usual_limits = _call('ndef_usual_limits', _to, result=None)
+_reason_name = _call('ndef_reason_name', _u32, *_room)
+check = _call('ndef_check', _octets, _size, _to, _to)
+record_at = _call('ndef_record_at', _octets, _size, _size, _to)
+payload = _call('ndef_payload', _octets, _size, _size, *_room)
+write_record = _call('ndef_write_record', _octets, _size, _octets, _size, _octets, _size, _to, *_room)
+uri = _call('ndef_uri', _octets, _size, _u32, *_room, _to)
+write_uri = _call('ndef_write_uri', _octets, _size, *_room)
+text = _call('ndef_text', _octets, _size, _to, _to)
+write_text = _call('ndef_write_text', _octets, _size, _octets, _size, *_room)
+
+
+def limits(flags):
+    """The limits for usual tags, with these flags."""
+    out = Limits()
+    _usual_limits(ctypes.byref(out))
+    out.flags = flags
+    return out
+
+
+def put(call, guess, *arguments, behind=()):
+    """The status of the call, and what it writes to its room. A room of at least `guess` octets is tried first."""
+    count = _size()
+    while True:
+        size = 1 << guess.bit_length()
+        room = (ctypes.c_char * size)()
+        status = call(*arguments, room, size, ctypes.byref(count), *behind)
+        if status != NO_ROOM:
+            return status, room[:count.value]
+        guess = count.value
+
+
+def written(what, call, guess, *arguments):
+    """What the call writes to its room; EncodeError says what it refused to write."""
+    status, octets = put(call, guess, *arguments)
+    if status != OK:
+        raise EncodeError(what)
+    return octets
+
+
+def refused(why, before=0):
+    """The error for a refusal of octets that lie behind so many others."""
+    _, name = put(_reason_name, 16, why.reason)
+    return DecodeError(before + why.place, name.decode('ascii'))

@@ -1,0 +1,131 @@
+"""Smart posters (Smart Poster Record Type Definition 1.0)."""
+from .errors import left_out
+from .message import message_encoder, records_of
+from .record import GlobalRecord, Record, octets_of, parts_of, text_of
+from .text import TextRecord
+from .uri import UriRecord
+
+_WITHIN = {parts_of(known._type): known for known in (TextRecord, UriRecord)}
+_ACTION, _SIZE, _TYPE = 'urn:nfc:wkt:act', 'urn:nfc:wkt:s', 'urn:nfc:wkt:t'
+
+
+class SmartposterRecord(GlobalRecord):
+    """A smart poster: the URI of a resource, with titles, icons and the resource's media type.
+
+    A title is a str, for the language 'en', or a dict of texts by language; an icon octets of the type 'image/png', or a
+    dict of octets by media type. Records of other types within a poster are kept.
+    """
+
+    _type = 'urn:nfc:wkt:Sp'
+
+    def __init__(self, resource, title=None, action=None, icon=None, resource_size=None, resource_type=None):
+        self._records = [UriRecord(resource)]
+        for language, text in ({'en': title} if isinstance(title, str) else title or {}).items():
+            self.set_title(text, language)
+        for kind, octets in ({'image/png': icon} if isinstance(icon, (bytes, bytearray)) else icon or {}).items():
+            self.add_icon(kind, octets)
+        if action is not None:
+            self.action = action
+        if resource_size is not None:
+            self.resource_size = resource_size
+        if resource_type is not None:
+            self.resource_type = resource_type
+
+    def _first(self, spelled):
+        return next((record for record in self._records if record.type == spelled), None)
+
+    @property
+    def resource(self):
+        return self._first(UriRecord._type)
+
+    @resource.setter
+    def resource(self, value):
+        self.resource.iri = value
+
+    @property
+    def titles(self):
+        return {record.language: record.text for record in self._records if isinstance(record, TextRecord)}
+
+    @property
+    def title(self):
+        titles = self.titles
+        return titles.get('en', next(iter(titles.values()), None))
+
+    @title.setter
+    def title(self, value):
+        self.set_title(value)
+
+    def set_title(self, title, language='en', encoding='UTF-8'):
+        """Sets the title of a language."""
+        for record in self._records:
+            if isinstance(record, TextRecord) and record.language == language:
+                record.text, record.encoding = title, encoding
+                return
+        self._records.append(TextRecord(title, language, encoding))
+
+    @property
+    def icons(self):
+        return {record.type: record.data for record in self._records if record.type.startswith(('image/', 'video/'))}
+
+    @property
+    def icon(self):
+        icons = self.icons
+        return icons.get('image/png', next(iter(icons.values()), None))
+
+    def add_icon(self, icon_type, icon_data):
+        """Adds an icon of a media type."""
+        if not icon_type.startswith(('image/', 'video/')):
+            raise ValueError('an icon is of a type image/.. or video/.., not %r' % icon_type)
+        self._records.append(Record(icon_type, '', icon_data))
+
+    @property
+    def action(self):
+        if self._first(_ACTION) is not None:
+            raise left_out('actions of smart posters')
+        return None
+
+    @action.setter
+    def action(self, value):
+        raise left_out('writing the action of a smart poster')
+
+    @property
+    def resource_size(self):
+        if self._first(_SIZE) is not None:
+            raise left_out('sizes of resources')
+        return None
+
+    @resource_size.setter
+    def resource_size(self, value):
+        raise left_out('writing the size of a resource')
+
+    @property
+    def resource_type(self):
+        record = self._first(_TYPE)
+        return None if record is None else record.data.decode('utf-8')
+
+    @resource_type.setter
+    def resource_type(self, value):
+        record = self._first(_TYPE)
+        if record is None:
+            record = Record(_TYPE)
+            self._records.append(record)
+        record.data[:] = octets_of(text_of(value, 'a media type'))
+
+    def _encode_payload(self):
+        return b''.join(message_encoder(self._records))
+
+    @classmethod
+    def _decode_payload(cls, octets, errors):
+        made = cls.__new__(cls)
+        made._records = list(records_of(octets, len(octets), _WITHIN))
+        return made
+
+    def _shown(self):
+        return [self.resource.iri, self.titles]
+
+    def __str__(self):
+        return "NDEF Smartposter Record ID '%s' Resource '%s'%s" % (
+            self.name, self.resource.iri, '' if self.title is None else " Title '%s'" % self.title)
+
+
+Record.register_type(SmartposterRecord)

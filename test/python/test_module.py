@@ -1,0 +1,278 @@
+"""Tests of the Python module."""
+import doctest
+import io
+import os
+import random
+import threading
+import unittest
+
+import simbegyor_ndef as ndef
+from cases import TOP, cases, octets_of, reasons, values
+
+HELLO = bytes.fromhex('d101085402656e48656c6c6f')
+REASONS = reasons()
+SPELLED = ('', 'urn:nfc:wkt:', '', '', 'urn:nfc:ext:', 'unknown')
+
+
+def octets(*records):
+    return b''.join(ndef.message_encoder(records))
+
+
+def is_wide(record):
+    """Whether it is the octets of a text in UTF-16, as a line tells them."""
+    tnf, kind, _, payload = record.split()
+    return (tnf, kind) == ('1', 'T') and octets_of(payload)[:1] >= b'\x80'
+
+
+class Suite(unittest.TestCase):
+    def told(self, records):
+        """Type, name and payload of each record that a line tells."""
+        for record in records.split(','):
+            tnf, kind, name, payload = record.split()
+            yield SPELLED[int(tnf)] + kind.strip('-'), name.strip('-'), octets_of(payload)
+
+    def test_cases(self):
+        count = 0
+        for line, typed, given, answer, records in cases():
+            if typed and answer[0] == 'accepted' and any(map(is_wide, records.split(','))):
+                continue
+            count += 1
+            with self.subTest(line):
+                stream = io.BytesIO(given)
+                if not given:
+                    self.assertEqual(list(ndef.message_decoder(given)), [])
+                elif answer[0] == 'accepted':
+                    decoded = list(ndef.message_decoder(stream, known_types=None if typed else {}))
+                    self.assertEqual(stream.tell(), int(answer[1]))
+                    told = list(self.told(records))
+                    self.assertEqual([(record.type, record.name) for record in decoded], [part[:2] for part in told])
+                    if not typed:
+                        self.assertEqual([record.data for record in decoded], [part[2] for part in told])
+                    self.assertEqual(list(ndef.message_decoder(octets(*decoded), known_types=None if typed else {})), decoded)
+                else:
+                    with self.assertRaises(ndef.DecodeError) as caught:
+                        ndef.message_decoder(given, known_types=None if typed else {})
+                    self.assertEqual(caught.exception.place, int(answer[1]))
+                    number = int(answer[2]) if answer[0] == 'refused' else 24
+                    self.assertEqual(caught.exception.reason, REASONS[number])
+        self.assertGreater(count, 1000)
+
+    def refused(self, kind, payload, words):
+        given = octets(ndef.Record('urn:nfc:wkt:' + kind, '', payload))
+        known = {'urn:nfc:wkt:T': ndef.TextRecord, 'urn:nfc:wkt:U': ndef.UriRecord}
+        with self.assertRaises(ndef.DecodeError) as caught:
+            list(ndef.message_decoder(given, known_types=known))
+        self.assertEqual((caught.exception.place, caught.exception.reason), (int(words[1]) + 4, REASONS[int(words[2])]))
+
+    def test_texts(self):
+        for line, payload, words, written in values('text'):
+            if words[0] == 'Utf16':
+                continue
+            with self.subTest(line):
+                if words[0] == 'refused':
+                    self.refused('T', payload, words)
+                    continue
+                (text,) = ndef.message_decoder(octets(ndef.Record('urn:nfc:wkt:T', '', payload)))
+                language, spelled = (octets_of(word).decode() for word in words[1:])
+                self.assertEqual((text.encoding, text.language, text.text), ('UTF-8', language, spelled))
+                self.assertEqual(ndef.TextRecord(spelled, language, text.encoding).data, written)
+
+    def test_uris(self):
+        for line, payload, words, written in values('URI'):
+            with self.subTest(line):
+                if words[:1] == ['refused']:
+                    self.refused('U', payload, words)
+                    continue
+                (uri,) = ndef.message_decoder(octets(ndef.Record('urn:nfc:wkt:U', '', payload)))
+                self.assertEqual(uri.iri, ''.join(words))
+                self.assertEqual(ndef.UriRecord(uri.iri).data, written)
+
+    def test_posters(self):
+        for line, payload, words, written in values('poster'):
+            if words[0] == 'refused':
+                continue
+            with self.subTest(line):
+                (poster,) = ndef.message_decoder(octets(ndef.Record('urn:nfc:wkt:Sp', '', payload)))
+                self.assertEqual(poster.data, written)
+
+
+class Records(unittest.TestCase):
+    def test_random_records_there_and_back(self):
+        chance = random.Random(1)
+        types = ['unknown', 'text/plain', 'urn:nfc:ext:a:b', 'urn:nfc:wkt:x', 'urn:nfc:wkt:T', 'http://x.y/', '']
+        for _ in range(5000):
+            message = []
+            for _ in range(chance.randint(1, 5)):
+                kind = chance.choice(types)
+                if kind == 'urn:nfc:wkt:T':
+                    message.append(ndef.TextRecord(chance.choice(['', 'a', 'é' * 200, '\U0001f600']), chance.choice(['', 'de', 'x' * 63])))
+                elif kind:
+                    message.append(ndef.Record(kind, chance.choice(['', 'i', 'ÿ' * 255]), chance.randbytes(chance.choice([0, 5, 255, 256]))))
+                else:
+                    message.append(ndef.Record())
+            given = octets(*message)
+            self.assertEqual(list(ndef.message_decoder(given)), message)
+            self.assertEqual(list(ndef.message_decoder(io.BytesIO(given))), message)
+
+    def test_pieces_are_joined(self):
+        (text,) = ndef.message_decoder(bytes.fromhex('b101035402656e36000348656c5600026c6f'))
+        self.assertEqual((text.text, text.language), ('Hello', 'en'))
+
+    def test_spellings_of_types(self):
+        for spelled, given in (('urn:nfc:wkt:T', 'd1010054'), ('text/plain', 'd20a00746578742f706c61696e'), ('a:b', 'd30300613a62'),
+                               ('urn:nfc:ext:x', 'd4010078'), ('unknown', 'd50000'), ('', 'd00000')):
+            self.assertEqual(octets(ndef.Record(spelled)).hex(), given)
+            (record,) = ndef.message_decoder(bytes.fromhex(given), known_types={})
+            self.assertEqual((record.type, record.name, record.data), (spelled, '', b''))
+        self.assertRaises(ValueError, ndef.Record, 'plain')
+        self.assertRaises(TypeError, ndef.Record, 5)
+        self.assertRaises(TypeError, ndef.Record, 'a/b', '', 5)
+
+    def test_a_type_of_another_format_is_no_text(self):
+        given = bytes.fromhex('d30d0075726e3a6e66633a776b743a54')
+        (record,) = ndef.message_decoder(given)
+        self.assertEqual((record.type, type(record)), ('urn:nfc:wkt:T', ndef.Record))
+        self.assertEqual(octets(record), given)
+        self.assertNotEqual(record, ndef.Record('urn:nfc:wkt:T'))
+
+    def test_attributes_can_be_set(self):
+        record = ndef.Record('text/plain', 'a', b'x')
+        record.data.extend(b'yz')
+        record.name = 'b'
+        self.assertEqual(repr(record), "simbegyor_ndef.record.Record('text/plain', 'b', bytearray(b'xyz'))")
+        text = ndef.TextRecord('a')
+        text.text, text.language, text.name = 'b', 'de', 'n'
+        self.assertEqual(octets(text).hex(), 'd9010401546e02646562')
+        uri = ndef.UriRecord('http://www.hääyö.com/é')
+        self.assertEqual(uri.uri, 'http://www.xn--hy-viaa5g.com/%C3%A9')
+
+    def test_posters(self):
+        poster = ndef.SmartposterRecord('tel:1', 'One', icon=b'png', resource_type='text/html')
+        poster.set_title('Eins', 'de')
+        (back,) = ndef.message_decoder(octets(poster))
+        self.assertEqual((back.resource.iri, back.title, back.titles), ('tel:1', 'One', {'en': 'One', 'de': 'Eins'}))
+        self.assertEqual((back.icon, back.icons, back.resource_type), (b'png', {'image/png': b'png'}, 'text/html'))
+        self.assertEqual((back.action, back.resource_size), (None, None))
+        back.resource = 'tel:2'
+        self.assertEqual(next(ndef.message_decoder(octets(back))).resource.iri, 'tel:2')
+
+    def test_a_class_of_ones_own(self):
+        class Own(ndef.GlobalRecord):
+            _type = 'urn:nfc:ext:example.com:own'
+
+            def __init__(self, value):
+                self.value = value
+
+            def _encode_payload(self):
+                return self.value.encode('ascii')
+
+            @classmethod
+            def _decode_payload(cls, payload, errors):
+                return cls(payload.decode('ascii'))
+
+        (own,) = ndef.message_decoder(octets(Own('x')), known_types={Own._type: Own})
+        self.assertEqual((own.value, own.type), ('x', Own._type))
+
+
+class Streams(unittest.TestCase):
+    def decoded(self, given, buffering):
+        """Two messages, of a pipe that gives these octets."""
+        reading, writing = os.pipe()
+        with os.fdopen(writing, 'wb') as pipe:
+            pipe.write(given)
+        with os.fdopen(reading, 'rb', buffering) as stream:
+            return list(ndef.message_decoder(stream)), list(ndef.message_decoder(stream)), stream.read()
+
+    def test_messages_after_one_another(self):
+        long = ndef.Record('a/b', '', bytes(20000))
+        for message in ([ndef.TextRecord('a')], [long], [ndef.TextRecord('a'), long, ndef.UriRecord('tel:1')]):
+            given = octets(*message) + HELLO + b'rest'
+            hello = [ndef.TextRecord('Hello')]
+            stream = io.BytesIO(given)
+            self.assertEqual((list(ndef.message_decoder(stream)), list(ndef.message_decoder(stream)), stream.read()), (message, hello, b'rest'))
+            for buffering in (-1, 0):
+                self.assertEqual(self.decoded(given, buffering), (message, hello, b'rest'))
+
+    def test_a_stream_that_ends_in_a_record(self):
+        for count in range(1, len(HELLO)):
+            for stream in (io.BytesIO(HELLO[:count]), io.BufferedReader(io.BytesIO(HELLO[:count]))):
+                with self.assertRaises(ndef.DecodeError) as caught:
+                    ndef.message_decoder(stream)
+                self.assertEqual((caught.exception.place, caught.exception.reason), (count, 'EndOfInput'))
+
+    def test_an_empty_stream(self):
+        self.assertEqual(list(ndef.message_decoder(io.BytesIO())), [])
+
+    def test_streams_written_to(self):
+        stream = io.BytesIO()
+        self.assertEqual(list(ndef.message_encoder([ndef.TextRecord('Hello')], stream)), [12])
+        self.assertEqual(stream.getvalue(), HELLO)
+
+    def test_records_sent(self):
+        encoder = ndef.message_encoder()
+        sent = [encoder.send(record) for record in (None, ndef.Record(), ndef.TextRecord('a'), None)]
+        self.assertEqual(sent, [None, None, b'\x90\0\0', b'\x51\x01\x04T\x02ena'])
+        self.assertEqual(list(ndef.message_encoder([])), [])
+
+    def test_threads(self):
+        wrong = []
+
+        def work(number):
+            message = [ndef.TextRecord(str(number) * number), ndef.Record('a/b', str(number))]
+            given = octets(*message)
+            wrong.extend(1 for _ in range(500) if list(ndef.message_decoder(given)) != message)
+
+        threads = [threading.Thread(target=work, args=(number,)) for number in range(1, 5)]
+        for thread in threads:
+            thread.start()
+        for thread in threads:
+            thread.join()
+        self.assertEqual(wrong, [])
+
+
+class Refusals(unittest.TestCase):
+    def test_values_that_no_record_has(self):
+        first = ndef.TextRecord('Hello')
+        for record in (ndef.Record('urn:nfc:wkt:' + 256 * 'x'), ndef.Record('unknown', 256 * 'x'), ndef.TextRecord('a', 64 * 'x'),
+                       ndef.TextRecord('a', 'é'), ndef.TextRecord('\ud800'), ndef.UriRecord('\udfff'), ndef.Record('', 'x')):
+            with self.subTest(repr(record.type[:20])), self.assertRaises(ndef.EncodeError) as caught:
+                octets(first, record)
+            self.assertEqual((caught.exception.place, caught.exception.reason), (12, 'BadArgument'))
+
+    def test_what_is_left_out(self):
+        for call in (lambda: ndef.message_decoder(HELLO, 'relax'), lambda: ndef.message_decoder(HELLO, 'ignore'),
+                     lambda: ndef.Record('unchanged'), lambda: ndef.SmartposterRecord('a', action='save'),
+                     lambda: ndef.SmartposterRecord('a', resource_size=1), lambda: ndef.HandoverRequestRecord(),
+                     lambda: ndef.HandoverSelectRecord()):
+            self.assertRaises(NotImplementedError, call)
+
+    def test_other_arguments(self):
+        self.assertRaises(TypeError, ndef.message_decoder, 'text')
+        self.assertRaises(TypeError, ndef.message_decoder, io.StringIO('text'))
+        self.assertRaises(TypeError, list, ndef.message_encoder(['text']))
+        self.assertRaises(ValueError, ndef.TextRecord, 'a', 'en', 'UTF-32')
+
+    def test_wild_octets(self):
+        chance = random.Random(2)
+        for _ in range(20000):
+            given = bytearray(octets(ndef.SmartposterRecord('tel:1', 'One'), ndef.TextRecord('a')))
+            given[chance.randrange(len(given))] = chance.randrange(256)
+            try:
+                records = list(ndef.message_decoder(given))
+            except (ndef.DecodeError, NotImplementedError):
+                continue
+            self.assertEqual(list(ndef.message_decoder(octets(*records))), records)
+
+
+class Readme(unittest.TestCase):
+    def test_examples(self):
+        failed, tried = doctest.testfile(str(TOP / 'python/README.md'), module_relative=False)
+        self.assertEqual(failed, 0)
+        self.assertGreater(tried, 10)
+
+
+if __name__ == '__main__':
+    result = unittest.main(exit=False, verbosity=2).result
+    broken = {getattr(test, 'test_case', test).id() for test, _ in result.failures + result.errors}
+    print('%d passed, %d failed' % (result.testsRun - len(broken), len(broken)), flush=True)
+    raise SystemExit(bool(broken))
