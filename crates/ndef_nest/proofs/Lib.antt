@@ -1,7 +1,6 @@
 pub mod Contents
 pub mod HeadBounds
 pub mod Members
-pub mod Places
 pub mod Ranges
 pub mod Reaching
 pub mod Reasons

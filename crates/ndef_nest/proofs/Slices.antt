@@ -17,10 +17,12 @@ use Rattle.ndef_nest.specs.declared.phase.Phase.{Phase}
 use Rattle.ndef_nest.specs.Nested.{kind_in}
 use Rattle.ndef_nest.specs.Machine.Phases.{Completes}
 use Rattle.ndef_nest.specs.Machine.Demands.{IsBody}
-use Rattle.ndef_nest.specs.Conditions.{MessageReason, OneField}
+use Rattle.ndef_piece.specs.Field.{OneField}
+use Rattle.ndef_nest.specs.Conditions.{MessageReason}
 use Rattle.ndef_nest.specs.Machine.Reached.{IsInBody}
 use Rattle.ndef_nest.specs.Machine.BodyLaws.{payload_step, body_as}
 use Rattle.ndef_nest.specs.Machine.SpanLaws.{leaf_at}
+use Rattle.ndef_nest.proofs.Reaching.{stands_in_payload}
 use Rattle.ndef_nest.proofs.Reasons.{told_of_payload}
 use Rattle.ndef_nest.proofs.Steps.{chain}
 
@@ -113,7 +115,7 @@ payload_come c body leaf left records m t none are few step x = record {
   past = record {
     front = x.past.front;
     before = x.past.before;
-    can = x.past.can;
+    may = x.past.may;
     spelled = ap (λ z. z ++ t) x.past.spelled ∙ regroup x.past.front (octets x.fields) x.name x.id_octets x.content t;
   };
   are_octets = (x.are_octets.0, x.are_octets.1, octets_append x.content t x.are_octets.2 are);
@@ -130,22 +132,12 @@ payload_come c body leaf left records m t none are few step x = record {
     regroup d h k i z w = simp append_assoc
 
 -- why the octet behind these is refused
-pub told_behind_payload : (one : OneField) (c : Context) (body : Body) (records : ℕ) (m t : List ℕ) (b : ℕ) (r : Reason) → body.id ≡ 0 → length t < body.payload
+pub told_behind_payload : (one : OneField) (c : Context) (body : Body) (records : ℕ) (m t : List ℕ) (b : ℕ) (r : Reason) → body.id ≡ 0 → AreOctets t → length t < body.payload
     → ((kind : Kind) (profile : Profile) (s : List ℕ) → LeafReached body.leaf kind profile s → IsLowest (PayloadReason kind profile (s ++ t) b) r)
     → IsInBody c body records m → IsLowest (MessageReason c.table records c.profile (m ++ t) b) r
-told_behind_payload one c body records m t b r none few why x =
-    told_of_payload one c.table records c.profile (m ++ t) b x.done x.fields x.name x.id_octets (x.content ++ t) r
-    record {
-      front = x.past.front;
-      spelled = ap (λ z. z ++ t) x.past.spelled ∙ regroup x.past.front (octets x.fields) x.name x.id_octets x.content t;
-      whole = x.past.before.whole;
-      going_on = x.past.before.going_on;
-      to_come = (x.past.can, x.name_is, omega (arith, none, x.id_left), omega (arith, x.payload_left, length-append x.content t));
-    }
+told_behind_payload one c body records m t b r none are few why x =
+    told_of_payload one c.table records c.profile (m ++ t) b x.done x.fields x.name x.id_octets (x.content ++ t) r (stands_in_payload c body records m t none are few x)
     (why (kind_in c.table (tnf_of x.fields.tnf) x.name) c.profile x.content x.leaf_is)
-  where
-    regroup : (d h k i z w : List ℕ) → (d ++ (h ++ (k ++ (i ++ z)))) ++ w ≡ d ++ (h ++ (k ++ (i ++ (z ++ w))))
-    regroup d h k i z w = simp append_assoc
 
 -- ---- a front of the octets
 

@@ -23,7 +23,8 @@ use crate::phase::{Phase, headed};
 use crate::span::{Open, least, meets, most};
 use ndef_lang::{Kind, Language};
 use ndef_piece::{
-    Bounds, HeadReader, Step, conditions_are_exact, heads_are_apart, lengths_are_independent,
+    Bounds, HeadReader, Step, conditions_are_exact, fields_are_told, heads_are_apart,
+    lengths_are_independent,
 };
 use ndef_value::{Profile, Reason, Tnf};
 
@@ -169,7 +170,7 @@ impl Nest {
     {
         if let Phase::Body(body) = self.phase {
             if body.id == 0 {
-                heads_are_apart();
+                fields_are_told();
                 let most = bytes.len().min(body.payload as usize);
                 let (phase, told, count) = body.step_all(&self.context, &bytes[..most]);
                 self.phase = phase;
@@ -198,6 +199,7 @@ impl Nest {
     {
         lengths_are_independent();
         heads_are_apart();
+        fields_are_told();
         conditions_are_exact();
         match self.reader.step(byte) {
             Step::More => {
@@ -244,7 +246,7 @@ impl Language for Nest {
     }
 
     fn step(&mut self, byte: u8) {
-        heads_are_apart();
+        fields_are_told();
         match self.phase {
             Phase::Version => {
                 let (phase, told) = after_version(byte);

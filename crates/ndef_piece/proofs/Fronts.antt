@@ -75,20 +75,17 @@ fronts_have_spots limits ps r m =
     let t = (walks_are_cut limits (start limits) ps m.0 v.0).0 v.1 in
     let d = t.2 in
     let k = walks_are_counted limits ps t.0 d t.4 in
-    let known : d ≡ standing limits d.first d.over (limits.records - length k.0) k.1 = k.4 in
-    let room : d.room ≤ limits.payload = subst (λ c. c.room ≤ limits.payload) (sym known) (standing_room limits d.first d.over (limits.records - length k.0) k.1) in
+    let room : d.room ≤ limits.payload = subst (λ c. c.room ≤ limits.payload) (sym k.known) (standing_room limits d.first d.over (limits.records - length k.runs) k.begun) in
     let most = r.payload.1 in
     record {
-      runs = k.0;
-      begun = k.1;
-      first = d.first;
+      runs = k.runs;
+      begun = k.begun;
       over = d.over;
-      pieces_are = k.2;
-      none_before = k.5;
+      pieces_are = k.pieces_are;
       whole = whole limits ps t.0 d r t.4;
       next = λ p.
           (let n = next limits ps t.0 d p r (omega (arith, room, most)) t.4 in (
-            (λ b. let s = n.0 b in (s.0, subst (λ c. Stands (spot limits.profile c) p) known s.1)),
-            (λ s. n.1 (s.0, subst (λ c. Stands (spot limits.profile c) p) (sym known) s.1)),
+            (λ b. let s = n.0 b in (s.0, subst (λ x. Stands x p) k.spot_is s.1)),
+            (λ s. n.1 (s.0, subst (λ x. Stands x p) (sym k.spot_is) s.1)),
           ));
     }

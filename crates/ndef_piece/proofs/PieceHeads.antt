@@ -14,7 +14,7 @@ use Rattle.ndef_piece.specs.Header.{size}
 use Rattle.std.proofs.lemmas.List.{append-nil, length-replicate, nil_from_length}
 
 -- the id length of a piece
-id_length : (i : Option (List ℕ)) → unwrap_or (option_map length i) 0 ≡ length (unwrap_or i [])
+pub id_length : (i : Option (List ℕ)) → unwrap_or (option_map length i) 0 ≡ length (unwrap_or i [])
 id_length None = refl
 id_length (Some d) = refl
 

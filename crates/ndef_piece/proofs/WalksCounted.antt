@@ -1,17 +1,17 @@
 -- What is known after the pieces of a front: the runs that are complete, and the pieces of the open one.
-use Rattle.std.proofs.Common.{◌≡◌, ℕ, suc, ◌+◌, ◌-◌, inl, inr, Bool, true, false, refl, sym, ◌∙◌, ap, subst, arith, List, [], ◌∷◌, ◌++◌, length, map, append_assoc, length-append, Some, None}
-use Rattle.std.specs.Prelude.{unwrap_or}
-use Rattle.std.proofs.lemmas.List.{append-nil}
-use Rattle.std.proofs.lemmas.Bool.{cases_Bool, both_ways}
-use Rattle.ndef_value.specs.Wire.{Piece, Run, Item, payload_of, joined, tnf_of, all_pieces, LimitValues}
-use Rattle.ndef_piece.specs.Walk.{Before, inside, start, extended, after, Walked, WalksAreCounted, standing}
-use Rattle.ndef_piece.proofs.RunShapes.{run}
+use Rattle.std.proofs.Common.{◌≡◌, ℕ, ◌+◌, ◌-◌, inl, inr, Bool, true, false, refl, sym, ◌∙◌, ap, subst, arith, List, [], ◌∷◌, ◌++◌, length, map, append_assoc, length-append, Some, None, ne_eqb}
+use Rattle.std.specs.Prelude.{◌==◌, unwrap_or, if◌then◌else◌}
+use Rattle.std.specs.List.{AllByRecursion}
+use Rattle.std.proofs.lemmas.List.{append-nil, map-append}
+use Rattle.std.proofs.lemmas.Bool.{cases_Bool, eq-eqb, false≢true}
+use Rattle.std.proofs.lemmas.Bool.Decides.{eqb_tells}
 use Rattle.std.proofs.lemmas.Grind.{flat_map-append}
-use Rattle.ndef_piece.proofs.WalksToRuns.{not_first}
-
--- the pieces of a run come first
-pieces_append : (r : Run) (runs : List Run) (ps : List Piece) → (r.initial ∷ (r.later ++ all_pieces runs)) ++ ps ≡ r.initial ∷ (r.later ++ (all_pieces runs ++ ps))
-pieces_append r runs ps = ap (λ z. r.initial ∷ z) (append_assoc r.later (all_pieces runs) ps)
+use Rattle.ndef_value.specs.Wire.{Piece, Run, Item, pieces, payload_of, joined, tnf_of, all_pieces, Follow, EndsOnce, LimitValues}
+use Rattle.ndef_piece.specs.Field.{spot_after, PiecesStand, RunsStand, AreBefore, NoneLast, ended_run, PiecesGoOn, WalksAreCounted}
+use Rattle.ndef_piece.specs.Pieces.{Stands}
+use Rattle.ndef_piece.specs.Walk.{Before, outside, inside, start, spot, extended, ended, after, Walk, Walked, standing}
+use Rattle.ndef_piece.proofs.RunShapes.{run}
+use Rattle.ndef_piece.proofs.WalksToRuns.{over_after, ends_once}
 
 -- the payload with one piece more
 payload_last : (xs : List Piece) (p : Piece) → payload_of (xs ++ p ∷ []) ≡ payload_of xs ++ p.payload
@@ -49,78 +49,233 @@ inside_one : (limits : LimitValues) (first over : Bool) (n : ℕ) (p : Piece)
 inside_one limits first over n p =
     same_inside _ _ _ _ _ _ _ refl (ap (λ x. limits.payload - length x) (sym (append-nil p.payload))) (joined_one p)
 
--- the front in complete runs and the pieces of an open one
-record Counted (limits : LimitValues) (n : ℕ) (ps : List Piece) (done : List Item) (d : Before) : Type 0 where
-  runs : List Run
-  begun : List Piece
-  pieces_are : ps ≡ all_pieces runs ++ begun
-  done_are : done ≡ map joined runs
-  known : d ≡ standing limits d.first d.over (n - length runs) begun
+-- ---- the spot
 
--- the record that p ends, after the other pieces of its run
-one_more : (limits : LimitValues) (n : ℕ) (r : Run) (ps : List Piece) (done : List Item) (d : Before) → Counted limits (n - 1) ps done d
-    → Counted limits n (r.initial ∷ (r.later ++ ps)) (joined r ∷ done) d
-one_more limits n r ps done d c = record {
-  runs = r ∷ c.runs;
-  begun = c.begun;
-  pieces_are = ap (λ x. r.initial ∷ (r.later ++ x)) c.pieces_are ∙ sym (pieces_append r c.runs c.begun);
-  done_are = ap (λ x. joined r ∷ x) c.done_are;
-  known = c.known ∙ ap (λ x. standing limits d.first d.over x c.begun) (minus_more n 1 (length c.runs) ∙ ap (λ x. n - x) (let e : 1 + length c.runs ≡ suc (length c.runs) = omega arith in e));
+-- what is left of a number is 1 where one more than the rest makes it
+one_left : (n k : ℕ) → (k - n == 1) ≡ (n + 1 == k)
+one_left n k = elim (eqb_tells (k - n) 1) [
+  | inl x ↦ x.0 ∙ sym (eq-eqb (n + 1) k (let e = x.1 in omega arith))
+  | inr x ↦ x.0 ∙ sym (ne_eqb (n + 1) k (λ z. x.1 (omega arith)))
+]
+
+-- what is known behind these runs and these pieces of an open one
+abbrev behind : LimitValues → (over : Bool) → List Run → List Piece → Before
+behind limits over runs begun = standing limits (length runs == 0) over (limits.records - length runs) begun
+
+none_less : (n : ℕ) → n ≡ n - 0
+none_less n = omega arith
+
+-- the spot follows from them
+spot_behind : (limits : LimitValues) (over : Bool) (runs : List Run) (begun : List Piece) → spot limits.profile (behind limits over runs begun) ≡ spot_after limits runs begun
+spot_behind limits over runs [] =
+    let pieces = ap (λ n. n == 1) (none_less limits.pieces) ∙ one_left 0 limits.pieces in (λ i. record {
+      profile = limits.profile;
+      first = length runs == 0;
+      inside = false;
+      last_piece = pieces i;
+      last_record = one_left (length runs) limits.records i;
+      room = none_less limits.payload i;
+    })
+spot_behind limits over runs (p ∷ begun) = (λ i. record {
+  profile = limits.profile;
+  first = false;
+  inside = true;
+  last_piece = one_left (length (p ∷ begun)) limits.pieces i;
+  last_record = one_left (length runs) limits.records i;
+  room = limits.payload - length (payload_of (p ∷ begun));
+})
+
+-- ---- a piece more
+
+going_on : (ps : List Piece) (p : Piece) → AllByRecursion (λ q. q.chunked ≡ true) ps → p.chunked ≡ true → AllByRecursion (λ q. q.chunked ≡ true) (ps ++ p ∷ [])
+going_on [] p h e = (e, tt)
+going_on (q ∷ ps) p h e = (h.0, going_on ps p h.1 e)
+
+whole_on : (runs : List Run) (r : Run) → AllByRecursion (λ r. Follow r.initial.chunked r.later) runs → Follow r.initial.chunked r.later → AllByRecursion (λ r. Follow r.initial.chunked r.later) (runs ++ r ∷ [])
+whole_on [] r h f = (f, tt)
+whole_on (q ∷ runs) r h f = (h.0, whole_on runs r h.1 f)
+
+pieces_stand : (limits : LimitValues) (runs : List Run) (begun ps : List Piece) (p : Piece) → PiecesStand limits runs begun ps → Stands (spot_after limits runs (begun ++ ps)) p → PiecesStand limits runs begun (ps ++ p ∷ [])
+pieces_stand limits runs begun [] p h s = (subst (λ x. Stands (spot_after limits runs x) p) (append-nil begun) s, tt)
+pieces_stand limits runs begun (q ∷ ps) p h s =
+    (h.0, pieces_stand limits runs (begun ++ q ∷ []) ps p h.1 (subst (λ x. Stands (spot_after limits runs x) p) (sym (append_assoc begun (q ∷ []) ps)) s))
+
+runs_stand : (limits : LimitValues) (before runs : List Run) (r : Run) → RunsStand limits before runs → PiecesStand limits (before ++ runs) [] (pieces r) → RunsStand limits before (runs ++ r ∷ [])
+runs_stand limits before [] r h s = (subst (λ x. PiecesStand limits x [] (pieces r)) (append-nil before) s, tt)
+runs_stand limits before (q ∷ runs) r h s =
+    (h.0, runs_stand limits (before ++ q ∷ []) runs r h.1 (subst (λ x. PiecesStand limits x [] (pieces r)) (sym (append_assoc before (q ∷ []) runs)) s))
+
+-- pieces of an open run, and one that ends it, follow its first
+follows : (limits : LimitValues) (runs : List Run) (q : Piece) (begun ps : List Piece) (p : Piece) (c : Bool) → c ≡ true → AllByRecursion (λ q. q.chunked ≡ true) ps
+    → PiecesStand limits runs (q ∷ begun) (ps ++ p ∷ []) → p.chunked ≡ false → Follow c (ps ++ p ∷ [])
+follows limits runs q begun [] p c e h s f = (e, s.0.later refl, f)
+follows limits runs q begun (x ∷ ps) p c e h s f = (e, s.0.later refl, follows limits runs q (begun ++ x ∷ []) ps p x.chunked h.0 h.1 s.1 f)
+
+ended_pieces : (begun : List Piece) (p : Piece) → pieces (ended_run begun p) ≡ begun ++ p ∷ []
+ended_pieces [] p = refl
+ended_pieces (q ∷ begun) p = refl
+
+ended_regroup : (runs : List Run) (begun : List Piece) (p : Piece) → (all_pieces runs ++ begun) ++ p ∷ [] ≡ all_pieces (runs ++ ended_run begun p ∷ [])
+ended_regroup runs begun p =
+    append_assoc (all_pieces runs) begun (p ∷ []) ∙ ap (λ x. all_pieces runs ++ x) (sym (append-nil (pieces (ended_run begun p)) ∙ ended_pieces begun p))
+    ∙ sym (flat_map-append pieces runs (ended_run begun p ∷ []))
+
+module _ (limits : LimitValues) (runs : List Run) (begun : List Piece) (p : Piece) (b : AreBefore limits runs begun) (stands : Stands (spot_after limits runs begun) p) where
+  run_goes_on : p.chunked ≡ true → AreBefore limits runs (begun ++ p ∷ [])
+  run_goes_on c = record {
+    whole = b.whole;
+    going_on = going_on begun p b.going_on c;
+    runs_stand = b.runs_stand;
+    begun_stand = pieces_stand limits runs [] begun p b.begun_stand stands;
+  }
+
+  run_ends : p.chunked ≡ false → AreBefore limits (runs ++ ended_run begun p ∷ []) []
+  run_ends c = record {
+    whole = whole_on runs (ended_run begun p) b.whole (follow_of begun b.going_on b.begun_stand stands);
+    going_on = tt;
+    runs_stand = runs_stand limits [] runs (ended_run begun p) b.runs_stand (subst (PiecesStand limits runs []) (sym (ended_pieces begun p)) (pieces_stand limits runs [] begun p b.begun_stand stands));
+    begun_stand = tt;
+  }
+    where
+      follow_of : (begun : List Piece) → AllByRecursion (λ q. q.chunked ≡ true) begun → PiecesStand limits runs [] begun → Stands (spot_after limits runs begun) p
+          → Follow (ended_run begun p).initial.chunked (ended_run begun p).later
+      follow_of [] h k t = c
+      follow_of (q ∷ begun) h k t = follows limits runs q [] begun p q.chunked h.0 h.1 (pieces_stand limits runs (q ∷ []) begun p k.1 t) c
+
+pub pieces_go_on : PiecesGoOn
+pieces_go_on limits runs begun p b stands = (run_goes_on limits runs begun p b stands, run_ends limits runs begun p b stands)
+
+-- ---- pieces more
+
+-- the runs and the open pieces behind these pieces more
+record Counted (limits : LimitValues) (runs : List Run) (begun ps : List Piece) (done : List Item) (d : Before) : Type 0 where
+  all : List Run
+  rest : List Piece
+  pieces_are : (all_pieces runs ++ begun) ++ ps ≡ all_pieces all ++ rest
+  done_are : map joined runs ++ done ≡ map joined all
+  before : AreBefore limits all rest
+  known : d ≡ behind limits d.over all rest
+
+one_fewer : (a n : ℕ) → a - n - 1 ≡ a - (n + 1)
+one_fewer a n = omega arith
+
+-- between runs
+outside_more : (limits : LimitValues) (last : Bool) (runs : List Run) (r : Run) → outside limits false last (limits.records - length runs - 1) ≡ behind limits last (runs ++ r ∷ []) []
+outside_more limits last runs r =
+    let n : length (runs ++ r ∷ []) ≡ length runs + 1 = length-append runs (r ∷ []) in
+    let some : false ≡ (length (runs ++ r ∷ []) == 0) = sym (ne_eqb (length (runs ++ r ∷ [])) 0 (λ z. omega arith)) in
+    let left : limits.records - length runs - 1 ≡ limits.records - length (runs ++ r ∷ []) = omega arith in
+    (λ i. outside limits (some i) last (left i))
+
+-- the record of a run that has ended
+ended_item : (limits : LimitValues) (over : Bool) (runs : List Run) (begun : List Piece) (p : Piece) → extended (behind limits over runs begun).begun p ≡ joined (ended_run begun p)
+ended_item limits over runs [] p = joined_one p
+ended_item limits over runs (q ∷ begun) p = joined_more q begun p
+
+-- what is known behind a piece with which a run goes on
+chunk_after : (limits : LimitValues) (c : Before) (p : Piece) → p.chunked ≡ true → after limits c p ≡ inside c.records (c.pieces - 1) (c.room - length p.payload) (extended c.begun p)
+chunk_after limits c p e = ap (λ b. if b then inside c.records (c.pieces - 1) (c.room - length p.payload) (extended c.begun p) else outside limits false p.last (c.records - 1)) e
+
+behind_more : (limits : LimitValues) (over : Bool) (runs : List Run) (begun : List Piece) (p : Piece) → p.chunked ≡ true → after limits (behind limits over runs begun) p ≡ behind limits over runs (begun ++ p ∷ [])
+behind_more limits over runs [] p c = chunk_after limits (behind limits over runs []) p c ∙ inside_one limits (length runs == 0) over (limits.records - length runs) p
+behind_more limits over runs (q ∷ begun) p c =
+    chunk_after limits (behind limits over runs (q ∷ begun)) p c ∙ inside_more limits (length runs == 0) over (limits.records - length runs) q begun p
+
+records_left : (limits : LimitValues) (over : Bool) (runs : List Run) (begun : List Piece) → (behind limits over runs begun).records ≡ limits.records - length runs
+records_left limits over runs [] = refl
+records_left limits over runs (q ∷ begun) = refl
+
+behind_over : (limits : LimitValues) (over : Bool) (runs : List Run) (begun : List Piece) → behind limits over runs begun ≡ behind limits (behind limits over runs begun).over runs begun
+behind_over limits over runs [] = refl
+behind_over limits over runs (q ∷ begun) = refl
+
+counted : (limits : LimitValues) (ps : List Piece) (over : Bool) (runs : List Run) (begun : List Piece) (done : List Item) (d : Before)
+    → AreBefore limits runs begun → Walked limits (behind limits over runs begun) ps done d → Counted limits runs begun ps done d
+counted limits [] over runs begun done d b w = record {
+  all = runs;
+  rest = begun;
+  pieces_are = append-nil (all_pieces runs ++ begun);
+  done_are = ap (λ x. map joined runs ++ x) w.0 ∙ append-nil (map joined runs);
+  before = b;
+  known = w.1 ∙ behind_over limits over runs begun ∙ ap (λ x. behind limits x.over runs begun) (sym w.1);
 }
-
-minus_none : (n : ℕ) → n ≡ n - 0
-minus_none n = omega arith
-
--- opened are the pieces of the run that was open at the start
-counted : (limits : LimitValues) (ps : List Piece) (first over : Bool) (n : ℕ) (opened : List Piece) (done : List Item) (d : Before)
-    → Walked limits (standing limits first over n opened) ps done d → Counted limits n (opened ++ ps) done d
-counted limits [] first over n opened done d w = record {
-  runs = [];
-  begun = opened;
-  pieces_are = append-nil opened;
-  done_are = w.0;
-  known = subst (λ x. d ≡ standing limits d.first d.over x opened) (minus_none n) (w.1 ∙ still opened ∙ ap (λ x. standing limits x.first x.over n opened) (sym w.1));
-} where
-  still : (opened : List Piece) → standing limits first over n opened ≡ standing limits (standing limits first over n opened).first (standing limits first over n opened).over n opened
-  still [] = refl
-  still (q ∷ qs) = refl
-counted limits (p ∷ ps) first over n [] done d w =
+counted limits (p ∷ ps) over runs begun done d b w =
     elim (cases_Bool p.chunked) [
       | inl c ↦
-          let walk = rw c at w.4 in
-          let e = rw c at w.3 in
-          let t = counted limits ps first over n (p ∷ []) w.2 d (subst (λ x. Walked limits x ps w.2 d) (inside_one limits first over n p) walk) in
-          subst (λ x. Counted limits n (p ∷ ps) x d) (sym e) t
+          let walk = subst (λ x. Walked limits x ps w.2 d) (behind_more limits over runs begun p c) w.4 in
+          let none : ended (behind limits over runs begun) p ≡ [] = ap (λ b. if b then [] else extended (behind limits over runs begun).begun p ∷ []) c in
+          let t = counted limits ps over runs (begun ++ p ∷ []) w.2 d (go.0 c) walk in
+          record {
+            all = t.all;
+            rest = t.rest;
+            pieces_are = sym (append_assoc (all_pieces runs ++ begun) (p ∷ []) ps) ∙ ap (λ x. x ++ ps) (append_assoc (all_pieces runs) begun (p ∷ [])) ∙ t.pieces_are;
+            done_are = ap (λ x. map joined runs ++ x) (w.3 ∙ ap (λ x. x ++ w.2) none) ∙ t.done_are;
+            before = t.before;
+            known = t.known;
+          }
       | inr c ↦
-          let walk = rw c at w.4 in
-          let e = rw c at w.3 in
-          let t = counted limits ps false p.last (n - 1) [] w.2 d walk in
-          subst (λ x. Counted limits n (p ∷ ps) x d) (sym (e ∙ ap (λ x. x ∷ w.2) (joined_one p))) (one_more limits n (run p []) ps w.2 d t)
+          let r = ended_run begun p in
+          let later : after limits (behind limits over runs begun) p ≡ behind limits p.last (runs ++ r ∷ []) [] =
+          after_ended c ∙ outside_more limits p.last runs r in
+          let walk = subst (λ x. Walked limits x ps w.2 d) later w.4 in
+          let one : ended (behind limits over runs begun) p ≡ joined r ∷ [] =
+          ap (λ b. if b then [] else extended (behind limits over runs begun).begun p ∷ []) c ∙ ap (λ x. x ∷ []) (ended_item limits over runs begun p) in
+          let t = counted limits ps p.last (runs ++ r ∷ []) [] w.2 d (go.1 c) walk in
+          record {
+            all = t.all;
+            rest = t.rest;
+            pieces_are = sym (append_assoc (all_pieces runs ++ begun) (p ∷ []) ps) ∙ ap (λ x. x ++ ps) (ended_regroup runs begun p ∙ sym (append-nil (all_pieces (runs ++ r ∷ [])))) ∙ t.pieces_are;
+            done_are = ap (λ x. map joined runs ++ x) (w.3 ∙ ap (λ x. x ++ w.2) one) ∙ sym (append_assoc (map joined runs) (joined r ∷ []) w.2) ∙ ap (λ x. x ++ w.2) (sym (map-append joined runs (r ∷ []))) ∙ t.done_are;
+            before = t.before;
+            known = t.known;
+          }
     ]
-counted limits (p ∷ ps) first over n (q ∷ qs) done d w =
-    elim (cases_Bool p.chunked) [
-      | inl c ↦
-          let walk = rw c at w.4 in
-          let e = rw c at w.3 in
-          let t = counted limits ps first over n (q ∷ (qs ++ p ∷ [])) w.2 d (subst (λ x. Walked limits x ps w.2 d) (inside_more limits first over n q qs p) walk) in
-          subst (λ x. Counted limits n x done d) (ap (λ x. q ∷ x) (append_assoc qs (p ∷ []) ps)) (subst (λ x. Counted limits n (q ∷ ((qs ++ p ∷ []) ++ ps)) x d) (sym e) t)
-      | inr c ↦
-          let walk = rw c at w.4 in
-          let e = rw c at w.3 in
-          let t = counted limits ps false p.last (n - 1) [] w.2 d walk in
-          subst (λ x. Counted limits n x done d) (ap (λ x. q ∷ x) (append_assoc qs (p ∷ []) ps))
-          (subst (λ x. Counted limits n (q ∷ ((qs ++ p ∷ []) ++ ps)) x d) (sym (e ∙ ap (λ x. x ∷ w.2) (joined_more q qs p))) (one_more limits n (run q (qs ++ p ∷ [])) ps w.2 d t))
-    ]
+  where
+    go : (p.chunked ≡ true → AreBefore limits runs (begun ++ p ∷ [])) × (p.chunked ≡ false → AreBefore limits (runs ++ ended_run begun p ∷ []) [])
+    go = pieces_go_on limits runs begun p b (subst (λ x. Stands x p) (spot_behind limits over runs begun) w.1)
 
--- after a piece none is the first
-still_first : (limits : LimitValues) (c : Before) (ps : List Piece) (done : List Item) (d : Before) → Walked limits c ps done d → c.first ≡ false → d.first ≡ false
-still_first limits c [] done d w f = ap (λ x. x.first) w.1 ∙ f
-still_first limits c (p ∷ ps) done d w f = still_first limits (after limits c p) ps w.2 d w.4 (not_first limits c p)
+    after_ended : p.chunked ≡ false → after limits (behind limits over runs begun) p ≡ outside limits false p.last (limits.records - length runs - 1)
+    after_ended c =
+        let d = behind limits over runs begun in
+        ap (λ b. if b then inside d.records (d.pieces - 1) (d.room - length p.payload) (extended d.begun p) else outside limits false p.last (d.records - 1)) c
+        ∙ ap (λ n. outside limits false p.last (n - 1)) (records_left limits over runs begun)
+
+-- ---- from the start
+
+walked_whole : (limits : LimitValues) (c : Before) (ps : List Piece) (items : List Item) (d : Before) → Walked limits c ps items d → d.over ≡ true → Walk limits c ps items
+walked_whole limits c [] items d w e = (ap (λ x. x.over) (sym w.1) ∙ e, w.0)
+walked_whole limits c (p ∷ ps) items d w e = (w.0, w.1, w.2, w.3, walked_whole limits (after limits c p) ps w.2 d w.4 e)
+
+-- ME is clear before the end
+none_last : (limits : LimitValues) (c : Before) (ps : List Piece) (items : List Item) (d : Before) → Walked limits c ps items d → d.over ≡ false → NoneLast ps
+none_last limits c [] items d w e = tt
+none_last limits c (p ∷ []) items d w e = (over_after limits c p false (ap (λ x. x.over) (sym w.4.1) ∙ e) w.1, tt)
+none_last limits c (p ∷ q ∷ ps) items d w e = (over_after limits c p false w.4.0 w.1, none_last limits (after limits c p) (q ∷ ps) w.2 d w.4 e)
+
+none_yet : (limits : LimitValues) → AreBefore limits [] []
+none_yet limits = record { whole = tt; going_on = tt; runs_stand = tt; begun_stand = tt }
 
 pub walks_are_counted : WalksAreCounted
 walks_are_counted limits ps done d w =
-    let c = counted limits ps true false limits.records [] done d w in
-    (c.runs, c.begun, c.pieces_are, c.done_are, c.known, (only ps w, λ e. ap (λ x. x.first) (subst (λ x. Walked limits (start limits) x done d) e w).1)) where
-      only : (ps : List Piece) → Walked limits (start limits) ps done d → d.first ≡ true → ps ≡ []
-      only [] w e = refl
-      only (p ∷ ps) w e = absurd (both_ways d.first (still_first limits (after limits (start limits) p) ps w.2 d w.4 (not_first limits (start limits) p)) e)
+    let none_ended : start limits ≡ behind limits false [] [] = ap (outside limits true false) (none_less limits.records) in
+    let t = counted limits ps false [] [] done d (none_yet limits) (subst (λ x. Walked limits x ps done d) none_ended w) in
+    record {
+      runs = t.all;
+      begun = t.rest;
+      pieces_are = t.pieces_are;
+      done_are = t.done_are;
+      before = t.before;
+      spot_is = ap (spot limits.profile) t.known ∙ spot_behind limits d.over t.all t.rest;
+      known = t.known ∙ behind_first limits d.over t.all t.rest ∙ ap (λ x. standing limits x.first d.over (limits.records - length t.all) t.rest) (sym t.known);
+      over = λ e. ends ps w e;
+      not_over = λ e. none_last limits (start limits) ps done d w e;
+    }
+  where
+    behind_first : (limits : LimitValues) (over : Bool) (runs : List Run) (begun : List Piece)
+        → behind limits over runs begun ≡ standing limits (behind limits over runs begun).first over (limits.records - length runs) begun
+    behind_first limits over runs [] = refl
+    behind_first limits over runs (q ∷ begun) = refl
+
+    ends : (ps : List Piece) → Walked limits (start limits) ps done d → d.over ≡ true → EndsOnce ps
+    ends [] w e = absurd (false≢true (ap (λ x. x.over) (sym w.1) ∙ e))
+    ends (p ∷ ps) w e = ends_once limits (start limits) p ps done (walked_whole limits (start limits) (p ∷ ps) done d w e)

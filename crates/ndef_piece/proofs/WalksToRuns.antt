@@ -161,7 +161,7 @@ later_firsts limits c [] items f w = tt
 later_firsts limits c (p ∷ ps) items f w = (w.1.begins ∙ f, later_firsts limits (after limits c p) ps w.2 (not_first limits c p) w.4)
 
 -- the message is over after the piece with ME
-over_after : (limits : LimitValues) (c : Before) (p : Piece) (b : Bool) → (after limits c p).over ≡ b → Stands (spot limits.profile c) p → p.last ≡ b
+pub over_after : (limits : LimitValues) (c : Before) (p : Piece) (b : Bool) → (after limits c p).over ≡ b → Stands (spot limits.profile c) p → p.last ≡ b
 over_after limits c p b e s =
     elim (cases_Bool p.chunked) [
       | inl k ↦ (s.chunked k).0 ∙ (rw k at e)

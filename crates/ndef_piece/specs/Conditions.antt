@@ -13,33 +13,33 @@ abbrev pub is_strict : Profile → Bool
 is_strict Strict = true
 is_strict Standard = false
 
--- ---- the field of an octet
+-- ---- the field of an octet of a head
 
 -- NDEF 1.0, record layout: the fields of a head
-pub data Field : Type 0 where
-  HeaderOctet : Field
-  TypeLength : Field
-  PayloadLength : Field
-  IdLength : Field
+pub data HeadField : Type 0 where
+  HeaderOctet : HeadField
+  TypeLength : HeadField
+  PayloadLength : HeadField
+  IdLength : HeadField
 
 -- NDEF 1.0, record layout: the field of the octet after these
-abbrev pub field : List ℕ → Field
-field [] = HeaderOctet
-field (header ∷ []) = TypeLength
-field (header ∷ kind ∷ xs) = if nat_lt (length xs) (width header) then PayloadLength else IdLength
+abbrev pub head_field : List ℕ → HeadField
+head_field [] = HeaderOctet
+head_field (header ∷ []) = TypeLength
+head_field (header ∷ kind ∷ xs) = if nat_lt (length xs) (width header) then PayloadLength else IdLength
 
 -- the octet stands in the header
-abbrev pub in_header : Field → Bool
+abbrev pub in_header : HeadField → Bool
 in_header HeaderOctet = true
 in_header _ = false
 
 -- the octet stands in TYPE_LENGTH
-abbrev pub in_type_length : Field → Bool
+abbrev pub in_type_length : HeadField → Bool
 in_type_length TypeLength = true
 in_type_length _ = false
 
 -- the octet stands in PAYLOAD_LENGTH
-abbrev pub in_payload_length : Field → Bool
+abbrev pub in_payload_length : HeadField → Bool
 in_payload_length PayloadLength = true
 in_payload_length _ = false
 
@@ -67,7 +67,7 @@ least (header ∷ kind ∷ xs) = least_from (width header) xs
 -- A 7 gets to TYPE_LENGTH in Standard alone, and is unknown there.
 abbrev pub conditions : Spot → List ℕ → ℕ → List (Reason × Bool)
 conditions spot xs b =
-    let at = field xs in
+    let at = head_field xs in
     let header = header_of xs b in
     let tnf = tnf_number header in
     let begins = is_set 7 header in

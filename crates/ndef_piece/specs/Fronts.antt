@@ -1,8 +1,8 @@
 -- Which piece may come next in a message within the limits.
-use Rattle.std.specs.Prelude.{◌≡◌, ◌-◌, Bool, true, false, List, [], ◌∷◌, ◌++◌, length, ◌↔◌}
+use Rattle.std.specs.Prelude.{◌≡◌, Bool, true, false, List, [], ◌∷◌, ◌++◌, ◌↔◌}
 use Rattle.ndef_value.specs.Wire.{Piece, Run, Item, all_pieces, IsMessage, LimitValues, AreInRange, IsWithin}
 use Rattle.ndef_piece.specs.Pieces.{Stands}
-use Rattle.ndef_piece.specs.Walk.{spot, standing}
+use Rattle.ndef_piece.specs.Field.{spot_after}
 
 -- NDEF 1.0, messages: these are the pieces of a message within the limits
 abbrev pub AreMessage : LimitValues → List Piece → Type 0
@@ -12,18 +12,16 @@ AreMessage limits ps = (runs : List Run) × (items : List Item) × (ps ≡ all_p
 abbrev pub BeginMessage : LimitValues → List Piece → Type 0
 BeginMessage limits ps = (more : List Piece) × AreMessage limits (ps ++ more)
 
--- the pieces are those of complete runs and of an open one, at its spot stands just what may come next
+-- the pieces are those of complete runs and of an open one, at the spot behind them stands just what may come next
 pub record IsPosition (limits : LimitValues) (ps : List Piece) : Type 0 where
   pub runs : List Run
   -- the pieces of the open run, none where no run is open
   pub begun : List Piece
-  pub first : Bool
   pub over : Bool
   pub pieces_are : ps ≡ all_pieces runs ++ begun
-  pub none_before : (first ≡ true) ↔ (ps ≡ [])
   pub whole : (over ≡ true) ↔ AreMessage limits ps
   pub next : (p : Piece) → BeginMessage limits (ps ++ p ∷ [])
-      ↔ ((over ≡ false) × Stands (spot limits.profile (standing limits first over (limits.records - length runs) begun)) p)
+      ↔ ((over ≡ false) × Stands (spot_after limits runs begun) p)
 
 -- ---- laws
 

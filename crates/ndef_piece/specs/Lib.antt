@@ -8,6 +8,7 @@ pub mod Inside
 pub mod Bounds
 pub mod Pieces
 pub mod Walk
+pub mod Field
 pub mod Fronts
 pub mod Rest
 pub mod Whole

@@ -1,5 +1,5 @@
 -- The pieces of a message, one after another, each at its spot.
-use Rattle.std.specs.Prelude.{◌≡◌, ℕ, ◌-◌, ◌^◌, ◌<◌, ◌≤◌, map, ◌==◌, Bool, true, false, List, [], ◌∷◌, ◌++◌, length, is_some, unwrap_or, Option, Some, None, ◌↔◌, if◌then◌else◌}
+use Rattle.std.specs.Prelude.{◌≡◌, ℕ, ◌-◌, ◌^◌, ◌<◌, ◌≤◌, ◌==◌, Bool, true, false, List, [], ◌∷◌, ◌++◌, length, is_some, unwrap_or, Option, Some, None, ◌↔◌, if◌then◌else◌}
 use Rattle.ndef_value.specs.Wire.{Piece, IsPiece, AreOctets, Run, Item, joined, payload_of, tnf_of, all_pieces, IsMessage, LimitValues, AreInRange, IsWithin}
 use Rattle.ndef_value.specs.declared.profile.Profile.{Profile}
 use Rattle.ndef_piece.specs.declared.spot.Spot.{Spot}
@@ -97,12 +97,6 @@ RunsGoOn = (limits : LimitValues) (records pieces room : ℕ) (m : Item) (ps : L
     → Walk limits (inside records pieces room m) ps items
     ↔ ((payload : List ℕ) × (rest : List Item) × (items ≡ record m { payload = m.payload ++ payload } ∷ rest)
     × Walk limits (inside records pieces room (record m { payload = [] })) ps (record m { payload = payload } ∷ rest))
-
--- What is known after the pieces of a front: how many runs are complete, and which pieces the open run has.
-abbrev pub WalksAreCounted : Type 0
-WalksAreCounted = (limits : LimitValues) (ps : List Piece) (done : List Item) (d : Before) → Walked limits (start limits) ps done d
-    → (runs : List Run) × (begun : List Piece) × (ps ≡ all_pieces runs ++ begun) × (done ≡ map joined runs)
-    × (d ≡ standing limits d.first d.over (limits.records - length runs) begun) × ((d.first ≡ true) ↔ (ps ≡ []))
 
 -- A message that is not over can be ended by one piece, with any payload that has room.
 abbrev pub WalksCanEnd : Type 0

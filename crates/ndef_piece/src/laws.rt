@@ -4,7 +4,8 @@ ghost use Rattle.ndef_piece.specs.Conditions.{ConditionsAreInOrder};
 ghost use Rattle.ndef_piece.specs.Reading.{ConditionsAreExact, OneAnswer};
 ghost use Rattle.ndef_piece.specs.Bounds.{BoundsOfFronts, BoundsOfHeads};
 ghost use Rattle.ndef_piece.specs.Pieces.{HeadsOfPieces, PiecesOfHeads, HeadsOfBytes, LengthsOfPieces};
-ghost use Rattle.ndef_piece.specs.Walk.{WalksAreMessages, WalksAreCut, WalksAreCounted, WalksCanEnd, RunsGoOn};
+ghost use Rattle.ndef_piece.specs.Walk.{WalksAreMessages, WalksAreCut, WalksCanEnd, RunsGoOn};
+ghost use Rattle.ndef_piece.specs.Field.{OneField, PiecesGoOn, WalksAreCounted};
 ghost use Rattle.ndef_piece.specs.Fronts.{FrontsHaveSpots};
 ghost use Rattle.ndef_piece.specs.Rest.{RestsAreFlat, RestsEnd, RestsPastHeads, RestsWithinHeads, RestsCanFollow};
 
@@ -38,6 +39,13 @@ pub fn heads_are_of_pieces()
     ensures to_pieces { PiecesOfHeads }
     ensures bytes { HeadsOfBytes }
     ensures lengths { LengthsOfPieces }
+{}
+
+/// The octets of a message up to one tell its field, the whole runs before it and the pieces of an
+/// open one. A piece that stands behind them goes on with the open run, or ends it.
+pub fn fields_are_told()
+    ensures one { OneField }
+    ensures on { PiecesGoOn }
 {}
 
 /// Wherever a message within the limits is cut between pieces there is a spot, and the pieces that

@@ -18,7 +18,7 @@ pub use head::Head;
 pub use head_reader::{HeadReader, Step};
 pub use header::header_tnf;
 pub use laws::{
-    conditions_are_exact, fronts_have_spots, heads_are_apart, heads_are_of_pieces,
+    conditions_are_exact, fields_are_told, fronts_have_spots, heads_are_apart, heads_are_of_pieces,
     lengths_are_independent, messages_are_read_by_heads, messages_are_walks,
 };
 pub use spot::Spot;

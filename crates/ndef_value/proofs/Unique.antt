@@ -5,9 +5,9 @@ use Rattle.std.specs.Option.{option_map}
 use Rattle.std.specs.List.{AllByRecursion}
 use Rattle.std.specs.Int.{w32, to_be_bytes}
 use Rattle.std.proofs.lemmas.List.{append-nil}
-use Rattle.ndef_value.specs.PieceLaws.{same_body, same_fields}
+use Rattle.ndef_value.specs.PieceLaws.{same_body, same_fields, follow_once, same_run}
 use Rattle.ndef_value.specs.TnfLaws.{read_by_all}
-use Rattle.ndef_value.specs.Wire.{bit, header_octet, payload_length_octets, id_length_octets, octets, fields, body, Piece, Spells, Run, Follow, IsRun, all_pieces, joined, EndsOnce, SpellAll, OneMeaning, StrictIsRead}
+use Rattle.ndef_value.specs.Wire.{bit, header_octet, payload_length_octets, id_length_octets, octets, fields, body, Piece, Spells, Run, IsRun, all_pieces, joined, EndsOnce, SpellAll, OneMeaning, StrictIsRead}
 use Rattle.ndef_value.specs.declared.profile.Profile.{Profile}
 use Rattle.ndef_value.specs.declared.profile.Profile.TheVariants.{Strict}
 
@@ -109,21 +109,6 @@ pieces_once (p ∷ p2 ∷ ps) (q ∷ q2 ∷ qs) f g x y a b s t e =
     (ap (λ z. z ∷ p2 ∷ ps) w.0 ∙ ap (λ l. q ∷ l) r.0, r.1)
 
 -- ---- the runs
-follow_once : (c d : Bool) (l m x y : List Piece) → c ≡ d → Follow c l → Follow d m → l ++ x ≡ m ++ y → (l ≡ m) × (x ≡ y)
-follow_once c d [] [] x y q a b e = (refl, e)
-follow_once c d [] (r ∷ m) x y q a b e = absurd (clash d b.0 (sym q ∙ a))
-follow_once c d (p ∷ l) [] x y q a b e = absurd (clash c a.0 (q ∙ b))
-follow_once c d (p ∷ l) (r ∷ m) x y q a b e =
-    let f : p ≡ r = cc in
-    let g : l ++ x ≡ m ++ y = cc in
-    let w = follow_once p.chunked r.chunked l m x y (ap (λ z. z.chunked) f) a.2 b.2 g in
-    ((let h = w.0 in cc), w.1)
-
-same_run : (r s : Run) → r.initial ≡ s.initial → r.later ≡ s.later → r ≡ s
-same_run r s e f =
-    let make : Piece → List Piece → Run = λ i l. record { initial = i; later = l } in
-    ap (λ i. make i r.later) e ∙ ap (make s.initial) f
-
 runs_once : (p q : Profile) (rs ss : List Run) → AllByRecursion (IsRun p) rs → AllByRecursion (IsRun q) ss → all_pieces rs ≡ all_pieces ss → rs ≡ ss
 runs_once p q [] [] a b e = refl
 runs_once p q [] (s ∷ ss) a b e = cc

@@ -1,9 +1,10 @@
--- Pieces with one head.
-use Rattle.std.proofs.Common.{◌≡◌, ℕ, Bool, refl, sym, ◌∙◌, ap, List, [], ◌++◌, length, append_assoc, Option, Some, None}
+-- Pieces with one head, and runs of the same pieces.
+use Rattle.std.proofs.Common.{◌≡◌, ℕ, Bool, refl, sym, ◌∙◌, ap, List, [], ◌∷◌, ◌++◌, length, append_assoc, Option, Some, None}
 use Rattle.std.specs.Prelude.{unwrap_or}
 use Rattle.std.specs.Option.{option_map}
+use Rattle.std.proofs.lemmas.Bool.{false≢true}
 use Rattle.ndef_value.specs.ListLaws.{cut_alike}
-use Rattle.ndef_value.specs.Wire.{Fields, Piece, fields, body}
+use Rattle.ndef_value.specs.Wire.{Fields, Piece, Run, Follow, fields, body}
 
 -- ids of one length are told by their octets
 same_id : (i j : Option (List ℕ)) → option_map length i ≡ option_map length j → unwrap_or i [] ≡ unwrap_or j [] → i ≡ j
@@ -46,3 +47,21 @@ same_body p q s x y e b =
     let d = cut_alike (unwrap_or p.id []) (unwrap_or q.id []) _ _ (id_long p.id q.id i) k.1 in
     let n = cut_alike p.payload q.payload _ _ (ap (λ f. f.payload_length) e) d.1 in
     (same_parts _ _ _ _ _ _ _ _ _ _ _ _ _ _ (ap (λ f. f.first) e) (ap (λ f. f.last) e) (ap (λ f. f.chunked) e) (ap (λ f. f.tnf) e) k.0 (same_id p.id q.id i d.0) n.0, n.1)
+
+-- ---- their runs
+
+-- the pieces that follow another in its run are told by those that come
+pub follow_once : (c d : Bool) (l m x y : List Piece) → c ≡ d → Follow c l → Follow d m → l ++ x ≡ m ++ y → (l ≡ m) × (x ≡ y)
+follow_once c d [] [] x y q a b e = (refl, e)
+follow_once c d [] (r ∷ m) x y q a b e = absurd (false≢true (sym a ∙ q ∙ b.0))
+follow_once c d (p ∷ l) [] x y q a b e = absurd (false≢true (sym b ∙ sym q ∙ a.0))
+follow_once c d (p ∷ l) (r ∷ m) x y q a b e =
+    let f : p ≡ r = cc in
+    let g : l ++ x ≡ m ++ y = cc in
+    let w = follow_once p.chunked r.chunked l m x y (ap (λ z. z.chunked) f) a.2 b.2 g in
+    ((let h = w.0 in cc), w.1)
+
+pub same_run : (r s : Run) → r.initial ≡ s.initial → r.later ≡ s.later → r ≡ s
+same_run r s e f =
+    let make : Piece → List Piece → Run = λ i l. record { initial = i; later = l } in
+    ap (λ i. make i r.later) e ∙ ap (make s.initial) f
