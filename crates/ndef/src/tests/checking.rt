@@ -1,38 +1,48 @@
 //! What a checker shows of itself.
-use super::samples::usual;
+use super::case::{bytes_of, field};
+use super::samples::{at, usual};
 use ndef_lang::Opaque;
-use ndef_message::{Checker, Fed};
-use ndef_value::{Reason, Refusal};
+use ndef_message::Checker;
+use ndef_value::Reason;
+use std::alloc::Global;
+use std::process::Abort;
+use std::test::Fail;
+
+/// Parts that one checker takes one after another: `OCTETS | FED | END | RECORDS | PLACE`. An empty line
+/// stands before the parts of another checker.
+const PARTS: &str = "
+91 01 00 41 51 | More | Err(Refusal { at: 5, reason: EndOfInput }) | 1 | 5
+00 00 | Refused(Refusal { at: 5, reason: TypeEmpty }) | Err(Refusal { at: 5, reason: TypeEmpty }) | 1 | 5
+01 | Refused(Refusal { at: 5, reason: TypeEmpty }) | Err(Refusal { at: 5, reason: TypeEmpty }) | 1 | 5
+
+D0 00 00 07 | Done { taken: 3 } | Ok(()) | 1 | 3
+07 | Done { taken: 0 } | Ok(()) | 1 | 3
+";
+
+/// What a checker shows that has taken one part more.
+fn shown(alloc: Global, checker: &mut Checker<Opaque>, octets: &str) -> Result<String, Fail> {
+    let part = bytes_of(alloc, octets).ok_or("no bytes")?;
+    let fed = checker.feed(part.as_slice());
+    let end = checker.end();
+    let (records, place) = (checker.records(), checker.place());
+    Ok(format!(in alloc; "{fed:?} | {end:?} | {records} | {place}")?)
+}
+
+fn check_parts(rt: &(impl Abort + AllocGlobal), lines: &str) -> Result<(), Fail> {
+    let mut checker = Checker::<Opaque>::new(usual());
+    assert!(rt; checker.end() == at(0, Reason::EndOfInput));
+    for line in lines.lines() {
+        let (octets, told) = field(line);
+        let shown = shown(rt.alloc(), &mut checker, octets)?;
+        assert!(rt; shown.as_str() == told.trim(), "{line}: {shown}");
+    }
+    Ok(())
+}
 
 #[test]
-fn what_is_shown(rt: HostRuntime) {
-    let mut checker = Checker::<Opaque>::new(usual());
-    assert_eq!(rt;
-        checker.end(),
-        Err(Refusal {
-            at: 0,
-            reason: Reason::EndOfInput
-        })
-    );
-    assert_eq!(rt; checker.feed(&[0x91, 0x01, 0x00, 0x41, 0x51]), Fed::More);
-    assert_eq!(rt; checker.records(), 1);
-    assert_eq!(rt; checker.place(), 5);
-    let refused = Refusal {
-        at: 5,
-        reason: Reason::TypeEmpty,
-    };
-    assert_eq!(rt; checker.feed(&[0x00, 0x00]), Fed::Refused(refused));
-    assert_eq!(rt; checker.feed(&[0x01]), Fed::Refused(refused));
-    assert_eq!(rt; checker.end(), Err(refused));
-    assert_eq!(rt; checker.records(), 1);
-    assert_eq!(rt; checker.place(), 5);
-    let mut whole = Checker::<Opaque>::new(usual());
-    assert_eq!(rt;
-        whole.feed(&[0xD0, 0x00, 0x00, 0x07]),
-        Fed::Done { taken: 3 }
-    );
-    assert_eq!(rt; whole.feed(&[0x07]), Fed::Done { taken: 0 });
-    assert_eq!(rt; whole.end(), Ok(()));
-    assert_eq!(rt; whole.records(), 1);
-    assert_eq!(rt; whole.place(), 3);
+fn what_is_shown(rt: HostRuntime) -> Result<(), Fail> {
+    for lines in PARTS.trim().split("\n\n") {
+        check_parts(&rt, lines)?;
+    }
+    Ok(())
 }

@@ -1,31 +1,130 @@
 //! Worked heads of pieces, read and written.
-ghost use Rattle.std.specs.Prelude.{◌≡◌, true, false};
+use super::case::{bytes_of, field, profile_of};
+use ndef_piece::{Head, HeadReader, Spot, Step, write_head};
+use ndef_value::Tnf;
+use std::alloc::Global;
+use std::test::Fail;
 
-use ndef_piece::{Bounds, Head, HeadReader, Spot, Step, write_head};
-use ndef_value::{Profile, Reason, Tnf};
+/// Fronts of heads: `PLACE | PROFILE | LAST | ROOM | OCTETS | ANSWER | LEAST MOST`. The place is `first`,
+/// the first piece of a message, `later`, one that begins another record, or `inside`, one within a
+/// record; the last that there may be is no piece, the `piece` or the `record`. The answer is that to the
+/// last octet, and behind it stand the least and the greatest number of payload bytes then.
+const HEADS: &str = "
+first | strict | | 1000 | | More | 0 1000
+first | strict | | 1000 | D0 | More | 0 0
+first | strict | | 1000 | D5 | More | 0 255
+first | strict | | 1000 | C5 00 00 00 | More | 0 1000
+first | strict | | 1000 | C5 00 00 00 02 | More | 512 767
+first | strict | | 1000 | C5 00 00 00 04 | Refused(PayloadTooLarge) | 1 0
+first | strict | | 1000 | D1 01 08 | Head(Head { first: true, last: true, chunked: false, short: true, tnf: WellKnown, kind_length: 1, payload_length: 8, id_length: None }) | 8 8
+first | strict | | 1048576 | D7 | Refused(ReservedTnf) | 1 0
+first | strict | | 1048576 | 51 | Refused(BeginMissing) | 1 0
+later | strict | | 1048576 | D1 | Refused(BeginAgain) | 1 0
+first | strict | | 1048576 | D6 | Refused(UnchangedOutside) | 1 0
+inside | strict | | 1048575 | 55 | Refused(ChangedInside) | 1 0
+inside | strict | | 1048575 | 5E | Refused(IdInside) | 1 0
+first | strict | | 1048576 | F5 | Refused(ChunkAtEnd) | 1 0
+first | strict | | 1048576 | B0 | Refused(ChunkOfEmpty) | 1 0
+first | strict | piece | 1048576 | B5 | Refused(TooManyPieces) | 1 0
+first | strict | record | 1048576 | 91 | Refused(TooManyRecords) | 1 0
+first | strict | | 1048576 | D5 01 | Refused(TypeNotEmpty) | 1 0
+first | strict | | 1048576 | D1 00 | Refused(TypeEmpty) | 1 0
+first | strict | | 1048576 | D0 01 | Refused(EmptyNotEmpty) | 1 0
+first | strict | | 1048576 | D0 00 01 | Refused(EmptyNotEmpty) | 1 0
+first | strict | | 1048576 | D8 00 00 01 | Refused(EmptyNotEmpty) | 1 0
+first | strict | | 10 | D5 00 0B | Refused(PayloadTooLarge) | 1 0
+inside | strict | | 0 | 56 00 01 | Refused(PayloadTooLarge) | 1 0
+first | strict | | 1048576 | C5 00 FF | Refused(PayloadTooLarge) | 1 0
+first | strict | | 1048576 | AA 03 00 01 02 04 09 | Head(Head { first: true, last: false, chunked: true, short: false, tnf: Media, kind_length: 3, payload_length: 66052, id_length: Some(9) }) | 66052 66052
+first | standard | | 1048576 | D7 | More | 0 255
+first | standard | | 1048576 | D7 01 | Refused(TypeNotEmpty) | 1 0
+first | standard | | 1048576 | F7 | Refused(ChunkAtEnd) | 1 0
+inside | standard | | 1048575 | 57 | Refused(ChangedInside) | 1 0
+first | standard | | 1048576 | D7 00 00 | Head(Head { first: true, last: true, chunked: false, short: true, tnf: Unknown, kind_length: 0, payload_length: 0, id_length: None }) | 0 0
+";
 
-/// The first piece of a message, with the usual limits.
-const FIRST: Spot = Spot {
-    profile: Profile::Strict,
-    first: true,
-    inside: false,
-    last_piece: false,
-    last_record: false,
-    room: 1_048_576,
-};
+/// The same with the bounds of the heads that go on: `PLACE | PROFILE | LAST | ROOM | OCTETS | BOUNDS`.
+const BOUNDS: &str = "
+first | strict | piece | 4294967295 | | None
+first | strict | piece | 4294967295 | C9 | Some(Bounds { last: true, chunked: false, tnf: WellKnown, left: 6, kind: (1, 255), id: (0, 255), payload: (0, 4294967295) })
+first | strict | piece | 4294967295 | C9 02 00 01 | Some(Bounds { last: true, chunked: false, tnf: WellKnown, left: 3, kind: (2, 2), id: (0, 255), payload: (65536, 131071) })
+first | strict | piece | 4294967295 | C9 02 00 01 00 00 09 | Some(Bounds { last: true, chunked: false, tnf: WellKnown, left: 0, kind: (2, 2), id: (9, 9), payload: (65536, 65536) })
+";
 
-/// A piece after the first, where no run is open.
-const LATER: Spot = Spot {
-    first: false,
-    ..FIRST
-};
+/// The reader at the spot with which a line begins, and what follows that in the line.
+fn reader_of(line: &str) -> Option<(HeadReader, &str)> {
+    let (place, line) = field(line);
+    let (profile, line) = field(line);
+    let (last, line) = field(line);
+    let (room, line) = field(line);
+    let spot = Spot {
+        profile: profile_of(profile)?,
+        first: place == "first",
+        inside: place == "inside",
+        last_piece: last == "piece",
+        last_record: last == "record",
+        room: room.parse::<u32>().ok()?,
+    };
+    if spot.first && spot.inside {
+        return None;
+    }
+    Some((HeadReader::new(spot), line))
+}
 
-/// A piece after the first, after a piece of its record with one payload byte.
-const INSIDE: Spot = Spot {
-    inside: true,
-    room: 1_048_575,
-    ..LATER
-};
+/// The answer to the last octet, where the reader goes on behind each other, and answers the same from
+/// then on.
+fn last_answer(reader: &mut HeadReader, octets: &[u8]) -> Option<Step> {
+    let mut answer = Step::More;
+    for octet in octets {
+        if answer != Step::More {
+            return None;
+        }
+        answer = reader.step(*octet);
+    }
+    if answer != Step::More && reader.step(0) != answer {
+        return None;
+    }
+    Some(answer)
+}
+
+/// The answer and the lengths behind the octets of a line, and what the line tells of them.
+fn answered(alloc: Global, line: &str) -> Option<(String, &str)> {
+    let (mut reader, line) = reader_of(line)?;
+    let (octets, told) = field(line);
+    let octets = bytes_of(alloc, octets)?;
+    let answer = last_answer(&mut reader, octets.as_slice())?;
+    let (least, most) = reader.lengths();
+    let answered = format!(in alloc; "{answer:?} | {least} {most}").ok()?;
+    Some((answered, told.trim()))
+}
+
+#[test]
+fn heads_are_read(rt: HostRuntime) -> Result<(), Fail> {
+    for line in HEADS.trim().lines() {
+        let (answered, told) = answered(rt.alloc(), line).ok_or("a line that can't be read")?;
+        assert!(rt; answered.as_str() == told, "{line}: {answered}");
+    }
+    Ok(())
+}
+
+/// The bounds behind the octets of a line, and what the line tells of them.
+fn bounded(alloc: Global, line: &str) -> Option<(String, &str)> {
+    let (mut reader, line) = reader_of(line)?;
+    let (octets, told) = field(line);
+    let octets = bytes_of(alloc, octets)?;
+    last_answer(&mut reader, octets.as_slice())?;
+    let bounds = reader.bounds();
+    Some((format!(in alloc; "{bounds:?}").ok()?, told.trim()))
+}
+
+#[test]
+fn heads_are_bounded(rt: HostRuntime) -> Result<(), Fail> {
+    for line in BOUNDS.trim().lines() {
+        let (bounded, told) = bounded(rt.alloc(), line).ok_or("a line that can't be read")?;
+        assert!(rt; bounded.as_str() == told, "{line}: {bounded}");
+    }
+    Ok(())
+}
 
 /// The head of one short record in one piece: a type of one byte, no id, 8 payload bytes.
 const SHORT_RECORD: Head = Head {
@@ -39,207 +138,23 @@ const SHORT_RECORD: Head = Head {
     id_length: None,
 };
 
-/// The answer to the last octet, and the lengths then.
-fn read(spot: Spot, octets: &[u8]) -> (Step, (u64, u64))
-    requires { spot.first ≡ true → spot.inside ≡ false }
-{
-    let mut reader = HeadReader::new(spot);
-    let mut answer = Step::More;
-    for octet in octets {
-        answer = reader.step(*octet);
-    }
-    (answer, reader.lengths())
-}
+/// The head of the first piece of a media record, in the long form.
+const LONG_PIECE: Head = Head {
+    first: true,
+    last: false,
+    chunked: true,
+    short: false,
+    tnf: Tnf::Media,
+    kind_length: 3,
+    payload_length: 0x0001_0204,
+    id_length: Some(9),
+};
 
 #[test]
-fn lengths_after_each_front(rt: HostRuntime) {
-    let spot = Spot {
-        room: 1000,
-        ..FIRST
-    };
-    assert_eq!(rt; read(spot, &[]), (Step::More, (0, 1000)));
-    assert_eq!(rt; read(spot, &[0xD0]), (Step::More, (0, 0)));
-    assert_eq!(rt; read(spot, &[0xD5]), (Step::More, (0, 255)));
-    assert_eq!(rt; read(spot, &[0xC5, 0, 0, 0]), (Step::More, (0, 1000)));
-    assert_eq!(rt; read(spot, &[0xC5, 0, 0, 0, 2]), (Step::More, (512, 767)));
-    assert_eq!(rt;
-        read(spot, &[0xC5, 0, 0, 0, 4]),
-        (Step::Refused(Reason::PayloadTooLarge), (1, 0))
-    );
-    assert_eq!(rt;
-        read(spot, &[0xD1, 1, 8]),
-        (Step::Head(SHORT_RECORD), (8, 8))
-    );
-}
-
-/// The reason for which the last octet, and none before it, is refused.
-fn refused_last(spot: Spot, octets: &[u8]) -> Option<Reason>
-    requires { spot.first ≡ true → spot.inside ≡ false }
-{
-    let mut reader = HeadReader::new(spot);
-    let mut answer = Step::More;
-    for octet in octets {
-        if answer != Step::More {
-            return None;
-        }
-        answer = reader.step(*octet);
-    }
-    match answer {
-        Step::Refused(reason) if reader.step(0) == answer => Some(reason),
-        _ => None,
-    }
-}
-
-#[test]
-fn each_reason_at_its_octet(rt: HostRuntime) {
-    let last_piece = Spot {
-        last_piece: true,
-        ..FIRST
-    };
-    let last_record = Spot {
-        last_record: true,
-        ..FIRST
-    };
-    let little_room = Spot { room: 10, ..FIRST };
-    // The earlier pieces of the record have left no room.
-    let no_room = Spot { room: 0, ..INSIDE };
-    assert_eq!(rt; refused_last(FIRST, &[0xD7]), Some(Reason::ReservedTnf));
-    assert_eq!(rt; refused_last(FIRST, &[0x51]), Some(Reason::BeginMissing));
-    assert_eq!(rt; refused_last(LATER, &[0xD1]), Some(Reason::BeginAgain));
-    assert_eq!(rt;
-        refused_last(FIRST, &[0xD6]),
-        Some(Reason::UnchangedOutside)
-    );
-    assert_eq!(rt; refused_last(INSIDE, &[0x55]), Some(Reason::ChangedInside));
-    assert_eq!(rt; refused_last(INSIDE, &[0x5E]), Some(Reason::IdInside));
-    assert_eq!(rt; refused_last(FIRST, &[0xF5]), Some(Reason::ChunkAtEnd));
-    assert_eq!(rt; refused_last(FIRST, &[0xB0]), Some(Reason::ChunkOfEmpty));
-    assert_eq!(rt;
-        refused_last(last_piece, &[0xB5]),
-        Some(Reason::TooManyPieces)
-    );
-    assert_eq!(rt;
-        refused_last(last_record, &[0x91]),
-        Some(Reason::TooManyRecords)
-    );
-    assert_eq!(rt; refused_last(FIRST, &[0xD5, 1]), Some(Reason::TypeNotEmpty));
-    assert_eq!(rt; refused_last(FIRST, &[0xD1, 0]), Some(Reason::TypeEmpty));
-    assert_eq!(rt;
-        refused_last(FIRST, &[0xD0, 1]),
-        Some(Reason::EmptyNotEmpty)
-    );
-    assert_eq!(rt;
-        refused_last(FIRST, &[0xD0, 0, 1]),
-        Some(Reason::EmptyNotEmpty)
-    );
-    assert_eq!(rt;
-        refused_last(FIRST, &[0xD8, 0, 0, 1]),
-        Some(Reason::EmptyNotEmpty)
-    );
-    assert_eq!(rt;
-        refused_last(little_room, &[0xD5, 0, 0x0B]),
-        Some(Reason::PayloadTooLarge)
-    );
-    assert_eq!(rt;
-        refused_last(no_room, &[0x56, 0, 1]),
-        Some(Reason::PayloadTooLarge)
-    );
-    assert_eq!(rt;
-        refused_last(FIRST, &[0xC5, 0, 0xFF]),
-        Some(Reason::PayloadTooLarge)
-    );
-}
-
-#[test]
-fn the_standard_profile(rt: HostRuntime) {
-    let spot = Spot {
-        profile: Profile::Standard,
-        ..FIRST
-    };
-    let inside = Spot {
-        profile: Profile::Standard,
-        ..INSIDE
-    };
-    let unknown = Head {
-        tnf: Tnf::Unknown,
-        kind_length: 0,
-        payload_length: 0,
-        ..SHORT_RECORD
-    };
-    assert_eq!(rt; read(spot, &[0xD7]).0, Step::More);
-    assert_eq!(rt;
-        read(spot, &[0xD7, 1]).0,
-        Step::Refused(Reason::TypeNotEmpty)
-    );
-    assert_eq!(rt; read(spot, &[0xF7]).0, Step::Refused(Reason::ChunkAtEnd));
-    assert_eq!(rt;
-        read(inside, &[0x57]).0,
-        Step::Refused(Reason::ChangedInside)
-    );
-    assert_eq!(rt; read(spot, &[0xD7, 0, 0]).0, Step::Head(unknown));
-}
-
-#[test]
-fn lengths_of_a_nested_head(rt: HostRuntime) {
-    let spot = Spot {
-        last_piece: true,
-        room: 4_294_967_295,
-        ..FIRST
-    };
-    let mut reader = HeadReader::new(spot);
-    assert_eq!(rt; reader.bounds(), None);
-    reader.step(0xC9);
-    let after_header = Bounds {
-        last: true,
-        chunked: false,
-        tnf: Tnf::WellKnown,
-        left: 6,
-        kind: (1, 255),
-        id: (0, 255),
-        payload: (0, 4_294_967_295),
-    };
-    assert_eq!(rt; reader.bounds(), Some(after_header));
-    reader.step(2);
-    reader.step(0);
-    reader.step(1);
-    let at_length = Bounds {
-        left: 3,
-        kind: (2, 2),
-        payload: (65_536, 131_071),
-        ..after_header
-    };
-    assert_eq!(rt; reader.bounds(), Some(at_length));
-    reader.step(0);
-    reader.step(0);
-    reader.step(9);
-    let whole = Bounds {
-        left: 0,
-        id: (9, 9),
-        payload: (65_536, 65_536),
-        ..at_length
-    };
-    assert_eq!(rt; reader.bounds(), Some(whole));
-}
-
-#[test]
-fn written_in_both_forms(rt: HostRuntime) {
+fn heads_are_written(rt: HostRuntime) {
     let mut out = [0xEE; 7];
-    assert_eq!(rt; write_head(&SHORT_RECORD, &mut out), 3);
-    assert_eq!(rt; out, [0xD1, 1, 8, 0xEE, 0xEE, 0xEE, 0xEE]);
-    let long = Head {
-        last: false,
-        chunked: true,
-        short: false,
-        tnf: Tnf::Media,
-        kind_length: 3,
-        payload_length: 0x0001_0204,
-        id_length: Some(9),
-        ..SHORT_RECORD
-    };
-    assert_eq!(rt; write_head(&long, &mut out), 7);
-    assert_eq!(rt; out, [0xAA, 3, 0, 1, 2, 4, 9]);
-    assert_eq!(rt;
-        read(FIRST, &out),
-        (Step::Head(long), (0x0001_0204, 0x0001_0204))
-    );
+    assert!(rt; write_head(&SHORT_RECORD, &mut out) == 3);
+    assert!(rt; out == [0xD1, 1, 8, 0xEE, 0xEE, 0xEE, 0xEE]);
+    assert!(rt; write_head(&LONG_PIECE, &mut out) == 7);
+    assert!(rt; out == [0xAA, 3, 0, 1, 2, 4, 9]);
 }

@@ -18,7 +18,7 @@ struct Value {
 }
 
 /// Octets in hexadecimal, or `-`.
-fn digits(alloc: Global, octets: &[u8]) -> Result<String, Fail> {
+pub(super) fn digits(alloc: Global, octets: &[u8]) -> Result<String, Fail> {
     if octets.is_empty() {
         return Ok(String::from_str(alloc, "-")?);
     }

@@ -1,11 +1,34 @@
 //! Messages viewed where they lie.
-use super::samples::{CHUNKS, HELLO, SELECT, at, standard, usual};
+use super::case::{answer_of, bytes_of, field, profile_of};
+use super::records::{are_shown, are_told};
+use super::samples::{HELLO, SELECT, standard, usual};
+use super::values::digits;
 use ndef_lang::Opaque;
 use ndef_message::{Item, View, view, views_are_exact};
 use ndef_nest::Typed;
 use ndef_types::carriers_view;
-use ndef_value::{Limits, Profile, Reason, Refusal, Tnf};
+use ndef_value::Limits;
+use std::alloc::Global;
 use std::test::Fail;
+
+/// Messages, some with more behind them: `PROFILE | BYTES | TAKEN RECORDS COUNT PROFILE | RECORDS | CUTS`.
+/// The records are told as in a case. The cuts tell of each record the length of its payload, the payload
+/// where there is one piece, else `none`, and the payloads of the pieces.
+const VIEWS: &str = "
+strict | B5 00 01 41 36 00 01 42 56 00 01 43 | 12 1 1 Strict | 5 - - 414243 | 3 none 41 42 43
+strict | B5 00 00 56 00 01 41 | 7 1 1 Strict | 5 - - 41 | 1 none - 41
+strict | D1 01 08 54 02 65 6E 48 65 6C 6C 6F D1 01 08 54 02 65 6E 48 65 6C 6C 6F | 12 1 1 Strict | 1 T - 02656E48656C6C6F | 8 02656E48656C6C6F 02656E48656C6C6F
+strict | 91 02 0A 48 73 12 D1 02 04 61 63 01 01 30 00 5A 03 01 01 61 2F 62 30 01 | 24 2 2 Strict | 1 Hs - 12D10204616301013000, 2 a/b 0 01 | 10 12D10204616301013000 12D10204616301013000, 1 01 01
+standard | D7 00 01 41 | 4 1 1 Standard | 5 - - 41 | 1 41 41
+";
+
+/// Bytes that no message begins: `BYTES | ANSWER`.
+const REFUSALS: &str = "
+D1 01 08 54 02 65 6E 48 65 6C 6C | refused 11 24
+ | refused 0 24
+D1 01 02 54 80 | refused 4 23
+D7 00 01 41 | refused 0 1
+";
 
 fn viewed(bytes: &[u8], limits: Limits) -> Result<View<'_>, Fail> {
     match view::<Typed>(bytes, limits) {
@@ -14,105 +37,83 @@ fn viewed(bytes: &[u8], limits: Limits) -> Result<View<'_>, Fail> {
     }
 }
 
-fn only_item<'a>(view: &View<'a>) -> Result<Item<'a>, Fail> {
-    let mut items = view.items();
-    match (items.next(), items.next()) {
-        (Some(item), None) => Ok(item),
-        _ => Err("not one record".into()),
+/// What a view tells of itself.
+fn view_told(alloc: Global, view: &View<'_>) -> Result<String, Fail> {
+    let (taken, records) = (view.taken(), view.records());
+    let count = view.items().count();
+    let profile = view.profile();
+    Ok(format!(in alloc; "{taken} {records} {count} {profile:?}")?)
+}
+
+/// How a payload is cut.
+fn cuts_of(alloc: Global, item: &Item<'_>) -> Result<String, Fail> {
+    let length = item.length();
+    let mut cuts = format!(in alloc; "{length} ")?;
+    match item.whole() {
+        Some(octets) => cuts.push_str(digits(alloc, octets)?.as_str())?,
+        None => cuts.push_str("none")?,
     }
+    for piece in item.pieces() {
+        cuts.push_str(" ")?;
+        cuts.push_str(digits(alloc, piece)?.as_str())?;
+    }
+    Ok(cuts)
 }
 
-#[test]
-fn shows_each_piece(rt: HostRuntime) -> Result<(), Fail> {
-    let view = viewed(&CHUNKS, usual())?;
-    assert!(rt; view.taken() == 12 && view.records() == 1);
-    let item = only_item(&view)?;
-    assert!(rt; item.tnf() == Tnf::Unknown && item.kind().is_empty() && item.id().is_empty());
-    assert!(rt; item.length() == 3 && item.whole().is_none());
-    let mut pieces = item.pieces();
-    assert!(rt; pieces.next() == Some(&CHUNKS[3..4]));
-    assert!(rt; pieces.next() == Some(&CHUNKS[7..8]));
-    assert!(rt; pieces.next() == Some(&CHUNKS[11..]));
-    assert!(rt; pieces.next().is_none());
-    assert!(rt; item.joined(rt.alloc())?.as_slice() == b"ABC".as_slice());
-    Ok(())
+/// Whether the payloads are cut so.
+fn are_cut(alloc: Global, view: &View<'_>, cuts: &str) -> Result<bool, Fail> {
+    let mut cuts = cuts.split(',');
+    for item in view.items() {
+        let cut = cuts.next().ok_or("too many records")?;
+        if cuts_of(alloc, &item)?.as_str() != cut.trim() {
+            return Ok(false);
+        }
+    }
+    Ok(cuts.next().is_none())
 }
 
-#[test]
-fn shows_an_empty_piece(rt: HostRuntime) -> Result<(), Fail> {
-    let bytes = [0xB5, 0x00, 0x00, 0x56, 0x00, 0x01, 0x41];
-    let view = viewed(&bytes, usual())?;
-    assert!(rt; view.taken() == 7);
-    let item = only_item(&view)?;
-    let mut pieces = item.pieces();
-    assert!(rt; pieces.next() == Some(&bytes[7..]));
-    assert!(rt; pieces.next() == Some(&bytes[6..]));
-    assert!(rt; pieces.next().is_none());
-    assert!(rt; item.length() == 1 && item.whole().is_none());
-    Ok(())
-}
-
-#[test]
-fn shows_one_message_of_two(rt: HostRuntime) -> Result<(), Fail> {
-    let alloc = rt.alloc();
-    let twice = [HELLO, HELLO];
-    let view = viewed(twice.as_flattened(), usual())?;
-    assert!(rt; view.taken() == 12 && view.records() == 1 && view.profile() == Profile::Strict);
-    let item = only_item(&view)?;
-    assert!(rt;
-        item.tnf() == Tnf::WellKnown && item.kind() == b"T".as_slice() && item.length() == 8
-    );
-    assert!(rt; item.whole() == Some(&HELLO[4..]));
-    assert!(rt; item.joined(alloc)?.as_slice() == &HELLO[4..]);
+/// Whether a line tells what is viewed.
+fn is_viewed(alloc: Global, line: &str) -> Result<bool, Fail> {
+    let (profile, line) = field(line);
+    let (bytes, line) = field(line);
+    let (told, line) = field(line);
+    let (records, line) = field(line);
+    let (cuts, _) = field(line);
+    let profile = profile_of(profile).ok_or("no such profile")?;
+    let bytes = bytes_of(alloc, bytes).ok_or("no bytes")?;
+    let view = viewed(bytes.as_slice(), usual().with(profile))?;
     let message = view.to_message(alloc)?;
-    assert!(rt; message.len() == 1);
-    let Some(record) = message.get(0) else {
-        return Err("no record".into());
-    };
-    assert!(rt; record.tnf() == Tnf::WellKnown && record.kind() == b"T".as_slice());
-    assert!(rt; record.id().is_empty() && record.payload() == &HELLO[4..]);
-    Ok(())
+    Ok(
+        view_told(alloc, &view)?.as_str() == told
+            && are_shown(alloc, records, &view) == Some(true)
+            && are_told(alloc, records, &message) == Some(true)
+            && are_cut(alloc, &view, cuts)?,
+    )
 }
 
 #[test]
-fn shows_each_record(rt: HostRuntime) -> Result<(), Fail> {
-    let view = viewed(&SELECT, usual())?;
-    assert!(rt; view.taken() == 24 && view.records() == 2);
-    let mut items = view.items();
-    let Some(select) = items.next() else {
-        return Err("no first record".into());
-    };
-    assert!(rt; select.tnf() == Tnf::WellKnown && select.kind() == b"Hs".as_slice());
-    assert!(rt; select.id().is_empty() && select.whole() == Some(&SELECT[5..15]));
-    let Some(media) = items.next() else {
-        return Err("no second record".into());
-    };
-    assert!(rt; media.tnf() == Tnf::Media && media.kind() == b"a/b".as_slice());
-    assert!(rt; media.id() == b"0".as_slice() && media.whole() == Some(&SELECT[23..]));
-    assert!(rt; items.next().is_none() && view.items().count() == 2);
+fn messages_are_viewed(rt: HostRuntime) -> Result<(), Fail> {
+    for line in VIEWS.trim().lines() {
+        assert!(rt; is_viewed(rt.alloc(), line)?, "{line}");
+    }
     Ok(())
 }
 
-// The reserved type name format 7 is read as Unknown, where it is read.
-#[test]
-fn keeps_the_profile(rt: HostRuntime) -> Result<(), Fail> {
-    let bytes = [0xD7, 0x00, 0x01, 0x41];
-    let view = viewed(&bytes, standard())?;
-    assert!(rt; view.profile() == Profile::Standard && only_item(&view)?.tnf() == Tnf::Unknown);
-    assert!(rt; refusal_of(&bytes) == at(0, Reason::ReservedTnf));
-    Ok(())
-}
-
-fn refusal_of(bytes: &[u8]) -> Result<u64, Refusal> {
+/// Whether a line tells what is answered.
+fn is_refused(alloc: Global, line: &str) -> Option<bool> {
     views_are_exact::<Typed>();
-    view::<Typed>(bytes, usual()).map(|view| view.taken())
+    let (bytes, line) = field(line);
+    let (answer, _) = field(line);
+    let bytes = bytes_of(alloc, bytes)?;
+    let answered = view::<Typed>(bytes.as_slice(), usual()).map(|view| view.taken());
+    Some(answered == answer_of(answer)?.0)
 }
 
 #[test]
 fn refuses_what_is_no_message(rt: HostRuntime) {
-    assert!(rt; refusal_of(&HELLO[..11]) == at(11, Reason::EndOfInput));
-    assert!(rt; refusal_of(&[]) == at(0, Reason::EndOfInput));
-    assert!(rt; refusal_of(&[0xD1, 0x01, 0x02, 0x54, 0x80]) == at(4, Reason::DoesNotFit));
+    for line in REFUSALS.trim().lines() {
+        assert!(rt; is_refused(rt.alloc(), line) == Some(true), "{line}");
+    }
     assert!(rt; view::<Opaque>(&[0xD1, 0x01, 0x02, 0x54, 0x80, 0x41], usual()).is_ok());
 }
 
@@ -121,9 +122,8 @@ fn views_are_linked(rt: HostRuntime) -> Result<(), Fail> {
     let alloc = rt.alloc();
     for limits in [usual(), standard()] {
         let links = carriers_view(alloc, &viewed(&SELECT, limits)?)?;
-        assert!(rt; links.len() == 1);
         let index = links.get(0).map(|link| link.index);
-        assert!(rt; index == Some(Some(1)));
+        assert!(rt; links.len() == 1 && index == Some(Some(1)));
     }
     let links = carriers_view(alloc, &viewed(&HELLO, usual())?)?;
     assert!(rt; links.len() == 0);
