@@ -22,7 +22,7 @@ use Rattle.ndef_piece.specs.declared.head_reader.Step.TheVariants as steps
 use Rattle.ndef_piece.specs.declared.whole.WholePiece.{WholePiece}
 use Rattle.ndef_message.specs.Deep.{IsMember, IsViable}
 use Rattle.ndef_message.specs.Feed.{Fronts, Leads, WhateverLed}
-use Rattle.ndef_message.specs.Field.{Field, InHead, AtEnd, IsAt}
+use Rattle.ndef_message.specs.Machine.Points.{Point, InHead, AtEnd, IsAtPoint}
 use Rattle.ndef_message.specs.Machine.Accepted.{AreRecords, BeginsWith, Comes, EndsRecords, EndsRun, GoesOn, IsBehind, IsFresh, IsRecord, IsRunEnd, LeadsBetween, record_of, with_payload}
 use Rattle.ndef_message.specs.Machine.Format.{FormatLaws}
 use Rattle.ndef_message.specs.Machine.State.{numbers, spot_of, behind_chunk, behind_record, Stands, Knows}
@@ -272,26 +272,26 @@ none_of : (o : Option Item) → is_some o ≡ false → o ≡ None
 none_of None e = refl
 none_of (Some m) e = cc
 
-module _ {L : Type 0} (language : Ghosts L) (limits : LimitValues) (state : State L) (bytes : List ℕ) (given : List Item) (field : Field) where
+module _ {L : Type 0} (language : Ghosts L) (limits : LimitValues) (state : State L) (bytes : List ℕ) (given : List Item) (point : Point) where
   -- no record is begun
   pub record AtBetween : Type 0 where
     pub c : Before
-    pub field_is : field ≡ InHead c []
+    pub point_is : point ≡ InHead c []
     pub place_is : state.place ≡ numbers c
     pub none : c.begun ≡ None
     pub over : c.over ≡ false
-    pub at : IsAt limits bytes given (InHead c [])
+    pub at : IsAtPoint limits bytes given (InHead c [])
     pub viable : IsViable language.set limits bytes
 
-  pub between : IsFresh state → Stands language limits state bytes given field → AtBetween
+  pub between : IsFresh state → Stands language limits state bytes given point → AtBetween
   between fresh s =
-      let a = at_head field fresh.phase_is s in
+      let a = at_head point fresh.phase_is s in
       let nil : a.xs ≡ [] = sym (ap (λ x. x.octets) a.reader_is) ∙ fresh.empty in
-      let is : field ≡ InHead a.c [] = a.field_is ∙ ap (InHead a.c) nil in
-      let at = subst (IsAt limits bytes given) is s.at in
+      let is : point ≡ InHead a.c [] = a.point_is ∙ ap (InHead a.c) nil in
+      let at = subst (IsAtPoint limits bytes given) is s.at in
       record {
         c = a.c;
-        field_is = is;
+        point_is = is;
         place_is = a.place_is;
         none = none_of a.c.begun (sym (ap (λ x. x.inside) a.place_is) ∙ fresh.outer);
         over = at.proper.0;
@@ -306,7 +306,7 @@ finished_by laws set limits empty false left = let x = close limits false left i
 
 module _ (laws : FormatLaws) {L : Type 0} {language : Ghosts L} {limits : LimitValues} (range : AreInRange limits)
     (others : (n : ℕ) (profile : Profile) (s : List ℕ) → language.set Other n profile s ↔ AreOctets s)
-    {bytes : List ℕ} {given : List Item} {c : Before} (at : IsAt limits bytes given (InHead c [])) (v : IsViable language.set limits bytes)
+    {bytes : List ℕ} {given : List Item} {c : Before} (at : IsAtPoint limits bytes given (InHead c [])) (v : IsViable language.set limits bytes)
     {items : List Item} {left : ℕ} (last : Bool) {t : List ℕ} (ends : EndsRecords language.set limits c items left last t)
     (new : State L) {place : Place} (is : place ≡ numbers (outside limits false last left)) (behind : IsBehind limits new place last) where
   -- the records lead behind them
@@ -339,18 +339,18 @@ module _ (laws : FormatLaws) {L : Type 0} {language : Ghosts L} {limits : LimitV
 pub record_passed : (laws : FormatLaws) {L : Type 0} {language : Ghosts L} (limits : LimitValues) → AreInRange limits → ((n : ℕ) (profile : Profile) (s : List ℕ) → language.set Other n profile s ↔ AreOctets s)
     → (old new : State L) (input : List ℕ) (w : WholePiece) (taken : ℕ) → IsFresh old → BeginsWith language.set limits old.place input w → taken ≡ length input - length w.rest.now
     → IsBehind limits new (behind_record limits old.place) (is_set 6 w.header)
-    → WhateverLed (Stands language limits old) (λ bytes given field. LeadsBetween (Stands language limits new) (bytes ++ take taken input) (given ++ record_of w ∷ []))
-record_passed laws {language = language} limits range others old new input w taken fresh begins is behind bytes given field s =
-    let a = between language limits old bytes given field fresh s in
+    → WhateverLed (Stands language limits old) (λ bytes given point. LeadsBetween (Stands language limits new) (bytes ++ take taken input) (given ++ record_of w ∷ []))
+record_passed laws {language = language} limits range others old new input w taken fresh begins is behind bytes given point s =
+    let a = between language limits old bytes given point fresh s in
     let ends = one_record language.set limits old.place input w taken begins is a.c a.place_is a.none a.over in
     leads_behind laws range others a.at a.viable (is_set 6 w.header) ends new (ap (behind_record limits) a.place_is) behind
 
 -- ---- so many bytes
 
 module _ {L : Type 0} (language : Ghosts L) (limits : LimitValues) (state : State L) (front bytes : List ℕ) (n taken : ℕ) (most : n ≤ length bytes) (is : taken ≡ length front)
-    (given : List Item) (field : Field) (s : Stands language limits state (front ++ take n bytes) given field) where
+    (given : List Item) (point : Point) (s : Stands language limits state (front ++ take n bytes) given point) where
   -- .. led there
-  pub taken_knows : Knows language limits state (taken + n) (front ++ take n bytes) given field
+  pub taken_knows : Knows language limits state (taken + n) (front ++ take n bytes) given point
   taken_knows = (omega (arith, length-append front (take n bytes), length-take-le n bytes most), inl s)
 
   -- .. are no more than a message has
@@ -360,5 +360,5 @@ module _ {L : Type 0} (language : Ghosts L) (limits : LimitValues) (state : Stat
 -- ---- from front to front
 
 -- nothing was taken
-pub none_taken : (reached : Fronts) (bytes : List ℕ) (given : List Item) (field : Field) → reached bytes given field → Leads reached (bytes ++ [])
-none_taken reached bytes given field r = (given, field, subst (λ y. reached y given field) (sym (append-nil bytes)) r)
+pub none_taken : (reached : Fronts Point) (bytes : List ℕ) (given : List Item) (point : Point) → reached bytes given point → Leads reached (bytes ++ [])
+none_taken reached bytes given point r = (given, point, subst (λ y. reached y given point) (sym (append-nil bytes)) r)

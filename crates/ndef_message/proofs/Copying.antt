@@ -15,19 +15,20 @@ use Rattle.ndef_piece.specs.declared.whole.WholePiece.{WholePiece}
 use Rattle.ndef_message.specs.Decoding.{EndsThere, Wants}
 use Rattle.ndef_message.specs.Deep.{IsViable}
 use Rattle.ndef_message.specs.Feed.{WhateverLed}
-use Rattle.ndef_message.specs.Field.{Field, InType, InId, InPayload, before, octets_so_far, IsPart, IsProper}
+use Rattle.ndef_message.specs.Machine.Points.{Point, field_of, IsAtPoint, InType, InId, InPayload, before, octets_so_far, IsPart, IsProper, opened_at, IsBetween}
 use Rattle.ndef_message.specs.Machine.Accepted.{BeginsWith, IsFresh, LeadsBetween, record_of}
 use Rattle.ndef_message.specs.Machine.Checkers.{CheckerReached}
 use Rattle.ndef_message.specs.Machine.DecoderState.{DecoderKnows}
 use Rattle.ndef_message.specs.Machine.Format.{FormatLaws}
 use Rattle.ndef_message.specs.Machine.Open.{AsksMemory}
 use Rattle.ndef_message.specs.Machine.State.{answer_of, is_done, spot_of, Stands, Reached}
-use Rattle.ndef_message.specs.Opened.{Opened, opened, opened_head, unopened, IsBetween, MayGrow}
+use Rattle.ndef_message.specs.Opened.{Opened, opened_head, unopened, MayGrow, AreRecords}
 use Rattle.ndef_message.specs.declared.checker.Checker.{Checker}
 use Rattle.ndef_message.specs.declared.phase.Phase.TheVariants as phases
 use Rattle.ndef_message.proofs.Accepting.{AtBetween, between, front_of, record_is}
 use Rattle.ndef_message.proofs.Feeding.{going}
-use Rattle.ndef_message.proofs.Fields.{id_count}
+use Rattle.ndef_message.proofs.Parts.{id_count}
+use Rattle.ndef_message.proofs.Placed.{placed, records_there}
 use Rattle.ndef_message.proofs.Rests.{viable_front}
 use Rattle.ndef_message.proofs.Taking.{ends_there}
 
@@ -50,9 +51,9 @@ before_payload o k i z = simp (append_assoc, append-nil)
 
 -- ---- what is kept between records
 
-between_opened : (field : Field) → IsBetween field → opened field ≡ unopened
-between_opened field (c, none, inl e) = ap opened e ∙ ap (λ b. opened_head b []) none
-between_opened field (c, none, inr e) = ap opened e
+between_opened : (point : Point) → IsBetween point → opened_at point ≡ unopened
+between_opened point (c, none, inl e) = ap opened_at e ∙ ap (λ b. opened_head b []) none
+between_opened point (c, none, inr e) = ap opened_at e
 
 done_by : (last : Bool) → is_done (if last then phases.Done else phases.Head) ≡ last
 done_by true = refl
@@ -61,22 +62,22 @@ done_by false = refl
 module _ (laws : FormatLaws) {L : Type 0} {language : Ghosts L} (old new : Checker L language) (same : new.limits ≡ old.limits) (range : AreInRange old.limits)
     {failed : Option ℕ} (unfailed : failed ≡ None) (o : Opened) (input : List ℕ) (w : WholePiece) (fresh : IsFresh old.state) (begins : BeginsWith language.set old.limits old.state.place input w)
     (phase_is : new.state.phase ≡ (if is_set 6 w.header then phases.Done else phases.Head))
-    (onward : WhateverLed (CheckerReached old) (λ front given field. LeadsBetween (CheckerReached new) (front ++ take (length input - length w.rest.now) input) (given ++ record_of w ∷ [])))
-    (bytes : List ℕ) (given : List Item) (field : Field) (was : DecoderKnows old failed o bytes given field) where
+    (onward : WhateverLed (CheckerReached old) (λ front given point. LeadsBetween (CheckerReached new) (front ++ take (length input - length w.rest.now) input) (given ++ record_of w ∷ [])))
+    (bytes : List ℕ) (given : List Item) (point : Point) (was : DecoderKnows old failed o bytes given point) where
   abbrev p : Piece
   p = shown w
 
   abbrev t : List ℕ
   t = take (length input - length w.rest.now) input
 
-  known : CheckerReached old bytes given field × (o ≡ opened field)
-  known = subst (λ z. DecoderKnows old z o bytes given field) unfailed was
+  known : CheckerReached old bytes given point × (o ≡ opened_at point)
+  known = subst (λ z. DecoderKnows old z o bytes given point) unfailed was
 
-  stood : AtBetween language old.limits old.state bytes given field
-  stood = between language old.limits old.state bytes given field fresh (going language old.limits old.state 0 bytes given field (ap (λ p. answer_of p 0) fresh.phase_is) known.0.1)
+  stood : AtBetween language old.limits old.state bytes given point
+  stood = between language old.limits old.state bytes given point fresh (going language old.limits old.state 0 bytes given point (ap (λ p. answer_of p 0) fresh.phase_is) known.0.1)
 
   led : LeadsBetween (CheckerReached new) (bytes ++ t) (given ++ record_of w ∷ [])
-  led = onward bytes given field known.0
+  led = onward bytes given point known.0
 
   stands : Stands language new.limits new.state (bytes ++ t) (given ++ record_of w ∷ []) led.0
   stands = by_side (is_set 6 w.header) phase_is led.2.1
@@ -87,18 +88,19 @@ module _ (laws : FormatLaws) {L : Type 0} {language : Ghosts L} (old new : Check
       by_side true e (inr s) = absurd (let q = sym e ∙ s.phase_is in cc)
       by_side false e (inr s) = absurd (let q = sym e ∙ s.phase_is in cc)
 
-  none_open : o ≡ opened led.0
-  none_open = known.1 ∙ between_opened field (stood.c, stood.none, inl stood.field_is) ∙ sym (between_opened led.0 led.1)
+  none_open : o ≡ opened_at led.0
+  none_open = known.1 ∙ between_opened point (stood.c, stood.none, inl stood.point_is) ∙ sym (between_opened led.0 led.1)
 
   -- the record has come
   pub whole_passed : {item : Item} → item ≡ record_of w → {last : Bool} → last ≡ is_set 6 w.header → EndsThere language.set old.limits (bytes ++ t) (given ++ item ∷ []) last
-      × ((next : Field) × IsBetween next × DecoderKnows new failed o (bytes ++ t) (given ++ item ∷ []) next)
+      × AreRecords old.limits (bytes ++ t) (given ++ item ∷ []) × ((next : Point) × DecoderKnows new failed o (bytes ++ t) (given ++ item ∷ []) next)
   whole_passed {item} is {last} e =
       let ends = ends_there laws language new.limits (subst AreInRange (sym same) range) new.state (bytes ++ t) (given ++ record_of w ∷ []) led.0 stands last (ap is_done phase_is ∙ done_by (is_set 6 w.header) ∙ sym e) in
       subst (λ z. EndsThere language.set old.limits (bytes ++ t) (given ++ z ∷ []) last
-      × ((next : Field) × IsBetween next × DecoderKnows new failed o (bytes ++ t) (given ++ z ∷ []) next)) (sym is) (
+      × AreRecords old.limits (bytes ++ t) (given ++ z ∷ []) × ((next : Point) × DecoderKnows new failed o (bytes ++ t) (given ++ z ∷ []) next)) (sym is) (
         subst (λ l. EndsThere language.set l (bytes ++ t) (given ++ record_of w ∷ []) last) same ends,
-        (led.0, led.1, subst (λ z. DecoderKnows new z o (bytes ++ t) (given ++ record_of w ∷ []) led.0) (sym unfailed) (led.2, none_open)),
+        subst (λ l. AreRecords l (bytes ++ t) (given ++ record_of w ∷ [])) same (records_there laws.counted new.limits (bytes ++ t) (given ++ record_of w ∷ []) led.0 led.1 stands.at),
+        (led.0, subst (λ z. DecoderKnows new z o (bytes ++ t) (given ++ record_of w ∷ []) led.0) (sym unfailed) (led.2, none_open)),
       )
 
   -- ---- memory was refused for a copy
@@ -118,25 +120,30 @@ module _ (laws : FormatLaws) {L : Type 0} {language : Ghosts L} (old new : Check
   part k i z a b d = record { goes_on = stood.over; stands = may_stand; kind_octets = a; id_octets = b; payload_octets = d }
 
   -- at the field of one of its bytes
-  wants_at : (field' : Field) (more : List ℕ) → before field' ≡ stood.c → t ≡ octets_so_far field' ++ more → 0 < length more → IsProper old.limits field' → MayGrow field' → Wants language.set old.limits bytes given t
-  wants_at field' more at_c e some proper grows =
-      let so_far = octets_so_far field' in
+  wants_at : (point' : Point) (more : List ℕ) → before point' ≡ stood.c → t ≡ octets_so_far point' ++ more → 0 < length more → IsProper old.limits point' → MayGrow (field_of point') → Wants language.set old.limits bytes given t
+  wants_at point' more at_c e some proper grows =
+      let so_far = octets_so_far point' in
       let count = length so_far in
       let cut : take count t ≡ so_far = ap (take count) e ∙ take-append_seam so_far more in
       let start_is : bytes ≡ stood.at.done = stood.at.split ∙ append-nil stood.at.done in
       let all : bytes ++ t ≡ (bytes ++ take (count + 1) t) ++ drop (count + 1) t = sym (append_assoc bytes (take (count + 1) t) (drop (count + 1) t) ∙ ap (λ y. bytes ++ y) (take-append-drop (count + 1) t)) in
+      let at : IsAtPoint old.limits (bytes ++ take count t) given point' = record {
+        pieces = stood.at.pieces;
+        done = stood.at.done;
+        walked = subst (Walked old.limits (start old.limits) stood.at.pieces given) (sym at_c) stood.at.walked;
+        spelled = stood.at.spelled;
+        split = ap (λ y. bytes ++ y) cut ∙ ap (λ y. y ++ so_far) start_is;
+        proper = proper;
+      } in
+      let p = placed laws.counted old.limits (bytes ++ take count t) given point' at in
       record {
         count = count;
         within = omega (arith, ap length e, length-append so_far more);
-        field = field';
-        at = record {
-          pieces = stood.at.pieces;
-          done = stood.at.done;
-          walked = subst (Walked old.limits (start old.limits) stood.at.pieces given) (sym at_c) stood.at.walked;
-          spelled = stood.at.spelled;
-          split = ap (λ y. bytes ++ y) cut ∙ ap (λ y. y ++ so_far) start_is;
-          proper = proper;
-        };
+        runs = p.runs;
+        begun = p.begun;
+        field = field_of point';
+        means = p.means;
+        at = p.at;
         grows = grows;
         viable = viable_front language.set old.limits (bytes ++ take (count + 1) t) (drop (count + 1) t) (subst (IsViable language.set old.limits) all (subst (λ l. IsViable language.set l (bytes ++ t)) same stands.viable));
       }

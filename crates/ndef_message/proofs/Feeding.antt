@@ -6,8 +6,8 @@ use Rattle.ndef_lang.specs.StepLaws.{rest, take_rests}
 use Rattle.ndef_lang.specs.declared.language.Language.{Ghosts}
 use Rattle.ndef_message.specs.Machine.Checkers.{CheckerReached}
 use Rattle.ndef_message.specs.Deep.{IsDeep, IsViable}
-use Rattle.ndef_message.specs.Field.{Field, IsAt}
-use Rattle.ndef_message.specs.Machine.Moves.{field_with}
+use Rattle.ndef_message.specs.Machine.Points.{Point, IsAtPoint}
+use Rattle.ndef_message.specs.Machine.Moves.{point_with}
 use Rattle.ndef_message.specs.Feed.{SomeLed, Fronts, WhateverLed, Leads, Feeds}
 use Rattle.ndef_message.specs.Machine.State.{answer_of, Matches, Stands, Reached, Onward, Knows}
 use Rattle.ndef_message.specs.Machine.Format.{FormatLaws}
@@ -19,14 +19,14 @@ use Rattle.ndef_message.specs.declared.phase.Phase.{Phase}
 use Rattle.ndef_message.specs.declared.phase.Phase.TheVariants as phases
 use Rattle.ndef_message.specs.declared.state.State.{State}
 use Rattle.ndef_message.proofs.Octets.{not_refused}
-use Rattle.ndef_message.proofs.Ended.{viable_bounded, greatest_small, unended, ended, refuses, done_field}
+use Rattle.ndef_message.proofs.Ended.{viable_bounded, greatest_small, unended, ended, refuses, done_point}
 
 module _ {L : Type 0} (language : Ghosts L) (limits : LimitValues) (state : State L) where
   -- where no answer is due nothing was refused
-  pub going : (taken : ℕ) (bytes : List ℕ) (given : List Item) (field : Field) → answer_of state.phase taken ≡ None → Reached language limits state bytes given field
-      → Stands language limits state bytes given field
-  going taken bytes given field e (inl s) = s
-  going taken bytes given field e (inr s) = absurd (let q = sym e ∙ ap (λ p. answer_of p taken) s.phase_is in cc)
+  pub going : (taken : ℕ) (bytes : List ℕ) (given : List Item) (point : Point) → answer_of state.phase taken ≡ None → Reached language limits state bytes given point
+      → Stands language limits state bytes given point
+  going taken bytes given point e (inl s) = s
+  going taken bytes given point e (inr s) = absurd (let q = sym e ∙ ap (λ p. answer_of p taken) s.phase_is in cc)
 
   pub not_done : (taken : ℕ) → answer_of state.phase taken ≡ None → state.phase ≢ phases.Done
   not_done taken e d = let q = sym e ∙ ap (λ p. answer_of p taken) d in cc
@@ -44,61 +44,61 @@ module _ {L : Type 0} (language : Ghosts L) (limits : LimitValues) (state : Stat
       omega arith
 
   -- the bytes lead on
-  pub knows_on : (bytes : List ℕ) (given : List Item) (field : Field) (t : List ℕ) (taken : ℕ) → taken ≡ length (bytes ++ t) → Onward language limits state bytes given field t
+  pub knows_on : (bytes : List ℕ) (given : List Item) (point : Point) (t : List ℕ) (taken : ℕ) → taken ≡ length (bytes ++ t) → Onward language limits state bytes given point t
       → Leads (Knows language limits state taken) (bytes ++ t)
-  knows_on bytes given field t taken e (inl w) = (w.0, w.1, (e, inl w.3))
-  knows_on bytes given field t taken e (inr w) = (given, field_with field w.0, (e, inr w.3))
+  knows_on bytes given point t taken e (inl w) = (w.0, w.1, (e, inl w.3))
+  knows_on bytes given point t taken e (inr w) = (given, point_with point w.0, (e, inr w.3))
 
 -- what led to the old fields leads on with so many of these bytes to the new ones
-abbrev pub Sofar : Fronts → Fronts → List ℕ → ℕ → Type 0
-Sofar old new bytes at = WhateverLed old (λ front given field. Leads new (front ++ take at bytes))
+abbrev pub Sofar : Fronts Point → Fronts Point → List ℕ → ℕ → Type 0
+Sofar old new bytes at = WhateverLed old (λ front given point. Leads new (front ++ take at bytes))
 
 -- what led to this front leads on with so many of these bytes to the new fields
-abbrev pub Here : Fronts → (front bytes : List ℕ) → ℕ → Type 0
+abbrev pub Here : Fronts Point → (front bytes : List ℕ) → ℕ → Type 0
 Here new front bytes at = Leads new (front ++ take at bytes)
 
-pub sofar_start : (old : Fronts) (bytes : List ℕ) → Sofar old old bytes 0
-sofar_start old bytes front given field x = (given, field, subst (λ y. old y given field) (sym (append-nil front)) x)
+pub sofar_start : (old : Fronts Point) (bytes : List ℕ) → Sofar old old bytes 0
+sofar_start old bytes front given point x = (given, point, subst (λ y. old y given point) (sym (append-nil front)) x)
 
 -- so many bytes behind a front, and some more
 pub some_more : (front bytes : List ℕ) (at n : ℕ) → (front ++ take at bytes) ++ take n (rest bytes at) ≡ front ++ take (at + n) bytes
 some_more front bytes at n = append_assoc front (take at bytes) (take n (rest bytes at)) ∙ ap (λ y. front ++ y) (take_rests bytes at n)
 
-pub sofar_some : (old mid new : Fronts) (bytes : List ℕ) (at n : ℕ) → Sofar old mid bytes at
-    → WhateverLed mid (λ front given field. Leads new (front ++ take n (rest bytes at))) → Sofar old new bytes (at + n)
-sofar_some old mid new bytes at n s f front given field x =
-    let w = s front given field x in
+pub sofar_some : (old mid new : Fronts Point) (bytes : List ℕ) (at n : ℕ) → Sofar old mid bytes at
+    → WhateverLed mid (λ front given point. Leads new (front ++ take n (rest bytes at))) → Sofar old new bytes (at + n)
+sofar_some old mid new bytes at n s f front given point x =
+    let w = s front given point x in
     subst (Leads new) (some_more front bytes at n) (f (front ++ take at bytes) w.0 w.1 w.2)
 
 module _ (laws : FormatLaws) {L : Type 0} {language : Ghosts L} (c : Checker L language) (range : AreInRange c.limits) where
-  feeds_here : (phase : Phase) → c.state.phase ≡ phase → (front bytes : List ℕ) (given : List Item) (field : Field) (at : ℕ) (answer : Fed) → answer_of phase at ≡ Some answer → at ≤ length bytes
-      → CheckerReached c (front ++ take at bytes) given field → Feeds language.set language.holds c.limits (CheckerReached c) front bytes answer
-  feeds_here phases.Head w front bytes given field at answer e h k = cc
-  feeds_here (phases.Type x y z) w front bytes given field at answer e h k = cc
-  feeds_here (phases.Id x y) w front bytes given field at answer e h k = cc
-  feeds_here (phases.Payload x y) w front bytes given field at answer e h k = cc
-  feeds_here phases.Done w front bytes given field at answer e h k =
+  feeds_here : (phase : Phase) → c.state.phase ≡ phase → (front bytes : List ℕ) (given : List Item) (point : Point) (at : ℕ) (answer : Fed) → answer_of phase at ≡ Some answer → at ≤ length bytes
+      → CheckerReached c (front ++ take at bytes) given point → Feeds language.set language.holds c.limits (CheckerReached c) front bytes answer
+  feeds_here phases.Head w front bytes given point at answer e h k = cc
+  feeds_here (phases.Type x y z) w front bytes given point at answer e h k = cc
+  feeds_here (phases.Id x y) w front bytes given point at answer e h k = cc
+  feeds_here (phases.Payload x y) w front bytes given point at answer e h k = cc
+  feeds_here phases.Done w front bytes given point at answer e h k =
       let q : fed.Done at ≡ answer = cc in
-      subst (Feeds language.set language.holds c.limits (CheckerReached c) front bytes) q (h, whole k.1, (given, field, k))
+      subst (Feeds language.set language.holds c.limits (CheckerReached c) front bytes) q (h, whole k.1, (given, point, k))
     where
-      whole : Reached language c.limits c.state (front ++ take at bytes) given field → IsDeep language.set c.limits (front ++ take at bytes)
+      whole : Reached language c.limits c.state (front ++ take at bytes) given point → IsDeep language.set c.limits (front ++ take at bytes)
       whole (inl s) =
-          let d = done_field language c.limits c.state field w s.matches in
-          ended laws language.set c.limits range (front ++ take at bytes) given d.0 (subst (IsAt c.limits (front ++ take at bytes) given) d.1 s.at) s.viable
+          let d = done_point language c.limits c.state point w s.matches in
+          ended laws language.set c.limits range (front ++ take at bytes) given d.0 (subst (IsAtPoint c.limits (front ++ take at bytes) given) d.1 s.at) s.viable
       whole (inr s) = absurd (let q = sym w ∙ s.phase_is in cc)
-  feeds_here (phases.Refused refusal) w front bytes given field at answer e h k =
+  feeds_here (phases.Refused refusal) w front bytes given point at answer e h k =
       let q : fed.Refused refusal ≡ answer = cc in
       subst (Feeds language.set language.holds c.limits (CheckerReached c) front bytes) q (by_side k.1)
     where
-      by_side : Reached language c.limits c.state (front ++ take at bytes) given field → Feeds language.set language.holds c.limits (CheckerReached c) front bytes (fed.Refused refusal)
-      by_side (inl s) = absurd (not_refused language c.limits c.state refusal field w s.matches)
+      by_side : Reached language c.limits c.state (front ++ take at bytes) given point → Feeds language.set language.holds c.limits (CheckerReached c) front bytes (fed.Refused refusal)
+      by_side (inl s) = absurd (not_refused language c.limits c.state refusal point w s.matches)
       by_side (inr s) =
           let same : s.refusal ≡ refusal = (let p = sym s.phase_is ∙ w in cc) in
           let all : (front ++ take at bytes) ++ drop at bytes ≡ front ++ bytes = append_assoc front (take at bytes) (drop at bytes) ∙ ap (λ y. front ++ y) (take-append-drop at bytes) in
-          let r = refuses laws range (front ++ take at bytes) (drop at bytes) given field s in
+          let r = refuses laws range (front ++ take at bytes) (drop at bytes) given point s in
           let r1 = subst (λ y. (s.refusal.at < length y) × Refuses language.set language.holds c.limits y s.refusal × (front ++ take at bytes ≡ take (s.refusal.at + 1) y)) all r in
           let r2 = subst (λ y. (y.at < length (front ++ bytes)) × Refuses language.set language.holds c.limits (front ++ bytes) y × (front ++ take at bytes ≡ take (y.at + 1) (front ++ bytes))) same r1 in
-          (r2.0, r2.1, (given, field, subst (λ y. CheckerReached c y given field) r2.2 k))
+          (r2.0, r2.1, (given, point, subst (λ y. CheckerReached c y given point) r2.2 k))
 
   module _ (limits : LimitValues) (same : c.limits ≡ limits) (front bytes : List ℕ) (at : ℕ) where
     pub feeds_answer : (answer : Fed) → answer_of c.state.phase at ≡ Some answer → at ≤ length bytes → Leads (CheckerReached c) (front ++ take at bytes)

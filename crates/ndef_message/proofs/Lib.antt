@@ -11,7 +11,6 @@ pub mod Encoded
 pub mod Ended
 pub mod Entered
 pub mod Feeding
-pub mod Fields
 pub mod Halted
 pub mod HeadOctets
 pub mod Holding
@@ -21,6 +20,7 @@ pub mod Moved
 pub mod Octets
 pub mod Opening
 pub mod Parts
+pub mod Placed
 pub mod Places
 pub mod ReadBack
 pub mod Readers

@@ -11,9 +11,9 @@ use Rattle.ndef_piece.specs.Header.{is_set, size}
 use Rattle.ndef_piece.specs.HeaderLaws.{header, parts, octets_size}
 use Rattle.ndef_piece.specs.Heads.{CanBeSpelled}
 use Rattle.ndef_piece.specs.Whole.{IsSplit, BeginWithPiece}
-use Rattle.ndef_message.specs.Field.{piece, id_of}
+use Rattle.ndef_message.specs.Machine.Points.{piece, id_of}
 use Rattle.ndef_message.specs.Machine.Seen.{payload_length_at, id_length_at, fields_with, piece_with, piece_at, body_size, size_at, pieces_from, pieces_of, begin_run, runs_of, run_of, IsRecord}
-use Rattle.ndef_message.proofs.Fields.{id_count, piece_head, body_length}
+use Rattle.ndef_message.proofs.Parts.{id_count, piece_head, body_length}
 
 -- ---- heads
 payload_told : (short : Bool) (n : ℕ) (o : Option ℕ) (h k : ℕ) (z : List ℕ) → n < 2 ^ 32

@@ -15,8 +15,9 @@ use Rattle.ndef_lang.specs.declared.language.Language.{Ghosts}
 use Rattle.ndef_piece.specs.declared.head.Head.{Head}
 use Rattle.ndef_piece.specs.Walk.{Before}
 use Rattle.ndef_message.specs.Deep.{IsMember, IsViable}
-use Rattle.ndef_message.specs.Field.{Field, InPayload, record_so_far, IsAt}
-use Rattle.ndef_message.specs.Machine.Moves.{given_next, field_next}
+use Rattle.ndef_message.specs.Opened.{record_so_far}
+use Rattle.ndef_message.specs.Machine.Points.{Point, InPayload, IsAtPoint}
+use Rattle.ndef_message.specs.Machine.Moves.{given_next, point_next}
 use Rattle.ndef_message.specs.Machine.Format.{FormatLaws}
 use Rattle.ndef_message.specs.Machine.Payload.{most_left}
 use Rattle.ndef_message.specs.Machine.State.{Speaks, Stands, Stopped, InBody, Onward}
@@ -66,12 +67,12 @@ between_at : {pass : List ℕ → Type 0} (a b c d : ℕ) → a ≡ c → b ≡ 
 between_at {pass} a b c d e g p = subst (λ x. PassesBetween pass c x) g (subst (λ x. PassesBetween pass x b) e p)
 
 module _ {L : Type 0} {language : Ghosts L} {limits : LimitValues} {state : State L}
-    {bytes : List ℕ} {given : List Item} {h : Head} {left : ℕ} {field : Field} (a : AtPayload language limits state bytes given h left field) where
+    {bytes : List ℕ} {given : List Item} {h : Head} {left : ℕ} {point : Point} (a : AtPayload language limits state bytes given h left point) where
   -- the payload so far, with these octets more, by what has read them
   body_by : (other : Ghosts L) (read : L) (t : List ℕ) → AreOctets t → length t ≤ left → Speaks other limits read (record (record_so_far a.c.begun a.f a.kind a.id a.payload) { payload = (record_so_far a.c.begun a.f a.kind a.id a.payload).payload ++ t })
       → InBody other limits (record state { payload = read }) h 0 (left - length t) (bytes ++ t) given a.c a.f a.kind a.id (a.payload ++ t)
   body_by other read t are few s =
-      let w = subst (IsAt limits bytes given) a.field_is a.stands.at in
+      let w = subst (IsAtPoint limits bytes given) a.point_is a.stands.at in
       let p = w.proper in
       let e = p.2 in
       let n = p.3 in
@@ -111,21 +112,21 @@ module _ {L : Type 0} {language : Ghosts L} {limits : LimitValues} {state : Stat
   body_behind t are few = body_by (behind language t) state.payload t are few (speaks_behind language limits state.payload (record_so_far a.c.begun a.f a.kind a.id a.payload) t a.speaks)
 
   -- .. and fewer than are left, they stand in its payload
-  pub at_front : (t : List ℕ) → AreOctets t → length t < left → IsAt limits (bytes ++ t) given (InPayload a.c a.f a.kind a.id (a.payload ++ t))
+  pub at_front : (t : List ℕ) → AreOctets t → length t < left → IsAtPoint limits (bytes ++ t) given (InPayload a.c a.f a.kind a.id (a.payload ++ t))
   at_front t are few =
       let l = a.left_is in
-      at_with limits bytes given (InPayload a.c a.f a.kind a.id a.payload) t are (omega arith) (subst (IsAt limits bytes given) a.field_is a.stands.at)
+      at_with limits bytes given (InPayload a.c a.f a.kind a.id a.payload) t are (omega arith) (subst (IsAtPoint limits bytes given) a.point_is a.stands.at)
 
 module _ (laws : FormatLaws) {L : Type 0} {language : Ghosts L} {limits : LimitValues} (range : AreInRange limits)
     (octets_of : (k : Kind) (n : ℕ) (profile : Profile) (s : List ℕ) → language.set k n profile s → AreOctets s)
     (others : (n : ℕ) (profile : Profile) (s : List ℕ) → language.set Other n profile s ↔ AreOctets s)
-    {state : State L} {bytes : List ℕ} {given : List Item} {h : Head} {left : ℕ} {field : Field}
-    (a : AtPayload language limits state bytes given h left field)
+    {state : State L} {bytes : List ℕ} {given : List Item} {h : Head} {left : ℕ} {point : Point}
+    (a : AtPayload language limits state bytes given h left point)
     (payload' : L) (t : List ℕ) (are : AreOctets t) (few : length t ≤ left) {most count : ℕ} (most_is : most ≡ most_left h.chunked state.place.room h.payload_length left)
     (steps : StepsAll (language.future state.payload) (language.future payload') t left most count)
   where
     members : AllByRecursion (IsMember language.set limits) given
-    members = given_members laws language.set limits range bytes given field a.stands.at a.stands.viable
+    members = given_members laws language.set limits range bytes given point a.stands.at a.stands.viable
 
     -- the last of them doesn't end what was viable
     pub all_viable : (r : (k : Kind) (n : ℕ) (profile : Profile) → Reaches (language.reached state.payload k n profile) (language.reached payload' k n profile) t) → count ≡ length t → IsViable language.set limits (bytes ++ t)
@@ -153,9 +154,9 @@ module _ (laws : FormatLaws) {L : Type 0} {language : Ghosts L} {limits : LimitV
     -- one of them is refused
     pub all_stopped : ((k : Kind) (n : ℕ) (profile : Profile) → Reaches (language.reached state.payload k n profile) (language.reached payload' k n profile) (take (count + 1) t)) → count < length t → {at : ℕ} {reason : Reason} → at ≡ length bytes
         → ((k : Kind) (n : ℕ) (profile : Profile) (s : List ℕ) → language.reached state.payload k n profile s → IsLowest (language.holds k n profile (s ++ take count t) (get_or t count 0)) reason)
-        → Onward language limits (record state { payload = payload'; phase = phases.Refused (record { at = at + count; reason = reason }) }) bytes given field (take (count + 1) t)
+        → Onward language limits (record state { payload = payload'; phase = phases.Refused (record { at = at + count; reason = reason }) }) bytes given point (take (count + 1) t)
     all_stopped r l {at} {reason} at_is why =
-        subst (λ x. Onward language limits (record state { payload = payload'; phase = phases.Refused (record { at = at + count; reason = reason }) }) bytes given x (take (count + 1) t)) (sym a.field_is)
+        subst (λ x. Onward language limits (record state { payload = payload'; phase = phases.Refused (record { at = at + count; reason = reason }) }) bytes given x (take (count + 1) t)) (sym a.point_is)
         (inr (take count t, get_or t count 0, more, subst (λ x. Stopped language limits (record state { payload = payload'; phase = phases.Refused (record { at = at + count; reason = reason }) }) x given (InPayload a.c a.f a.kind a.id (a.payload ++ take count t))) split stop))
       where
         more : take (count + 1) t ≡ take count t ++ get_or t count 0 ∷ []
@@ -188,8 +189,8 @@ module _ (laws : FormatLaws) {L : Type 0} {language : Ghosts L} {limits : LimitV
 
 -- all of them were taken
 pub all_taken : {L : Type 0} {language : Ghosts L} {limits : LimitValues} {state : State L}
-    (bytes : List ℕ) (given : List Item) (field : Field) (c : Before) (f : Fields) (k i z t s : List ℕ) → field ≡ InPayload c f k i z → s ≡ t → length z + length t ≤ f.payload_length
-    → Stands language limits state (bytes ++ t) (given_next limits given c f k i (z ++ t)) (field_next limits c f k i (z ++ t)) → Onward language limits state bytes given field s
-all_taken {language = language} {limits} {state} bytes given field c f k i z t s e g few x =
-    subst (Onward language limits state bytes given field) (sym g)
-    (inl (given_next limits given c f k i (z ++ t), field_next limits c f k i (z ++ t), moves_payload limits given field t c f k i z e few, x))
+    (bytes : List ℕ) (given : List Item) (point : Point) (c : Before) (f : Fields) (k i z t s : List ℕ) → point ≡ InPayload c f k i z → s ≡ t → length z + length t ≤ f.payload_length
+    → Stands language limits state (bytes ++ t) (given_next limits given c f k i (z ++ t)) (point_next limits c f k i (z ++ t)) → Onward language limits state bytes given point s
+all_taken {language = language} {limits} {state} bytes given point c f k i z t s e g few x =
+    subst (Onward language limits state bytes given point) (sym g)
+    (inl (given_next limits given c f k i (z ++ t), point_next limits c f k i (z ++ t), moves_payload limits given point t c f k i z e few, x))

@@ -8,6 +8,7 @@ pub mod Format
 pub mod Moves
 pub mod Open
 pub mod Payload
+pub mod Points
 pub mod Readers
 pub mod Seen
 pub mod Slices

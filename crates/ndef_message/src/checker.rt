@@ -24,14 +24,13 @@ pub struct Checker<L: OuterLanguage> {
 }
 
 impl<L: OuterLanguage> Checker<L> {
-    ghost use Rattle.ndef_message.specs.Field.{InHead};
+    ghost use Rattle.ndef_message.specs.Machine.Points.{start_point};
     ghost use Rattle.ndef_message.specs.Machine.Checkers.{CheckerReached, checker_limits};
-    ghost use Rattle.ndef_piece.specs.Walk.{start};
 
     /// Before a message.
     pub fn new(limits: Limits) -> Self
         ensures limits { checker_limits result ≡ limits }
-        ensures reached { CheckerReached result [] [] (InHead (start limits) []) }
+        ensures reached { CheckerReached result [] [] (start_point limits) }
     {
         format_laws(&limits);
         let place = Place {
@@ -57,7 +56,7 @@ impl<L: OuterLanguage> Checker<L> {
     /// the last byte it takes none, and after a refusal it repeats that refusal.
     pub fn feed(&mut self, bytes: &[u8]) -> Fed
         ensures limits { checker_limits self.new ≡ checker_limits self.old }
-        ensures fed { WhateverLed (CheckerReached self.old) (λ front given field.
+        ensures fed { WhateverLed (CheckerReached self.old) (λ front given point.
             Feeds L.set L.holds (checker_limits self.old) (CheckerReached self.new) front bytes.now result) }
     {
         format_laws(&self.limits);
@@ -76,7 +75,7 @@ impl<L: OuterLanguage> Checker<L> {
 
     /// What the input is, if it ends here.
     pub fn end(&self) -> Result<(), Refusal>
-        ensures { WhateverLed (CheckerReached self.now) (λ front given field.
+        ensures { WhateverLed (CheckerReached self.now) (λ front given point.
             Ends L.set L.holds (checker_limits self.now) front result) }
     {
         format_laws(&self.limits);
@@ -92,7 +91,7 @@ impl<L: OuterLanguage> Checker<L> {
 
     /// The records that have ended; after a refusal, before the refused byte.
     pub fn records(&self) -> u32
-        ensures { WhateverLed (CheckerReached self.now) (λ front given field. result ≡ length given) }
+        ensures { WhateverLed (CheckerReached self.now) (λ front given point. result ≡ length given) }
     {
         format_laws(&self.limits);
         self.limits
@@ -103,7 +102,7 @@ impl<L: OuterLanguage> Checker<L> {
     /// The bytes that were taken; after a refusal, those before the refused one. They are at most as
     /// many as a message within the limits can have.
     pub fn place(&self) -> u64
-        ensures accepted { WhateverLed (CheckerReached self.now) (λ front given field.
+        ensures accepted { WhateverLed (CheckerReached self.now) (λ front given point.
             IsAccepted L.set (checker_limits self.now) front result) }
         ensures bound { result ≤ greatest_length (checker_limits self.now) }
     {
@@ -133,7 +132,7 @@ impl<L: OuterLanguage> Checker<L> {
         ensures limits { self.new.limits ≡ self.old.limits }
         ensures some { 0 < result }
         ensures most { result ≤ length bytes.now }
-        ensures onward { WhateverLed (CheckerReached self.old) (λ front given field.
+        ensures onward { WhateverLed (CheckerReached self.old) (λ front given point.
             Leads (CheckerReached self.new) (front ++ take result bytes.now)) }
     {
         let taken = self.take_records(bytes);
@@ -150,7 +149,7 @@ impl<L: OuterLanguage> Checker<L> {
         ensures limits { self.new.limits ≡ self.old.limits }
         ensures none { result ≡ 0 → answer_of self.new.state.phase 0 ≡ None }
         ensures most { result ≤ length bytes.now }
-        ensures onward { WhateverLed (CheckerReached self.old) (λ front given field.
+        ensures onward { WhateverLed (CheckerReached self.old) (λ front given point.
             Leads (CheckerReached self.new) (front ++ take result bytes.now)) }
     {
         format_laws(&self.limits);
@@ -175,7 +174,7 @@ impl<L: OuterLanguage> Checker<L> {
         ensures limits { self.new.limits ≡ self.old.limits }
         ensures taken { self.new.taken ≡ self.old.taken + (length bytes.now - length piece.now.rest.now) }
         ensures phase { self.new.state.phase ≡ (if is_set 6 piece.now.header then Phase.Done else Phase.Head) }
-        ensures onward { WhateverLed (CheckerReached self.old) (λ front given field.
+        ensures onward { WhateverLed (CheckerReached self.old) (λ front given point.
             let count = length bytes.now - length piece.now.rest.now in
             LeadsBetween (CheckerReached self.new) (front ++ take count bytes.now)
             (given ++ record_of piece.now ∷ [])) }
@@ -195,9 +194,9 @@ impl<L: OuterLanguage> Checker<L> {
         ensures some { 0 < result }
         ensures most { result ≤ length bytes.now }
         ensures taken { self.new.taken ≡ self.old.taken + result }
-        ensures onward { WhateverLed (CheckerReached self.old) (λ front given field.
+        ensures onward { WhateverLed (CheckerReached self.old) (λ front given point.
             (self.new.taken ≡ length (front ++ take result bytes.now))
-            × Onward L.Language self.new.limits self.new.state front given field (take result bytes.now)) }
+            × Onward L.Language self.new.limits self.new.state front given point (take result bytes.now)) }
     {
         format_laws(&self.limits);
         let at = self.taken;

@@ -22,7 +22,7 @@ pub(crate) struct State<L: OuterLanguage> {
 
 impl<L: OuterLanguage> State<L> {
     ghost use Rattle.ndef_message.specs.Feed.{Leads, SomeLed, WhateverLed};
-    ghost use Rattle.ndef_message.specs.Field.{Field};
+    ghost use Rattle.ndef_message.specs.Machine.Points.{Point};
     ghost use Rattle.ndef_message.specs.Machine.State.{Stands, StandsBehind, Stopped, Came, Onward};
     ghost use Rattle.ndef_message.specs.Machine.State.{InBody, SomeBody, WholeHead, SomeWhole, IsWithinHead, CanGoOn, behind_record};
     ghost use Rattle.ndef_message.specs.Machine.Accepted.{BeginsWith, IsBehind, IsFresh};
@@ -50,7 +50,7 @@ impl<L: OuterLanguage> State<L> {
     pub(crate) fn take_records(&mut self, limits: &Limits, bytes: &[u8]) -> usize
         ensures within { result ≤ length bytes.now }
         ensures none { result ≡ 0 → self.new.phase ≡ self.old.phase }
-        ensures onward { WhateverLed (Stands L.Language limits.now self.old) (λ front given field.
+        ensures onward { WhateverLed (Stands L.Language limits.now self.old) (λ front given point.
             Leads (Stands L.Language limits.now self.new) (front ++ take result bytes.now)) }
     {
         format_laws(limits);
@@ -97,10 +97,10 @@ impl<L: OuterLanguage> State<L> {
         ensures some { 0 < result }
         ensures most { result ≤ length bytes.now }
         ensures few { result < 2 ^ 32 }
-        ensures onward { WhateverLed (Stands L.Language limits.now self.old) (λ front given field.
+        ensures onward { WhateverLed (Stands L.Language limits.now self.old) (λ front given point.
             at ≡ length front
             → self.old.phase ≢ Phase.Done
-            → Onward L.Language limits.now self.new front given field (take result bytes.now)) }
+            → Onward L.Language limits.now self.new front given point (take result bytes.now)) }
     {
         match self.phase {
             Phase::Head => {
@@ -127,9 +127,9 @@ impl<L: OuterLanguage> State<L> {
     fn in_head(&mut self, limits: &Limits, at: u64, byte: u8)
         requires phase { self.old.phase ≡ Phase.Head }
         requires led { ∥ SomeLed (Stands L.Language limits.now self.old) ∥₁ }
-        ensures onward { WhateverLed (Stands L.Language limits.now self.old) (λ front given field.
+        ensures onward { WhateverLed (Stands L.Language limits.now self.old) (λ front given point.
             at ≡ length front
-            → Onward L.Language limits.now self.new front given field (byte ∷ [])) }
+            → Onward L.Language limits.now self.new front given point (byte ∷ [])) }
     {
         format_laws(limits);
         match self.reader.step(byte) {
@@ -168,11 +168,11 @@ impl<L: OuterLanguage> State<L> {
     /// Goes on behind a whole head.
     fn behind_head(&mut self, limits: &Limits, at: u64, head: Head)
         requires led { ∥ SomeWhole L.Language limits.now self.old head ∥₁ }
-        ensures entered { (bytes : List ℕ) (given : List Item) (field : Field) (b : ℕ) (c : Before) (f : Fields)
-            → Came L.Language limits.now at Reason.DoesNotFit bytes given field b
+        ensures entered { (bytes : List ℕ) (given : List Item) (point : Point) (b : ℕ) (c : Before) (f : Fields)
+            → Came L.Language limits.now at Reason.DoesNotFit bytes given point b
             → WholeHead L.Language limits.now self.old head (bytes ++ b ∷ []) given c f
             → StandsBehind L.Language limits.now self.new (bytes ++ b ∷ []) given c f [] [] []
-            ⊎ Stopped L.Language limits.now self.new (bytes ++ b ∷ []) given field }
+            ⊎ Stopped L.Language limits.now self.new (bytes ++ b ∷ []) given point }
     {
         format_laws(limits);
         if self.place.inside {
@@ -209,9 +209,9 @@ impl<L: OuterLanguage> State<L> {
         requires enough { length bytes.now ≤ left }
         ensures some { 0 < result }
         ensures most { result ≤ length bytes.now }
-        ensures onward { WhateverLed (Stands L.Language limits.now self.old) (λ front given field.
+        ensures onward { WhateverLed (Stands L.Language limits.now self.old) (λ front given point.
             at ≡ length front
-            → Onward L.Language limits.now self.new front given field (take result bytes.now)) }
+            → Onward L.Language limits.now self.new front given point (take result bytes.now)) }
     {
         format_laws(limits);
         let most = self.place.most_left(&head, left);
@@ -234,8 +234,8 @@ impl<L: OuterLanguage> State<L> {
         requires phase { self.old.phase ≡ Phase.Id head left }
         requires enough { length bytes.now ≤ left }
         ensures all { result ≡ length bytes.now }
-        ensures onward { WhateverLed (Stands L.Language limits.now self.old) (λ front given field.
-            Onward L.Language limits.now self.new front given field bytes.now) }
+        ensures onward { WhateverLed (Stands L.Language limits.now self.old) (λ front given point.
+            Onward L.Language limits.now self.new front given point bytes.now) }
     {
         format_laws(limits);
         let count = bytes.len();
@@ -255,9 +255,9 @@ impl<L: OuterLanguage> State<L> {
     )
         requires phase { self.old.phase ≡ Phase.Type head left kind }
         requires led { ∥ SomeLed (Stands L.Language limits.now self.old) ∥₁ }
-        ensures onward { WhateverLed (Stands L.Language limits.now self.old) (λ front given field.
+        ensures onward { WhateverLed (Stands L.Language limits.now self.old) (λ front given point.
             at ≡ length front
-            → Onward L.Language limits.now self.new front given field (byte ∷ [])) }
+            → Onward L.Language limits.now self.new front given point (byte ∷ [])) }
     {
         format_laws(limits);
         let mut kind = kind;
@@ -294,12 +294,12 @@ impl<L: OuterLanguage> State<L> {
         reason: Reason,
     )
         requires led { ∥ SomeBody L.Language limits.now self.old head id_left left ∥₁ }
-        ensures entered { (bytes : List ℕ) (given : List Item) (field : Field) (b : ℕ) (c : Before) (f : Fields)
+        ensures entered { (bytes : List ℕ) (given : List Item) (point : Point) (b : ℕ) (c : Before) (f : Fields)
             (kind id payload : List ℕ)
-            → Came L.Language limits.now at reason bytes given field b
+            → Came L.Language limits.now at reason bytes given point b
             → InBody L.Language limits.now self.old head id_left left (bytes ++ b ∷ []) given c f kind id payload
             → StandsBehind L.Language limits.now self.new (bytes ++ b ∷ []) given c f kind id payload
-            ⊎ Stopped L.Language limits.now self.new (bytes ++ b ∷ []) given field }
+            ⊎ Stopped L.Language limits.now self.new (bytes ++ b ∷ []) given point }
     {
         format_laws(limits);
         if self

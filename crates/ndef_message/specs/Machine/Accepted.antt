@@ -12,8 +12,7 @@ use Rattle.ndef_piece.specs.declared.head_reader.Step.TheVariants as steps
 use Rattle.ndef_piece.specs.declared.whole.WholePiece.{WholePiece}
 use Rattle.ndef_message.specs.Deep.{IsMember}
 use Rattle.ndef_message.specs.Feed.{Fronts}
-use Rattle.ndef_message.specs.Field.{Field}
-use Rattle.ndef_message.specs.Opened.{IsBetween}
+use Rattle.ndef_message.specs.Machine.Points.{Point, IsBetween}
 use Rattle.ndef_message.specs.Machine.State.{numbers, spot_of}
 use Rattle.ndef_message.specs.declared.phase.Place.{Place}
 use Rattle.ndef_message.specs.declared.phase.Phase.TheVariants as phases
@@ -117,5 +116,5 @@ pub record IsBehind {L : Type 0} (limits : LimitValues) (state : State L) (place
   pub phase_is : state.phase ≡ (if last then phases.Done else phases.Head)
 
 -- the bytes end these records, and no record is begun
-abbrev pub LeadsBetween : Fronts → List ℕ → List Item → Type 0
-LeadsBetween reached bytes given = (next : Field) × IsBetween next × reached bytes given next
+abbrev pub LeadsBetween : Fronts Point → List ℕ → List Item → Type 0
+LeadsBetween reached bytes given = (next : Point) × IsBetween next × reached bytes given next

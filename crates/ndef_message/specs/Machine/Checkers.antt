@@ -1,6 +1,7 @@
 -- What a checker shows.
 use Rattle.ndef_value.specs.Wire.{LimitValues}
 use Rattle.ndef_lang.specs.declared.language.Language.{Ghosts}
+use Rattle.ndef_message.specs.Machine.Points.{Point}
 use Rattle.ndef_message.specs.Feed.{Fronts}
 use Rattle.ndef_message.specs.Machine.State.{Knows}
 use Rattle.ndef_message.specs.declared.checker.Checker.{Checker}
@@ -11,5 +12,5 @@ checker_limits c = c.limits
 
 -- these bytes led there, a refused one with them: they end these records, and this is the field of the next byte, or of the
 -- refused one
-abbrev pub CheckerReached : {L : Type 0} {language : Ghosts L} → Checker L language → Fronts
+abbrev pub CheckerReached : {L : Type 0} {language : Ghosts L} → Checker L language → Fronts Point
 CheckerReached {language = language} c = Knows language c.limits c.state c.taken

@@ -2,6 +2,7 @@
 use Rattle.std.specs.Prelude.{Bool, is_some}
 use Rattle.ndef_value.specs.Wire.{LimitValues}
 use Rattle.ndef_lang.specs.declared.language.Language.{Ghosts}
+use Rattle.ndef_message.specs.Machine.Points.{Point}
 use Rattle.ndef_message.specs.Machine.DecoderState.{DecoderKnows}
 use Rattle.ndef_message.specs.Feed.{Fronts}
 use Rattle.ndef_message.specs.declared.decoder.Decoder.{Decoder}
@@ -12,7 +13,7 @@ decoder_limits d = d.checker.limits
 
 -- these bytes led there, a refused one with them: they end these records, and this is the field of the next byte, or of the
 -- refused one
-abbrev pub DecoderReached : {L : Type 0} {language : Ghosts L} → Decoder L language → Fronts
+abbrev pub DecoderReached : {L : Type 0} {language : Ghosts L} → Decoder L language → Fronts Point
 DecoderReached d = DecoderKnows d.checker d.failed d.begun
 
 -- a growth was refused: for good

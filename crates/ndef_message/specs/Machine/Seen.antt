@@ -5,7 +5,7 @@ use Rattle.std.specs.List.{AllByRecursion}
 use Rattle.ndef_value.specs.Wire.{Fields, Piece, SpellAll, Run, pieces, all_pieces, Follow, joined, payload_of, IsShaped}
 use Rattle.ndef_value.specs.declared.profile.Profile.{Profile}
 use Rattle.ndef_piece.specs.Header.{is_set, tnf_number, size}
-use Rattle.ndef_message.specs.Field.{piece}
+use Rattle.ndef_message.specs.Machine.Points.{piece}
 use Rattle.ndef_message.specs.Views.{Viewed}
 
 -- ---- the pieces that bytes spell, by their octets

@@ -17,8 +17,9 @@ use Rattle.ndef_piece.specs.Heads as heads
 use Rattle.ndef_piece.specs.Heads.{head, Begins, MayStand}
 use Rattle.ndef_piece.specs.Walk.{Before, start, spot, Walked}
 use Rattle.ndef_message.specs.Deep.{IsViable}
-use Rattle.ndef_message.specs.Field.{Field, InHead, InType, InId, InPayload, AtEnd, part_octets, record_so_far, IsPart, IsAt, IsReason}
-use Rattle.ndef_message.specs.Machine.Moves.{Moves, given_next, field_next, field_with}
+use Rattle.ndef_message.specs.Opened.{record_so_far}
+use Rattle.ndef_message.specs.Machine.Points.{Point, InHead, InType, InId, InPayload, AtEnd, part_octets, IsPart, IsAtPoint, IsReasonAt}
+use Rattle.ndef_message.specs.Machine.Moves.{Moves, given_next, point_next, point_with}
 use Rattle.ndef_message.specs.Machine.Payload.{completes, most_left}
 use Rattle.ndef_message.specs.declared.phase.Place.{Place}
 use Rattle.ndef_message.specs.declared.phase.Phase.{Phase}
@@ -95,7 +96,7 @@ pub record Reads (reader : KindReader) (f : Fields) (kind : List ℕ) (left : �
 
 module _ {L : Type 0} (language : Ghosts L) (limits : LimitValues) (state : State L) where
   -- the fields tell the field of the next byte
-  abbrev pub Matches : Field → Type 0
+  abbrev pub Matches : Point → Type 0
   Matches (InHead c xs) =
       (state.place ≡ numbers c) × (state.phase ≡ phases.Head) × (state.reader ≡ record { spot = spot limits.profile c; octets = xs; answer = steps.More }) × SpeaksIf language limits state.payload c.begun
   Matches (InType c f kind) =
@@ -107,38 +108,38 @@ module _ {L : Type 0} (language : Ghosts L) (limits : LimitValues) (state : Stat
   Matches (AtEnd c) = (state.place ≡ numbers c) × (state.phase ≡ phases.Done)
 
   -- these bytes led here, and none was refused
-  pub record Stands (bytes : List ℕ) (given : List Item) (field : Field) : Type 0 where
-    pub at : IsAt limits bytes given field
+  pub record Stands (bytes : List ℕ) (given : List Item) (point : Point) : Type 0 where
+    pub at : IsAtPoint limits bytes given point
     pub viable : IsViable language.set limits bytes
-    pub matches : Matches field
+    pub matches : Matches point
 
   -- these bytes led here, and the last one was refused
-  pub record Stopped (bytes : List ℕ) (given : List Item) (field : Field) : Type 0 where
+  pub record Stopped (bytes : List ℕ) (given : List Item) (point : Point) : Type 0 where
     pub front : List ℕ
     pub byte : ℕ
     pub refusal : Refusal
     pub split : bytes ≡ front ++ byte ∷ []
-    pub at : IsAt limits front given field
+    pub at : IsAtPoint limits front given point
     pub viable : IsViable language.set limits front
     pub refused : ¬ IsViable language.set limits bytes
     pub phase_is : state.phase ≡ phases.Refused refusal
     pub place_is : refusal.at ≡ length front
     pub counted : state.place.records + length given ≡ limits.records
-    pub reason : IsReason language.holds limits field byte refusal.reason
+    pub reason : IsReasonAt language.holds limits point byte refusal.reason
 
   -- these bytes led here: they end these records, and this is the field of the next byte, or of the one that was refused
-  abbrev pub Reached : List ℕ → List Item → Field → Type 0
-  Reached bytes given field = Stands bytes given field ⊎ Stopped bytes given field
+  abbrev pub Reached : List ℕ → List Item → Point → Type 0
+  Reached bytes given point = Stands bytes given point ⊎ Stopped bytes given point
 
   -- these bytes led behind these parts of a piece
   abbrev pub StandsBehind : List ℕ → List Item → Before → Fields → (kind id payload : List ℕ) → Type 0
-  StandsBehind bytes given c f kind id payload = Stands bytes (given_next limits given c f kind id payload) (field_next limits c f kind id payload)
+  StandsBehind bytes given c f kind id payload = Stands bytes (given_next limits given c f kind id payload) (point_next limits c f kind id payload)
 
   -- after octets of the field behind these bytes: all of them lead on, or the last of them was refused
-  abbrev pub Onward : List ℕ → List Item → Field → List ℕ → Type 0
-  Onward bytes given field t =
-      ((given' : List Item) × (field' : Field) × Moves limits given field t given' field' × Stands (bytes ++ t) given' field')
-      ⊎ ((s : List ℕ) × (b : ℕ) × (t ≡ s ++ b ∷ []) × Stopped (bytes ++ t) given (field_with field s))
+  abbrev pub Onward : List ℕ → List Item → Point → List ℕ → Type 0
+  Onward bytes given point t =
+      ((given' : List Item) × (point' : Point) × Moves limits given point t given' point' × Stands (bytes ++ t) given' point')
+      ⊎ ((s : List ℕ) × (b : ℕ) × (t ≡ s ++ b ∷ []) × Stopped (bytes ++ t) given (point_with point s))
 
   -- where so much is left of the id and the payload of a piece with this head
   pub record InBody (h : Head) (id_left left : ℕ) (bytes : List ℕ) (given : List Item) (c : Before) (f : Fields) (kind id payload : List ℕ) : Type 0 where
@@ -191,15 +192,15 @@ module _ {L : Type 0} (language : Ghosts L) (limits : LimitValues) (state : Stat
     pub whole : WholeHead h bytes given before fields
 
 -- an octet came after these bytes, and this is its reason if it is refused
-pub record Came {L : Type 0} (language : Ghosts L) (limits : LimitValues) (at : ℕ) (reason : Reason) (bytes : List ℕ) (given : List Item) (field : Field) (b : ℕ) : Type 0 where
-  pub at_is : IsAt limits bytes given field
+pub record Came {L : Type 0} (language : Ghosts L) (limits : LimitValues) (at : ℕ) (reason : Reason) (bytes : List ℕ) (given : List Item) (point : Point) (b : ℕ) : Type 0 where
+  pub at_is : IsAtPoint limits bytes given point
   pub viable : IsViable language.set limits bytes
   pub place_is : at ≡ length bytes
-  pub reason_is : IsReason language.holds limits field b reason
+  pub reason_is : IsReasonAt language.holds limits point b reason
 
 -- these bytes, so many, led there
-abbrev pub Knows : {L : Type 0} (language : Ghosts L) → LimitValues → State L → (taken : ℕ) → List ℕ → List Item → Field → Type 0
-Knows language limits state taken bytes given field = (taken ≡ length bytes) × Reached language limits state bytes given field
+abbrev pub Knows : {L : Type 0} (language : Ghosts L) → LimitValues → State L → (taken : ℕ) → List ℕ → List Item → Point → Type 0
+Knows language limits state taken bytes given point = (taken ≡ length bytes) × Reached language limits state bytes given point
 
 -- the answer that a phase gives before it sees another byte
 abbrev pub answer_of : Phase → ℕ → Option Fed

@@ -5,7 +5,7 @@ use Rattle.ndef_lang.specs.Language.{Sets, Conditions}
 use Rattle.ndef_message.specs.Decoding.{Decodes}
 use Rattle.ndef_message.specs.Deep.{IsDeep, IsViable}
 use Rattle.ndef_message.specs.Feed.{Fronts, Leads}
-use Rattle.ndef_message.specs.Field.{Field}
+use Rattle.ndef_message.specs.Machine.Points.{Point}
 use Rattle.ndef_message.specs.Place.{Refuses}
 use Rattle.ndef_message.specs.Sources.{Gave, Supply, supply}
 use Rattle.ndef_message.specs.declared.message_checking.Look.{Look}
@@ -26,24 +26,24 @@ pub record Shown (before after : Supply) (bytes : List ℕ) (count : ℕ) : Type
   pub taken : Gave before after (take count bytes)
 
 -- what a turn did after a front: the source failed, or has ended, or the bytes that it showed were decoded
-abbrev pub Turned : Sets → Conditions → LimitValues → (new : Fronts) → (no_memory : Bool) → (before after : Supply) → (failed : Bool) → (front : List ℕ) → (given : List Item) → Field → Turn → Type 0
-Turned set holds limits new no_memory before after failed front given field turns.Fault = (failed ≡ true) × (after.taken ≡ before.taken)
-Turned set holds limits new no_memory before after failed front given field turns.End =
-    (failed ≡ false) × Gave before after [] × IfSome before.coming (λ input. input ≡ []) × new front given field
-Turned set holds limits new no_memory before after failed front given field (turns.Fed event) =
-    (failed ≡ false) × (bytes : List ℕ) × (count : ℕ) × Shown before after bytes count × Decodes set holds limits new no_memory front given field bytes count event
+abbrev pub Turned : Sets → Conditions → LimitValues → (new : Fronts Point) → (no_memory : Bool) → (before after : Supply) → (failed : Bool) → (front : List ℕ) → (given : List Item) → Point → Turn → Type 0
+Turned set holds limits new no_memory before after failed front given point turns.Fault = (failed ≡ true) × (after.taken ≡ before.taken)
+Turned set holds limits new no_memory before after failed front given point turns.End =
+    (failed ≡ false) × Gave before after [] × IfSome before.coming (λ input. input ≡ []) × new front given point
+Turned set holds limits new no_memory before after failed front given point (turns.Fed event) =
+    (failed ≡ false) × (bytes : List ℕ) × (count : ℕ) × Shown before after bytes count × Decodes set holds limits new no_memory front given point bytes count event
 
 -- what a turn did after a front: the source failed, or has ended, or the bytes that it showed go on, or some of them end the
 -- message, or one of them is refused
-abbrev pub Looked : Sets → Conditions → LimitValues → (new : Fronts) → (before after : Supply) → (failed : Bool) → (front : List ℕ) → (given : List Item) → Field → Look → Type 0
-Looked set holds limits new before after failed front given field looks.Fault = (failed ≡ true) × (after.taken ≡ before.taken)
-Looked set holds limits new before after failed front given field looks.End =
-    (failed ≡ false) × Gave before after [] × IfSome before.coming (λ input. input ≡ []) × new front given field
-Looked set holds limits new before after failed front given field looks.More =
+abbrev pub Looked : Sets → Conditions → LimitValues → (new : Fronts Point) → (before after : Supply) → (failed : Bool) → (front : List ℕ) → (given : List Item) → Point → Look → Type 0
+Looked set holds limits new before after failed front given point looks.Fault = (failed ≡ true) × (after.taken ≡ before.taken)
+Looked set holds limits new before after failed front given point looks.End =
+    (failed ≡ false) × Gave before after [] × IfSome before.coming (λ input. input ≡ []) × new front given point
+Looked set holds limits new before after failed front given point looks.More =
     (failed ≡ false) × (bytes : List ℕ) × (0 < length bytes) × Gave before after bytes
     × IsViable set limits (front ++ bytes) × (¬ IsDeep set limits (front ++ bytes)) × Leads new (front ++ bytes)
-Looked set holds limits new before after failed front given field looks.Done =
+Looked set holds limits new before after failed front given point looks.Done =
     (failed ≡ false) × (bytes : List ℕ) × Gave before after bytes × IsDeep set limits (front ++ bytes) × Leads new (front ++ bytes)
-Looked set holds limits new before after failed front given field (looks.Refused refusal) =
+Looked set holds limits new before after failed front given point (looks.Refused refusal) =
     (failed ≡ false) × (bytes : List ℕ) × Shown before after bytes (refusal.at - length front)
     × (refusal.at < length (front ++ bytes)) × Refuses set holds limits (front ++ bytes) refusal

@@ -24,24 +24,24 @@ loop-at-preserved g c =
 pub returns-in-Some-clause-fed : goal.returns-in-Some-clause-fed
 returns-in-Some-clause-fed g c =
     let inv = c.loop-at.invariant in
-    λ front given field x.
+    λ front given point x.
     feeding.feeds_answer c.format_laws.ensures.laws c.loop-at.self (subst AreInRange (sym inv.limits) c.format_laws.ensures.range) c.args.self.now.limits inv.limits front c.args.bytes.now c.loop-at.at
-    c.in-Some.answer (sym c.answer.ensures ∙ c.in-Some.is) (omega arith) (inv.sofar front given field x)
+    c.in-Some.answer (sym c.answer.ensures ∙ c.in-Some.is) (omega arith) (inv.sofar front given point x)
 
 pub returns-in-Some-answer-clause-fed : goal.returns-in-Some-answer-clause-fed
 returns-in-Some-answer-clause-fed g c =
     let m = c.loop-at.self in
     let inv = c.loop-at.invariant in
     let at : c.loop-at.at ≡ length c.args.bytes.now = omega arith in
-    λ front given field x.
+    λ front given point x.
     feeding.feeds_answer c.format_laws.ensures.laws m (subst AreInRange (sym inv.limits) c.format_laws.ensures.range) c.args.self.now.limits inv.limits front c.args.bytes.now (length c.args.bytes.now)
-    c.in-Some-answer.answer (sym c.answer-2.ensures ∙ c.in-Some-answer.is) (omega arith) (subst (feeding.Here (CheckerReached m) front c.args.bytes.now) at (inv.sofar front given field x))
+    c.in-Some-answer.answer (sym c.answer-2.ensures ∙ c.in-Some-answer.is) (omega arith) (subst (feeding.Here (CheckerReached m) front c.args.bytes.now) at (inv.sofar front given point x))
 
 pub returns-in-None-clause-fed : goal.returns-in-None-clause-fed
 returns-in-None-clause-fed g c =
     let m = c.loop-at.self in
     let inv = c.loop-at.invariant in
     let at : c.loop-at.at ≡ length c.args.bytes.now = omega arith in
-    λ front given field x.
+    λ front given point x.
     feeding.feeds_more c.format_laws.ensures.laws m (subst AreInRange (sym inv.limits) c.format_laws.ensures.range) c.args.self.now.limits inv.limits front c.args.bytes.now (length c.args.bytes.now)
-    (sym c.answer-2.ensures ∙ c.in-None.is) refl (subst (feeding.Here (CheckerReached m) front c.args.bytes.now) at (inv.sofar front given field x))
+    (sym c.answer-2.ensures ∙ c.in-None.is) refl (subst (feeding.Here (CheckerReached m) front c.args.bytes.now) at (inv.sofar front given point x))

@@ -44,7 +44,7 @@ invariant_of-self g c =
     }
 
 pub returns-clause-onward : goal.returns-clause-onward
-returns-clause-onward g c front given field k =
+returns-clause-onward g c front given point k =
     let s = c.args.self.now in
     let p = c.args.piece.now in
     let count = length c.args.bytes.now - length p.rest.now in
@@ -52,5 +52,5 @@ returns-clause-onward g c front given field k =
     let laws = c.format_laws.ensures in
     let due : answer_of s.state.phase 0 ≡ None = ap (λ p. answer_of p 0) c.requires.fresh.phase_is in
     let x = record_passed laws.laws s.limits laws.range g.met.L.OuterLanguage.others s.state new c.args.bytes.now p count c.requires.fresh c.requires.begins refl c.pass_record.ensures
-    front given field (going g.L.Language s.limits s.state 0 front given field due k.1) in
+    front given point (going g.L.Language s.limits s.state 0 front given point due k.1) in
     (x.0, x.1, taken_knows g.L.Language s.limits new front c.args.bytes.now count s.taken (omega arith) k.0 _ x.0 x.2)

@@ -26,8 +26,8 @@ invariant_of-self g c =
     }
 
 pub returns-clause-onward : goal.returns-clause-onward
-returns-clause-onward g c front given field k =
+returns-clause-onward g c front given point k =
     let s = c.args.self.now in
     let took = c.take_records-taken in
-    let x = took.ensures.onward front given field (going g.L.Language s.limits s.state 0 front given field c.requires.going k.1) in
+    let x = took.ensures.onward front given point (going g.L.Language s.limits s.state 0 front given point c.requires.going k.1) in
     (x.0, x.1, taken_knows g.L.Language s.limits took.new.self front c.args.bytes.now took.result s.taken took.ensures.within k.0 x.0 x.1 x.2)

@@ -23,7 +23,7 @@ pub invariant_of-self : goal.invariant_of-self
 invariant_of-self g c = record { led = ∥∥₁_map c.requires.begun (λ w. (w.0, w.1, w.2, (decoded.failed_same _ _ _ c.step-count.ensures.limits _ w.0 w.1 w.2 w.3, c.new.ensures))) }
 
 pub returns-in_default-clause-takes : goal.returns-in_default-clause-takes
-returns-in_default-clause-takes g c front given field was =
+returns-in_default-clause-takes g c front given point was =
     let s = c.args.self.now in
     let laws = c.format_laws.ensures in
     let step = c.step-count.ensures in
@@ -31,7 +31,7 @@ returns-in_default-clause-takes g c front given field was =
     let counted : c.step-count.new.self.taken - s.checker.taken ≡ c.step-count.result = (let n = step.taken in omega arith) in
     let after = c.step-count.new.self.state.phase in
     let is_kept = ap (λ n. take n c.args.bytes.now) c.accepted.ensures ∙ taking.kept_taken after c.args.bytes.now c.step-count.result step.most in
-    rw counted (taking.wanted laws.laws s.checker c.step-count.new.self step.limits laws.range c.requires.unfailed c.requires.going s.begun t (octets_taken c.step-count.result c.args.bytes.now (octets_each _ c.type_inv.bytes)) (taking.some_taken c.args.bytes.now c.step-count.result step.most step.some) step.onward front given field was (subst (WantsMemory s.checker.state.phase s.begun) is_kept (taking.if_refused _ _ c.keep.ensures.wanted c.in_default.not-Ok)))
+    rw counted (taking.wanted laws.laws s.checker c.step-count.new.self step.limits laws.range c.requires.unfailed c.requires.going s.begun t (octets_taken c.step-count.result c.args.bytes.now (octets_each _ c.type_inv.bytes)) (taking.some_taken c.args.bytes.now c.step-count.result step.most step.some) step.onward front given point was (subst (WantsMemory s.checker.state.phase s.begun) is_kept (taking.if_refused _ _ c.keep.ensures.wanted c.in_default.not-Ok)))
 
 pub invariant_of-self-in-Refused-1 : goal.invariant_of-self-in-Refused-1
 invariant_of-self-in-Refused-1 g c =
@@ -49,7 +49,7 @@ invariant_of-self-in-Refused-1 g c =
     }
 
 pub returns-in-Refused-clause-takes : goal.returns-in-Refused-clause-takes
-returns-in-Refused-clause-takes g c front given field was =
+returns-in-Refused-clause-takes g c front given point was =
     let s = c.args.self.now in
     let laws = c.format_laws.ensures in
     let step = c.step-count.ensures in
@@ -58,7 +58,7 @@ returns-in-Refused-clause-takes g c front given field was =
     let after = c.step-count.new.self.state.phase in
     let is_kept = ap (λ n. take n c.args.bytes.now) c.accepted.ensures ∙ taking.kept_taken after c.args.bytes.now c.step-count.result step.most in
     let kept = c.in-Ok.ensures.ok ∙ ap (opened_after s.checker.state.phase s.begun) is_kept in
-    rw counted (taking.refused_known laws.laws s.checker c.step-count.new.self step.limits laws.range c.requires.unfailed c.requires.going s.begun t (octets_taken c.step-count.result c.args.bytes.now (octets_each _ c.type_inv.bytes)) (taking.some_taken c.args.bytes.now c.step-count.result step.most step.some) step.onward front given field was c.in-Refused.refusal c.in-Refused.is kept)
+    rw counted (taking.refused_known laws.laws s.checker c.step-count.new.self step.limits laws.range c.requires.unfailed c.requires.going s.begun t (octets_taken c.step-count.result c.args.bytes.now (octets_each _ c.type_inv.bytes)) (taking.some_taken c.args.bytes.now c.step-count.result step.most step.some) step.onward front given point was c.in-Refused.refusal c.in-Refused.is kept)
 
 pub invariant_of-self-then-records-ended : goal.invariant_of-self-then-records-ended
 invariant_of-self-then-records-ended g c =
@@ -93,7 +93,7 @@ returns-then-records-ended g c =
       failed = λ h. cc;
       going = λ h. taking.none_due _ (λ done. somewhere.never_some _ s.led (λ w. taking.more_open laws.laws s.checker c.step-count.new.self step.limits laws.range c.requires.unfailed c.requires.going s.begun t (octets_taken c.step-count.result c.args.bytes.now (octets_each _ c.type_inv.bytes)) (taking.some_taken c.args.bytes.now c.step-count.result step.most step.some) step.onward w.0 w.1 w.2 w.3 c.in_default-after.not-Refused c.records-ended.ensures c.records.ensures kept c.if-records-ended.true done)) c.in_default-after.not-Refused;
       refused = λ refusal h. cc;
-      takes = λ front given field was. rw counted (taking.more_known laws.laws s.checker c.step-count.new.self step.limits laws.range c.requires.unfailed c.requires.going s.begun t (octets_taken c.step-count.result c.args.bytes.now (octets_each _ c.type_inv.bytes)) (taking.some_taken c.args.bytes.now c.step-count.result step.most step.some) step.onward front given field was c.in_default-after.not-Refused c.records-ended.ensures c.records.ensures kept c.if-records-ended.true);
+      takes = λ front given point was. rw counted (taking.more_known laws.laws s.checker c.step-count.new.self step.limits laws.range c.requires.unfailed c.requires.going s.begun t (octets_taken c.step-count.result c.args.bytes.now (octets_each _ c.type_inv.bytes)) (taking.some_taken c.args.bytes.now c.step-count.result step.most step.some) step.onward front given point was c.in_default-after.not-Refused c.records-ended.ensures c.records.ensures kept c.if-records-ended.true);
     }
 
 pub invariant_of-self-2 : goal.invariant_of-self-2
@@ -108,7 +108,7 @@ invariant_of-self-2 g c =
     record {
       led = ∥∥₁_map s.led (λ w.
           let x = taking.whole_known laws.laws s.checker c.step-count.new.self step.limits laws.range c.requires.unfailed c.requires.going s.begun t (octets_taken c.step-count.result c.args.bytes.now (octets_each _ c.type_inv.bytes)) (taking.some_taken c.args.bytes.now c.step-count.result step.most step.some) step.onward w.0 w.1 w.2 w.3 c.in_default-after.not-Refused c.records-ended.ensures c.records.ensures kept c.if-records-ended.false refl refl c.replace-begun.new.dest (c.replace-begun.ensures.after ∙ c.new-2.ensures) in
-          (w.0 ++ t, _, x.1.0, x.1.2));
+          (w.0 ++ t, _, x.2.0, x.2.1));
     }
 
 pub record-requires : goal.record-requires
@@ -147,6 +147,6 @@ returns g c =
       failed = λ h. cc;
       going = λ h. cc;
       refused = λ refusal h. cc;
-      takes = λ front given field was.
-          rw counted (taking.whole_known laws.laws s.checker c.step-count.new.self step.limits laws.range c.requires.unfailed c.requires.going s.begun t (octets_taken c.step-count.result c.args.bytes.now (octets_each _ c.type_inv.bytes)) (taking.some_taken c.args.bytes.now c.step-count.result step.most step.some) step.onward front given field was c.in_default-after.not-Refused c.records-ended.ensures c.records.ensures kept c.if-records-ended.false (c.record.ensures ∙ ap item_of c.replace-begun.ensures.value) (sym c.is_done.ensures) c.replace-begun.new.dest (c.replace-begun.ensures.after ∙ c.new-2.ensures));
+      takes = λ front given point was.
+          rw counted (taking.whole_known laws.laws s.checker c.step-count.new.self step.limits laws.range c.requires.unfailed c.requires.going s.begun t (octets_taken c.step-count.result c.args.bytes.now (octets_each _ c.type_inv.bytes)) (taking.some_taken c.args.bytes.now c.step-count.result step.most step.some) step.onward front given point was c.in_default-after.not-Refused c.records-ended.ensures c.records.ensures kept c.if-records-ended.false (c.record.ensures ∙ ap item_of c.replace-begun.ensures.value) (sym c.is_done.ensures) c.replace-begun.new.dest (c.replace-begun.ensures.after ∙ c.new-2.ensures));
     }

@@ -14,14 +14,14 @@ in_payload-requires-clause-some g c =
     omega (arith, length-take c.min-most-in-Payload.result c.args.bytes.now)
 
 pub returns-in-Head-clause-onward : goal.returns-in-Head-clause-onward
-returns-in-Head-clause-onward g c front given field stands at going =
+returns-in-Head-clause-onward g c front given point stands at going =
     let n = c.in_head.new.self in
-    subst (Onward g.L.Language c.args.limits.now n front given field) (sym (take_one c.args.bytes.now c.requires.some)) (c.in_head.ensures.onward front given field stands at)
+    subst (Onward g.L.Language c.args.limits.now n front given point) (sym (take_one c.args.bytes.now c.requires.some)) (c.in_head.ensures.onward front given point stands at)
 
 pub returns-in-Type-clause-onward : goal.returns-in-Type-clause-onward
-returns-in-Type-clause-onward g c front given field stands at going =
+returns-in-Type-clause-onward g c front given point stands at going =
     let n = c.in_type.new.self in
-    subst (Onward g.L.Language c.args.limits.now n front given field) (sym (take_one c.args.bytes.now c.requires.some)) (c.in_type.ensures.onward front given field stands at)
+    subst (Onward g.L.Language c.args.limits.now n front given point) (sym (take_one c.args.bytes.now c.requires.some)) (c.in_type.ensures.onward front given point stands at)
 
 pub returns-in-Id-clause-some : goal.returns-in-Id-clause-some
 returns-in-Id-clause-some g c =
@@ -33,19 +33,19 @@ returns-in-Id-clause-some g c =
     omega (arith, length-take c.min-most.result c.args.bytes.now)
 
 pub returns-in-Id-clause-onward : goal.returns-in-Id-clause-onward
-returns-in-Id-clause-onward g c front given field stands at going =
+returns-in-Id-clause-onward g c front given point stands at going =
     let n = c.in_id.new.self in
     let bytes = c.args.bytes.now in
     let most = c.min-most.ensures in
     let same : take c.min-most.result bytes ≡ take c.in_id.result bytes = ap (λ k. take k bytes) (sym (c.in_id.ensures.all ∙ length-take-le c.min-most.result bytes (omega arith))) in
-    subst (Onward g.L.Language c.args.limits.now n front given field) same (c.in_id.ensures.onward front given field stands)
+    subst (Onward g.L.Language c.args.limits.now n front given point) same (c.in_id.ensures.onward front given point stands)
 
 pub returns-in-Payload-clause-onward : goal.returns-in-Payload-clause-onward
-returns-in-Payload-clause-onward g c front given field stands at going =
+returns-in-Payload-clause-onward g c front given point stands at going =
     let n = c.in_payload.new.self in
     let bytes = c.args.bytes.now in
     let most = c.in_payload.ensures.most in
     let count = c.in_payload.result in
     let cut = length-take c.min-most-in-Payload.result bytes in
     let same : take count (take c.min-most-in-Payload.result bytes) ≡ take count bytes = take-take count c.min-most-in-Payload.result bytes (omega arith) in
-    subst (Onward g.L.Language c.args.limits.now n front given field) same (c.in_payload.ensures.onward front given field stands at)
+    subst (Onward g.L.Language c.args.limits.now n front given point) same (c.in_payload.ensures.onward front given point stands at)
