@@ -27,7 +27,7 @@ enum ndef_status {
     NDEF_REFUSED = 1,      /* no message, or no such payload: the answer has the place and the reason */
     NDEF_NO_ROOM = 2,      /* the room is too small: *count has what is needed, and the room is as it was */
     NDEF_BAD_ARGUMENT = 3, /* as each call says */
-    NDEF_END = 4           /* no record is left */
+    NDEF_END = 4           /* no record, reference or link is left */
 };
 
 /* Why the byte at a place cannot stand there. The names are those that ndef_reason_name gives. */
@@ -174,6 +174,61 @@ uint32_t ndef_text(const uint8_t *payload, size_t length, ndef_text_parts *out, 
  * UTF-8, or no payload has room for them. */
 uint32_t ndef_write_text(const uint8_t *language, size_t language_length, const uint8_t *text, size_t text_length,
                          uint8_t *room, size_t size, size_t *count);
+
+/* A handover carrier, by places and lengths in its payload. */
+typedef struct ndef_carrier_parts {
+    size_t type_at, type_length; /* the carrier type, up to 255 bytes */
+    size_t data_at, data_length; /* the carrier data */
+    uint32_t format;             /* the carrier type format, 0 to 7: what a type name format is to a type */
+} ndef_carrier_parts;
+
+/* Tells where the parts of a carrier lie in the payload of a Handover Carrier record (`Hc`); reserved bits are ignored.
+ * NDEF_OK: `out` has them, and `why` is as it was. NDEF_REFUSED: it is no such payload; `why` tells where and why (and 0
+ * records), and `out` is as it was. */
+uint32_t ndef_carrier(const uint8_t *payload, size_t length, ndef_carrier_parts *out, ndef_checked *why);
+
+/* Writes the payload of a Handover Carrier record, its reserved bits 0, to the front of the room, and its length to
+ * *count. NDEF_OK, NDEF_NO_ROOM; NDEF_BAD_ARGUMENT: a format above 7, a type of more than 255 bytes, or no payload has
+ * room for them. */
+uint32_t ndef_write_carrier(uint32_t format, const uint8_t *type, size_t type_length, const uint8_t *data,
+                            size_t data_length, uint8_t *room, size_t size, size_t *count);
+
+/* An alternative carrier of a handover. */
+typedef struct ndef_alternative_parts {
+    uint32_t power;      /* the power state of the carrier: 0 inactive, 1 active, 2 activating, 3 unknown */
+    uint32_t references; /* 1 to 256: the carrier data reference and the auxiliary ones */
+} ndef_alternative_parts;
+
+/* Tells the power state and how many references there are in the payload of an Alternative Carrier record (`ac`);
+ * reserved bits are ignored. The record stands in a handover request or select, whose payload is a version byte, alone
+ * or with a message behind it, which ndef_record_at walks.
+ * NDEF_OK: `out` has them, and `why` is as it was. NDEF_REFUSED: it is no such payload; `why` tells where and why (and 0
+ * records), and `out` is as it was. */
+uint32_t ndef_alternative(const uint8_t *payload, size_t length, ndef_alternative_parts *out, ndef_checked *why);
+
+/* A part of some bytes. */
+typedef struct ndef_part {
+    size_t at, length;
+} ndef_part;
+
+/* Tells where a reference lies in the payload of an Alternative Carrier record: 0 is the carrier data reference, the id
+ * of the record that describes the carrier, and those from 1 on are the auxiliary ones.
+ * NDEF_OK; NDEF_END: there is none with that index. NDEF_BAD_ARGUMENT: it is no such payload. */
+uint32_t ndef_reference(const uint8_t *payload, size_t length, size_t index, ndef_part *out);
+
+/* A smart poster. */
+typedef struct ndef_poster_parts {
+    size_t uri_at, uri_length;   /* the payload of its URI record, for ndef_uri */
+    uint32_t has_action, action; /* 1 and the action (0 do it, 1 save, 2 open, others reserved), or 0 and 0 */
+    uint32_t has_size, size;     /* 1 and the bytes of what the URI leads to, or 0 and 0 */
+} ndef_poster_parts;
+
+/* Tells where the URI of a smart poster lies in the payload of a Smart Poster record, its action and its size, of several
+ * the first. The payload is a message, which ndef_record_at walks to all its records. Flags: NDEF_STANDARD reads reserved
+ * values as the standard says.
+ * NDEF_OK: `out` has them, and `why` is as it was. NDEF_REFUSED: it is no such payload; `why` tells where and why (and 0
+ * records), and `out` is as it was. NDEF_BAD_ARGUMENT: an unknown flag. */
+uint32_t ndef_poster(const uint8_t *payload, size_t length, uint32_t flags, ndef_poster_parts *out, ndef_checked *why);
 
 #ifdef __cplusplus
 }

@@ -11,6 +11,10 @@ typedef char limits_lie[sizeof(ndef_limits) == 16 && offsetof(ndef_limits, flags
 typedef char checked_lies[sizeof(ndef_checked) == 16 && offsetof(ndef_checked, records) == 8 ? 1 : -1];
 typedef char record_lies[sizeof(ndef_record) == 88 && offsetof(ndef_record, tnf) == 80 ? 1 : -1];
 typedef char text_lies[sizeof(ndef_text_parts) == 40 && offsetof(ndef_text_parts, utf16) == 32 ? 1 : -1];
+typedef char carrier_lies[sizeof(ndef_carrier_parts) == 40 && offsetof(ndef_carrier_parts, format) == 32 ? 1 : -1];
+typedef char alternative_lies[sizeof(ndef_alternative_parts) == 8 && offsetof(ndef_alternative_parts, references) == 4 ? 1 : -1];
+typedef char part_lies[sizeof(ndef_part) == 16 && offsetof(ndef_part, length) == 8 ? 1 : -1];
+typedef char poster_lies[sizeof(ndef_poster_parts) == 32 && offsetof(ndef_poster_parts, size) == 28 ? 1 : -1];
 typedef char writing_lies[sizeof(ndef_writing) == 12 && offsetof(ndef_writing, chunk) == 8 ? 1 : -1];
 
 enum { FIELDS = 7, LINE = 1 << 22 };

@@ -1,4 +1,4 @@
-/* URIs and texts, each payload written and read back. */
+/* URIs, texts, carriers, alternative carriers and smart posters: each payload read, and written where it can be. */
 #include "ndef.h"
 
 #include <stdio.h>
@@ -61,8 +61,82 @@ static void texts(void) {
     expect(ndef_write_text(language, 2, (const uint8_t *)"\xc3", 1, room, sizeof room, &count) == NDEF_BAD_ARGUMENT, "no UTF-8 is written");
 }
 
+static void carriers(void) {
+    uint8_t room[64];
+    size_t count = 0;
+    ndef_carrier_parts parts;
+    ndef_checked why = { 7, 7, 7 };
+    const uint8_t *type = (const uint8_t *)"text/plain";
+    const uint8_t *data = (const uint8_t *)"abc";
+    expect(ndef_write_carrier(2, type, 10, data, 3, room, 14, &count) == NDEF_NO_ROOM && count == 15, "another length is needed");
+    expect(ndef_write_carrier(2, type, 10, data, 3, room, sizeof room, &count) == NDEF_OK, "a carrier isn't written");
+    expect(is(room, count, "\x02\x0a" "text/plainabc", 15), "a carrier has another payload");
+    room[0] |= 0xf8;
+    expect(ndef_carrier(room, count, &parts, &why) == NDEF_OK && why.place == 7, "a carrier isn't read");
+    expect(parts.format == 2 && parts.type_at == 2 && parts.type_length == 10 && parts.data_at == 12 && parts.data_length == 3,
+           "the parts of a carrier lie elsewhere");
+    expect(ndef_carrier((const uint8_t *)"\x01\x00", 2, &parts, &why) == NDEF_OK && parts.format == 1 && parts.type_length == 0
+           && parts.data_at == 2 && parts.data_length == 0, "an empty carrier isn't read");
+    parts.format = 7;
+    expect(ndef_carrier((const uint8_t *)"\x01\x03" "ab", 4, &parts, &why) == NDEF_REFUSED && parts.format == 7, "a type beyond the end is read");
+    expect(why.place == 1 && why.reason == NDEF_DOES_NOT_FIT && why.records == 0, "a type beyond the end is refused otherwise");
+    expect(ndef_write_carrier(8, type, 10, data, 3, room, sizeof room, &count) == NDEF_BAD_ARGUMENT, "a format of four bits is written");
+    uint8_t longest[256] = { 0 };
+    expect(ndef_write_carrier(2, longest, 256, data, 3, room, 0, &count) == NDEF_BAD_ARGUMENT, "a long type is written");
+    expect(ndef_write_carrier(2, longest, 255, data, 3, room, 0, &count) == NDEF_NO_ROOM && count == 260, "a type of 255 bytes isn't written");
+}
+
+static void alternatives(void) {
+    ndef_alternative_parts parts;
+    ndef_part part;
+    ndef_checked why = { 7, 7, 7 };
+    const uint8_t *payload = (const uint8_t *)"\x01\x01" "0\x02\x02" "xy\x00" "rest";
+    expect(ndef_alternative(payload, 12, &parts, &why) == NDEF_OK && why.place == 7, "an alternative carrier isn't read");
+    expect(parts.power == 1 && parts.references == 3, "an alternative carrier is another one");
+    expect(ndef_reference(payload, 12, 0, &part) == NDEF_OK && part.at == 2 && part.length == 1, "a carrier reference lies elsewhere");
+    expect(ndef_reference(payload, 12, 1, &part) == NDEF_OK && part.at == 5 && part.length == 2, "an auxiliary reference lies elsewhere");
+    expect(ndef_reference(payload, 12, 2, &part) == NDEF_OK && part.at == 8 && part.length == 0, "an empty reference lies elsewhere");
+    part.at = 77;
+    expect(ndef_reference(payload, 12, 3, &part) == NDEF_END && part.at == 77, "a reference too many is there");
+    expect(ndef_reference(payload, 12, (size_t)-1, &part) == NDEF_END && part.at == 77, "the last reference of all is there");
+    expect(ndef_reference(payload, 7, 0, &part) == NDEF_BAD_ARGUMENT && part.at == 77, "a reference of no payload is there");
+    expect(ndef_alternative((const uint8_t *)"\xff\x00\x00", 3, &parts, &why) == NDEF_OK && parts.power == 3 && parts.references == 1,
+           "the least alternative carrier isn't read");
+    parts.power = 7;
+    expect(ndef_alternative((const uint8_t *)"\x01\x01" "0", 3, &parts, &why) == NDEF_REFUSED && parts.power == 7, "no count is read");
+    expect(why.place == 1 && why.reason == NDEF_DOES_NOT_FIT && why.records == 0, "no count is refused otherwise");
+}
+
+static void posters(void) {
+    ndef_poster_parts parts;
+    ndef_checked why = { 7, 7, 7 };
+    uint8_t room[64];
+    size_t count = 0;
+    /* "T" en Hi, "act" 1, "U" http://www.a, "s" 65536, "act" 0 */
+    static const uint8_t poster[] = { 0x91, 1, 5, 'T', 2, 'e', 'n', 'H', 'i', 0x11, 3, 1, 'a', 'c', 't', 1, 0x11, 1, 2, 'U', 1, 'a',
+                                      0x11, 1, 4, 's', 0, 1, 0, 0, 0x51, 3, 1, 'a', 'c', 't', 0 };
+    expect(ndef_poster(poster, sizeof poster, 0, &parts, &why) == NDEF_OK && why.place == 7, "a poster isn't read");
+    expect(parts.uri_at == 20 && parts.uri_length == 2, "the URI of a poster lies elsewhere");
+    expect(parts.has_action == 1 && parts.action == 1 && parts.has_size == 1 && parts.size == 65536, "a poster says something else");
+    expect(ndef_uri(poster + parts.uri_at, parts.uri_length, 0, room, sizeof room, &count, &why) == NDEF_OK, "the URI of a poster isn't read");
+    expect(is(room, count, "http://www.a", 12), "the URI of a poster is another one");
+    const uint8_t *least = (const uint8_t *)"\xd1\x01\x02U\x00" "a";
+    expect(ndef_poster(least, 6, 0, &parts, &why) == NDEF_OK && parts.uri_at == 4 && parts.uri_length == 2, "the least poster isn't read");
+    expect(!parts.has_action && !parts.action && !parts.has_size && !parts.size, "the least poster says something");
+    parts.uri_at = 77;
+    expect(ndef_poster((const uint8_t *)"\xd1\x01\x01T\x00", 5, 0, &parts, &why) == NDEF_REFUSED && parts.uri_at == 77, "a poster has no URI");
+    expect(why.place == 3 && why.reason == NDEF_URI_MISSING && why.records == 0, "a poster with no URI is refused otherwise");
+    const uint8_t *reserved = (const uint8_t *)"\xd1\x01\x02U\x24" "a";
+    expect(ndef_poster(reserved, 6, 0, &parts, &why) == NDEF_REFUSED && why.place == 4 && why.reason == NDEF_URI_CODE, "a reserved code is read");
+    expect(ndef_poster(reserved, 6, NDEF_STANDARD, &parts, &why) == NDEF_OK && parts.uri_at == 4, "the standard reads no reserved code");
+    expect(ndef_poster(least, 6, 2, &parts, &why) == NDEF_BAD_ARGUMENT, "an unknown flag is taken");
+}
+
 int main(void) {
     uris();
     texts();
+    carriers();
+    alternatives();
+    posters();
     return failed != 0;
 }

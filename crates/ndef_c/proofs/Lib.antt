@@ -1,6 +1,10 @@
+pub mod Ahead
+pub mod Alternatives
+pub mod Carriers
 pub mod Copied
 pub mod Followed
 pub mod Places
+pub mod Posters
 pub mod Prefixed
 pub mod Puts
 pub mod Records

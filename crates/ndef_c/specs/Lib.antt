@@ -1,5 +1,9 @@
+pub mod Alternatives
+pub mod Carriers
 pub mod Checks
+pub mod Nested
 pub mod Payloads
+pub mod Posters
 pub mod Rooms
 pub mod Runs
 pub mod Texts

@@ -2,10 +2,15 @@
 //! says what each call demands, answers and leaves.
 #![tactic(auto)]
 
+mod alternative;
+mod carrier;
 mod checking;
 mod laws;
 mod limits;
+mod nested;
+mod part;
 mod payload;
+mod poster;
 mod reasons;
 mod record;
 mod refusal;
@@ -16,10 +21,14 @@ mod text;
 mod uri;
 mod writing;
 
+pub use alternative::{NdefAlternative, ndef_alternative, ndef_reference};
+pub use carrier::{NdefCarrier, ndef_carrier, ndef_write_carrier};
 pub use checking::{NdefChecked, ndef_check};
 pub use laws::{checks_are_walked, one_record_is_there, records_make_a_message};
 pub use limits::{NdefLimits, ndef_usual_limits};
+pub use part::NdefPart;
 pub use payload::ndef_payload;
+pub use poster::{NdefPoster, ndef_poster};
 pub use reasons::ndef_reason_name;
 pub use record::{NdefRecord, ndef_record_at};
 pub use status::{BAD_ARGUMENT, END, NO_ROOM, OK, REFUSED};

@@ -1,6 +1,6 @@
 -- The records of nested messages, one after another.
-use Rattle.std.proofs.Common.{◌≡◌, ℕ, suc, ◌+◌, ◌<◌, ◌≤◌, ◌⊎◌, zero, get_or, Bool, false, List, [], ◌∷◌, ◌++◌, length, take, refl, sym, ◌∙◌, ap, subst, inl, inr, arith, Option, Some, None}
-use Rattle.std.specs.Prelude.{slice_get, if◌then◌else◌, count_by, filter, option_map, IfSome}
+use Rattle.std.proofs.Common.{◌≡◌, ℕ, suc, ◌+◌, ◌<◌, ◌≤◌, ◌⊎◌, zero, get_or, Bool, List, [], ◌∷◌, ◌++◌, length, take, refl, sym, ◌∙◌, ap, subst, inl, inr, arith, Option, Some, None}
+use Rattle.std.specs.Prelude.{slice_get, if◌then◌else◌, filter, option_map, IfSome}
 use Rattle.std.specs.List.{AllByRecursion}
 use Rattle.std.proofs.lemmas.Bool.{cases_lt}
 use Rattle.std.proofs.lemmas.List.{take_more, take_all}
@@ -12,9 +12,10 @@ use Rattle.ndef_value.specs.declared.profile.Profile.TheVariants.{Strict}
 use Rattle.ndef_lang.specs.Leaf.{IsPayload}
 use Rattle.ndef_lang.specs.declared.kind.Kind.{Kind}
 use Rattle.ndef_lang.specs.declared.kind.Kind.TheVariants as kinds
-use Rattle.ndef_nest.specs.Nested.{HasContents, IsComplete, kind_in, is_uri}
+use Rattle.ndef_nest.specs.Nested.{HasContents, IsComplete, kind_in}
 use Rattle.ndef_nest.specs.declared.table.Table.{Table}
 use Rattle.ndef_nest.specs.declared.table.Table.TheVariants.{SmartPoster, Request}
+use Rattle.ndef_types.specs.ContentsLaws.{has_at, no_uris, not_uri, one_if_uri, uris}
 use Rattle.ndef_types.specs.Contents.{AreInOrder, IsFirst, IsFirstAt, IsInOrder, IsOfKind, Lack}
 
 -- the record that a loop over them has reached
@@ -68,11 +69,6 @@ request_in_order items records e are h =
 
 -- ---- the first record of a kind
 
-has_at : (P : Item → Type 0) (items : List Item) (k : ℕ) (i : Item) → AllByRecursion P items → slice_get items k ≡ Some i → P i
-has_at P [] k i h e = absurd (cc)
-has_at P (j ∷ items) zero i h e = let p : j ≡ i = cc in subst P p h.0
-has_at P (j ∷ items) (suc k) i h e = has_at P items k i h.1 e
-
 pub first_payload : {X : Type 0} (f : X → Item) (kind : Kind) (items : List Item) (result : Option X) → HasContents SmartPoster Strict items
     → IsFirst (IsOfKind SmartPoster kind) items (option_map f result) → IfSome result (λ x. IsPayload kind Strict (f x).payload)
 first_payload f kind items None h r = tt
@@ -82,25 +78,9 @@ first_payload f kind items (Some x) h r =
 
 -- ---- the one URI of a poster
 
-abbrev pub uris : List Item → ℕ
-uris = count_by (λ i. is_uri (kind_in SmartPoster i.tnf i.kind))
-
-abbrev pub one_if_uri : Item → ℕ
-one_if_uri i = if is_uri (kind_in SmartPoster i.tnf i.kind) then 1 else 0
-
-not_uri : (kind : Kind) → (kind ≡ kinds.Uri → ⊥) → is_uri kind ≡ false
-not_uri kinds.Uri h = absurd (h refl)
-not_uri _ h = refl
-
 uri_kind : (kind : Kind) → (kind ≡ kinds.Uri → ⊥) ⊎ (kind ≡ kinds.Uri)
 uri_kind kinds.Uri = inr refl
 uri_kind _ = inl (λ e. cc)
-
-pub no_uris : (items : List Item) → Lack (IsOfKind SmartPoster kinds.Uri) items → uris items ≡ 0
-no_uris [] h = refl
-no_uris (i ∷ items) h =
-    let e : one_if_uri i ≡ 0 = rw (not_uri (kind_in SmartPoster i.tnf i.kind) h.0) refl in
-    omega (arith, e, sum_by-cons one_if_uri i items, no_uris items h.1)
 
 uris_more : (xs : List Item) (i : Item) → uris (xs ++ i ∷ []) ≡ uris xs + one_if_uri i
 uris_more [] i = omega (arith, sum_by-cons one_if_uri i [])

@@ -13,7 +13,8 @@ use Rattle.ndef_lang.specs.Leaf.{IsPayload}
 use Rattle.ndef_lang.specs.Uri.{IsUri}
 use Rattle.ndef_nest.specs.Nested.{HasContents, kind_in, is_uri}
 use Rattle.ndef_nest.specs.declared.table.Table.TheVariants.{SmartPoster}
-use Rattle.ndef_types.proofs.ContentsLemmas.{filter_grows, uris, one_if_uri}
+use Rattle.ndef_types.proofs.ContentsLemmas.{filter_grows}
+use Rattle.ndef_types.specs.ContentsLaws.{uris, one_if_uri}
 use Rattle.ndef_types.specs.Posters.{plain, plain_code, plain_payload, is_text, titles, StandForTexts}
 use Rattle.ndef_types.specs.Values.{TextValue, StandsForText}
 

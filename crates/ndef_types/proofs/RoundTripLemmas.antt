@@ -1,22 +1,8 @@
--- A payload that is in the set isn't refused, so what was written for a value is decoded to it.
-use Rattle.std.proofs.Common.{ℕ, ◌+◌, ◌^◌, ◌<◌, ◌≤◌, List, length, drop, Ok, Err, sym, subst, inl, inr, arith, length-drop}
-use Rattle.std.proofs.lemmas.List.{take-append-drop}
-use Rattle.ndef_value.specs.declared.reason.Reason.{Reason}
-use Rattle.ndef_value.specs.declared.refusal.Refusal.{Refusal}
-use Rattle.ndef_lang.specs.Place.{CanEnd, IsRefused}
+-- What was written for a value is decoded to it.
+use Rattle.std.proofs.Common.{ℕ, List, Ok, Err}
 use Rattle.ndef_types.specs.declared.error.DecodeError.TheVariants as errors
-use Rattle.ndef_types.specs.Decoding.{Payloads, Reasons, Meaning, Writing, RefusesPayload, OneValue, RoundTrips}
-
-can_end : (set : Payloads) (s : List ℕ) (n : ℕ) → n ≤ length s → set s → CanEnd set s n
-can_end set s n l h = (drop n s, (subst set (sym (take-append-drop n s)) h, omega (arith, length-drop n s)))
-
-not_refused : (set : Payloads) (holds : Reasons) (s : List ℕ) (place : ℕ) (reason : Reason) → set s → IsRefused set holds s place reason → ⊥
-not_refused set holds s place reason h (inl x) = x.0 (can_end set s 0 (omega arith) h)
-not_refused set holds s place reason h (inr x) = x.2 (can_end set s (place + 1) (omega (arith, x.0)) h)
-
-set_not_refused : (set : Payloads) (holds : Reasons) (s : List ℕ) (refusal : Refusal) → set s → length s < 2 ^ 32 → RefusesPayload set holds s refusal → ⊥
-set_not_refused set holds s refusal h l (inl x) = omega (arith, x.0)
-set_not_refused set holds s refusal h l (inr x) = not_refused set holds s refusal.at refusal.reason h x.1
+use Rattle.ndef_types.specs.Decoding.{Payloads, Reasons, Meaning, Writing, OneValue, RoundTrips}
+use Rattle.ndef_types.specs.DecodingLaws.{set_not_refused}
 
 pub round_trip : {V : Type 0} (set : Payloads) (holds : Reasons) (stands : Meaning V) (values : V → Type 0) (written : Writing V)
     → ((v : V) (s : List ℕ) → values v → written v s → set s × stands s v) → OneValue set stands → RoundTrips set holds stands values written

@@ -1,6 +1,8 @@
 pub mod Alternatives
 pub mod Contents
+pub mod ContentsLaws
 pub mod Decoding
+pub mod DecodingLaws
 pub mod Equality
 pub mod EqualityLaws
 pub mod Handovers

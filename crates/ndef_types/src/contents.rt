@@ -7,7 +7,7 @@ use ndef_nest::Table;
 use ndef_value::{Profile, Record};
 
 /// Whether two kinds are one.
-pub(crate) fn is_kind(kind: Kind, other: Kind) -> bool
+pub fn is_kind(kind: Kind, other: Kind) -> bool
     ensures { IsTrue result ↔ (kind ≡ other) }
 {
     kind == other

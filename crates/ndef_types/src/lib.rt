@@ -30,6 +30,7 @@ pub use accepting::accept;
 pub use action::Action;
 pub use alternative::{Ac, TooMany};
 pub use carrier::Carrier;
+pub use contents::is_kind;
 pub use encoding::Encoding;
 pub use error::{DecodeError, EncodeError};
 pub use handover_error::{DetailError, HandoverError};

@@ -1,5 +1,5 @@
 use Rattle.std.proofs.Common.{arith}
-use Rattle.ndef_types.proofs.ContentsLemmas.{no_uris}
+use Rattle.ndef_types.specs.ContentsLaws.{no_uris}
 use Rattle.ndef_types.proofs.smart_poster.SmartPoster.uri.Goals as goal
 
 pub unreachable-requires : goal.unreachable-requires

@@ -1,0 +1,35 @@
+-- Where the parts of a handover carrier lie.
+use Rattle.std.proofs.Common.{◌≡◌, ℕ, ◌+◌, ◌-◌, ◌%◌, ◌≤◌, ◌∷◌, [], take, drop, sym, refl, ◌∙◌, ap, arith, List, length, get_or, length-drop}
+use Rattle.std.proofs.lemmas.List.{drop-drop, take_all, length-take-le}
+use Rattle.ndef_value.specs.Wire.{AreOctets}
+use Rattle.ndef_lang.specs.Carrier.{IsCarrier}
+use Rattle.ndef_lang.specs.Octets.{IsOctet}
+use Rattle.ndef_lang.specs.OctetLaws.{field_parts}
+use Rattle.ndef_types.specs.Values.{CarrierValue, StandsForCarrier}
+use Rattle.ndef_c.specs.Walks.{Lies}
+
+-- its parts, where so many octets are those of the type
+pub record Parts (payload : List ℕ) (n : ℕ) : Type 0 where
+  pub within : 2 + n ≤ length payload
+  pub carrier : CarrierValue
+  pub stands : StandsForCarrier payload carrier
+  pub format : get_or payload 0 0 % 8 ≡ carrier.format
+  pub kind : Lies payload 2 n carrier.kind
+  pub carried : Lies payload (2 + n) (length payload - (2 + n)) carrier.carried
+
+pub carrier_parts : (payload : List ℕ) (n : ℕ) → IsCarrier payload → n ≡ get_or payload 1 0 → Parts payload n
+carrier_parts [] n h e = absurd h
+carrier_parts (format ∷ []) n h e = absurd h.1
+carrier_parts (format ∷ k ∷ s) n h e =
+    let p = field_parts IsOctet k AreOctets s h.1.1 in
+    let size = length-take-le k s p.within in
+    let l = length-drop k s in
+    rw e
+    (record {
+      within = omega (arith, p.within);
+      carrier = record { format = format % 8; kind = take k s; carried = drop k s };
+      stands = (refl, refl, refl);
+      format = refl;
+      kind = record { are = refl; count_is = sym size };
+      carried = record { are = ap (take (length (format ∷ k ∷ s) - (2 + k))) (sym (drop-drop k 2 (format ∷ k ∷ s))) ∙ take_all (length (format ∷ k ∷ s) - (2 + k)) (drop k s) (omega (arith, l)); count_is = omega (arith, l) };
+    })

@@ -1,0 +1,52 @@
+use Rattle.std.proofs.Common.{◌≡◌, ◌+◌, ◌++◌, ◌∷◌, [], length, refl, sym, ◌∙◌, ap, subst, true≢false}
+use Rattle.ndef_message.specs.WrittenLaws.{some_left}
+use Rattle.ndef_nest.specs.Nested.{kind_in}
+use Rattle.ndef_types.specs.Contents.{IsOfKind, Lack}
+use Rattle.ndef_piece.specs.Whole.{shown}
+use Rattle.ndef_c.specs.Walks.{Lies}
+use Rattle.ndef_c.proofs.Ahead.{ahead_at, all_done, behind_piece, empty_rest, first_is, lack_on, piece_ahead, reached}
+use Rattle.ndef_c.proofs.Places.{lie_in, shown_parts}
+use Rattle.ndef_c.proofs.nested.first_of.Goals as goal
+
+pub loop-rest-init : goal.loop-rest-init
+loop-rest-init c = record { at = 0; rest_is = refl; ahead = λ profile items h. ([], ahead_at profile items c.args.bytes.now h, tt) }
+
+pub unreachable-requires : goal.unreachable-requires
+unreachable-requires c =
+    let a = c.loop-rest.invariant.ahead c.requires.0 c.requires.1 c.requires.2 in
+    c.in_default.ensures.none (piece_ahead a.1 (some_left c.loop-rest.rest.now _ c.is_empty.ensures c.loop-rest-test.true))
+
+pub returns-then-is_kind : goal.returns-then-is_kind
+returns-then-is_kind c = λ profile items h.
+    let bytes = c.args.bytes.now in
+    let f = c.in-Some.piece in
+    let i = c.loop-rest.invariant in
+    let a = i.ahead profile items h in
+    let r = reached c.heads_are_apart.ensures.apart a.1 (shown f) _ _ c.in-Some.ensures.piece in
+    let k : kind_in c.args.table r.item.tnf r.item.kind ≡ c.kind.result = (λ j. kind_in c.args.table (r.is.tnf j) (r.is.kind j)) ∙ sym (c.kind.ensures ∙ ap (λ t. kind_in c.args.table t f.kind.now) c.tnf.ensures) in
+    let p = lie_in f.header f.kind.now f.id.now f.payload.now f.rest.now bytes
+    (shown_parts f.header _ f.kind.now f.id.now f.payload.now f.rest.now c.loop-rest.rest.now bytes i.at i.rest_is c.in-Some.ensures.no_id c.in-Some.ensures.piece) in (
+      r.item,
+      first_is (IsOfKind c.args.table c.args.kind) items a.0 r.item r.within a.2 (k ∙ c.is_kind.ensures.0 c.if-is_kind.true),
+      record { payload = sym r.is.payload; lies = subst (Lies bytes _ _) (sym r.is.payload) p.payload_lies },
+    )
+
+pub loop-rest-preserved : goal.loop-rest-preserved
+loop-rest-preserved c =
+    let f = c.in-Some.piece in
+    let i = c.loop-rest.invariant in
+    let s = c.in-Some.ensures.piece in
+    record {
+      at = i.at + length s.front;
+      rest_is = behind_piece (shown f) _ _ _ c.args.bytes.now i.at i.rest_is s;
+      ahead = λ profile items h.
+          let a = i.ahead profile items h in
+          let r = reached c.heads_are_apart.ensures.apart a.1 (shown f) _ _ s in
+          let k : kind_in c.args.table r.item.tnf r.item.kind ≡ c.kind.result = (λ j. kind_in c.args.table (r.is.tnf j) (r.is.kind j)) ∙ sym (c.kind.ensures ∙ ap (λ t. kind_in c.args.table t f.kind.now) c.tnf.ensures) in
+          (a.0 ++ r.item ∷ [], r.next, lack_on (IsOfKind c.args.table c.args.kind) a.0 r.item a.2 (λ e. true≢false (sym (c.is_kind.ensures.1 (sym k ∙ e)) ∙ c.if-is_kind.false)));
+    }
+
+pub returns : goal.returns
+returns c = λ profile items h.
+    let a = c.loop-rest.invariant.ahead profile items h in
+    subst (Lack (IsOfKind c.args.table c.args.kind)) (sym (all_done items a.0 c.loop-rest.rest.now a.1 (empty_rest c.loop-rest.rest.now (sym c.is_empty.ensures ∙ c.loop-rest-test.false)))) a.2

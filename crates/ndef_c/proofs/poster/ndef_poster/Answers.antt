@@ -1,0 +1,15 @@
+use Rattle.std.proofs.Common.{subst}
+use Rattle.ndef_nest.specs.Conditions.{NestReason}
+use Rattle.ndef_nest.specs.Nested.{IsNest}
+use Rattle.ndef_nest.specs.declared.table.Table.TheVariants.{SmartPoster}
+use Rattle.ndef_types.specs.Decoding.{RefusesPayload}
+use Rattle.ndef_c.proofs.poster.ndef_poster.Goals as goal
+
+pub returns-in-Err-clause-refused : goal.returns-in-Err-clause-refused
+returns-in-Err-clause-refused c = λ _. record {
+  refusal = c.in-Err.refusal;
+  refused = subst (λ p. RefusesPayload (IsNest SmartPoster 65535 p) (NestReason SmartPoster 65535 p) c.args.payload.now c.in-Err.refusal) c.profile_of.ensures c.in-Err.ensures.err;
+  place = c.refused_by.ensures.place;
+  records = c.refused_by.ensures.records;
+  reason = c.refused_by.ensures.reason;
+}

@@ -1,0 +1,40 @@
+-- What is told of the payload of an alternative carrier.
+use Rattle.std.specs.Prelude.{◌≡◌, ℕ, ◌^◌, ◌<◌, ◌≤◌, List, ◌∷◌, length, slice_get, Some}
+use Rattle.ndef_lang.specs.Alternative.{IsAlternative}
+use Rattle.ndef_types.specs.Values.{AcValue, StandsForAc, power_code}
+use Rattle.ndef_c.specs.Walks.{Lies}
+use Rattle.ndef_c.specs.declared.alternative.NdefAlternative.{NdefAlternative}
+use Rattle.ndef_c.specs.declared.part.NdefPart.{NdefPart}
+
+-- Connection Handover 1.2, Alternative Carrier record: the carrier data reference, and the auxiliary ones
+abbrev pub references : AcValue → List (List ℕ)
+references v = v.reference ∷ v.auxiliary
+
+-- Connection Handover 1.2, Alternative Carrier record: the payload is that of an alternative carrier: its power state, and how many references it has
+pub record IsAlternativeAt (payload : List ℕ) (out : NdefAlternative) : Type 0 where
+  pub in_set : IsAlternative payload
+  pub short : length payload < 2 ^ 32
+  pub alternative : AcValue
+  pub stands : StandsForAc payload alternative
+  pub power : out.power ≡ power_code alternative.power
+  pub references_are : out.references ≡ length (references alternative)
+
+-- the name with the index lies there
+abbrev pub LiesAt : List ℕ → List (List ℕ) → ℕ → NdefPart → Type 0
+LiesAt payload names index part = (name : List ℕ) × (slice_get names index ≡ Some name) × Lies payload part.at part.length name
+
+-- Connection Handover 1.2, Alternative Carrier record: the payload is that of an alternative carrier, and where the reference with the index lies
+pub record IsReferenceAt (payload : List ℕ) (index : ℕ) (out : NdefPart) : Type 0 where
+  pub in_set : IsAlternative payload
+  pub short : length payload < 2 ^ 32
+  pub alternative : AcValue
+  pub stands : StandsForAc payload alternative
+  pub lies : LiesAt payload (references alternative) index out
+
+-- Connection Handover 1.2, Alternative Carrier record: the payload is that of an alternative carrier with no such reference
+pub record HasNoReference (payload : List ℕ) (index : ℕ) : Type 0 where
+  pub in_set : IsAlternative payload
+  pub short : length payload < 2 ^ 32
+  pub alternative : AcValue
+  pub stands : StandsForAc payload alternative
+  pub beyond : length (references alternative) ≤ index

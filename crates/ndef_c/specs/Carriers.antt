@@ -1,0 +1,26 @@
+-- What is told of the payload of a handover carrier, and which carriers may be written.
+use Rattle.std.specs.Prelude.{◌≡◌, ℕ, ◌^◌, ◌+◌, ◌<◌, List, length}
+use Rattle.ndef_lang.specs.Carrier.{IsCarrier}
+use Rattle.ndef_types.specs.Values.{CarrierValue, StandsForCarrier}
+use Rattle.ndef_c.specs.Walks.{Lies}
+use Rattle.ndef_c.specs.declared.carrier.NdefCarrier.{NdefCarrier}
+
+-- Connection Handover 1.2, Handover Carrier record: the payload is that of a carrier, and where its parts lie
+pub record IsCarrierAt (payload : List ℕ) (out : NdefCarrier) : Type 0 where
+  pub in_set : IsCarrier payload
+  pub short : length payload < 2 ^ 32
+  pub carrier : CarrierValue
+  pub stands : StandsForCarrier payload carrier
+  pub format : out.format ≡ carrier.format
+  pub kind : Lies payload out.type_at out.type_length carrier.kind
+  pub carried : Lies payload out.data_at out.data_length carrier.carried
+
+-- Connection Handover 1.2, Handover Carrier record: a format of three bits and a type of up to 255 octets that leave room in a payload
+pub record MayBeCarrier (format : ℕ) (kind carried : List ℕ) : Type 0 where
+  pub three_bits : format < 8
+  pub short : length kind < 256
+  pub fits : 2 + (length kind + length carried) < 2 ^ 32
+
+-- Connection Handover 1.2, Handover Carrier record: the carrier of these parts
+abbrev pub carrier_of : (format : ℕ) (kind carried : List ℕ) → CarrierValue
+carrier_of format kind carried = record { format = format; kind = kind; carried = carried }

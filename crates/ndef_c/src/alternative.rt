@@ -1,0 +1,143 @@
+//! The payloads of Alternative Carrier records (Connection Handover 1.2).
+ghost use Rattle.std.specs.Prelude.{◌≡◌, ◌≢◌, ◌<◌, ◌≤◌, ◌+◌, ◌^◌, ◌↔◌, ◌⊎◌, length, slice_index, IfNone, IfSome};
+ghost use Rattle.ndef_lang.specs.Alternative.{IsAlternative};
+ghost use Rattle.ndef_lang.specs.Language.{NoReason};
+ghost use Rattle.ndef_types.specs.Values.{AcValue, StandsForAc};
+ghost use Rattle.ndef_c.specs.Alternatives.{HasNoReference, IsAlternativeAt, IsReferenceAt, LiesAt, references};
+ghost use Rattle.ndef_c.specs.Payloads.{RefusesWith};
+
+use crate::checking::NdefChecked;
+use crate::part::NdefPart;
+use crate::refusal::refused_by;
+use crate::status::{BAD_ARGUMENT, END, OK, REFUSED};
+use ndef_lang::{AcLang, Kind};
+use ndef_types::{accept, alternatives_are_exact};
+use ndef_value::Profile;
+
+/// An alternative carrier.
+#[repr(C)]
+#[derive(Clone, Copy, Drop)]
+pub struct NdefAlternative {
+    /// The power state of the carrier, 0 to 3.
+    pub power: u32,
+    /// How many references there are, 1 to 256: the carrier data reference and the auxiliary ones.
+    pub references: u32,
+}
+
+/// The power state of an alternative carrier, and how many references it has.
+fn alternative_at(payload: &[u8]) -> NdefAlternative
+    requires alternative { IsAlternative payload.now }
+    requires short { length payload.now < 2 ^ 32 }
+    ensures { IsAlternativeAt payload.now result }
+{
+    alternatives_are_exact();
+    let auxiliary = payload[2 + usize::from(payload[1])];
+    NdefAlternative {
+        power: u32::from(payload[0] % 4),
+        references: 1 + u32::from(auxiliary),
+    }
+}
+
+/// Tells the power state of the alternative carrier for which the payload of an Alternative Carrier
+/// record stands, and how many references it has.
+#[unsafe(no_mangle)]
+pub extern "C" fn ndef_alternative(
+    payload: &[u8],
+    out: &mut NdefAlternative,
+    why: &mut NdefChecked,
+) -> u32
+    ensures known { (result ≡ OK) ⊎ (result ≡ REFUSED) }
+    ensures alternative { result ≡ OK → IsAlternativeAt payload.now out.new }
+    ensures refused { result ≡ REFUSED → RefusesWith IsAlternative (λ s b. NoReason) payload.now why.new }
+    ensures kept { result ≡ REFUSED → out.new ≡ out.old }
+    ensures kept_why { result ≡ OK → why.new ≡ why.old }
+{
+    match accept::<AcLang>(Kind::Alternative, Profile::Strict, payload) {
+        Ok(()) => {
+            *out = alternative_at(payload);
+            OK
+        }
+        Err(refusal) => {
+            *why = refused_by(refusal);
+            REFUSED
+        }
+    }
+}
+
+/// The reference that stands behind its length at a place.
+fn counted_at(payload: &[u8], at: usize) -> NdefPart
+    requires { at < length payload.now }
+    ensures at { result.at ≡ at + 1 }
+    ensures length { result.length ≡ slice_index payload.now at }
+{
+    NdefPart {
+        at: at + 1,
+        length: usize::from(payload[at]),
+    }
+}
+
+/// The auxiliary reference with an index of at most their count.
+fn auxiliary_at(payload: &[u8], index: usize) -> NdefPart
+    requires alternative { IsAlternative payload.now }
+    requires index { index < slice_index payload.now (2 + slice_index payload.now 1) }
+    ensures { (v : AcValue) → StandsForAc payload.now v → LiesAt payload.now v.auxiliary index result }
+{
+    let mut at = 3 + usize::from(payload[1]);
+    for _before in 0..index {
+        at += 1 + usize::from(payload[at]);
+    }
+    counted_at(payload, at)
+}
+
+/// The reference with an index, 0 the carrier data reference.
+fn reference_at(payload: &[u8], index: usize) -> Option<NdefPart>
+    requires { IsAlternative payload.now }
+    ensures none { (v : AcValue) → StandsForAc payload.now v
+        → IfNone result (length (references v) ≤ index) }
+    ensures some { (v : AcValue) → StandsForAc payload.now v
+        → IfSome result (λ part. LiesAt payload.now (references v) index part) }
+{
+    if index == 0 {
+        return Some(counted_at(payload, 1));
+    }
+    let count = usize::from(payload[2 + usize::from(payload[1])]);
+    if index > count {
+        return None;
+    }
+    Some(auxiliary_at(payload, index - 1))
+}
+
+/// Tells where the reference with an index lies, if there is one.
+fn give_reference(payload: &[u8], index: usize, out: &mut NdefPart) -> u32
+    requires alternative { IsAlternative payload.now }
+    requires short { length payload.now < 2 ^ 32 }
+    ensures known { (result ≡ OK) ⊎ (result ≡ END) }
+    ensures reference { result ≡ OK → IsReferenceAt payload.now index out.new }
+    ensures end { result ≡ END → HasNoReference payload.now index }
+    ensures kept { result ≢ OK → out.new ≡ out.old }
+{
+    alternatives_are_exact();
+    match reference_at(payload, index) {
+        Some(part) => {
+            *out = part;
+            OK
+        }
+        None => END,
+    }
+}
+
+/// Tells where the reference with an index lies in the payload of an Alternative Carrier record: 0 is
+/// the carrier data reference, and the auxiliary ones follow.
+#[unsafe(no_mangle)]
+pub extern "C" fn ndef_reference(payload: &[u8], index: usize, out: &mut NdefPart) -> u32
+    ensures known { (result ≡ OK) ⊎ (result ≡ END) ⊎ (result ≡ BAD_ARGUMENT) }
+    ensures bad { result ≡ BAD_ARGUMENT ↔ ¬ (IsAlternative payload.now × (length payload.now < 2 ^ 32)) }
+    ensures reference { result ≡ OK → IsReferenceAt payload.now index out.new }
+    ensures end { result ≡ END → HasNoReference payload.now index }
+    ensures kept { result ≢ OK → out.new ≡ out.old }
+{
+    match accept::<AcLang>(Kind::Alternative, Profile::Strict, payload) {
+        Ok(()) => give_reference(payload, index, out),
+        Err(_) => BAD_ARGUMENT,
+    }
+}

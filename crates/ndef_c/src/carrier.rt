@@ -1,0 +1,102 @@
+//! The payloads of Handover Carrier records (Connection Handover 1.2).
+ghost use Rattle.std.specs.Prelude.{◌≡◌, ◌<◌, ◌≤◌, ◌^◌, ◌↔◌, ◌⊎◌, length, IsTrue};
+ghost use Rattle.ndef_lang.specs.Carrier.{IsCarrier};
+ghost use Rattle.ndef_lang.specs.Language.{NoReason};
+ghost use Rattle.ndef_types.specs.Values.{WritesCarrier};
+ghost use Rattle.ndef_c.specs.Carriers.{IsCarrierAt, MayBeCarrier, carrier_of};
+ghost use Rattle.ndef_c.specs.Payloads.{GivesFor, RefusesWith};
+
+use crate::checking::NdefChecked;
+use crate::refusal::refused_by;
+use crate::room::give_parts;
+use crate::status::{BAD_ARGUMENT, OK, REFUSED};
+use ndef_lang::{HcLang, Kind};
+use ndef_types::accept;
+use ndef_value::Profile;
+
+/// A handover carrier, by places and lengths in its payload.
+#[repr(C)]
+#[derive(Clone, Copy, Drop)]
+pub struct NdefCarrier {
+    /// Where the carrier type begins.
+    pub type_at: usize,
+    /// The bytes of the carrier type, at most 255.
+    pub type_length: usize,
+    /// Where the carrier data begins.
+    pub data_at: usize,
+    /// The bytes of the carrier data.
+    pub data_length: usize,
+    /// The carrier type format, 0 to 7.
+    pub format: u32,
+}
+
+/// Where the parts of a carrier lie in its payload.
+fn carrier_at(payload: &[u8]) -> NdefCarrier
+    requires carrier { IsCarrier payload.now }
+    requires short { length payload.now < 2 ^ 32 }
+    ensures { IsCarrierAt payload.now result }
+{
+    let type_length = usize::from(payload[1]);
+    let data_at = 2 + type_length;
+    NdefCarrier {
+        type_at: 2,
+        type_length,
+        data_at,
+        data_length: payload.len() - data_at,
+        format: u32::from(payload[0] % 8),
+    }
+}
+
+/// Tells where the parts of the carrier lie for which the payload of a Handover Carrier record stands.
+#[unsafe(no_mangle)]
+pub extern "C" fn ndef_carrier(payload: &[u8], out: &mut NdefCarrier, why: &mut NdefChecked) -> u32
+    ensures known { (result ≡ OK) ⊎ (result ≡ REFUSED) }
+    ensures carrier { result ≡ OK → IsCarrierAt payload.now out.new }
+    ensures refused { result ≡ REFUSED → RefusesWith IsCarrier (λ s b. NoReason) payload.now why.new }
+    ensures kept { result ≡ REFUSED → out.new ≡ out.old }
+    ensures kept_why { result ≡ OK → why.new ≡ why.old }
+{
+    match accept::<HcLang>(Kind::Carrier, Profile::Strict, payload) {
+        Ok(()) => {
+            *out = carrier_at(payload);
+            OK
+        }
+        Err(refusal) => {
+            *why = refused_by(refusal);
+            REFUSED
+        }
+    }
+}
+
+/// Whether a carrier of these parts may be written.
+fn may_be_carrier(format: u32, kind: &[u8], carried: &[u8]) -> bool
+    ensures { IsTrue result ↔ MayBeCarrier format kind.now carried.now }
+{
+    format < 8 && kind.len() < 256 && carried.len() <= u32::MAX as usize - 2 - kind.len()
+}
+
+/// Writes the payload of a Handover Carrier record, its reserved bits 0, to the room.
+#[unsafe(no_mangle)]
+pub extern "C" fn ndef_write_carrier(
+    format: u32,
+    kind: &[u8],
+    carried: &[u8],
+    room: &mut [u8],
+    count: &mut usize,
+) -> u32
+    ensures bad { result ≡ BAD_ARGUMENT ↔ ¬ MayBeCarrier format kind.now carried.now }
+    ensures kept { result ≡ BAD_ARGUMENT → (room.new ≡ room.old) × (count.new ≡ count.old) }
+    ensures payload { MayBeCarrier format kind.now carried.now
+        → GivesFor WritesCarrier (carrier_of format kind.now carried.now) room.old room.new count.new result }
+{
+    if !may_be_carrier(format, kind, carried) {
+        return BAD_ARGUMENT;
+    }
+    give_parts(
+        &[format as u8, kind.len() as u8],
+        kind,
+        carried,
+        room,
+        count,
+    )
+}

@@ -1,0 +1,150 @@
+//! The payloads of Smart Poster records (RTD Smart Poster 1.0).
+ghost use Rattle.std.specs.Prelude.{◌≡◌, ◌≢◌, ◌<◌, ◌^◌, ◌↔◌, ◌⊎◌, List, length, option_map, Some};
+ghost use Rattle.std.specs.Int.{w32, from_be_bytes};
+ghost use Rattle.ndef_value.specs.Wire.{Item};
+ghost use Rattle.ndef_value.specs.declared.profile.Profile.{Profile};
+ghost use Rattle.ndef_lang.specs.declared.kind.Kind.TheVariants as kinds;
+ghost use Rattle.ndef_nest.specs.Conditions.{NestReason};
+ghost use Rattle.ndef_nest.specs.Nested.{IsNest};
+ghost use Rattle.ndef_nest.specs.declared.table.Table.TheVariants as tables;
+ghost use Rattle.ndef_types.specs.Contents.{IsOfKind};
+ghost use Rattle.ndef_types.specs.Posters.{Says, action_in, action_of, size_in};
+ghost use Rattle.ndef_c.specs.Checks.{profile_of};
+ghost use Rattle.ndef_c.specs.Nested.{FirstLies, Tells};
+ghost use Rattle.ndef_c.specs.Payloads.{RefusesWith};
+ghost use Rattle.ndef_c.specs.Posters.{IsPosterAt, HasRecords};
+
+use crate::checking::NdefChecked;
+use crate::limits::profile_of;
+use crate::nested::{Found, first_of};
+use crate::refusal::refused_by;
+use crate::status::{BAD_ARGUMENT, OK, REFUSED};
+use ndef_lang::Kind;
+use ndef_nest::{Nest, Table};
+use ndef_types::accept;
+
+/// A smart poster: where the payload of its URI record lies in its payload, its action and its size.
+#[repr(C)]
+#[derive(Clone, Copy, Drop)]
+pub struct NdefPoster {
+    /// Where the payload of its URI record begins.
+    pub uri_at: usize,
+    /// The bytes of that payload.
+    pub uri_length: usize,
+    /// 1 where it recommends an action, else 0.
+    pub has_action: u32,
+    /// The action, 0 to 255; 0 without one.
+    pub action: u32,
+    /// 1 where it tells the size of what it refers to, else 0.
+    pub has_size: u32,
+    /// That size in bytes; 0 without one.
+    pub size: u32,
+}
+
+/// The payload of its URI record.
+fn uri_of(payload: &[u8]) -> Found<'_>
+    requires { (profile : Profile) × (items : List Item) × HasRecords profile items payload.now }
+    ensures { (profile : Profile) (items : List Item) → HasRecords profile items payload.now
+        → FirstLies (IsOfKind tables.SmartPoster kinds.Uri) items payload.now (Some result) }
+{
+    match first_of(Table::SmartPoster, payload, Kind::Uri) {
+        Some(found) => found,
+        None => unreachable!(),
+    }
+}
+
+/// What its first action record says.
+fn action_of(payload: &[u8]) -> Option<u32>
+    requires { (profile : Profile) × (items : List Item) × HasRecords profile items payload.now }
+    ensures { (profile : Profile) (items : List Item) → HasRecords profile items payload.now
+        → Says kinds.Action action_in items (option_map action_of result) }
+{
+    let Some(found) = first_of(Table::SmartPoster, payload, Kind::Action) else {
+        return None;
+    };
+    Some(u32::from(found.payload[0]))
+}
+
+/// The number of four octets, most significant first.
+fn number_of(octets: &[u8]) -> u32
+    requires { length octets.now ≡ 4 }
+    ensures { result ≡ from_be_bytes w32 octets.now }
+{
+    match octets {
+        [a, b, c, d] => u32::from_be_bytes([*a, *b, *c, *d]),
+        _ => unreachable!(),
+    }
+}
+
+/// What its first size record says.
+fn size_of(payload: &[u8]) -> Option<u32>
+    requires { (profile : Profile) × (items : List Item) × HasRecords profile items payload.now }
+    ensures { (profile : Profile) (items : List Item) → HasRecords profile items payload.now
+        → Says kinds.Size size_in items result }
+{
+    let Some(found) = first_of(Table::SmartPoster, payload, Kind::Size) else {
+        return None;
+    };
+    Some(number_of(found.payload))
+}
+
+/// 1 and a number, or 0 and 0 for none.
+fn told(number: Option<u32>) -> (u32, u32)
+    ensures { Tells number result.0 result.1 }
+{
+    match number {
+        Some(number) => (1, number),
+        None => (0, 0),
+    }
+}
+
+/// Where the payload of the poster's URI record lies, its action and its size.
+fn poster_at(payload: &[u8]) -> NdefPoster
+    requires nest { (profile : Profile) × IsNest tables.SmartPoster 65535 profile payload.now }
+    requires short { length payload.now < 2 ^ 32 }
+    ensures { (profile : Profile) → IsNest tables.SmartPoster 65535 profile payload.now
+        → IsPosterAt profile payload.now result }
+{
+    let uri = uri_of(payload);
+    let (has_action, action) = told(action_of(payload));
+    let (has_size, size) = told(size_of(payload));
+    NdefPoster {
+        uri_at: uri.at,
+        uri_length: uri.payload.len(),
+        has_action,
+        action,
+        has_size,
+        size,
+    }
+}
+
+/// Tells where the payload of the URI record of a smart poster lies, its action and its size.
+#[unsafe(no_mangle)]
+pub extern "C" fn ndef_poster(
+    payload: &[u8],
+    flags: u32,
+    out: &mut NdefPoster,
+    why: &mut NdefChecked,
+) -> u32
+    ensures bad { result ≡ BAD_ARGUMENT ↔ (1 < flags) }
+    ensures known { (result ≡ OK) ⊎ (result ≡ REFUSED) ⊎ (result ≡ BAD_ARGUMENT) }
+    ensures poster { result ≡ OK → IsPosterAt (profile_of flags) payload.now out.new }
+    ensures refused { result ≡ REFUSED → RefusesWith (IsNest tables.SmartPoster 65535 (profile_of flags))
+        (NestReason tables.SmartPoster 65535 (profile_of flags)) payload.now why.new }
+    ensures kept { result ≢ OK → out.new ≡ out.old }
+    ensures kept_why { result ≢ REFUSED → why.new ≡ why.old }
+{
+    if flags > 1 {
+        return BAD_ARGUMENT;
+    }
+    match accept::<Nest>(Kind::SmartPoster, profile_of(flags), payload) {
+        Ok(()) => {
+            *out = poster_at(payload);
+            OK
+        }
+        Err(refusal) => {
+            *why = refused_by(refusal);
+            REFUSED
+        }
+    }
+}
