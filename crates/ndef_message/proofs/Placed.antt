@@ -5,9 +5,9 @@ use Rattle.ndef_value.specs.declared.reason.Reason.{Reason}
 use Rattle.ndef_lang.specs.Language.{Conditions}
 use Rattle.ndef_piece.specs.declared.spot.Spot.{Spot}
 use Rattle.ndef_piece.specs.Heads.{IsOpen, MayStand}
-use Rattle.ndef_piece.specs.Walk.{Before, spot, standing}
+use Rattle.ndef_piece.specs.Walk.{Before, spot, standing, IsCounted, WalksAreCounted}
 use Rattle.ndef_piece.specs.Field as fields
-use Rattle.ndef_piece.specs.Field.{spot_after, IsAt, EndsAt, AreBefore, IsCounted, WalksAreCounted}
+use Rattle.ndef_piece.specs.Field.{spot_after, IsAt, EndsAt, AreBefore}
 use Rattle.ndef_message.specs.Opened.{begun_record, AreRecords}
 use Rattle.ndef_message.specs.Place.{IsReason, IsReasonOf}
 use Rattle.ndef_message.specs.Machine.Points.{Point, InHead, InType, InId, InPayload, AtEnd, before, field_of, octets_so_far, IsPart, IsProper, IsAtPoint, IsReasonAt, IsBetween}

@@ -7,9 +7,9 @@ use Rattle.std.proofs.lemmas.Bool.{cases_Bool, eq-eqb, false≢true}
 use Rattle.std.proofs.lemmas.Bool.Decides.{eqb_tells}
 use Rattle.std.proofs.lemmas.Grind.{flat_map-append}
 use Rattle.ndef_value.specs.Wire.{Piece, Run, Item, pieces, payload_of, joined, tnf_of, all_pieces, Follow, EndsOnce, LimitValues}
-use Rattle.ndef_piece.specs.Field.{spot_after, PiecesStand, RunsStand, AreBefore, NoneLast, ended_run, PiecesGoOn, WalksAreCounted}
+use Rattle.ndef_piece.specs.Field.{spot_after, PiecesStand, RunsStand, AreBefore, NoneLast, ended_run, PiecesGoOn}
 use Rattle.ndef_piece.specs.Pieces.{Stands}
-use Rattle.ndef_piece.specs.Walk.{Before, outside, inside, start, spot, extended, ended, after, Walk, Walked, standing}
+use Rattle.ndef_piece.specs.Walk.{Before, outside, inside, start, spot, extended, ended, after, Walk, Walked, standing, WalksAreCounted}
 use Rattle.ndef_piece.proofs.RunShapes.{run}
 use Rattle.ndef_piece.proofs.WalksToRuns.{over_after, ends_once}
 
@@ -155,9 +155,6 @@ record Counted (limits : LimitValues) (runs : List Run) (begun ps : List Piece) 
   done_are : map joined runs ++ done ≡ map joined all
   before : AreBefore limits all rest
   known : d ≡ behind limits d.over all rest
-
-one_fewer : (a n : ℕ) → a - n - 1 ≡ a - (n + 1)
-one_fewer a n = omega arith
 
 -- between runs
 outside_more : (limits : LimitValues) (last : Bool) (runs : List Run) (r : Run) → outside limits false last (limits.records - length runs - 1) ≡ behind limits last (runs ++ r ∷ []) []

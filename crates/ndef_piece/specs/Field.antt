@@ -1,11 +1,10 @@
 -- The field of the next octet of a message: it follows from the octets before it.
-use Rattle.std.specs.Prelude.{◌≡◌, ℕ, ◌+◌, ◌-◌, ◌<◌, ◌==◌, ◌&&◌, not, Bool, true, false, List, [], ◌∷◌, ◌++◌, length, map, unwrap_or, ⊤}
+use Rattle.std.specs.Prelude.{◌≡◌, ℕ, ◌+◌, ◌-◌, ◌<◌, ◌==◌, ◌&&◌, not, Bool, true, false, List, [], ◌∷◌, ◌++◌, length, unwrap_or, ⊤}
 use Rattle.std.specs.List.{AllByRecursion}
-use Rattle.ndef_value.specs.Wire.{Piece, Fields, octets, AreOctets, SpellAll, Run, Item, pieces, all_pieces, joined, payload_of, Follow, EndsOnce, LimitValues}
+use Rattle.ndef_value.specs.Wire.{Piece, Fields, octets, AreOctets, SpellAll, Run, pieces, all_pieces, payload_of, Follow, EndsOnce, LimitValues}
 use Rattle.ndef_piece.specs.declared.spot.Spot.{Spot}
 use Rattle.ndef_piece.specs.Heads.{MayStand, IsOpen}
 use Rattle.ndef_piece.specs.Pieces.{Stands}
-use Rattle.ndef_piece.specs.Walk.{start, spot, standing, Before, Walked}
 
 -- ---- fields
 
@@ -115,20 +114,3 @@ abbrev pub PiecesGoOn : Type 0
 PiecesGoOn = (limits : LimitValues) (runs : List Run) (begun : List Piece) (p : Piece) → AreBefore limits runs begun
     → Stands (spot_after limits runs begun) p
     → (p.chunked ≡ true → AreBefore limits runs (begun ++ p ∷ [])) × (p.chunked ≡ false → AreBefore limits (runs ++ ended_run begun p ∷ []) [])
-
--- the runs that a walk has completed, and the pieces of the one that it is in
-pub record IsCounted (limits : LimitValues) (ps : List Piece) (done : List Item) (d : Before) : Type 0 where
-  pub runs : List Run
-  pub begun : List Piece
-  pub pieces_are : ps ≡ all_pieces runs ++ begun
-  pub done_are : done ≡ map joined runs
-  pub before : AreBefore limits runs begun
-  pub spot_is : spot limits.profile d ≡ spot_after limits runs begun
-  pub known : d ≡ standing limits d.first d.over (limits.records - length runs) begun
-  pub over : d.over ≡ true → EndsOnce ps
-  pub not_over : d.over ≡ false → NoneLast ps
-
--- What is known after a walk follows from the runs that it has completed, and from the pieces of the one that it is in.
-abbrev pub WalksAreCounted : Type 0
-WalksAreCounted = (limits : LimitValues) (ps : List Piece) (done : List Item) (d : Before) → Walked limits (start limits) ps done d
-    → IsCounted limits ps done d

@@ -7,8 +7,8 @@ pub mod Reading
 pub mod Inside
 pub mod Bounds
 pub mod Pieces
-pub mod Walk
 pub mod Field
+pub mod Walk
 pub mod Fronts
 pub mod Rest
 pub mod Whole

@@ -1,9 +1,10 @@
 -- The pieces of a message, one after another, each at its spot.
-use Rattle.std.specs.Prelude.{◌≡◌, ℕ, ◌-◌, ◌^◌, ◌<◌, ◌≤◌, ◌==◌, Bool, true, false, List, [], ◌∷◌, ◌++◌, length, is_some, unwrap_or, Option, Some, None, ◌↔◌, if◌then◌else◌}
-use Rattle.ndef_value.specs.Wire.{Piece, IsPiece, AreOctets, Run, Item, joined, payload_of, tnf_of, all_pieces, IsMessage, LimitValues, AreInRange, IsWithin}
+use Rattle.std.specs.Prelude.{◌≡◌, ℕ, ◌-◌, ◌^◌, ◌<◌, ◌≤◌, map, ◌==◌, Bool, true, false, List, [], ◌∷◌, ◌++◌, length, is_some, unwrap_or, Option, Some, None, ◌↔◌, if◌then◌else◌}
+use Rattle.ndef_value.specs.Wire.{Piece, IsPiece, AreOctets, Run, Item, joined, payload_of, tnf_of, all_pieces, EndsOnce, IsMessage, LimitValues, AreInRange, IsWithin}
 use Rattle.ndef_value.specs.declared.profile.Profile.{Profile}
 use Rattle.ndef_piece.specs.declared.spot.Spot.{Spot}
 use Rattle.ndef_piece.specs.Pieces.{Stands}
+use Rattle.ndef_piece.specs.Field.{spot_after, AreBefore, NoneLast}
 
 -- what is known before a piece, by the pieces before it
 pub record Before : Type 0 where
@@ -78,6 +79,18 @@ standing limits first over records [] = outside limits first over records
 standing limits first over records (p ∷ ps) =
     inside records (limits.pieces - length (p ∷ ps)) (limits.payload - length (payload_of (p ∷ ps))) (joined (record { initial = p; later = ps }))
 
+-- the runs that a walk has completed, and the pieces of the one that it is in
+pub record IsCounted (limits : LimitValues) (ps : List Piece) (done : List Item) (d : Before) : Type 0 where
+  pub runs : List Run
+  pub begun : List Piece
+  pub pieces_are : ps ≡ all_pieces runs ++ begun
+  pub done_are : done ≡ map joined runs
+  pub before : AreBefore limits runs begun
+  pub spot_is : spot limits.profile d ≡ spot_after limits runs begun
+  pub known : d ≡ standing limits d.first d.over (limits.records - length runs) begun
+  pub over : d.over ≡ true → EndsOnce ps
+  pub not_over : d.over ≡ false → NoneLast ps
+
 -- ---- laws
 
 -- The pieces that walk from the start are those of the messages within the limits.
@@ -97,6 +110,11 @@ RunsGoOn = (limits : LimitValues) (records pieces room : ℕ) (m : Item) (ps : L
     → Walk limits (inside records pieces room m) ps items
     ↔ ((payload : List ℕ) × (rest : List Item) × (items ≡ record m { payload = m.payload ++ payload } ∷ rest)
     × Walk limits (inside records pieces room (record m { payload = [] })) ps (record m { payload = payload } ∷ rest))
+
+-- What is known after a walk follows from the runs that it has completed, and from the pieces of the one that it is in.
+abbrev pub WalksAreCounted : Type 0
+WalksAreCounted = (limits : LimitValues) (ps : List Piece) (done : List Item) (d : Before) → Walked limits (start limits) ps done d
+    → IsCounted limits ps done d
 
 -- A message that is not over can be ended by one piece, with any payload that has room.
 abbrev pub WalksCanEnd : Type 0

@@ -4,8 +4,8 @@ ghost use Rattle.ndef_piece.specs.Conditions.{ConditionsAreInOrder};
 ghost use Rattle.ndef_piece.specs.Reading.{ConditionsAreExact, OneAnswer};
 ghost use Rattle.ndef_piece.specs.Bounds.{BoundsOfFronts, BoundsOfHeads};
 ghost use Rattle.ndef_piece.specs.Pieces.{HeadsOfPieces, PiecesOfHeads, HeadsOfBytes, LengthsOfPieces};
-ghost use Rattle.ndef_piece.specs.Walk.{WalksAreMessages, WalksAreCut, WalksCanEnd, RunsGoOn};
-ghost use Rattle.ndef_piece.specs.Field.{OneField, PiecesGoOn, WalksAreCounted};
+ghost use Rattle.ndef_piece.specs.Walk.{WalksAreMessages, WalksAreCut, WalksAreCounted, WalksCanEnd, RunsGoOn};
+ghost use Rattle.ndef_piece.specs.Field.{OneField, PiecesGoOn};
 ghost use Rattle.ndef_piece.specs.Fronts.{FrontsHaveSpots};
 ghost use Rattle.ndef_piece.specs.Rest.{RestsAreFlat, RestsEnd, RestsPastHeads, RestsWithinHeads, RestsCanFollow};
 

@@ -11,7 +11,7 @@ use Rattle.ndef_message.specs.declared.decoder.Decoder.{Decoder}
 abbrev pub decoder_limits : {L : Type 0} {language : Ghosts L} → Decoder L language → LimitValues
 decoder_limits d = d.checker.limits
 
--- these bytes led there, a refused one with them: they end these records, and this is the field of the next byte, or of the
+-- these bytes led there, a refused one with them: they end these records, and this is the point before the next byte, or before the
 -- refused one
 abbrev pub DecoderReached : {L : Type 0} {language : Ghosts L} → Decoder L language → Fronts Point
 DecoderReached d = DecoderKnows d.checker d.failed d.begun

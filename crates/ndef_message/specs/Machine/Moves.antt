@@ -1,33 +1,33 @@
--- From one field of a piece to the next, octets after octets.
+-- From one point of a message to the next, octets after octets.
 use Rattle.std.specs.Prelude.{◌≡◌, ◌+◌, ◌≤◌, ℕ, nat_lt, List, [], ◌++◌, length, unwrap_or, ◌⊎◌, if◌then◌else◌}
 use Rattle.ndef_value.specs.Wire.{Item, Fields, octets, LimitValues}
 use Rattle.ndef_piece.specs.Heads.{MayStand}
 use Rattle.ndef_piece.specs.Walk.{Before, spot, ended, after}
 use Rattle.ndef_message.specs.Machine.Points.{Point, InHead, InType, InId, InPayload, AtEnd, piece}
 
--- the field where a piece begins, if one does
+-- the point where a piece begins, if one does
 abbrev pub point_after : Before → Point
 point_after c = if c.over then AtEnd c else InHead c []
 
--- the records ended, and the next field, where the head and these parts of a piece have come
+-- the records ended, and the next point, where the head and these parts of a piece have come
 abbrev pub given_next : LimitValues → List Item → Before → Fields → (kind id payload : List ℕ) → List Item
 given_next limits given c f kind id payload =
     if nat_lt (length kind) f.kind_length then given
     else (if nat_lt (length id) (unwrap_or f.id_length 0) then given
     else (if nat_lt (length payload) f.payload_length then given else given ++ ended c (piece f kind id payload)))
 
--- NDEF 1.0, record layout: the field behind these parts of a piece
+-- NDEF 1.0, record layout: the point behind these parts of a piece
 abbrev pub point_next : LimitValues → Before → Fields → (kind id payload : List ℕ) → Point
 point_next limits c f kind id payload =
     if nat_lt (length kind) f.kind_length then InType c f kind
     else (if nat_lt (length id) (unwrap_or f.id_length 0) then InId c f kind id
     else (if nat_lt (length payload) f.payload_length then InPayload c f kind id payload else point_after (after limits c (piece f kind id payload))))
 
--- these are the records ended and the field then
+-- these are the records ended and the point then
 abbrev pub GoesTo : LimitValues → List Item → Before → Fields → (kind id payload : List ℕ) → List Item → Point → Type 0
 GoesTo limits given c f kind id payload given' point' = (given' ≡ given_next limits given c f kind id payload) × (point' ≡ point_next limits c f kind id payload)
 
--- the field with these octets more of it
+-- the point behind these octets more of its field
 abbrev pub point_with : Point → List ℕ → Point
 point_with (InHead c xs) t = InHead c (xs ++ t)
 point_with (InType c f kind) t = InType c f (kind ++ t)
@@ -35,7 +35,7 @@ point_with (InId c f kind id) t = InId c f kind (id ++ t)
 point_with (InPayload c f kind id payload) t = InPayload c f kind id (payload ++ t)
 point_with (AtEnd c) t = AtEnd c
 
--- NDEF 1.0, record layout: the records ended and the field, after these octets of a field
+-- NDEF 1.0, record layout: the records ended and the point, after these octets of a field
 abbrev pub Moves : LimitValues → List Item → Point → List ℕ → List Item → Point → Type 0
 Moves limits given (InHead c xs) t given' point' =
     ((given' ≡ given) × (point' ≡ InHead c (xs ++ t))) ⊎ ((f : Fields) × MayStand (spot limits.profile c) f × (octets f ≡ xs ++ t) × GoesTo limits given c f [] [] [] given' point')

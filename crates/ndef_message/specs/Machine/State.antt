@@ -95,7 +95,7 @@ pub record Reads (reader : KindReader) (f : Fields) (kind : List ℕ) (left : �
   pub kinds : (more : List ℕ) → kind_after reader more ≡ (if length more == left then kind_of (tnf_of f.tnf) (kind ++ more) else Other)
 
 module _ {L : Type 0} (language : Ghosts L) (limits : LimitValues) (state : State L) where
-  -- the fields tell the field of the next byte
+  -- the fields of the state tell the point
   abbrev pub Matches : Point → Type 0
   Matches (InHead c xs) =
       (state.place ≡ numbers c) × (state.phase ≡ phases.Head) × (state.reader ≡ record { spot = spot limits.profile c; octets = xs; answer = steps.More }) × SpeaksIf language limits state.payload c.begun
@@ -127,7 +127,7 @@ module _ {L : Type 0} (language : Ghosts L) (limits : LimitValues) (state : Stat
     pub counted : state.place.records + length given ≡ limits.records
     pub reason : IsReasonAt language.holds limits point byte refusal.reason
 
-  -- these bytes led here: they end these records, and this is the field of the next byte, or of the one that was refused
+  -- these bytes led here: they end these records, and this is the point before the next byte, or before the one that was refused
   abbrev pub Reached : List ℕ → List Item → Point → Type 0
   Reached bytes given point = Stands bytes given point ⊎ Stopped bytes given point
 
