@@ -40,6 +40,22 @@ class TextParts(ctypes.Structure):
     _fields_ = _sizes('language_at language_length text_at text_length') + _numbers('utf16')
 
 
+class PosterParts(ctypes.Structure):
+    _fields_ = _sizes('uri_at uri_length') + _numbers('has_action action has_size size')
+
+
+class CarrierParts(ctypes.Structure):
+    _fields_ = _sizes('type_at type_length data_at data_length') + _numbers('format')
+
+
+class AlternativeParts(ctypes.Structure):
+    _fields_ = _numbers('power references')
+
+
+class Part(ctypes.Structure):
+    _fields_ = _sizes('at length')
+
+
 _shared = ctypes.CDLL(os.path.join(os.path.dirname(os.path.abspath(__file__)), 'libndef.so'))
 
 
@@ -60,6 +76,11 @@ uri = _call('ndef_uri', _octets, _size, _u32, *_room, _to)
 write_uri = _call('ndef_write_uri', _octets, _size, *_room)
 text = _call('ndef_text', _octets, _size, _to, _to)
 write_text = _call('ndef_write_text', _octets, _size, _octets, _size, *_room)
+poster = _call('ndef_poster', _octets, _size, _u32, _to, _to)
+carrier = _call('ndef_carrier', _octets, _size, _to, _to)
+write_carrier = _call('ndef_write_carrier', _u32, _octets, _size, _octets, _size, *_room)
+alternative = _call('ndef_alternative', _octets, _size, _to, _to)
+reference = _call('ndef_reference', _octets, _size, _size, _to)
 
 
 def limits(flags):

@@ -39,6 +39,15 @@ def _message_end(octets, limits):
     return checked.place
 
 
+def check_payload(spelled, octets):
+    """Refuses octets that are no payload of a record of this type."""
+    record = Record(spelled, '', octets)._written(library.FIRST | library.LAST, 0)
+    try:
+        _message_end(record, _typed)
+    except DecodeError as error:
+        raise DecodeError(max(0, error.place - len(record) + len(octets)), error.reason) from None
+
+
 def _ahead(stream, size):
     """About so many octets that the stream gives next, which aren't taken; none where it can't show them."""
     if hasattr(stream, 'peek'):
@@ -69,12 +78,11 @@ def _from_stream(stream, limits):
             return octets, checked.place
 
 
-def records_of(octets, end, known_parts):
-    """The records of a message that has been checked and that ends there."""
-    parts, at = library.RecordParts(), 0
+def records_of(octets, end, known_parts, at=0):
+    """The records of a message that has been checked and that lies between two places."""
+    parts = library.RecordParts()
     told = byref(parts)
-    while at < end:
-        library.record_at(octets, end, at, told)
+    while at < end and library.record_at(octets, end, at, told) == library.OK:
         yield _record(octets, end, parts, known_parts)
         at = parts.end
 

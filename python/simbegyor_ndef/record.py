@@ -6,6 +6,7 @@ from .errors import EncodeError, left_out
 
 _PREFIXES = {'urn:nfc:wkt:': 1, 'urn:nfc:ext:': 4}
 _WORDS = {'': 0, 'unknown': 5}
+_SPELLED = ('', 'urn:nfc:wkt:', '', '', 'urn:nfc:ext:', 'unknown', 'unchanged', 'reserved')
 
 
 @functools.lru_cache(maxsize=256)
@@ -30,7 +31,7 @@ def parts_of(spelled):
 @functools.lru_cache(maxsize=256)
 def spelled_of(tnf, octets):
     """How a type is spelled."""
-    return ('', 'urn:nfc:wkt:', '', '', 'urn:nfc:ext:', 'unknown')[tnf] + octets.decode('latin-1')
+    return _SPELLED[tnf] + octets.decode('latin-1')
 
 
 def octets_of(value):

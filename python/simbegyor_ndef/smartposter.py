@@ -1,4 +1,7 @@
 """Smart posters (Smart Poster Record Type Definition 1.0)."""
+from ctypes import byref
+
+from . import _library as library
 from .errors import left_out
 from .message import message_encoder, records_of
 from .record import GlobalRecord, Record, octets_of, parts_of, text_of
@@ -6,14 +9,24 @@ from .text import TextRecord
 from .uri import UriRecord
 
 _WITHIN = {parts_of(known._type): known for known in (TextRecord, UriRecord)}
-_ACTION, _SIZE, _TYPE = 'urn:nfc:wkt:act', 'urn:nfc:wkt:s', 'urn:nfc:wkt:t'
+_TYPE = 'urn:nfc:wkt:t'
+_ACTIONS = ('exec', 'save', 'edit')
+
+
+def _parts_of(octets):
+    """What the library tells of the payload of a poster."""
+    parts, why = library.PosterParts(), library.Checked()
+    if library.poster(octets, len(octets), 0, byref(parts), byref(why)) != library.OK:
+        raise library.refused(why)
+    return parts
 
 
 class SmartposterRecord(GlobalRecord):
-    """A smart poster: the URI of a resource, with titles, icons and the resource's media type.
+    """A smart poster: the URI of a resource, with titles, icons, and the resource's media type, size and action.
 
     A title is a str, for the language 'en', or a dict of texts by language; an icon octets of the type 'image/png', or a
-    dict of octets by media type. Records of other types within a poster are kept.
+    dict of octets by media type. The action is 'exec', 'save', 'edit' or another number; it and the size are read alone.
+    Records of other types within a poster are kept.
     """
 
     _type = 'urn:nfc:wkt:Sp'
@@ -43,8 +56,12 @@ class SmartposterRecord(GlobalRecord):
         self.resource.iri = value
 
     @property
+    def title_records(self):
+        return [record for record in self._records if isinstance(record, TextRecord)]
+
+    @property
     def titles(self):
-        return {record.language: record.text for record in self._records if isinstance(record, TextRecord)}
+        return {record.language: record.text for record in self.title_records}
 
     @property
     def title(self):
@@ -57,8 +74,8 @@ class SmartposterRecord(GlobalRecord):
 
     def set_title(self, title, language='en', encoding='UTF-8'):
         """Sets the title of a language."""
-        for record in self._records:
-            if isinstance(record, TextRecord) and record.language == language:
+        for record in self.title_records:
+            if record.language == language:
                 record.text, record.encoding = title, encoding
                 return
         self._records.append(TextRecord(title, language, encoding))
@@ -78,11 +95,15 @@ class SmartposterRecord(GlobalRecord):
             raise ValueError('an icon is of a type image/.. or video/.., not %r' % icon_type)
         self._records.append(Record(icon_type, '', icon_data))
 
+    def _parts(self):
+        return _parts_of(self._encode_payload())
+
     @property
     def action(self):
-        if self._first(_ACTION) is not None:
-            raise left_out('actions of smart posters')
-        return None
+        parts = self._parts()
+        if not parts.has_action:
+            return None
+        return _ACTIONS[parts.action] if parts.action < len(_ACTIONS) else parts.action
 
     @action.setter
     def action(self, value):
@@ -90,9 +111,8 @@ class SmartposterRecord(GlobalRecord):
 
     @property
     def resource_size(self):
-        if self._first(_SIZE) is not None:
-            raise left_out('sizes of resources')
-        return None
+        parts = self._parts()
+        return parts.size if parts.has_size else None
 
     @resource_size.setter
     def resource_size(self, value):
@@ -116,6 +136,7 @@ class SmartposterRecord(GlobalRecord):
 
     @classmethod
     def _decode_payload(cls, octets, errors):
+        _parts_of(octets)
         made = cls.__new__(cls)
         made._records = list(records_of(octets, len(octets), _WITHIN))
         return made

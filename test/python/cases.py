@@ -30,10 +30,10 @@ def cases():
 
 
 def values(kind):
-    """Strict values of a kind: the line, the payload, the words of the value and, where there is one, the payload written."""
+    """Strict values of a kind: the line, the payload, the value or the refusal, and the payload that is written for a value."""
     for line, parts in lines(4):
         if parts[0] == kind and parts[1] == 'strict':
-            yield line, bytes.fromhex(parts[2]), parts[3].split(), bytes.fromhex(parts[4]) if len(parts) > 4 else None
+            yield line, bytes.fromhex(parts[2]), parts[3], bytes.fromhex(parts[4]) if len(parts) > 4 else None
 
 
 def octets_of(word):

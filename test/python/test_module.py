@@ -3,6 +3,7 @@ import doctest
 import io
 import os
 import random
+import re
 import threading
 import unittest
 
@@ -11,17 +12,27 @@ from cases import TOP, cases, octets_of, reasons, values
 
 HELLO = bytes.fromhex('d101085402656e48656c6c6f')
 REASONS = reasons()
-SPELLED = ('', 'urn:nfc:wkt:', '', '', 'urn:nfc:ext:', 'unknown')
+SPELLED = ('', 'urn:nfc:wkt:', '', '', 'urn:nfc:ext:', 'unknown', 'unchanged', 'reserved')
 
 
 def octets(*records):
     return b''.join(ndef.message_encoder(records))
 
 
+ACTIONS = {'Do': 'exec', 'Save': 'save', 'Open': 'edit'}
+KNOWN = (ndef.TextRecord, ndef.UriRecord, ndef.SmartposterRecord, ndef.HandoverRequestRecord, ndef.HandoverSelectRecord,
+         ndef.HandoverCarrierRecord)
+
+
 def is_wide(record):
     """Whether it is the octets of a text in UTF-16, as a line tells them."""
     tnf, kind, _, payload = record.split()
     return (tnf, kind) == ('1', 'T') and octets_of(payload)[:1] >= b'\x80'
+
+
+def some(word):
+    """What stands in Some(..), or None."""
+    return None if word == 'None' else word[len('Some('):-1]
 
 
 class Suite(unittest.TestCase):
@@ -57,55 +68,88 @@ class Suite(unittest.TestCase):
                     self.assertEqual(caught.exception.reason, REASONS[number])
         self.assertGreater(count, 1000)
 
-    def refused(self, kind, payload, words):
-        given = octets(ndef.Record('urn:nfc:wkt:' + kind, '', payload))
-        known = {'urn:nfc:wkt:T': ndef.TextRecord, 'urn:nfc:wkt:U': ndef.UriRecord}
-        with self.assertRaises(ndef.DecodeError) as caught:
-            list(ndef.message_decoder(given, known_types=known))
-        self.assertEqual((caught.exception.place, caught.exception.reason), (int(words[1]) + 4, REASONS[int(words[2])]))
+    def decoded(self, kind):
+        """The records for the payloads of a kind: the record, the value that a line tells, and the payload that it has written."""
+        names = {'text': 'T', 'URI': 'U', 'poster': 'Sp', 'carrier': 'Hc', 'request': 'Hr', 'select': 'Hs'}
+        for line, payload, value, written in values(kind):
+            if value.startswith('Utf16'):
+                continue
+            given = octets(ndef.Record('urn:nfc:wkt:' + names[kind], '', payload))
+            for known in (None, {known._type: known for known in KNOWN}):
+                with self.subTest(line, known=known):
+                    if value.startswith('refused'):
+                        _, place, number = value.split()
+                        with self.assertRaises(ndef.DecodeError) as caught:
+                            list(ndef.message_decoder(given, known_types=known))
+                        self.assertEqual(caught.exception.reason, REASONS[int(number)])
+                        if known is not None:
+                            self.assertEqual(caught.exception.place, int(place) + len(given) - len(payload))
+                    else:
+                        (record,) = ndef.message_decoder(given, known_types=known)
+                        yield record, value, written
 
     def test_texts(self):
-        for line, payload, words, written in values('text'):
-            if words[0] == 'Utf16':
-                continue
-            with self.subTest(line):
-                if words[0] == 'refused':
-                    self.refused('T', payload, words)
-                    continue
-                (text,) = ndef.message_decoder(octets(ndef.Record('urn:nfc:wkt:T', '', payload)))
-                language, spelled = (octets_of(word).decode() for word in words[1:])
-                self.assertEqual((text.encoding, text.language, text.text), ('UTF-8', language, spelled))
-                self.assertEqual(ndef.TextRecord(spelled, language, text.encoding).data, written)
+        for text, value, written in self.decoded('text'):
+            encoding, *parts = value.split()
+            language, spelled = (octets_of(part).decode() for part in parts)
+            self.assertEqual((text.encoding, text.language, text.text), (encoding.replace('f', 'F-').upper(), language, spelled))
+            self.assertEqual(ndef.TextRecord(spelled, language, text.encoding).data, written)
 
     def test_uris(self):
-        for line, payload, words, written in values('URI'):
-            with self.subTest(line):
-                if words[:1] == ['refused']:
-                    self.refused('U', payload, words)
-                    continue
-                (uri,) = ndef.message_decoder(octets(ndef.Record('urn:nfc:wkt:U', '', payload)))
-                self.assertEqual(uri.iri, ''.join(words))
-                self.assertEqual(ndef.UriRecord(uri.iri).data, written)
+        for uri, value, written in self.decoded('URI'):
+            self.assertEqual(uri.iri, value)
+            self.assertEqual(ndef.UriRecord(uri.iri).data, written)
 
     def test_posters(self):
-        for line, payload, words, written in values('poster'):
-            if words[0] == 'refused':
+        for poster, value, written in self.decoded('poster'):
+            uri, titles, action, size, media = re.fullmatch(r'\d+ (.*) \[(.*)\] (\S+) (\S+) (\S+)', value).groups()
+            action = some(action)
+            if action is not None:
+                action = ACTIONS.get(action) or int(some(action.replace('Other', 'Some')))
+            size = some(size)
+            self.assertEqual((poster.resource.iri, poster.action, poster.resource_size), (uri, action, size and int(size)))
+            self.assertEqual(poster.resource_type, None if media == '-' else octets_of(media).decode())
+            self.assertEqual([title.text for title in poster.title_records], titles.split(',') if titles else [])
+            self.assertEqual(poster.data, written)
+
+    def test_carriers(self):
+        for carrier, value, written in self.decoded('carrier'):
+            form, kind, data = value.split()
+            self.assertEqual((carrier.carrier_type, carrier.carrier_data), (SPELLED[int(form)] + octets_of(kind).decode(), octets_of(data)))
+            self.assertEqual(carrier.data, written)
+
+    def test_handovers(self):
+        for kind in ('request', 'select'):
+            for handover, _, written in self.decoded(kind):
+                self.assertEqual(handover.data, written)
+                self.assertLessEqual(len(handover.alternative_carriers), 1)
+
+    def test_alternative_carriers(self):
+        for line, payload, value, _ in values('alternative carrier'):
+            if value.startswith('refused'):
                 continue
             with self.subTest(line):
-                (poster,) = ndef.message_decoder(octets(ndef.Record('urn:nfc:wkt:Sp', '', payload)))
-                self.assertEqual(poster.data, written)
+                power, reference, count, first, _ = value.split()
+                (select,) = ndef.message_decoder(octets(ndef.Record('urn:nfc:wkt:Hs', '', b'\x12' + octets(ndef.Record('urn:nfc:wkt:ac', '', payload)))))
+                (carrier,) = select.alternative_carriers
+                self.assertEqual(carrier.carrier_power_state, power.lower())
+                self.assertEqual(carrier.carrier_data_reference, octets_of(reference).decode())
+                auxiliary = carrier.auxiliary_data_reference
+                self.assertEqual((len(auxiliary), auxiliary[:1]), (int(count), [octets_of(first).decode()] if int(count) else []))
 
 
 class Records(unittest.TestCase):
     def test_random_records_there_and_back(self):
         chance = random.Random(1)
-        types = ['unknown', 'text/plain', 'urn:nfc:ext:a:b', 'urn:nfc:wkt:x', 'urn:nfc:wkt:T', 'http://x.y/', '']
+        types = ['unknown', 'text/plain', 'urn:nfc:ext:a:b', 'urn:nfc:wkt:x', 'urn:nfc:wkt:T', 'urn:nfc:wkt:Hc', 'http://x.y/', '']
         for _ in range(5000):
             message = []
             for _ in range(chance.randint(1, 5)):
                 kind = chance.choice(types)
                 if kind == 'urn:nfc:wkt:T':
                     message.append(ndef.TextRecord(chance.choice(['', 'a', 'é' * 200, '\U0001f600']), chance.choice(['', 'de', 'x' * 63])))
+                elif kind == 'urn:nfc:wkt:Hc':
+                    message.append(ndef.HandoverCarrierRecord(chance.choice(['a/b', 'urn:nfc:wkt:x']), chance.randbytes(20), 'n'))
                 elif kind:
                     message.append(ndef.Record(kind, chance.choice(['', 'i', 'ÿ' * 255]), chance.randbytes(chance.choice([0, 5, 255, 256]))))
                 else:
@@ -155,6 +199,18 @@ class Records(unittest.TestCase):
         self.assertEqual((back.action, back.resource_size), (None, None))
         back.resource = 'tel:2'
         self.assertEqual(next(ndef.message_decoder(octets(back))).resource.iri, 'tel:2')
+
+    def test_handovers(self):
+        given = bytes.fromhex('91 02 0A 48 73 12 D1 02 04 61 63 01 01 30 00 5A 03 01 01 61 2F 62 30 01')
+        select, carrier = ndef.message_decoder(given)
+        self.assertEqual(select.alternative_carriers, [('active', '0', [])])
+        self.assertEqual((select.type, carrier.type, carrier.name), ('urn:nfc:wkt:Hs', 'a/b', '0'))
+        self.assertEqual(octets(select, carrier), given)
+        carrier = ndef.HandoverCarrierRecord('application/vnd.bluetooth.ep.oob', b'data', 'name')
+        (back,) = ndef.message_decoder(octets(carrier))
+        self.assertEqual((back.carrier_type, back.carrier_data, back.name), ('application/vnd.bluetooth.ep.oob', b'data', 'name'))
+        for hidden in ('version_info', 'version_string', 'error'):
+            self.assertRaises(NotImplementedError, getattr, select, hidden)
 
     def test_a_class_of_ones_own(self):
         class Own(ndef.GlobalRecord):
@@ -254,14 +310,19 @@ class Refusals(unittest.TestCase):
 
     def test_wild_octets(self):
         chance = random.Random(2)
+        select = bytes.fromhex('910211487312d1020b616301013002013103313233425a03010161 2f623001')
+        message = octets(ndef.SmartposterRecord('tel:1', 'One'), ndef.HandoverCarrierRecord('a/b', b'x'), ndef.TextRecord('a'))
         for _ in range(20000):
-            given = bytearray(octets(ndef.SmartposterRecord('tel:1', 'One'), ndef.TextRecord('a')))
+            given = bytearray(chance.choice([message, select]))
             given[chance.randrange(len(given))] = chance.randrange(256)
+            known = chance.choice([None, {known._type: known for known in KNOWN}])
             try:
-                records = list(ndef.message_decoder(given))
+                records = list(ndef.message_decoder(given, known_types=known))
             except (ndef.DecodeError, NotImplementedError):
                 continue
-            self.assertEqual(list(ndef.message_decoder(octets(*records))), records)
+            self.assertEqual(list(ndef.message_decoder(octets(*records), known_types=known)), records)
+            for record in records:
+                getattr(record, 'alternative_carriers', None)
 
 
 class Readme(unittest.TestCase):
