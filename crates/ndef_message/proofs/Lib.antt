@@ -15,6 +15,7 @@ pub mod Halted
 pub mod HeadOctets
 pub mod Holding
 pub mod Judged
+pub mod Led
 pub mod Lists
 pub mod Moved
 pub mod Octets
