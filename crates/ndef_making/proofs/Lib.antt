@@ -1,0 +1,5 @@
+pub mod Asks
+pub mod Lists
+pub mod Made
+pub mod Messages
+pub mod Values

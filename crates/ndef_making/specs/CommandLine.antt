@@ -1,0 +1,47 @@
+-- The command line of a part: which subcommands and options there are, in clap's words.
+use Rattle.std.specs.Prelude.{Some, true, codes}
+use Rattle.clap.specs.Words.{App, Rule, Text, new_app, new_rule, with_rule, with_subcommand}
+use Rattle.clap.specs.declared.builder.action.ArgAction.TheVariants.{SetTrue}
+
+-- a flag
+abbrev pub flag_rule : Text → Rule
+flag_rule name = record (new_rule name) { long = Some name; action = Some SetTrue }
+
+-- any word
+abbrev pub word_rule : Text → Rule
+word_rule name = record (new_rule name) { long = Some name }
+
+-- any word, which has to be given
+abbrev pub asked_rule : Text → Rule
+asked_rule name = record (new_rule name) { long = Some name; required = true }
+
+-- any word, which has to be given, without an option
+abbrev pub given_rule : Text → Rule
+given_rule name = record (new_rule name) { required = true }
+
+-- a subcommand, with the flag for hexadecimal text
+abbrev pub hex_app : Text → App
+hex_app name = with_rule (new_app name) (flag_rule (codes "hex"))
+
+-- a text, its language and its encoding
+abbrev pub text_app : App
+text_app =
+    with_rule (with_rule (with_rule (hex_app (codes "text")) (word_rule (codes "language"))) (flag_rule (codes "utf16"))) (given_rule (codes "text"))
+
+-- a URI
+abbrev pub uri_app : App
+uri_app = with_rule (hex_app (codes "uri")) (given_rule (codes "uri"))
+
+-- a type name format, a type and an id
+abbrev pub record_app : App
+record_app =
+    with_rule (with_rule (with_rule (hex_app (codes "record")) (asked_rule (codes "tnf"))) (word_rule (codes "type"))) (word_rule (codes "id"))
+
+-- a subcommand is wanted as the first word, and none is for help
+abbrev pub empty_app : App
+empty_app = let a = new_app (codes "ndef-make") in
+    record a { top = record a.top { no_binary_name = true; subcommand_required = true; disable_help_flag = true; disable_help_subcommand = true } }
+
+-- all of it
+abbrev pub make_app : App
+make_app = with_subcommand (with_subcommand (with_subcommand empty_app text_app.top) uri_app.top) record_app.top

@@ -1,0 +1,74 @@
+-- Why no message is made, what is printed of it, and the status.
+use Rattle.std.specs.Prelude.{ℕ, codes}
+use Rattle.clap.specs.Words.{Text}
+use Rattle.ndef_types.specs.declared.error.EncodeError.{EncodeError}
+use Rattle.ndef_types.specs.declared.error.EncodeError.TheVariants as encode
+use Rattle.ndef_types.specs.declared.text.TextError.{TextError}
+use Rattle.ndef_types.specs.declared.text.TextError.TheVariants as texts
+use Rattle.ndef_value.specs.declared.name.NameError.{NameError}
+use Rattle.ndef_value.specs.declared.name.NameError.TheVariants as names
+use Rattle.ndef_value.specs.declared.record.RecordError.{RecordError}
+use Rattle.ndef_value.specs.declared.record.RecordError.TheVariants as records
+use Rattle.ndef_making.specs.declared.fault.Fault.{Fault}
+use Rattle.ndef_making.specs.declared.fault.Fault.TheVariants.{Usage, Refused, Reading, TooLong, Memory}
+use Rattle.ndef_making.specs.declared.fault.Refused.TheVariants as refused
+use Rattle.ndef_making.specs.declared.fault.Status.{Status}
+use Rattle.ndef_making.specs.declared.fault.Status.TheVariants as status
+
+-- ---- errors of parts
+
+-- RTD Text 1.0, language code: why there is no text
+abbrev pub text_fault : TextError → Fault
+text_fault texts.TooLong = Refused refused.LanguageTooLong
+text_fault texts.NotAscii = Refused refused.LanguageNotAscii
+text_fault texts.NoMemory = Memory
+
+-- NDEF 1.0, PAYLOAD_LENGTH: why there is no payload
+abbrev pub encode_fault : EncodeError → Fault
+encode_fault encode.TooLong = Refused refused.PayloadTooLong
+encode_fault encode.NoMemory = Memory
+
+-- NDEF 1.0, TYPE_LENGTH and ID_LENGTH: why there is no name
+abbrev pub name_fault : NameError → Fault
+name_fault names.TooLong = Refused refused.PartTooLong
+name_fault names.NoMemory = Memory
+
+-- NDEF 1.0, record layout: why there is no record
+abbrev pub record_fault : RecordError → Fault
+record_fault records.BadShape = Refused refused.BadShape
+record_fault records.TooLong = Refused refused.PartTooLong
+record_fault records.NoMemory = Memory
+
+-- ---- what is printed
+
+-- for words that don't parse
+abbrev pub usage_line : Text
+usage_line = codes "usage: ndef-make text [--language L] [--utf16] TEXT | uri URI | record --tnf N [--type T] [--id I] < payload; [--hex]; more records: --and ..\n"
+
+-- the line of a fault
+abbrev pub line_of : Fault → Text
+line_of Usage = usage_line
+line_of (Refused refused.LanguageTooLong) = codes "refused: a language code of more than 63 bytes\n"
+line_of (Refused refused.LanguageNotAscii) = codes "refused: a language code that is not ASCII\n"
+line_of (Refused refused.PayloadTooLong) = codes "refused: a payload of more than 4294967295 bytes\n"
+line_of (Refused refused.BadShape) = codes "refused: parts that do not go with the type name format\n"
+line_of (Refused refused.PartTooLong) = codes "refused: a type or an id of more than 255 bytes\n"
+line_of (Refused refused.TooManyRecords) = codes "refused: more than 65535 records\n"
+line_of Reading = codes "fault: reading\n"
+line_of TooLong = codes "fault: more than 1048576 bytes of payload\n"
+line_of Memory = codes "fault: memory\n"
+
+-- ---- the status
+
+-- the status of a fault
+abbrev pub status_of : Fault → Status
+status_of Usage = status.Usage
+status_of (Refused why) = status.Refused
+status_of _ = status.Fault
+
+-- the number with which the process ends
+abbrev pub number_of_status : Status → ℕ
+number_of_status status.Made = 0
+number_of_status status.Refused = 1
+number_of_status status.Usage = 2
+number_of_status status.Fault = 3

@@ -1,0 +1,100 @@
+-- The message that the words ask for, and what is written of it.
+use Rattle.std.specs.Prelude.{◌≡◌, ◌<◌, ◌⊎◌, ℕ, zero, suc, Bool, true, false, List, [], ◌∷◌, ◌++◌, length, count_by, Option, Some, None, Result, Ok, Err, ⊤, codes, Vec}
+use Rattle.std.specs.declared.alloc.Global.{Global}
+use Rattle.std.specs.List.{list_any}
+use Rattle.hex.specs.Hex.{encode_lower}
+use Rattle.clap.specs.Words.{Text}
+use Rattle.ndef_value.specs.Wire.{AreItems, Item, canonical}
+use Rattle.ndef_message.specs.Sources.{Supply}
+use Rattle.ndef_making.specs.Asked.{Part, asked_of}
+use Rattle.ndef_making.specs.Inputs.{IsPayload}
+use Rattle.ndef_making.specs.Options.{flag_of, subject_named}
+use Rattle.ndef_making.specs.Records.{Makes}
+use Rattle.ndef_making.specs.declared.fault.Fault.{Fault}
+use Rattle.ndef_making.specs.declared.fault.Fault.TheVariants.{Usage, Refused, Memory}
+use Rattle.ndef_making.specs.declared.fault.Refused.TheVariants.{TooManyRecords}
+use Rattle.ndef_making.specs.declared.options.Subject.{Subject}
+use Rattle.ndef_making.specs.declared.options.Subject.TheVariants.{Record}
+
+-- ---- the input
+
+-- the subject is a record whose payload is the input
+abbrev pub takes_input : Option Subject → Bool
+takes_input (Some Record) = true
+takes_input _ = false
+
+-- whether the part takes the input
+abbrev pub is_reader : Part → Bool
+is_reader part = takes_input (subject_named part.0)
+
+-- how many parts take it
+abbrev pub readers_of : List Part → ℕ
+readers_of = count_by is_reader
+
+-- it is read for one part, left where none takes it, and asked for in vain by more
+abbrev pub ReadsFor : ℕ → (before after : Supply) → Bool → Result (List ℕ) Fault → Type 0
+ReadsFor zero before after failed input = (after ≡ before) × (input ≡ Ok [])
+ReadsFor (suc zero) before after failed input = IsPayload before after failed input
+ReadsFor (suc (suc n)) before after failed input = (after ≡ before) × (input ≡ Err Usage)
+
+-- ---- the records
+
+-- the records of the parts, in order
+abbrev pub AreMade : List Part → (input : List ℕ) → List Item → Type 0
+AreMade [] input [] = ⊤
+AreMade (part ∷ parts) input (i ∷ items) = Makes part input (Ok i) × AreMade parts input items
+AreMade _ input _ = ⊥
+
+-- the first part of which no record is made, and why
+abbrev pub FailsAt : List Part → (input : List ℕ) → Fault → Type 0
+FailsAt parts input fault =
+    (done : List Part) × (items : List Item) × (part : Part) × (rest : List Part)
+    × (parts ≡ done ++ part ∷ rest) × AreMade done input items × Makes part input (Err fault)
+
+-- the records of the parts, or why there are none
+abbrev pub AreAnswered : List Part → (input : List ℕ) → Result (Vec Item Global) Fault → Type 0
+AreAnswered parts input (Ok records) = AreMade parts input records.items
+AreAnswered parts input (Err Memory) = ⊤
+AreAnswered parts input (Err fault) = FailsAt parts input fault
+
+-- ---- what is written
+
+-- whether a part asks for hexadecimal digits
+abbrev pub wants_hex : List Part → Bool
+wants_hex = list_any (λ part. flag_of (codes "hex") part.1)
+
+-- bytes as they are, or as a line of hexadecimal digits
+abbrev pub shown_in : Bool → List ℕ → Text
+shown_in false bytes = bytes
+shown_in true bytes = encode_lower bytes ++ codes "\n"
+
+-- NDEF 1.0, messages: the canonical spelling of the records, of which there are at most 65535
+abbrev pub IsMessage : (hex : Bool) → List Item → Result Text Fault → Type 0
+IsMessage hex items (Ok text) = AreItems items × (text ≡ shown_in hex (canonical items))
+IsMessage hex items (Err (Refused TooManyRecords)) = 65535 < length items
+IsMessage hex items (Err Memory) = ⊤
+IsMessage hex items (Err _) = ⊥
+
+-- what is written for the parts: their message, or why there is none
+abbrev pub IsWritten : List Part → (input : List ℕ) → Result Text Fault → Type 0
+IsWritten parts input (Err Memory) = ⊤
+IsWritten parts input (Ok text) = (items : List Item) × AreMade parts input items × IsMessage (wants_hex parts) items (Ok text)
+IsWritten parts input (Err fault) =
+    FailsAt parts input fault ⊎ ((items : List Item) × AreMade parts input items × IsMessage (wants_hex parts) items (Err fault))
+
+-- the same with what comes of reading
+abbrev pub IsWrittenOf : List Part → Result (List ℕ) Fault → Result Text Fault → Type 0
+IsWrittenOf parts (Ok input) made = IsWritten parts input made
+IsWrittenOf parts (Err fault) made = made ≡ Err fault
+
+-- the message for which the words ask; the usage line where they ask for nothing
+abbrev pub IsMadeFor : Option (List Part) → (before after : Supply) → Bool → Result Text Fault → Type 0
+IsMadeFor None before after failed made = (after ≡ before) × (made ≡ Err Usage)
+IsMadeFor (Some parts) before after failed made =
+    (input : Result (List ℕ) Fault) × ReadsFor (readers_of parts) before after failed input × IsWrittenOf parts input made
+
+-- what comes of the words and the input: what is written of the message, or why there is none
+abbrev pub IsMade : List Text → (before after : Supply) → Bool → Result Text Fault → Type 0
+IsMade words before after failed (Ok text) = IsMadeFor (asked_of words) before after failed (Ok text)
+IsMade words before after failed (Err Memory) = ⊤
+IsMade words before after failed (Err fault) = IsMadeFor (asked_of words) before after failed (Err fault)

@@ -1,0 +1,98 @@
+-- The records that parts ask for (NFC Forum, NDEF 1.0, RTD Text 1.0 and RTD URI 1.0).
+use Rattle.std.specs.Prelude.{◌≡◌, ◌<◌, ◌≤◌, ◌^◌, ℕ, Bool, true, false, List, [], length, Option, Some, None, Result, Ok, Err, ⊤, option_and_then, option_map, codes, chars, IsAscii}
+use Rattle.clap.specs.Words.{Row, Text, first_of}
+use Rattle.ndef_value.specs.Wire.{HasLengths, IsShaped, Item}
+use Rattle.ndef_value.specs.declared.tnf.Tnf.TheVariants.{WellKnown}
+use Rattle.ndef_types.specs.Decoding.{IsTooLong}
+use Rattle.ndef_types.specs.Values.{TextValue, WritesText, WritesUri}
+use Rattle.ndef_types.specs.declared.encoding.Encoding.{Encoding}
+use Rattle.ndef_types.specs.declared.encoding.Encoding.TheVariants.{Utf8, Utf16}
+use Rattle.ndef_making.specs.Asked.{Part}
+use Rattle.ndef_making.specs.Options.{flag_of, subject_named, tnf_named, word_or}
+use Rattle.ndef_making.specs.declared.fault.Fault.{Fault}
+use Rattle.ndef_making.specs.declared.fault.Fault.TheVariants.{Usage, Refused, Memory}
+use Rattle.ndef_making.specs.declared.fault.Refused.TheVariants.{LanguageTooLong, LanguageNotAscii, PayloadTooLong, BadShape, PartTooLong}
+use Rattle.ndef_making.specs.declared.options.Subject.{Subject}
+use Rattle.ndef_making.specs.declared.options.Subject.TheVariants as subject
+
+-- what is made of a part: a record, or why there is none
+abbrev pub Answer : Type 0
+Answer = Result Item Fault
+
+-- NDEF 1.0, record layout: a record of a well-known type, without an id
+abbrev pub well_known : Text → List ℕ → Item
+well_known kind payload = record { tnf = WellKnown; kind = kind; id = []; payload = payload }
+
+-- ---- texts
+
+-- the encoding of a text
+abbrev pub encoding_of : Bool → Encoding
+encoding_of false = Utf8
+encoding_of true = Utf16
+
+-- RTD Text 1.0: the text of a part; its language is English where none is given
+abbrev pub text_said : List Row → Option TextValue
+text_said rows = option_map (λ text. record {
+  encoding = encoding_of (flag_of (codes "utf16") rows);
+  language = word_or (codes "language") (codes "en") rows;
+  text = chars text;
+}) (first_of (codes "text") rows)
+
+-- RTD Text 1.0: the record of a text; none where its language code isn't ASCII of up to 63 octets, or its payload is too long
+abbrev pub MakesText : TextValue → Answer → Type 0
+MakesText v (Ok i) = (length v.language ≤ 63) × IsAscii v.language × WritesText v i.payload × (length i.payload < 2 ^ 32) × (i ≡ well_known (codes "T") i.payload)
+MakesText v (Err (Refused LanguageTooLong)) = 63 < length v.language
+MakesText v (Err (Refused LanguageNotAscii)) = (length v.language ≤ 63) × (IsAscii v.language → ⊥)
+MakesText v (Err (Refused PayloadTooLong)) = (length v.language ≤ 63) × IsAscii v.language × IsTooLong WritesText v
+MakesText v (Err Memory) = ⊤
+MakesText v (Err _) = ⊥
+
+-- ---- URIs
+
+-- RTD URI 1.0: the URI of a part
+abbrev pub uri_said : List Row → Option Text
+uri_said rows = first_of (codes "uri") rows
+
+-- RTD URI 1.0: the record of a URI; none where its payload is too long
+abbrev pub MakesUri : Text → Answer → Type 0
+MakesUri uri (Ok i) = WritesUri uri i.payload × (length i.payload < 2 ^ 32) × (i ≡ well_known (codes "U") i.payload)
+MakesUri uri (Err (Refused PayloadTooLong)) = IsTooLong WritesUri uri
+MakesUri uri (Err Memory) = ⊤
+MakesUri uri (Err _) = ⊥
+
+-- ---- records of given parts
+
+-- NDEF 1.0, record layout: the type name format, the type and the id of a part; no type or id where it isn't given
+abbrev pub item_said : List Row → List ℕ → Option Item
+item_said rows payload = option_map (λ tnf. record {
+  tnf = tnf;
+  kind = word_or (codes "type") [] rows;
+  id = word_or (codes "id") [] rows;
+  payload = payload;
+}) (option_and_then tnf_named (first_of (codes "tnf") rows))
+
+-- NDEF 1.0, record layout: the record, where its parts go together and none is too long
+abbrev pub MakesItem : Item → Answer → Type 0
+MakesItem i (Ok made) = (made ≡ i) × IsShaped i × HasLengths i
+MakesItem i (Err (Refused BadShape)) = IsShaped i → ⊥
+MakesItem i (Err (Refused PartTooLong)) = IsShaped i × (HasLengths i → ⊥)
+MakesItem i (Err Memory) = ⊤
+MakesItem i (Err _) = ⊥
+
+-- ---- parts
+
+-- what is made of what is said; the usage line where nothing is
+abbrev pub Asks : {X : Type 0} → (X → Answer → Type 0) → Option X → Answer → Type 0
+Asks makes None answer = answer ≡ Err Usage
+Asks makes (Some x) answer = makes x answer
+
+-- what is made of the options of a subject
+abbrev pub MakesBy : Option Subject → List Row → (input : List ℕ) → Answer → Type 0
+MakesBy None rows input answer = answer ≡ Err Usage
+MakesBy (Some subject.Text) rows input answer = Asks MakesText (text_said rows) answer
+MakesBy (Some subject.Uri) rows input answer = Asks MakesUri (uri_said rows) answer
+MakesBy (Some subject.Record) rows input answer = Asks MakesItem (item_said rows input) answer
+
+-- what is made of a part, with the input
+abbrev pub Makes : Part → (input : List ℕ) → Answer → Type 0
+Makes part input answer = MakesBy (subject_named part.0) part.1 input answer

@@ -1,0 +1,187 @@
+//! Why no message is made, and the status of a run.
+ghost use Rattle.std.specs.Prelude.{◌≡◌};
+ghost use Rattle.ndef_making.specs.Faults.{encode_fault, line_of, name_fault, number_of_status, record_fault, status_of, text_fault};
+ghost use Rattle.ndef_making.specs.declared.fault.Fault.TheVariants.{Memory, Reading};
+
+use ndef_message::SourceFault;
+use ndef_types::{EncodeError, TextError};
+use ndef_value::{NameError, NoMemory, RecordError};
+use std::alloc::{AllocError, AllocFailed};
+use thiserror::Error;
+
+/// What can't be said in a message.
+#[derive(Clone, Copy, Debug, Drop, PartialEq, Eq, Error)]
+pub enum Refused {
+    /// A language code of more than 63 bytes (RTD Text 1.0).
+    #[error("a language code of more than 63 bytes")]
+    LanguageTooLong,
+    /// A language code that isn't ASCII (RTD Text 1.0).
+    #[error("a language code that is not ASCII")]
+    LanguageNotAscii,
+    /// A payload of more than 4294967295 bytes (NDEF 1.0, PAYLOAD_LENGTH).
+    #[error("a payload of more than 4294967295 bytes")]
+    PayloadTooLong,
+    /// A type, an id and a payload that don't go with the type name format (NDEF 1.0, TNF).
+    #[error("parts that do not go with the type name format")]
+    BadShape,
+    /// A type or an id of more than 255 bytes (NDEF 1.0, TYPE_LENGTH and ID_LENGTH).
+    #[error("a type or an id of more than 255 bytes")]
+    PartTooLong,
+    /// More than 65535 records.
+    #[error("more than 65535 records")]
+    TooManyRecords,
+}
+
+/// Why no message is made.
+#[derive(Clone, Copy, Debug, Drop, PartialEq, Eq, Error)]
+pub enum Fault {
+    /// The words don't parse.
+    #[error("the words don't parse")]
+    Usage,
+    /// What the words ask for can't be said.
+    #[error(transparent)]
+    Refused(Refused),
+    /// The source failed.
+    #[error("reading failed")]
+    Reading,
+    /// The input is longer than what a run reads.
+    #[error("the input is too long")]
+    TooLong,
+    /// A growth was refused.
+    #[error("no memory")]
+    Memory,
+}
+
+impl From<NoMemory> for Fault {
+    ghost from_gives = { λ _ fault. fault ≡ Memory };
+
+    fn from(_: NoMemory) -> Fault {
+        Fault::Memory
+    }
+}
+
+impl From<AllocError> for Fault {
+    ghost from_gives = { λ _ fault. fault ≡ Memory };
+
+    fn from(_: AllocError) -> Fault {
+        Fault::Memory
+    }
+}
+
+/// What wasn't stored is let go.
+impl<T: Drop> From<AllocFailed<T>> for Fault {
+    ghost from_gives = { λ _ fault. fault ≡ Memory };
+
+    fn from(_: AllocFailed<T>) -> Fault {
+        Fault::Memory
+    }
+}
+
+impl From<SourceFault> for Fault {
+    ghost from_gives = { λ _ fault. fault ≡ Reading };
+
+    fn from(_: SourceFault) -> Fault {
+        Fault::Reading
+    }
+}
+
+impl From<TextError> for Fault {
+    ghost from_gives = { λ error fault. fault ≡ text_fault error };
+
+    fn from(error: TextError) -> Fault {
+        match error {
+            TextError::TooLong => Fault::Refused(Refused::LanguageTooLong),
+            TextError::NotAscii => Fault::Refused(Refused::LanguageNotAscii),
+            TextError::NoMemory => Fault::Memory,
+        }
+    }
+}
+
+impl From<EncodeError> for Fault {
+    ghost from_gives = { λ error fault. fault ≡ encode_fault error };
+
+    fn from(error: EncodeError) -> Fault {
+        match error {
+            EncodeError::TooLong => Fault::Refused(Refused::PayloadTooLong),
+            EncodeError::NoMemory => Fault::Memory,
+        }
+    }
+}
+
+impl From<NameError> for Fault {
+    ghost from_gives = { λ error fault. fault ≡ name_fault error };
+
+    fn from(error: NameError) -> Fault {
+        match error {
+            NameError::TooLong => Fault::Refused(Refused::PartTooLong),
+            NameError::NoMemory => Fault::Memory,
+        }
+    }
+}
+
+impl From<RecordError> for Fault {
+    ghost from_gives = { λ error fault. fault ≡ record_fault error };
+
+    fn from(error: RecordError) -> Fault {
+        match error {
+            RecordError::BadShape => Fault::Refused(Refused::BadShape),
+            RecordError::TooLong => Fault::Refused(Refused::PartTooLong),
+            RecordError::NoMemory => Fault::Memory,
+        }
+    }
+}
+
+/// The status that the process ends with.
+#[derive(Clone, Copy, Debug, PartialEq, Eq)]
+pub enum Status {
+    /// The message is written.
+    Made = 0,
+    /// What the words ask for can't be said.
+    Refused = 1,
+    /// The words don't parse.
+    Usage = 2,
+    /// Reading or writing failed, memory was wanting, or the input is too long.
+    Fault = 3,
+}
+
+/// What is printed where what the words ask for can't be said.
+fn refused_line(refused: Refused) -> &'static [u8]
+    ensures { result.now ≡ line_of (Fault.Refused refused) }
+{
+    match refused {
+        Refused::LanguageTooLong => b"refused: a language code of more than 63 bytes\n",
+        Refused::LanguageNotAscii => b"refused: a language code that is not ASCII\n",
+        Refused::PayloadTooLong => b"refused: a payload of more than 4294967295 bytes\n",
+        Refused::BadShape => b"refused: parts that do not go with the type name format\n",
+        Refused::PartTooLong => b"refused: a type or an id of more than 255 bytes\n",
+        Refused::TooManyRecords => b"refused: more than 65535 records\n",
+    }
+}
+
+/// What is printed of a fault.
+pub(crate) fn line_of(fault: Fault) -> &'static [u8]
+    ensures { result.now ≡ line_of fault }
+{
+    match fault {
+        Fault::Usage => USAGE,
+        Fault::Refused(refused) => refused_line(refused),
+        Fault::Reading => b"fault: reading\n",
+        Fault::TooLong => b"fault: more than 1048576 bytes of payload\n",
+        Fault::Memory => b"fault: memory\n",
+    }
+}
+
+/// What is printed where the words don't parse.
+const USAGE: &[u8] = b"usage: ndef-make text [--language L] [--utf16] TEXT | uri URI | \
+    record --tnf N [--type T] [--id I] < payload; [--hex]; more records: --and ..\n";
+
+/// The status of a fault.
+pub(crate) fn status_of(fault: Fault) -> Status
+    ensures { result ≡ status_of fault }
+{
+    match fault {
+        Fault::Usage => Status::Usage,
+        Fault::Refused(_) => Status::Refused,
+        Fault::Reading | Fault::TooLong | Fault::Memory => Status::Fault,
+    }
+}

@@ -1,0 +1,124 @@
+//! The message that the words ask for.
+ghost use Rattle.std.specs.Prelude.{◌≡◌, ◌≢◌, [], drop, map, string_bytes, IfOk};
+ghost use Rattle.ndef_message.specs.Machine.Turns.{supply_of};
+ghost use Rattle.ndef_making.specs.Asked.{part_of};
+ghost use Rattle.ndef_making.specs.Making.{AreAnswered, IsMade, IsMessage, ReadsFor, is_reader, readers_of, shown_in, wants_hex};
+
+use crate::input::read_payload;
+use crate::options::{Subject, flag, subject_named};
+use crate::parts::{Said, parts, say_all};
+use crate::records::make_record;
+use crate::{Fault, Refused};
+use ndef_message::{Form, Source, encode};
+use ndef_value::{Bytes, Message, MessageError, NoMemory, Record};
+use std::alloc::Global;
+
+/// Whether a part takes the input.
+fn is_reader(said: &Said<'_>) -> bool
+    ensures { result ≡ is_reader (part_of said.now) }
+{
+    matches!(subject_named(said.name), Some(Subject::Record))
+}
+
+/// How many parts take the input.
+fn readers_of(said: &[Said<'_>]) -> usize
+    ensures { result ≡ readers_of (map part_of said.now) }
+{
+    let mut count = 0;
+    for part in said {
+        if is_reader(part) {
+            count += 1;
+        }
+    }
+    count
+}
+
+/// The input, where one part takes it; it is left where none does.
+fn read_for<S: Source>(alloc: Global, said: &[Said<'_>], source: &mut S) -> Result<Bytes, Fault>
+    ensures { ReadsFor (readers_of (map part_of said.now)) (supply_of S.Source source.old)
+        (supply_of S.Source source.new) (S.has_failed source.new) result }
+{
+    match readers_of(said) {
+        0 => Ok(Bytes::new(alloc)),
+        1 => read_payload(alloc, source),
+        _ => Err(Fault::Usage),
+    }
+}
+
+/// Whether the bytes are written as hexadecimal digits.
+fn wants_hex(said: &[Said<'_>]) -> bool
+    ensures { result ≡ wants_hex (map part_of said.now) }
+{
+    for part in said {
+        if flag(&part.matches, "hex") {
+            return true;
+        }
+    }
+    false
+}
+
+/// The records of the parts, with the input.
+fn make_records(alloc: Global, said: &[Said<'_>], input: &[u8]) -> Result<Vec<Record>, Fault>
+    ensures { AreAnswered (map part_of said.now) input.now result }
+{
+    let mut records = Vec::new(alloc);
+    for part in said {
+        records.push(make_record(alloc, part, input)?)?;
+    }
+    Ok(records)
+}
+
+/// The bytes as they are, or as a line of hexadecimal digits.
+fn shown(alloc: Global, hex: bool, bytes: Bytes) -> Result<Bytes, NoMemory>
+    ensures { IfOk result (λ text. text ≡ shown_in hex bytes) }
+{
+    if !hex {
+        return Ok(bytes);
+    }
+    let Ok(digits) = hex::encode(alloc, bytes.as_slice()) else {
+        return Err(NoMemory);
+    };
+    let mut line = Bytes::from_slice(alloc, digits.as_bytes())?;
+    line.extend(b"\n")?;
+    Ok(line)
+}
+
+/// What is written of the records.
+fn write_records(alloc: Global, hex: bool, records: Vec<Record>) -> Result<Bytes, Fault>
+    requires { records.items ≢ [] }
+    ensures { IsMessage hex records.items result }
+{
+    match Message::new(records) {
+        Ok(message) => {
+            let bytes = encode(alloc, &message, Form::Short)?;
+            Ok(shown(alloc, hex, bytes)?)
+        }
+        Err(MessageError::NoRecords(_)) => unreachable!(),
+        Err(MessageError::TooMany(_)) => Err(Fault::Refused(Refused::TooManyRecords)),
+    }
+}
+
+/// The words behind the program's name.
+fn words_behind(words: &[String]) -> &[String]
+    ensures { map string_bytes result.now ≡ drop 1 (map string_bytes words.now) }
+{
+    match words {
+        [_, rest @ ..] => rest,
+        [] => &[],
+    }
+}
+
+/// What is written of the message for which the words ask, of which the first is the program's name.
+///
+/// The source is read, to its end, exactly where one part is a `record`.
+pub fn make<S: Source>(alloc: Global, words: &[String], source: &mut S) -> Result<Bytes, Fault>
+    ensures { IsMade (map string_bytes words.now)
+        (supply_of S.Source source.old) (supply_of S.Source source.new)
+        (S.has_failed source.new) result }
+{
+    let parts = parts(alloc, words_behind(words))?;
+    let said = say_all(alloc, parts.as_slice())?;
+    let input = read_for(alloc, said.as_slice(), source)?;
+    let records = make_records(alloc, said.as_slice(), input.as_slice())?;
+    write_records(alloc, wants_hex(said.as_slice()), records)
+}

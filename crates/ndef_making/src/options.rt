@@ -1,0 +1,72 @@
+//! The options of a part.
+ghost use Rattle.std.specs.Prelude.{◌≡◌, option_map, IfSome, unwrap_or};
+ghost use Rattle.clap.specs.Words.{first_of, found_of, rows_of};
+ghost use Rattle.ndef_making.specs.Options.{flag_of, subject_named, tnf_named, word_or};
+
+use clap::ArgMatches;
+use ndef_value::Tnf;
+
+/// What a part is about.
+#[derive(Clone, Copy, Debug, PartialEq, Eq)]
+pub(crate) enum Subject {
+    /// A Text record (RTD Text 1.0).
+    Text,
+    /// A URI record (RTD URI 1.0).
+    Uri,
+    /// A record whose payload is the input.
+    Record,
+}
+
+/// The word of an option, where it is given.
+pub(crate) fn word<'a>(matches: &ArgMatches<'a>, id: &str) -> Option<&'a str>
+    ensures { option_map (λ s. s.now) result ≡ first_of id.now (rows_of (found_of matches.now)) }
+{
+    matches.get_str(id)
+}
+
+/// The word of an option, or another one where it isn't given.
+pub(crate) fn word_or<'a>(matches: &ArgMatches<'a>, id: &str, other: &'a str) -> &'a str
+    ensures { result.now ≡ word_or id.now other.now (rows_of (found_of matches.now)) }
+{
+    match word(matches, id) {
+        Some(word) => word,
+        None => other,
+    }
+}
+
+/// Whether a flag is given.
+pub(crate) fn flag(matches: &ArgMatches<'_>, id: &str) -> bool
+    ensures { result ≡ flag_of id.now (rows_of (found_of matches.now)) }
+{
+    match word(matches, id) {
+        Some(word) => word == "true",
+        None => false,
+    }
+}
+
+/// The subject of this name.
+pub(crate) fn subject_named(name: &str) -> Option<Subject>
+    ensures { result ≡ subject_named name.now }
+{
+    match name {
+        "text" => Some(Subject::Text),
+        "uri" => Some(Subject::Uri),
+        "record" => Some(Subject::Record),
+        _ => None,
+    }
+}
+
+/// The type name format of this number.
+pub(crate) fn tnf_named(name: &str) -> Option<Tnf>
+    ensures { result ≡ tnf_named name.now }
+{
+    match name {
+        "0" => Some(Tnf::Empty),
+        "1" => Some(Tnf::WellKnown),
+        "2" => Some(Tnf::Media),
+        "3" => Some(Tnf::AbsoluteUri),
+        "4" => Some(Tnf::External),
+        "5" => Some(Tnf::Unknown),
+        _ => None,
+    }
+}
