@@ -14,6 +14,7 @@ PYTHONDIR ?= $(shell packaging/python_folder $(PYTHON) $(PREFIX))
 VERSION := 0.1.0
 
 program := crates/ndef/out/ndef
+maker := crates/ndef_make/out/ndef_make
 archive := crates/ndef_c/out/libndef_c.a
 below_c := ndef_value ndef_piece ndef_lang ndef_nest ndef_message ndef_types ndef_c
 sources = $(shell find $(foreach crate,$(1),$(wildcard $(addprefix crates/$(crate)/,src specs proofs))) -type f)
@@ -22,11 +23,14 @@ module := out/python/simbegyor_ndef
 pages := $(wildcard man/*.1)
 completions := $(wildcard share/completion/*)
 
-all: $(program) $(archive) python
+all: $(program) $(maker) $(archive) python
 
-# `./ndef` proves and builds the program where it is older than its sources.
+# The scripts prove and build their programs where those are older than the sources.
 $(program): crates.txt $(call sources,$(notdir $(wildcard crates/*)))
 	./ndef encode </dev/null
+
+$(maker): crates.txt $(call sources,$(notdir $(wildcard crates/*)))
+	./ndef-make record --tnf 0 </dev/null >/dev/null
 
 $(archive): crates.txt $(call sources,$(below_c))
 	cd crates/ndef_c && rt lib
@@ -46,6 +50,7 @@ install: all
 	install -d $(addprefix $(DESTDIR),$(PREFIX)/bin $(PREFIX)/include $(LIBDIR)/pkgconfig $(PYTHONDIR)/simbegyor_ndef \
 	    $(PREFIX)/share/man/man1 $(PREFIX)/share/bash-completion/completions)
 	install -m 755 $(program) $(DESTDIR)$(PREFIX)/bin
+	install -m 755 $(maker) $(DESTDIR)$(PREFIX)/bin/ndef-make
 	install -m 644 include/ndef.h $(DESTDIR)$(PREFIX)/include
 	install -m 644 $(archive) $(DESTDIR)$(LIBDIR)/libndef.a
 	sed 's,@PREFIX@,$(PREFIX),; s,@LIBDIR@,$(LIBDIR),; s,@VERSION@,$(VERSION),' packaging/ndef.pc.in >$(DESTDIR)$(LIBDIR)/pkgconfig/ndef.pc
@@ -54,7 +59,7 @@ install: all
 	install -m 644 $(completions) $(DESTDIR)$(PREFIX)/share/bash-completion/completions
 
 uninstall:
-	rm -f $(DESTDIR)$(PREFIX)/bin/ndef $(DESTDIR)$(PREFIX)/include/ndef.h
+	rm -f $(DESTDIR)$(PREFIX)/bin/ndef $(DESTDIR)$(PREFIX)/bin/ndef-make $(DESTDIR)$(PREFIX)/include/ndef.h
 	rm -f $(DESTDIR)$(LIBDIR)/libndef.a $(DESTDIR)$(LIBDIR)/pkgconfig/ndef.pc
 	rm -rf $(DESTDIR)$(PYTHONDIR)/simbegyor_ndef
 	rm -f $(addprefix $(DESTDIR)$(PREFIX)/share/man/man1/,$(notdir $(pages)))
