@@ -106,7 +106,7 @@ pub(super) fn profile_of(text: &str) -> Option<Profile> {
 }
 
 /// The reason of a number.
-fn reason(number: u64) -> Option<Reason> {
+pub(super) fn reason(number: u64) -> Option<Reason> {
     match number {
         0 => None,
         _ => REASONS.get((number - 1) as usize).copied(),

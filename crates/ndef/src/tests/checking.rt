@@ -19,22 +19,22 @@ D0 00 00 07 | Done { taken: 3 } | Ok(()) | 1 | 3
 07 | Done { taken: 0 } | Ok(()) | 1 | 3
 ";
 
-/// What a checker shows that has taken one part more.
-fn shown(alloc: Global, checker: &mut Checker<Opaque>, octets: &str) -> Result<String, Fail> {
+/// Whether a line tells what a checker shows that has taken one part more.
+fn is_shown(alloc: Global, checker: &mut Checker<Opaque>, line: &str) -> Result<bool, Fail> {
+    let (octets, told) = field(line);
     let part = bytes_of(alloc, octets).ok_or("no bytes")?;
     let fed = checker.feed(part.as_slice());
     let end = checker.end();
     let (records, place) = (checker.records(), checker.place());
-    Ok(format!(in alloc; "{fed:?} | {end:?} | {records} | {place}")?)
+    let shown = format!(in alloc; "{fed:?} | {end:?} | {records} | {place}")?;
+    Ok(shown.as_str() == told.trim())
 }
 
 fn check_parts(rt: &(impl Abort + AllocGlobal), lines: &str) -> Result<(), Fail> {
     let mut checker = Checker::<Opaque>::new(usual());
     assert!(rt; checker.end() == at(0, Reason::EndOfInput));
     for line in lines.lines() {
-        let (octets, told) = field(line);
-        let shown = shown(rt.alloc(), &mut checker, octets)?;
-        assert!(rt; shown.as_str() == told.trim(), "{line}: {shown}");
+        assert!(rt; is_shown(rt.alloc(), &mut checker, line)?, "{line}");
     }
     Ok(())
 }

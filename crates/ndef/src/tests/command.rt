@@ -1,9 +1,9 @@
 //! What the command writes and the status that it ends with.
-use super::faults::fails_in_turn;
+use super::faults::{fails_in_turn, run_from};
 use super::samples::HELLO;
 use super::streams::{FullWriter, SlowReader};
 use ndef_message::{Sink, SliceSource, StdSink, StdSource};
-use ndef_tool::{Status, run};
+use ndef_tool::run;
 use std::alloc::Global;
 use std::test::Fail;
 
@@ -43,6 +43,24 @@ pub(super) fn ran(
     Ok((status, out))
 }
 
+// What is written, and the status, for the bytes as hexadecimal text.
+fn ran_hex(alloc: Global, texts: &[&str], bytes: &[u8], cut: usize) -> Result<(u8, Vec<u8>), Fail> {
+    let mut with_hex = Vec::new(alloc);
+    for text in texts {
+        with_hex.push(*text)?;
+    }
+    with_hex.push("--hex")?;
+    let digits = hex::encode(alloc, bytes)?;
+    ran(alloc, with_hex.as_slice(), digits.as_bytes(), cut)
+}
+
+// Whether the lines are the digits of what is written.
+fn are_digits(alloc: Global, lines: Vec<u8>, out: &[u8]) -> Result<bool, Fail> {
+    let mut digits = lines;
+    digits.retain(|byte| *byte != b'\n');
+    Ok(digits.as_slice() == hex::encode(alloc, out)?.as_bytes())
+}
+
 // The same, where the bytes come as hexadecimal text gives the same lines, or the digits of what is
 // written.
 pub(super) fn ran_alike(
@@ -52,24 +70,13 @@ pub(super) fn ran_alike(
     cut: usize,
 ) -> Result<(u8, Vec<u8>), Fail> {
     let (status, out) = ran(alloc, texts, bytes, cut)?;
-    let mut with_hex = Vec::new(alloc);
-    for text in texts {
-        with_hex.push(*text)?;
-    }
-    with_hex.push("--hex")?;
-    let Ok(digits) = hex::encode(alloc, bytes) else {
-        return Err("no memory".into());
+    let (same_status, lines) = ran_hex(alloc, texts, bytes, cut)?;
+    let alike = if texts.iter().any(|text| *text == "encode") {
+        are_digits(alloc, lines, out.as_slice())?
+    } else {
+        lines == out
     };
-    let (same_status, mut lines) = ran(alloc, with_hex.as_slice(), digits.as_bytes(), cut)?;
-    let mut wanted = out.clone()?;
-    if texts.iter().any(|text| *text == "encode") {
-        let Ok(written) = hex::encode(alloc, out.as_slice()) else {
-            return Err("no memory".into());
-        };
-        wanted = written.into_bytes();
-        lines.retain(|byte| *byte != b'\n');
-    }
-    if same_status != status || lines != wanted {
+    if same_status != status || !alike {
         return Err("hexadecimal text is answered otherwise".into());
     }
     Ok((status, out))
@@ -106,32 +113,52 @@ fn followed(alloc: Global, text: &str, line: &str) -> Result<String, Fail> {
     Ok(all)
 }
 
+/// What is written, and the status, where a slow reader fails behind the bytes.
+fn ran_slowly(
+    alloc: Global,
+    texts: &[&str],
+    bytes: &[u8],
+    most: usize,
+) -> Result<(u8, Vec<u8>), Fail> {
+    let mut source = StdSource::new(SlowReader {
+        bytes,
+        most,
+        fails: true,
+    });
+    run_from(alloc, texts, &mut source)
+}
+
+/// Whether a run on a reader that fails behind so many messages tells them and the fault.
+fn tells_the_fault_behind(alloc: Global, bytes: &[u8], text: &str) -> Result<bool, Fail> {
+    let (status, out) = ran_slowly(alloc, &["ndef", "check"], bytes, 7)?;
+    let faulty = followed(alloc, text, "fault: reading\n")?;
+    Ok(status == 3 && out.as_slice() == faulty.as_bytes())
+}
+
+/// Whether runs with one message more than one run handles end with status 3 behind so many of them.
+fn ends_behind(alloc: Global, bytes: &[u8], text: &str) -> Result<bool, Fail> {
+    let mut more = Vec::new(alloc);
+    more.extend_from_slice(bytes)?;
+    more.extend_from_slice(&[0xD0, 0x00, 0x00])?;
+    let (checked, out) = ran_alike(alloc, &["ndef", "check"], more.as_slice(), 7)?;
+    let faulty = followed(alloc, text, "fault: more than 10000 messages\n")?;
+    let (encoded, written) = ran_alike(alloc, &["ndef", "encode"], more.as_slice(), 7)?;
+    Ok(
+        checked == 3
+            && out.as_slice() == faulty.as_bytes()
+            && encoded == 3
+            && written.as_slice() == bytes,
+    )
+}
+
 #[test]
 fn handles_10000_messages(rt: HostRuntime) -> Result<(), Fail> {
     let alloc = rt.alloc();
     let (bytes, text) = least_messages(alloc, 10000)?;
     let (status, out) = ran_alike(alloc, &["ndef", "check"], bytes.as_slice(), 7)?;
     assert!(rt; status == 0 && out.as_slice() == text.as_bytes());
-    let words = words(alloc, &["ndef", "check"])?;
-    let mut source = StdSource::new(SlowReader {
-        bytes: bytes.as_slice(),
-        most: 7,
-        fails: true,
-    });
-    let mut out = Vec::new(alloc);
-    let mut sink = StdSink::new(&mut out);
-    let status = run(alloc, words.as_slice(), &mut source, &mut sink);
-    drop(sink);
-    drop(source);
-    let faulty = followed(alloc, text.as_str(), "fault: reading\n")?;
-    assert!(rt; status == Status::Fault && out.as_slice() == faulty.as_bytes());
-    let mut more = bytes.clone()?;
-    more.extend_from_slice(&[0xD0, 0x00, 0x00])?;
-    let (status, out) = ran_alike(alloc, &["ndef", "check"], more.as_slice(), 7)?;
-    let faulty = followed(alloc, text.as_str(), "fault: more than 10000 messages\n")?;
-    assert!(rt; status == 3 && out.as_slice() == faulty.as_bytes());
-    let (status, out) = ran_alike(alloc, &["ndef", "encode"], more.as_slice(), 7)?;
-    assert!(rt; status == 3 && out.as_slice() == bytes.as_slice());
+    assert!(rt; tells_the_fault_behind(alloc, bytes.as_slice(), text.as_str())?);
+    assert!(rt; ends_behind(alloc, bytes.as_slice(), text.as_str())?);
     Ok(())
 }
 
@@ -155,19 +182,27 @@ encode --chunk 0
 encode --chunk
 ";
 
+/// Whether the usage line is printed for these words.
+fn is_unparsed(alloc: Global, texts: &[&str]) -> Result<bool, Fail> {
+    let (status, out) = ran(alloc, texts, &HELLO, 0)?;
+    Ok(status == 2 && out.as_slice() == USAGE.as_bytes())
+}
+
+/// The same of the words of a line.
+fn is_line_unparsed(alloc: Global, line: &str) -> Result<bool, Fail> {
+    let mut texts = Vec::new(alloc);
+    texts.push("ndef")?;
+    for word in line.split_whitespace() {
+        texts.push(word)?;
+    }
+    is_unparsed(alloc, texts.as_slice())
+}
+
 #[test]
 fn prints_usage(rt: HostRuntime) -> Result<(), Fail> {
-    let alloc = rt.alloc();
-    let (status, out) = ran(alloc, &[], &HELLO, 0)?;
-    assert!(rt; status == 2 && out.as_slice() == USAGE.as_bytes());
+    assert!(rt; is_unparsed(rt.alloc(), &[])?);
     for line in NO_WORDS.lines() {
-        let mut texts = Vec::new(alloc);
-        texts.push("ndef")?;
-        for word in line.split_whitespace() {
-            texts.push(word)?;
-        }
-        let (status, out) = ran(alloc, texts.as_slice(), &HELLO, 0)?;
-        assert!(rt; status == 2 && out.as_slice() == USAGE.as_bytes(), "{line}");
+        assert!(rt; is_line_unparsed(rt.alloc(), line)?, "{line}");
     }
     Ok(())
 }
@@ -255,70 +290,76 @@ fn reads_16777216_bytes_of_text(rt: HostRuntime) -> Result<(), Fail> {
     Ok(())
 }
 
-// What comes and goes in many parts is neither cut nor changed.
-#[test]
-fn passes_2_megabytes(rt: HostRuntime) -> Result<(), Fail> {
-    let alloc = rt.alloc();
+// A message with a payload of 2000000 bytes.
+fn large_message(alloc: Global) -> Result<Vec<u8>, Fail> {
     let payload = vec![in alloc; 0x5A; 2000000]?;
     let mut bytes = Vec::new(alloc);
     bytes.extend_from_slice(&[0xC5, 0x00, 0x00, 0x1E, 0x84, 0x80])?;
     bytes.extend_from_slice(payload.as_slice())?;
-    let table: [(&str, &[u8]); 2] = [
-        ("check", b"message 1 at 0: records 1, bytes 2000006\n"),
-        ("encode", bytes.as_slice()),
-    ];
-    for (action, wanted) in table {
-        let words = words(alloc, &["ndef", action, "--payload", "2000000"])?;
-        let mut source = StdSource::new(bytes.as_slice());
-        let mut out = Vec::new(alloc);
-        let mut sink = StdSink::new(&mut out);
-        let status = run(alloc, words.as_slice(), &mut source, &mut sink);
-        drop(sink);
-        assert!(rt; status == Status::Clean && out.as_slice() == wanted);
-    }
+    Ok(bytes)
+}
+
+// Whether this is written of what a standard reader gives.
+fn passes(alloc: Global, action: &str, bytes: &[u8], wanted: &[u8]) -> Result<bool, Fail> {
+    let texts = ["ndef", action, "--payload", "2000000"];
+    let mut source = StdSource::new(bytes);
+    let (status, out) = run_from(alloc, &texts, &mut source)?;
+    Ok(status == 0 && out.as_slice() == wanted)
+}
+
+// What comes and goes in many parts is neither cut nor changed.
+#[test]
+fn passes_2_megabytes(rt: HostRuntime) -> Result<(), Fail> {
+    let alloc = rt.alloc();
+    let bytes = large_message(alloc)?;
+    let bytes = bytes.as_slice();
+    let line = b"message 1 at 0: records 1, bytes 2000006\n";
+    assert!(rt; passes(alloc, "check", bytes, line)?);
+    assert!(rt; passes(alloc, "encode", bytes, bytes)?);
     Ok(())
 }
 
 #[test]
 fn tells_a_reading_fault(rt: HostRuntime) -> Result<(), Fail> {
-    let alloc = rt.alloc();
     let table: [(&[&str], &[u8], &str); 3] = [
         (&["ndef", "check"], &HELLO[..5], "fault: reading\n"),
         (&["ndef", "encode"], &HELLO[..5], ""),
         (&["ndef", "check", "--hex"], b"d00000", "fault: reading\n"),
     ];
     for (texts, bytes, text) in table {
-        let words = words(alloc, texts)?;
-        let mut source = StdSource::new(SlowReader {
-            bytes,
-            most: 4,
-            fails: true,
-        });
-        let mut out = Vec::new(alloc);
-        let mut sink = StdSink::new(&mut out);
-        let status = run(alloc, words.as_slice(), &mut source, &mut sink);
-        drop(sink);
-        assert!(rt; status == Status::Fault && out.as_slice() == text.as_bytes());
+        let (status, out) = ran_slowly(rt.alloc(), texts, bytes, 4)?;
+        assert!(rt; status == 3 && out.as_slice() == text.as_bytes(), "{text}");
     }
     Ok(())
 }
 
+/// What goes out, and the status, where the writer takes so many bytes and then fails for good.
+fn ran_into(alloc: Global, action: &str, bytes: &[u8], room: usize) -> Result<(u8, Vec<u8>), Fail> {
+    let words = words(alloc, &["ndef", action])?;
+    let mut source = SliceSource::new(bytes, &[]);
+    let mut out = Vec::new(alloc);
+    let mut sink = StdSink::new(FullWriter {
+        out: &mut out,
+        room,
+    });
+    let status = run(alloc, words.as_slice(), &mut source, &mut sink);
+    let fails = sink.write(b"more").is_err();
+    drop(sink);
+    if !fails {
+        return Err("the sink takes more".into());
+    }
+    Ok((status as u8, out))
+}
+
 #[test]
 fn tells_a_writing_fault(rt: HostRuntime) -> Result<(), Fail> {
-    let alloc = rt.alloc();
     let two = [HELLO, HELLO];
     for room in 0..24 {
-        let words = words(alloc, &["ndef", "encode"])?;
-        let mut source = SliceSource::new(two.as_flattened(), &[]);
-        let mut out = Vec::new(alloc);
-        let mut sink = StdSink::new(FullWriter {
-            out: &mut out,
-            room,
-        });
-        let status = run(alloc, words.as_slice(), &mut source, &mut sink);
-        assert!(rt; sink.write(b"more").is_err());
-        drop(sink);
-        assert!(rt; status == Status::Fault && out.as_slice() == &two.as_flattened()[..room]);
+        let (status, out) = ran_into(rt.alloc(), "encode", two.as_flattened(), room)?;
+        assert!(rt;
+            status == 3 && out.as_slice() == &two.as_flattened()[..room],
+            "{room}"
+        );
     }
     Ok(())
 }
@@ -326,16 +367,7 @@ fn tells_a_writing_fault(rt: HostRuntime) -> Result<(), Fail> {
 // The line of the ending is cut where the writer fails in it.
 #[test]
 fn tells_a_writing_fault_at_the_end(rt: HostRuntime) -> Result<(), Fail> {
-    let alloc = rt.alloc();
-    let words = words(alloc, &["ndef", "check"])?;
-    let mut source = SliceSource::new(&[0xF5], &[]);
-    let mut out = Vec::new(alloc);
-    let mut sink = StdSink::new(FullWriter {
-        out: &mut out,
-        room: 7,
-    });
-    let status = run(alloc, words.as_slice(), &mut source, &mut sink);
-    drop(sink);
-    assert!(rt; status == Status::Fault && out.as_slice() == b"refused".as_slice());
+    let (status, out) = ran_into(rt.alloc(), "check", &[0xF5], 7)?;
+    assert!(rt; status == 3 && out.as_slice() == b"refused".as_slice());
     Ok(())
 }

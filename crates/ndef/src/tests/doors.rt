@@ -114,21 +114,19 @@ pub(super) fn decoded<L: OuterLanguage>(
 ) -> Option<Answer> {
     let mut decoder = Decoder::<L>::new(alloc, limits);
     let (front, rest) = cut_at(bytes, parts.first);
-    match hand(&mut decoder, front) {
-        Progress::GoesOn => {}
-        Progress::Answered(answer) => return Some(answer),
-        Progress::Failed => return None,
-    }
+    let mut progress = hand(&mut decoder, front);
     for part in rest.chunks(parts.size) {
-        match hand(&mut decoder, part) {
-            Progress::GoesOn => {}
-            Progress::Answered(answer) => return Some(answer),
-            Progress::Failed => return None,
+        if let Progress::GoesOn = progress {
+            progress = hand(&mut decoder, part);
         }
     }
-    match decoder.end() {
-        Ok(()) => None,
-        Err(refusal) => Some(Err(refusal)),
+    match progress {
+        Progress::GoesOn => match decoder.end() {
+            Ok(()) => None,
+            Err(refusal) => Some(Err(refusal)),
+        },
+        Progress::Answered(answer) => Some(answer),
+        Progress::Failed => None,
     }
 }
 

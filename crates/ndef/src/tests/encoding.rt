@@ -1,7 +1,8 @@
 //! Messages encoded, and written to a sink that fails.
 ghost use Rattle.std.specs.Prelude.{◌≤◌};
 
-use super::samples::{HELLO, SELECT};
+use super::case::{bytes_of, field};
+use super::samples::{HELLO, read};
 use super::streams::{FullWriter, IdleWriter};
 use ndef_message::{
     Form, Sink, SinkFault, StdSink, WriteFault, encode, encode_chunked, encoded_length,
@@ -11,67 +12,30 @@ use ndef_value::{Message, Record, Tnf};
 use std::alloc::Global;
 use std::test::Fail;
 
-const HELLO_LONG: [u8; 15] = [
-    0xC1, 0x01, 0x00, 0x00, 0x00, 0x08, 0x54, 0x02, 0x65, 0x6E, 0x48, 0x65, 0x6C, 0x6C, 0x6F,
-];
+/// Messages and what is written for them: `MESSAGE | FORM | SIZE | WRITTEN`, the form `short` or `long`,
+/// the size that of pieces, or `whole`.
+const WRITTEN: &str = "
+D1 01 08 54 02 65 6E 48 65 6C 6C 6F | short | whole | D1 01 08 54 02 65 6E 48 65 6C 6C 6F
+D1 01 08 54 02 65 6E 48 65 6C 6C 6F | long | whole | C1 01 00 00 00 08 54 02 65 6E 48 65 6C 6C 6F
+D5 00 00 | short | whole | D5 00 00
+D5 00 00 | long | whole | C5 00 00 00 00 00
+91 02 0A 48 73 12 D1 02 04 61 63 01 01 30 00 5A 03 01 01 61 2F 62 30 01 | short | whole | 91 02 0A 48 73 12 D1 02 04 61 63 01 01 30 00 5A 03 01 01 61 2F 62 30 01
+91 02 0A 48 73 12 D1 02 04 61 63 01 01 30 00 5A 03 01 01 61 2F 62 30 01 | long | whole | 81 02 00 00 00 0A 48 73 12 D1 02 04 61 63 01 01 30 00 4A 03 00 00 00 01 01 61 2F 62 30 01
+D1 01 08 54 02 65 6E 48 65 6C 6C 6F | short | 1 | B1 01 01 54 02 36 00 01 65 36 00 01 6E 36 00 01 48 36 00 01 65 36 00 01 6C 36 00 01 6C 56 00 01 6F
+D1 01 08 54 02 65 6E 48 65 6C 6C 6F | short | 3 | B1 01 03 54 02 65 6E 36 00 03 48 65 6C 56 00 02 6C 6F
+D1 01 08 54 02 65 6E 48 65 6C 6C 6F | short | 8 | D1 01 08 54 02 65 6E 48 65 6C 6C 6F
+D1 01 08 54 02 65 6E 48 65 6C 6C 6F | long | 4 | A1 01 00 00 00 04 54 02 65 6E 48 46 00 00 00 00 04 65 6C 6C 6F
+D1 01 08 54 02 65 6E 48 65 6C 6C 6F | long | 4294967295 | C1 01 00 00 00 08 54 02 65 6E 48 65 6C 6C 6F
+";
 
-const HELLO_BY_ONE: [u8; 33] = [
-    0xB1, 0x01, 0x01, 0x54, 0x02, 0x36, 0x00, 0x01, 0x65, 0x36, 0x00, 0x01, 0x6E, 0x36, 0x00, 0x01,
-    0x48, 0x36, 0x00, 0x01, 0x65, 0x36, 0x00, 0x01, 0x6C, 0x36, 0x00, 0x01, 0x6C, 0x56, 0x00, 0x01,
-    0x6F,
-];
-
-const HELLO_BY_THREE: [u8; 18] = [
-    0xB1, 0x01, 0x03, 0x54, 0x02, 0x65, 0x6E, 0x36, 0x00, 0x03, 0x48, 0x65, 0x6C, 0x56, 0x00, 0x02,
-    0x6C, 0x6F,
-];
-
-const HELLO_LONG_BY_FOUR: [u8; 21] = [
-    0xA1, 0x01, 0x00, 0x00, 0x00, 0x04, 0x54, 0x02, 0x65, 0x6E, 0x48, 0x46, 0x00, 0x00, 0x00, 0x00,
-    0x04, 0x65, 0x6C, 0x6C, 0x6F,
-];
-
-fn message(alloc: Global, tnf: Tnf, kind: &[u8], payload: &[u8]) -> Result<Message, Fail> {
-    let mut records = Vec::new(alloc);
-    records.push(Record::new(alloc, tnf, kind, &[], payload)?)?;
-    Ok(Message::new(records)?)
+/// Whether the bytes are written for whole records.
+fn writes(alloc: Global, message: &Message, form: Form, wanted: &[u8]) -> Result<bool, Fail> {
+    let bytes = encode(alloc, message, form)?;
+    Ok(bytes.as_slice() == wanted && encoded_length(message, form) == wanted.len() as u64)
 }
 
-fn hello(alloc: Global) -> Result<Message, Fail> {
-    message(alloc, Tnf::WellKnown, b"T", &HELLO[4..])
-}
-
-#[test]
-fn encodes_whole_records(rt: HostRuntime) -> Result<(), Fail> {
-    let alloc = rt.alloc();
-    let hello = hello(alloc)?;
-    assert!(rt; encode(alloc, &hello, Form::Short)?.as_slice() == HELLO.as_slice());
-    assert!(rt; encode(alloc, &hello, Form::Long)?.as_slice() == HELLO_LONG.as_slice());
-    assert!(rt; encoded_length(&hello, Form::Short) == 12);
-    assert!(rt; encoded_length(&hello, Form::Long) == 15);
-    let nothing = message(alloc, Tnf::Unknown, &[], &[])?;
-    let short: &[u8] = &[0xD5, 0x00, 0x00];
-    let long: &[u8] = &[0xC5, 0x00, 0x00, 0x00, 0x00, 0x00];
-    assert!(rt; encode(alloc, &nothing, Form::Short)?.as_slice() == short);
-    assert!(rt; encode(alloc, &nothing, Form::Long)?.as_slice() == long);
-    Ok(())
-}
-
-#[test]
-fn encodes_ids(rt: HostRuntime) -> Result<(), Fail> {
-    let alloc = rt.alloc();
-    let mut records = Vec::new(alloc);
-    records.push(Record::new(alloc, Tnf::WellKnown, b"Hs", &[], &SELECT[5..15])?)?;
-    records.push(Record::new(alloc, Tnf::Media, b"a/b", b"0", &[0x01])?)?;
-    let message = Message::new(records)?;
-    assert!(rt; encode(alloc, &message, Form::Short)?.as_slice() == SELECT.as_slice());
-    assert!(rt; encoded_length(&message, Form::Short) == 24);
-    assert!(rt; encoded_length(&message, Form::Long) == 30);
-    Ok(())
-}
-
-// Whether both encoders write these bytes.
-fn writes(
+/// Whether both encoders write the bytes for records in pieces.
+fn writes_pieces(
     alloc: Global,
     message: &Message,
     form: Form,
@@ -88,41 +52,74 @@ fn writes(
     Ok(bytes.as_slice() == wanted && out.as_slice() == wanted && written == wanted.len() as u64)
 }
 
+/// Whether a line tells what is written for its message.
+fn is_written(alloc: Global, line: &str) -> Result<bool, Fail> {
+    let (bytes, line) = field(line);
+    let (form, line) = field(line);
+    let (size, line) = field(line);
+    let (wanted, _) = field(line);
+    let bytes = bytes_of(alloc, bytes).ok_or("no bytes")?;
+    let wanted = bytes_of(alloc, wanted).ok_or("no bytes")?;
+    let message = read(alloc, bytes.as_slice())?;
+    let form = match form {
+        "long" => Form::Long,
+        _ => Form::Short,
+    };
+    match size {
+        "whole" => writes(alloc, &message, form, wanted.as_slice()),
+        _ => {
+            let size = size.parse::<u32>()?.max(1);
+            writes_pieces(alloc, &message, form, size, wanted.as_slice())
+        }
+    }
+}
+
 #[test]
-fn encodes_pieces(rt: HostRuntime) -> Result<(), Fail> {
-    let alloc = rt.alloc();
-    let hello = hello(alloc)?;
-    assert!(rt; writes(alloc, &hello, Form::Short, 1, &HELLO_BY_ONE)?);
-    assert!(rt; writes(alloc, &hello, Form::Short, 3, &HELLO_BY_THREE)?);
-    assert!(rt; writes(alloc, &hello, Form::Short, 8, &HELLO)?);
-    assert!(rt; writes(alloc, &hello, Form::Long, 4, &HELLO_LONG_BY_FOUR)?);
-    assert!(rt; writes(alloc, &hello, Form::Long, 4294967295, &HELLO_LONG)?);
+fn encodes_messages(rt: HostRuntime) -> Result<(), Fail> {
+    for line in WRITTEN.trim().lines() {
+        assert!(rt; is_written(rt.alloc(), line)?, "{line}");
+    }
     Ok(())
+}
+
+/// A message that is made of its parts.
+fn hello(alloc: Global) -> Result<Message, Fail> {
+    let mut records = Vec::new(alloc);
+    records.push(Record::new(alloc, Tnf::WellKnown, b"T", b"", &HELLO[4..])?)?;
+    Ok(Message::new(records)?)
+}
+
+/// What is written of a message, and what went out, where the writer takes so many bytes and then fails
+/// for good.
+fn written_into(
+    alloc: Global,
+    message: &Message,
+    room: usize,
+) -> Result<(Result<u64, WriteFault>, Vec<u8>), Fail> {
+    let mut out = Vec::new(alloc);
+    let mut sink = StdSink::new(FullWriter {
+        out: &mut out,
+        room,
+    });
+    let written = write_message(message, Form::Short, None, &mut sink);
+    let fails = sink.write(&HELLO) == Err(SinkFault);
+    drop(sink);
+    if !fails {
+        return Err("the sink takes more".into());
+    }
+    Ok((written, out))
 }
 
 #[test]
 fn counts_what_went_out(rt: HostRuntime) -> Result<(), Fail> {
-    let alloc = rt.alloc();
-    let hello = hello(alloc)?;
+    let hello = hello(rt.alloc())?;
     for room in 0..HELLO.len() {
-        let mut out = Vec::new(alloc);
-        let mut sink = StdSink::new(FullWriter {
-            out: &mut out,
-            room,
-        });
-        let fault = write_message(&hello, Form::Short, None, &mut sink).err();
+        let (fault, out) = written_into(rt.alloc(), &hello, room)?;
         let written = room as u64;
-        assert!(rt; fault == Some(WriteFault { written }));
-        assert!(rt; sink.write(&HELLO) == Err(SinkFault));
-        drop(sink);
-        assert!(rt; out.as_slice() == &HELLO[..room]);
+        assert!(rt; fault == Err(WriteFault { written }) && out.as_slice() == &HELLO[..room]);
     }
-    let mut out = Vec::new(alloc);
-    let mut sink = StdSink::new(FullWriter {
-        out: &mut out,
-        room: 12,
-    });
-    assert!(rt; write_message(&hello, Form::Short, None, &mut sink) == Ok(12));
+    let (written, out) = written_into(rt.alloc(), &hello, 12)?;
+    assert!(rt; written == Ok(12) && out.as_slice() == HELLO.as_slice());
     Ok(())
 }
 

@@ -70,19 +70,25 @@ fn readers_end_where_the_input_does_not(rt: HostRuntime) {
     assert!(rt; is_refused(alloc, &head, &[0; 4], 1, Ok(1048582)));
 }
 
-#[test]
-fn reads_1024_records(rt: HostRuntime) -> Result<(), Fail> {
-    let alloc = rt.alloc();
+/// A message of 1024 records.
+fn many_records(alloc: Global) -> Result<Vec<u8>, Fail> {
     let mut bytes = Vec::new(alloc);
     bytes.extend_from_slice(&[0x91, 0x01, 0x00, 0x41])?;
     for _ in 0..1022u16 {
         bytes.extend_from_slice(&[0x11, 0x01, 0x00, 0x41])?;
     }
     bytes.extend_from_slice(&[0x51, 0x01, 0x00, 0x41])?;
+    Ok(bytes)
+}
+
+#[test]
+fn reads_1024_records(rt: HostRuntime) -> Result<(), Fail> {
+    let alloc = rt.alloc();
+    let bytes = many_records(alloc)?;
     let message = read(alloc, bytes.as_slice())?;
-    assert!(rt; message.len() == 1024);
+    assert!(rt; message.len() == 1024 && bytes.len() == 4096);
     let again = encode(alloc, &message, Form::Short)?;
-    assert!(rt; again.as_slice() == bytes.as_slice() && bytes.len() == 4096);
+    assert!(rt; again.as_slice() == bytes.as_slice());
     Ok(())
 }
 
@@ -112,7 +118,7 @@ fn tells_how_much_went_out(rt: HostRuntime) -> Result<(), Fail> {
 }
 
 /// The status, and what is written, of a run whose input comes from this source.
-fn run_from<S: Source>(
+pub(super) fn run_from<S: Source>(
     alloc: Global,
     texts: &[&str],
     source: &mut S,

@@ -62,20 +62,25 @@ fn first_records_are_linked(rt: HostRuntime) -> Result<(), Fail> {
     Ok(())
 }
 
+/// Whether the only link is that of the select.
+fn is_link_of_select(links: &Links) -> bool {
+    match links.get(0) {
+        Some(link) => {
+            links.len() == 1
+                && link.ac.power() == Power::Active
+                && link.ac.reference().as_slice() == b"0".as_slice()
+                && link.index == Some(1)
+        }
+        None => false,
+    }
+}
+
 #[test]
 fn carriers_are_linked(rt: HostRuntime) -> Result<(), Fail> {
     let alloc = rt.alloc();
-    let message = read(alloc, &SELECT)?;
     for profile in [Profile::Strict, Profile::Standard] {
-        let links = carriers_as(alloc, &message, profile)?;
-        assert!(rt; links.len() == 1, "{profile:?}");
-        let link = links.get(0);
-        assert!(rt;
-            link.map(|link| (link.ac.power(), link.index)) == Some((Power::Active, Some(1))),
-            "{profile:?}"
-        );
-        let reference = link.map(|link| link.ac.reference().as_slice());
-        assert!(rt; reference == Some(b"0".as_slice()), "{profile:?}");
+        let links = carriers_as(alloc, &read(alloc, &SELECT)?, profile)?;
+        assert!(rt; is_link_of_select(&links), "{profile:?}");
     }
     assert!(rt; carriers(alloc, &read(alloc, &HELLO)?)?.is_empty());
     Ok(())

@@ -28,37 +28,55 @@ pub(super) fn use_up(alloc: Global, held: &mut Vec<Vec<u8>>) -> bool {
     false
 }
 
-// Once memory is used up, as many growths of 200 bytes succeed as blocks of 200 bytes are let go.
-#[test]
-fn refuses_each_growth_of_a_value(rt: HostRuntime) -> Result<(), Fail> {
-    let alloc = rt.alloc();
+/// Whether a name is refused that isn't kept inline, made at once or byte by byte.
+fn refuses_names(alloc: Global) -> bool {
+    let Ok(mut name) = Name::from_slice(alloc, &LETTERS[..32]) else {
+        return false;
+    };
+    Name::from_slice(alloc, &LETTERS[..33]).err() == Some(NameError::NoMemory)
+        && name.push(0x41).is_err()
+        && name.as_slice() == &LETTERS[..32]
+}
+
+/// Whether byte strings are refused, and what is extended is as it was.
+fn refuses_bytes(alloc: Global, bytes: &mut Bytes) -> bool {
+    Bytes::from_slice(alloc, b"T").is_err()
+        && bytes.extend(&LETTERS).is_err()
+        && bytes.as_slice() == b"kept".as_slice()
+}
+
+/// Whether as many growths of 200 bytes succeed as blocks of 200 bytes are let go.
+fn makes_at_last(alloc: Global, spare: &mut Vec<Vec<u8>>) -> bool {
     let part: &[u8] = &LETTERS;
-    let mut name = Name::from_slice(alloc, &LETTERS[..32])?;
+    for _ in 0..3u8 {
+        let error = Record::new(alloc, Tnf::Media, part, part, part).err();
+        if error != Some(RecordError::NoMemory) {
+            return false;
+        }
+        let _ = spare.pop();
+    }
+    Record::new(alloc, Tnf::Media, part, part, part).is_ok()
+}
+
+/// Whether memory was used up, whether values were refused then, and whether one was made at last.
+fn refused_values(alloc: Global) -> Result<[bool; 3], Fail> {
     let mut bytes = Bytes::from_slice(alloc, b"kept")?;
-    let mut spare: Vec<Vec<u8>> = Vec::with_capacity(alloc, 3)?;
+    let mut spare = Vec::with_capacity(alloc, 3)?;
     for _ in 0..3u8 {
         spare.push(Vec::with_capacity(alloc, 200)?)?;
     }
     let mut held = Vec::with_capacity(alloc, 65536)?;
     let used_up = use_up(alloc, &mut held);
-    let inline = Name::from_slice(alloc, &LETTERS[..32]).is_ok();
-    let named = Name::from_slice(alloc, &LETTERS[..33]).err();
-    let pushed = name.push(0x41).is_err();
-    let copied = Bytes::from_slice(alloc, b"T").is_err();
-    let extended = bytes.extend(part).is_err();
-    let mut refused = true;
-    for _ in 0..3u8 {
-        let error = Record::new(alloc, Tnf::Media, part, part, part).err();
-        refused = refused && error == Some(RecordError::NoMemory);
-        let _ = spare.pop();
-    }
-    let made = Record::new(alloc, Tnf::Media, part, part, part).is_ok();
+    let refused = refuses_names(alloc) && refuses_bytes(alloc, &mut bytes);
+    let made = makes_at_last(alloc, &mut spare);
     drop(held);
-    assert!(rt; used_up, "memory has no end here");
-    assert!(rt; inline && named == Some(NameError::NoMemory));
-    assert!(rt; pushed && name.as_slice() == &LETTERS[..32]);
-    assert!(rt; copied && extended && bytes.as_slice() == b"kept".as_slice());
-    assert!(rt; refused && made);
+    Ok([used_up, refused, made])
+}
+
+#[test]
+fn refuses_each_growth_of_a_value(rt: HostRuntime) -> Result<(), Fail> {
+    let seen = refused_values(rt.alloc())?;
+    assert!(rt; seen == [true; 3], "{seen:?}");
     Ok(())
 }
 
@@ -166,67 +184,87 @@ fn reserves_nothing(alloc: Global) -> bool {
     matches!(head, (6, Event::More)) && decoder.place() == 6 && decoder.held() == 0
 }
 
+fn fails(decoder: &mut Decoder<Opaque>, part: &[u8]) -> bool {
+    matches!(decoder.feed(part), (0, Event::Failed(_)))
+}
+
 // The first growth is refused for good, and nothing is taken or held then.
 fn fails_for_good(alloc: Global) -> bool {
     let mut decoder = Decoder::<Opaque>::new(alloc, Limits::usual());
     let head = matches!(decoder.feed(&HELLO[..4]), (4, Event::More));
-    let failed = matches!(decoder.feed(&HELLO[4..]), (0, Event::Failed(_)));
-    let again = matches!(decoder.feed(&HELLO[4..]), (0, Event::Failed(_)));
-    head && failed && again && decoder.place() == 4 && decoder.held() == 0
+    let failed = fails(&mut decoder, &HELLO[4..]) && fails(&mut decoder, &HELLO[4..]);
+    head && failed && decoder.place() == 4 && decoder.held() == 0
 }
 
-#[test]
-fn refuses_each_growth_of_a_message(rt: HostRuntime) -> Result<(), Fail> {
-    let alloc = rt.alloc();
+// What is refused while memory is used up, and what isn't.
+fn refuses_messages(alloc: Global, wide: &Message, bytes: &[u8]) -> bool {
+    works_without_memory(alloc)
+        && writes_without_memory(wide, bytes)
+        && reserves_nothing(alloc)
+        && fails_for_good(alloc)
+        && is_read(alloc, &[0xD0, 0x00, 0x00]) == Err(ReadError::NoMemory)
+        && encode(alloc, wide, Form::Short).is_err()
+        && encode_chunked(alloc, wide, Form::Long, 8).is_err()
+}
+
+/// Whether memory was used up, whether messages were refused then, and whether one was read at last.
+fn refused_messages(alloc: Global) -> Result<[bool; 3], Fail> {
     let wide = wide_message(alloc)?;
     let bytes = encode(alloc, &wide, Form::Short)?;
     let mut spare = spare_blocks(alloc)?;
     let mut held = Vec::with_capacity(alloc, 65536)?;
     let used_up = use_up(alloc, &mut held);
-    let whole = works_without_memory(alloc) && writes_without_memory(&wide, bytes.as_slice());
-    let reserved = reserves_nothing(alloc);
-    let failed = fails_for_good(alloc);
-    let unread = is_read(alloc, &[0xD0, 0x00, 0x00]);
-    let unwritten = encode(alloc, &wide, Form::Short).is_err();
-    let uncut = encode_chunked(alloc, &wide, Form::Long, 8).is_err();
+    let refused = refuses_messages(alloc, &wide, bytes.as_slice());
     let read = reads_at_last(alloc, bytes.as_slice(), &mut spare);
     drop(held);
-    assert!(rt; used_up, "memory has no end here");
-    assert!(rt; whole && reserved && failed);
-    assert!(rt; unread == Err(ReadError::NoMemory) && unwritten && uncut);
-    assert!(rt; read);
+    Ok([used_up, refused, read])
+}
+
+#[test]
+fn refuses_each_growth_of_a_message(rt: HostRuntime) -> Result<(), Fail> {
+    let seen = refused_messages(rt.alloc())?;
+    assert!(rt; seen == [true; 3], "{seen:?}");
     Ok(())
 }
 
-// A view takes no memory, nor do its items; copies of a message and of a payload do.
-#[test]
-fn refuses_each_growth_of_a_copy(rt: HostRuntime) -> Result<(), Fail> {
-    let alloc = rt.alloc();
+/// Whether the payloads of one long record can't be copied, and then can.
+fn joins(alloc: Global, view: &View<'_>, spare: &mut Vec<Vec<u8>>) -> bool {
+    let mut items = view.items();
+    match items.next() {
+        Some(item) => {
+            item.length() == 40
+                && item.whole().is_none()
+                && item.joined(alloc).is_err()
+                && joins_at_last(alloc, &item, spare)
+                && items.next().is_none()
+        }
+        None => false,
+    }
+}
+
+/// Whether memory was used up, whether a payload was joined at last, and whether the message was copied
+/// at last.
+fn refused_copies(alloc: Global) -> Result<[bool; 3], Fail> {
     let wide = wide_message(alloc)?;
     let bytes = encode_chunked(alloc, &wide, Form::Short, 24)?;
     let mut spare = spare_blocks(alloc)?;
     let mut more = spare_blocks(alloc)?;
     let mut held = Vec::with_capacity(alloc, 65536)?;
     let used_up = use_up(alloc, &mut held);
-    let viewed = view::<Opaque>(bytes.as_slice(), Limits::usual());
-    let mut whole = false;
-    let mut uncopied = false;
-    let mut unjoined = false;
-    let mut copied = false;
-    let mut joined = false;
-    if let Ok(view) = viewed {
-        whole = view.records() == 1;
-        uncopied = view.to_message(alloc).is_err();
-        for item in view.items() {
-            whole = whole && item.length() == 40 && item.whole().is_none();
-            unjoined = item.joined(alloc).is_err();
-            joined = joins_at_last(alloc, &item, &mut spare);
-        }
-        copied = copies_at_last(alloc, &view, &mut more);
-    }
+    let Ok(view) = view::<Opaque>(bytes.as_slice(), Limits::usual()) else {
+        return Err("refused".into());
+    };
+    let uncopied = view.records() == 1 && view.to_message(alloc).is_err();
+    let joined = joins(alloc, &view, &mut spare);
+    let copied = copies_at_last(alloc, &view, &mut more);
     drop(held);
-    assert!(rt; used_up, "memory has no end here");
-    assert!(rt; whole && uncopied && unjoined);
-    assert!(rt; joined && copied);
+    Ok([used_up, joined, uncopied && copied])
+}
+
+// A view takes no memory, nor do its items; copies of a message and of a payload do.
+#[test]
+fn refuses_each_growth_of_a_copy(rt: HostRuntime) -> Result<(), Fail> {
+    let seen = refused_copies(rt.alloc())?;
+    assert!(rt; seen == [true; 3], "{seen:?}");
     Ok(())
 }

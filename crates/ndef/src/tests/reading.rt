@@ -1,72 +1,100 @@
 //! Messages read, checked and decoded from sources.
-use super::samples::{CHUNKS, HELLO, SELECT, TWO};
+use super::case::{bytes_of, field};
+use super::records::are_told;
+use super::samples::{HELLO, SELECT, usual};
 use super::streams::SlowReader;
+use super::values::digits;
 use ndef_lang::{Leaf, Opaque};
 use ndef_message::{
     CheckError, Checked, Decoder, Event, ReadError, SliceSource, StdSource, check_message,
     read_message,
 };
-use ndef_value::{Limits, Reason, Refusal, Tnf};
+use ndef_value::{Reason, Record, Refusal};
+use std::alloc::Global;
+use std::process::Abort;
 use std::test::Fail;
 
 #[test]
 fn gives_the_parts_of_records(rt: HostRuntime) -> Result<(), Fail> {
     let alloc = rt.alloc();
-    let mut source = SliceSource::new(&SELECT, &[]);
-    let read = read_message::<Opaque, _>(alloc, &mut source, Limits::usual())?;
-    assert!(rt; read.taken == 24 && read.message.len() == 2);
-    let Some(select) = read.message.get(0) else {
-        return Err("no first record".into());
+    let read = read_message::<Opaque, _>(alloc, &mut SliceSource::whole(&SELECT), usual())?;
+    let records = "1 Hs - 12D10204616301013000, 2 a/b 0 01";
+    assert!(rt; read.taken == 24 && are_told(alloc, records, &read.message) == Some(true));
+    let checked = check_message::<Opaque, _>(&mut SliceSource::whole(&SELECT), usual())?;
+    let wanted = Checked {
+        records: 2,
+        taken: 24,
     };
-    assert!(rt; select.tnf() == Tnf::WellKnown && select.kind() == b"Hs".as_slice());
-    assert!(rt; select.id().is_empty() && select.payload() == &SELECT[5..15]);
-    let Some(media) = read.message.get(1) else {
-        return Err("no second record".into());
-    };
-    assert!(rt; media.tnf() == Tnf::Media && media.kind() == b"a/b".as_slice());
-    assert!(rt; media.id() == b"0".as_slice() && media.payload() == [0x01].as_slice());
-    let mut again = SliceSource::new(&SELECT, &[]);
-    let checked = check_message::<Opaque, _>(&mut again, Limits::usual())?;
-    assert!(rt;
-        checked
-            == Checked {
-                records: 2,
-                taken: 24
-            }
-    );
+    assert!(rt; checked == wanted);
     Ok(())
 }
 
-#[test]
-fn joins_the_pieces_of_a_record(rt: HostRuntime) -> Result<(), Fail> {
-    let alloc = rt.alloc();
-    let mut decoder = Decoder::<Opaque>::new(alloc, Limits::usual());
+/// Parts that one decoder is fed one after another: `OCTETS | COUNT EVENT | PLACE | HELD | END`, a record
+/// as `TNF TYPE PAYLOAD`. An empty line stands before the parts of another decoder.
+const PARTS: &str = "
+B5 00 01 41 | 4 more | 4 | 1 | Err(Refusal { at: 4, reason: EndOfInput })
+36 00 01 42 56 00 01 43 | 8 last 5 Unknown - 414243 | 12 | 0 | Ok(())
+B5 00 01 41 36 00 01 42 56 00 01 43 | 0 over | 12 | 0 | Ok(())
+
+91 01 00 41 51 01 00 42 | 4 record 1 WellKnown 41 - | 4 | 0 | Err(Refusal { at: 4, reason: EndOfInput })
+D1 | 0 refused at 4: 3 BeginAgain | 4 | 0 | Err(Refusal { at: 4, reason: BeginAgain })
+51 01 00 42 | 0 refused at 4: 3 BeginAgain | 4 | 0 | Err(Refusal { at: 4, reason: BeginAgain })
+";
+
+fn record_told(alloc: Global, record: &Record) -> Result<String, Fail> {
+    let tnf = record.tnf();
+    let kind = digits(alloc, record.kind())?;
+    let payload = digits(alloc, record.payload())?;
+    Ok(format!(in alloc; "{tnf} {kind} {payload}")?)
+}
+
+/// What is told of an event.
+fn event_told(alloc: Global, event: Event) -> Result<String, Fail> {
+    match event {
+        Event::More => Ok(String::from_str(alloc, "more")?),
+        Event::Whole { item, last } => {
+            let record = record_told(alloc, &item)?;
+            let front = if last { "last" } else { "record" };
+            Ok(format!(in alloc; "{front} {record}")?)
+        }
+        Event::Refused(refusal) => Ok(format!(in alloc; "{refusal}")?),
+        Event::Failed(_) => Err("no memory".into()),
+        Event::Over => Ok(String::from_str(alloc, "over")?),
+    }
+}
+
+/// What a decoder tells that is fed one part more.
+fn fed(alloc: Global, decoder: &mut Decoder<Opaque>, part: &[u8]) -> Result<String, Fail> {
+    let (count, event) = decoder.feed(part);
+    let event = event_told(alloc, event)?;
+    Ok(format!(in alloc; "{count} {event}")?)
+}
+
+/// Whether a line tells what a decoder shows that is fed one part more.
+fn is_shown(alloc: Global, decoder: &mut Decoder<Opaque>, line: &str) -> Result<bool, Fail> {
+    let (octets, told) = field(line);
+    let part = bytes_of(alloc, octets).ok_or("no bytes")?;
+    let fed = fed(alloc, decoder, part.as_slice())?;
+    let (place, held) = (decoder.place(), decoder.held());
+    let end = decoder.end();
+    let shown = format!(in alloc; "{fed} | {place} | {held} | {end:?}")?;
+    Ok(shown.as_str() == told.trim())
+}
+
+fn feed_parts(rt: &(impl Abort + AllocGlobal), lines: &str) -> Result<(), Fail> {
+    let mut decoder = Decoder::<Opaque>::new(rt.alloc(), usual());
     assert!(rt; decoder.held() == 0);
-    assert!(rt; matches!(decoder.feed(&CHUNKS[..4]), (4, Event::More)));
-    assert!(rt; decoder.held() == 1 && decoder.place() == 4);
-    let (8, Event::Whole { item, last: true }) = decoder.feed(&CHUNKS[4..]) else {
-        return Err("no record".into());
-    };
-    assert!(rt; item.tnf() == Tnf::Unknown && item.payload() == b"ABC".as_slice());
-    assert!(rt; decoder.held() == 0 && decoder.place() == 12);
-    assert!(rt; matches!(decoder.feed(&CHUNKS), (0, Event::Over)) && decoder.end().is_ok());
+    for line in lines.lines() {
+        assert!(rt; is_shown(rt.alloc(), &mut decoder, line)?, "{line}");
+    }
     Ok(())
 }
 
 #[test]
 fn gives_each_record_at_its_last_byte(rt: HostRuntime) -> Result<(), Fail> {
-    let mut decoder = Decoder::<Opaque>::new(rt.alloc(), Limits::usual());
-    let (4, Event::Whole { item, last: false }) = decoder.feed(&TWO) else {
-        return Err("no first record".into());
-    };
-    assert!(rt; item.kind() == b"A".as_slice());
-    let refusal = Refusal {
-        at: 4,
-        reason: Reason::BeginAgain,
-    };
-    assert!(rt; matches!(decoder.feed(&[0xD1]), (0, Event::Refused(r)) if r == refusal));
-    assert!(rt; matches!(decoder.feed(&TWO[4..]), (0, Event::Refused(r)) if r == refusal));
-    assert!(rt; decoder.end() == Err(refusal) && decoder.place() == 4 && decoder.held() == 0);
+    for lines in PARTS.trim().split("\n\n") {
+        feed_parts(&rt, lines)?;
+    }
     Ok(())
 }
 
@@ -77,7 +105,7 @@ fn reads_one_message_after_another(rt: HostRuntime) -> Result<(), Fail> {
     let mut reader: &[u8] = twice.as_flattened();
     for left in [12, 0usize] {
         let mut source = StdSource::new(&mut reader);
-        let read = read_message::<Leaf, _>(alloc, &mut source, Limits::usual())?;
+        let read = read_message::<Leaf, _>(alloc, &mut source, usual())?;
         drop(source);
         assert!(rt; read.taken == 12 && reader.len() == left);
     }
@@ -93,25 +121,23 @@ fn tells_a_source_that_fails(rt: HostRuntime) {
             fails: true,
         };
         let mut source = StdSource::new(failing);
-        let read = read_message::<Opaque, _>(rt.alloc(), &mut source, Limits::usual());
+        let read = read_message::<Opaque, _>(rt.alloc(), &mut source, usual());
         assert!(rt; matches!(read, Err(ReadError::ReadFault)));
-        let checked = check_message::<Opaque, _>(&mut source, Limits::usual());
+        let checked = check_message::<Opaque, _>(&mut source, usual());
         assert!(rt; checked == Err(CheckError::ReadFault));
     }
 }
 
 #[test]
 fn says_what_went_wrong(rt: HostRuntime) -> Result<(), Fail> {
-    let alloc = rt.alloc();
     let refusal = Refusal {
         at: 11,
         reason: Reason::EndOfInput,
     };
-    let read = format!(in alloc; "{}", ReadError::Refused(refusal))?;
-    assert!(rt; read.as_str() == "refused at 11: 24 EndOfInput");
-    let checked = format!(in alloc; "{}", CheckError::Refused(refusal))?;
-    assert!(rt; checked.as_str() == "refused at 11: 24 EndOfInput");
-    let faults = format!(in alloc; "{}, {}", ReadError::ReadFault, ReadError::NoMemory)?;
-    assert!(rt; faults.as_str() == "reading failed, no memory");
+    let (read, checked) = (ReadError::Refused(refusal), CheckError::Refused(refusal));
+    let (fault, memory) = (ReadError::ReadFault, ReadError::NoMemory);
+    let text = format!(in rt.alloc(); "{read}, {checked}, {fault}, {memory}")?;
+    let refused = "refused at 11: 24 EndOfInput, refused at 11: 24 EndOfInput";
+    assert!(rt; text.strip_prefix(refused) == Some(", reading failed, no memory"));
     Ok(())
 }

@@ -21,18 +21,25 @@ fn parts<S: Source>(alloc: Global, source: &mut S, most: usize) -> Result<Vec<us
     Err("a source without an end".into())
 }
 
+/// Whether a source comes in these parts.
+fn comes_in(
+    alloc: Global,
+    source: &mut SliceSource<'_>,
+    most: usize,
+    wanted: &[usize],
+) -> Result<bool, Fail> {
+    Ok(parts(alloc, source, most)?.as_slice() == wanted)
+}
+
 #[test]
 fn shows_up_to_the_cuts(rt: HostRuntime) -> Result<(), Fail> {
     let alloc = rt.alloc();
     let mut whole = SliceSource::new(&BYTES, &[]);
-    let wanted: &[usize] = &[12];
-    assert!(rt; parts(alloc, &mut whole, 12)?.as_slice() == wanted);
+    assert!(rt; comes_in(alloc, &mut whole, 12, &[12])?);
     let mut cut = SliceSource::new(&BYTES, &[0, 3, 3, 8, 12]);
-    let wanted: &[usize] = &[3, 5, 4];
-    assert!(rt; parts(alloc, &mut cut, 12)?.as_slice() == wanted);
+    assert!(rt; comes_in(alloc, &mut cut, 12, &[3, 5, 4])?);
     let mut slow = SliceSource::new(&BYTES, &[0, 3, 3, 8, 12]);
-    let wanted: &[usize] = &[2, 1, 2, 2, 1, 2, 2];
-    assert!(rt; parts(alloc, &mut slow, 2)?.as_slice() == wanted);
+    assert!(rt; comes_in(alloc, &mut slow, 2, &[2, 1, 2, 2, 1, 2, 2])?);
     Ok(())
 }
 
@@ -41,8 +48,10 @@ fn shows_each_two_parts(rt: HostRuntime) -> Result<(), Fail> {
     for cut in 1..BYTES.len() {
         let cuts = [cut];
         let mut source = SliceSource::new(&BYTES, &cuts);
-        let parts = parts(rt.alloc(), &mut source, 12)?;
-        assert!(rt; parts.as_slice() == [cut, 12 - cut].as_slice());
+        assert!(rt;
+            comes_in(rt.alloc(), &mut source, 12, &[cut, 12 - cut])?,
+            "{cut}"
+        );
     }
     Ok(())
 }
@@ -73,6 +82,12 @@ fn leaves_the_reader_behind_what_was_taken(rt: HostRuntime) -> Result<(), Fail> 
     source.take(3);
     drop(source);
     assert!(rt; reader == &BYTES[5..]);
+    Ok(())
+}
+
+#[test]
+fn gives_the_reader_back_behind_what_was_taken(rt: HostRuntime) -> Result<(), Fail> {
+    let reader: &[u8] = &BYTES[5..];
     let mut source = StdSource::new(reader);
     let shown = source.fill()?.len();
     assert!(rt; shown == 7);

@@ -144,29 +144,52 @@ fn answers_at_last(alloc: Global, call: Call, values: &Values, spare: &mut Vec<V
     false
 }
 
+/// The first call that answers something else, if one does.
+fn wrong_call(alloc: Global, values: &Values) -> Option<Call> {
+    for call in &CALLS {
+        if answers(alloc, *call, values) != Ok(true) {
+            return Some(*call);
+        }
+    }
+    None
+}
+
 #[test]
 fn calls_answer_where_there_is_memory(rt: HostRuntime) -> Result<(), Fail> {
-    let alloc = rt.alloc();
-    let values = made_values(alloc)?;
-    for call in CALLS {
-        assert!(rt; answers(alloc, call, &values) == Ok(true), "{call:?}");
-    }
+    let values = made_values(rt.alloc())?;
+    let wrong = wrong_call(rt.alloc(), &values);
+    drop(values);
+    assert!(rt; wrong.is_none(), "{wrong:?}");
     Ok(())
+}
+
+/// Whether memory was used up, whether the call was refused then, and whether it answered at last.
+fn refused_call(alloc: Global, call: Call, values: &Values) -> Result<[bool; 3], Fail> {
+    let mut spare = spare_blocks(alloc)?;
+    let mut held = Vec::with_capacity(alloc, 65536)?;
+    let used_up = use_up(alloc, &mut held);
+    let refused = answers(alloc, call, values) == Err(NoMemory);
+    let right = answers_at_last(alloc, call, values, &mut spare);
+    drop(held);
+    Ok([used_up, refused, right])
+}
+
+/// The first call that isn't refused and then answered, if there is one, and what was seen of it.
+fn unrefused_call(alloc: Global, values: &Values) -> Result<Option<(Call, [bool; 3])>, Fail> {
+    for call in &CALLS {
+        let seen = refused_call(alloc, *call, values)?;
+        if seen != [true; 3] {
+            return Ok(Some((*call, seen)));
+        }
+    }
+    Ok(None)
 }
 
 #[test]
 fn refuses_each_growth_of_a_typed_value(rt: HostRuntime) -> Result<(), Fail> {
-    let alloc = rt.alloc();
-    let values = made_values(alloc)?;
-    for call in CALLS {
-        let mut spare = spare_blocks(alloc)?;
-        let mut held = Vec::with_capacity(alloc, 65536)?;
-        let used_up = use_up(alloc, &mut held);
-        let first = answers(alloc, call, &values);
-        let right = answers_at_last(alloc, call, &values, &mut spare);
-        drop(held);
-        assert!(rt; used_up, "memory has no end here");
-        assert!(rt; first == Err(NoMemory) && right, "{call:?}");
-    }
+    let values = made_values(rt.alloc())?;
+    let wrong = unrefused_call(rt.alloc(), &values)?;
+    drop(values);
+    assert!(rt; wrong.is_none(), "{wrong:?}");
     Ok(())
 }
