@@ -97,17 +97,17 @@ pub record IsAt (limits : LimitValues) (bytes : List ℕ) (runs : List Run) (beg
   pub ends : EndsAt field (all_pieces runs ++ begun)
   pub proper : IsProper (spot_after limits runs begun) field
 
+-- NDEF 1.0, chunked payloads: the run whose last piece comes behind these
+abbrev pub ended_run : (begun : List Piece) → Piece → Run
+ended_run [] p = record { initial = p; later = [] }
+ended_run (q ∷ begun) p = record { initial = q; later = begun ++ p ∷ [] }
+
 -- ---- laws
 
 -- The octets before an octet tell its field, and the runs and the pieces before it.
 abbrev pub OneField : Type 0
 OneField = (limits : LimitValues) (bytes : List ℕ) (runs others : List Run) (begun opened : List Piece) (field other : Field)
     → IsAt limits bytes runs begun field → IsAt limits bytes others opened other → (runs ≡ others) × (begun ≡ opened) × (field ≡ other)
-
--- NDEF 1.0, chunked payloads: the run whose last piece comes behind these
-abbrev pub ended_run : (begun : List Piece) → Piece → Run
-ended_run [] p = record { initial = p; later = [] }
-ended_run (q ∷ begun) p = record { initial = q; later = begun ++ p ∷ [] }
 
 -- A piece that stands behind others goes on with the open run, and where its CF is clear it ends it.
 abbrev pub PiecesGoOn : Type 0
