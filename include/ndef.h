@@ -169,11 +169,20 @@ typedef struct ndef_text_parts {
  * records), and `out` is as it was. */
 uint32_t ndef_text(const uint8_t *payload, size_t length, ndef_text_parts *out, ndef_checked *why);
 
-/* Writes the payload of a Text record in UTF-8 to the front of the room, and its length to *count.
+/* Writes the text for which the payload of a Text record stands to the front of the room, in UTF-8 and with no NUL behind
+ * it, and its length to *count; what is UTF-16 is converted, and its byte order mark is no part of the text.
+ * NDEF_OK, NDEF_NO_ROOM. NDEF_REFUSED: it is no such payload; `why` tells where and why (and 0 records), and no more is
+ * written; else `why` is as it was. */
+uint32_t ndef_text_in_utf8(const uint8_t *payload, size_t length, uint8_t *room, size_t size, size_t *count,
+                           ndef_checked *why);
+
+/* Writes the payload of a Text record to the front of the room, and its length to *count. The text is given in UTF-8.
+ * Flags: NDEF_AS_UTF16 writes it in UTF-16, big-endian behind a byte order mark.
  * NDEF_OK, NDEF_NO_ROOM; NDEF_BAD_ARGUMENT: a language code of more than 63 bytes or that isn't ASCII, a text that isn't
- * UTF-8, or no payload has room for them. */
+ * UTF-8, no payload has room for them, or an unknown flag. */
 uint32_t ndef_write_text(const uint8_t *language, size_t language_length, const uint8_t *text, size_t text_length,
-                         uint8_t *room, size_t size, size_t *count);
+                         uint32_t flags, uint8_t *room, size_t size, size_t *count);
+enum { NDEF_AS_UTF16 = 1 };
 
 /* A handover carrier, by places and lengths in its payload. */
 typedef struct ndef_carrier_parts {

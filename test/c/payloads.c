@@ -44,8 +44,8 @@ static void texts(void) {
     ndef_checked why = { 7, 7, 7 };
     const uint8_t *hello = (const uint8_t *)"Hello";
     const uint8_t *language = (const uint8_t *)"en";
-    expect(ndef_write_text(language, 2, hello, 5, room, 7, &count) == NDEF_NO_ROOM && count == 8, "another length is needed");
-    expect(ndef_write_text(language, 2, hello, 5, room, sizeof room, &count) == NDEF_OK, "a text isn't written");
+    expect(ndef_write_text(language, 2, hello, 5, 0, room, 7, &count) == NDEF_NO_ROOM && count == 8, "another length is needed");
+    expect(ndef_write_text(language, 2, hello, 5, 0, room, sizeof room, &count) == NDEF_OK, "a text isn't written");
     expect(is(room, count, "\x02" "enHello", 8), "a text has another payload");
     expect(ndef_text(room, count, &parts, &why) == NDEF_OK && why.place == 7, "a text isn't read");
     expect(parts.language_at == 1 && parts.language_length == 2 && parts.text_at == 3 && parts.text_length == 5 && parts.utf16 == 0,
@@ -56,9 +56,47 @@ static void texts(void) {
     expect(why.place == 0 && why.reason == NDEF_TEXT_BIT && parts.utf16 == 1, "a reserved bit is refused otherwise");
     expect(ndef_text((const uint8_t *)"\x02" "en\xff", 4, &parts, &why) == NDEF_REFUSED && why.place == 3 && why.reason == NDEF_UTF8,
            "no UTF-8 is read");
-    expect(ndef_write_text((const uint8_t *)"\xc3\xa9", 2, hello, 5, room, sizeof room, &count) == NDEF_BAD_ARGUMENT, "no ASCII is written");
-    expect(ndef_write_text(room, 64, hello, 5, room, 0, &count) == NDEF_BAD_ARGUMENT, "a long language code is written");
-    expect(ndef_write_text(language, 2, (const uint8_t *)"\xc3", 1, room, sizeof room, &count) == NDEF_BAD_ARGUMENT, "no UTF-8 is written");
+    expect(ndef_write_text((const uint8_t *)"\xc3\xa9", 2, hello, 5, 0, room, sizeof room, &count) == NDEF_BAD_ARGUMENT, "no ASCII is written");
+    expect(ndef_write_text(room, 64, hello, 5, 0, room, 0, &count) == NDEF_BAD_ARGUMENT, "a long language code is written");
+    expect(ndef_write_text(language, 2, (const uint8_t *)"\xc3", 1, 0, room, sizeof room, &count) == NDEF_BAD_ARGUMENT, "no UTF-8 is written");
+}
+
+/* "a", U+00E9, U+20AC and U+1F600, in each encoding */
+static const char wide[] = "\0a\0\xe9\x20\xac\xd8\x3d\xde\0";
+static const char little[] = "a\0\xe9\0\xac\x20\x3d\xd8\0\xde";
+static const char narrow[] = "a\xc3\xa9\xe2\x82\xac\xf0\x9f\x98\x80";
+
+/* The payload of a text with the language code "en", and what it is in UTF-8. */
+static void converted(uint8_t status, const char *mark, const char *text, size_t length, const char *what) {
+    uint8_t payload[32] = { status, 'e', 'n' }, room[32];
+    size_t count = 0, front = 3 + strlen(mark);
+    ndef_checked why = { 7, 7, 7 };
+    memcpy(payload + 3, mark, front - 3);
+    memcpy(payload + front, text, length);
+    expect(ndef_text_in_utf8(payload, front + length, room, 9, &count, &why) == NDEF_NO_ROOM && count == 10, what);
+    expect(ndef_text_in_utf8(payload, front + length, room, sizeof room, &count, &why) == NDEF_OK && why.place == 7, what);
+    expect(is(room, count, narrow, 10), what);
+}
+
+static void conversions(void) {
+    uint8_t room[32];
+    size_t count = 77;
+    ndef_checked why = { 7, 7, 7 };
+    const uint8_t *language = (const uint8_t *)"en";
+    converted(0x02, "", narrow, 10, "UTF-8 is read otherwise");
+    converted(0x82, "", wide, 10, "UTF-16 with no mark is read otherwise");
+    converted(0x82, "\xfe\xff", wide, 10, "UTF-16 behind its mark is read otherwise");
+    converted(0x82, "\xff\xfe", little, 10, "little-endian UTF-16 is read otherwise");
+    expect(ndef_text_in_utf8((const uint8_t *)"\x80\xfe\xff", 3, room, 0, &count, &why) == NDEF_OK && count == 0, "no text is read otherwise");
+    count = 77;
+    expect(ndef_text_in_utf8((const uint8_t *)"\x80\xdc\0", 3, room, sizeof room, &count, &why) == NDEF_REFUSED && count == 77,
+           "half a pair is read");
+    expect(why.place == 1 && why.reason == NDEF_UTF16 && why.records == 0, "half a pair is refused otherwise");
+    expect(ndef_write_text(language, 2, (const uint8_t *)narrow, 10, NDEF_AS_UTF16, room, 14, &count) == NDEF_NO_ROOM && count == 15,
+           "UTF-16 needs another length");
+    expect(ndef_write_text(language, 2, (const uint8_t *)narrow, 10, NDEF_AS_UTF16, room, sizeof room, &count) == NDEF_OK, "UTF-16 isn't written");
+    expect(is(room, 5, "\x82" "en\xfe\xff", 5) && is(room + 5, count - 5, wide, 10), "UTF-16 has another payload");
+    expect(ndef_write_text(language, 2, (const uint8_t *)narrow, 10, 2, room, sizeof room, &count) == NDEF_BAD_ARGUMENT, "an unknown flag is taken");
 }
 
 static void carriers(void) {
@@ -135,6 +173,7 @@ static void posters(void) {
 int main(void) {
     uris();
     texts();
+    conversions();
     carriers();
     alternatives();
     posters();

@@ -1,6 +1,7 @@
 pub mod Ahead
 pub mod Alternatives
 pub mod Carriers
+pub mod Characters
 pub mod Copied
 pub mod Followed
 pub mod Places

@@ -1,12 +1,17 @@
 -- Where the parts of a text lie, and its payload.
-use Rattle.std.proofs.Common.{◌≡◌, ℕ, ◌+◌, ◌-◌, ◌≤◌, ◌∷◌, [], take, drop, sym, ◌∙◌, ap, arith, List, ◌++◌, length, get_or, length-drop}
+use Rattle.std.proofs.Common.{◌≡◌, ℕ, ◌+◌, ◌*◌, ◌-◌, ◌<◌, ◌≤◌, Bool, true≢false, encode_utf8_all, ◌∷◌, [], false, take, drop, refl, sym, ◌∙◌, ap, arith, List, ◌++◌, length, length-append, get_or, length-drop}
 use Rattle.std.proofs.lemmas.List.{drop-drop, take_all, length-take-le}
+use Rattle.std.proofs.lemmas.Bool.{leb-true, le-leb}
 use Rattle.std.proofs.lemmas.Str.{encodes-chars}
-use Rattle.std.specs.Prelude.{IsUtf8}
+use Rattle.std.specs.Prelude.{IsUtf8, chars}
 use Rattle.ndef_lang.specs.OctetLaws.{field_parts}
 use Rattle.ndef_lang.specs.Text.{IsCodeOctet, IsText, IsTextIn, is_wide, code_length}
-use Rattle.ndef_types.specs.Values.{language_octets, encoded_octets, text_payload}
-use Rattle.ndef_c.specs.Texts.{utf8_text}
+use Rattle.ndef_types.specs.declared.encoding.Encoding.{Encoding}
+use Rattle.ndef_types.specs.declared.encoding.Encoding.TheVariants.{Utf8, Utf16}
+use Rattle.ndef_types.specs.Values.{TextValue, StandsForText, SpellsText, is_utf16, language_octets, encoded_octets, text_payload}
+use Rattle.ndef_lang.specs.Utf16.{spelled, units_of, unmarked}
+use Rattle.ndef_lang.specs.Utf16Laws.{spelled_length}
+use Rattle.ndef_c.specs.Texts.{AreSpelled, asked_text}
 use Rattle.ndef_c.specs.Walks.{Lies}
 
 pub code_within : (payload : List ℕ) → IsText payload → 1 + code_length (get_or payload 0 0) ≤ length payload
@@ -35,5 +40,41 @@ parts_lie payload n e h =
     }
 
 -- the payload of a text in UTF-8
-pub payload_is : (language text : List ℕ) (n : ℕ) → IsUtf8 text → n ≡ length language → (n ∷ []) ++ (language ++ text) ≡ text_payload (utf8_text language text)
-payload_is language text n u e = ap (λ m. m ∷ (language ++ text)) e ∙ ap (λ t. length language ∷ (language ++ t)) (sym (encodes-chars text u))
+pub utf8_payload : (language text : List ℕ) (n : ℕ) → IsUtf8 text → n ≡ length language → (n ∷ []) ++ (language ++ text) ≡ text_payload (asked_text 0 language text)
+utf8_payload language text n u e = ap (λ m. m ∷ (language ++ text)) e ∙ ap (λ t. length language ∷ (language ++ t)) (sym (encodes-chars text u))
+
+-- its length in UTF-16
+pub utf16_size : (language text : List ℕ) (n : ℕ) → n ≡ length (units_of (chars text)) → length (text_payload (asked_text 1 language text)) ≡ 3 + length language + 2 * n
+utf16_size language text n e =
+    let k = length-append language (0xfe ∷ 0xff ∷ spelled false (units_of (chars text))) in
+    let l = spelled_length false (units_of (chars text)) in
+    omega (arith, e, k, l)
+
+pub utf8_size : (language text : List ℕ) → IsUtf8 text → length (text_payload (asked_text 0 language text)) ≡ 1 + (length language + length text)
+utf8_size language text u =
+    let e = ap length (utf8_payload language text (length language) u refl) in
+    let k = length-append language text in
+    omega (arith, e, k)
+
+-- ---- texts that are read
+
+-- a text in UTF-8 is its octets
+pub given_utf8 : (payload octets : List ℕ) (v : TextValue) → StandsForText payload v → octets ≡ encoded_octets payload → get_or payload 0 0 < 128 → octets ≡ encode_utf8_all v.text
+given_utf8 payload octets v h e l = e ∙ sym (by v.encoding h.encoding h.text)
+  where
+    by : (encoding : Encoding) → is_wide (get_or payload 0 0) ≡ is_utf16 encoding → SpellsText encoding (encoded_octets payload) v.text → encode_utf8_all v.text ≡ encoded_octets payload
+    by Utf8 w s = s
+    by Utf16 w s = let n = leb-true 128 (get_or payload 0 0) w in absurd (omega (arith, n, l))
+
+-- a text in UTF-16 is spelled behind its mark
+pub given_utf16 : (payload octets : List ℕ) (v : TextValue) → StandsForText payload v → octets ≡ encoded_octets payload → 128 ≤ get_or payload 0 0
+    → (little : Bool) (rest : List ℕ) → little ≡ (unmarked octets).0 → rest ≡ (unmarked octets).1 → AreSpelled little v.text rest
+given_utf16 payload octets v h e l little rest a b = record {
+  scalars = h.scalars;
+  are = ap (λ x. spelled x (units_of v.text)) (a ∙ ap (λ s. (unmarked s).0) e) ∙ by v.encoding h.encoding h.text ∙ sym (b ∙ ap (λ s. (unmarked s).1) e);
+}
+  where
+    by : (encoding : Encoding) → is_wide (get_or payload 0 0) ≡ is_utf16 encoding → SpellsText encoding (encoded_octets payload) v.text
+        → spelled (unmarked (encoded_octets payload)).0 (units_of v.text) ≡ (unmarked (encoded_octets payload)).1
+    by Utf16 w s = s
+    by Utf8 w s = absurd (true≢false (sym (le-leb 128 (get_or payload 0 0) l) ∙ w))

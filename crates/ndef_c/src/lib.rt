@@ -19,6 +19,7 @@ mod run;
 mod status;
 mod text;
 mod uri;
+mod utf16;
 mod writing;
 
 pub use alternative::{NdefAlternative, ndef_alternative, ndef_reference};
@@ -32,6 +33,6 @@ pub use poster::{NdefPoster, ndef_poster};
 pub use reasons::ndef_reason_name;
 pub use record::{NdefRecord, ndef_record_at};
 pub use status::{BAD_ARGUMENT, END, NO_ROOM, OK, REFUSED};
-pub use text::{NdefText, ndef_text, ndef_write_text};
+pub use text::{NdefText, ndef_text, ndef_text_in_utf8, ndef_write_text};
 pub use uri::{ndef_uri, ndef_write_uri};
 pub use writing::{NdefWriting, ndef_write_record};

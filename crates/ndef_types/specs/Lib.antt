@@ -9,4 +9,5 @@ pub mod Handovers
 pub mod Links
 pub mod Posters
 pub mod Prefixes
+pub mod UnitLaws
 pub mod Values

@@ -46,6 +46,7 @@ pub use prefixes::{prefix, split};
 pub use request::Request;
 pub use select::Select;
 pub use smart_poster::{NotPoster, SmartPoster};
-pub use text::{Text, TextError};
+pub use text::{Text, TextError, split_language};
 pub use texts::Texts;
 pub use uri::Uri;
+pub use utf16::{units_len, unmark};

@@ -84,8 +84,8 @@ fn encoding_of(status: u8) -> Encoding
     }
 }
 
-/// The octets of the language code and those of the text.
-fn split_language(payload: &[u8]) -> (&[u8], &[u8])
+/// The octets of the language code and those of the text, in a payload of a Text record (RTD Text 1.0).
+pub fn split_language(payload: &[u8]) -> (&[u8], &[u8])
     requires { IsText payload.now }
     ensures language { result.0.now ≡ language_octets payload.now }
     ensures text { result.1.now ≡ encoded_octets payload.now }

@@ -1,0 +1,145 @@
+//! Texts in UTF-16 (RFC 2781), read and written.
+ghost use Rattle.std.specs.Prelude.{◌≡◌, ◌+◌, ◌<◌, ◌≤◌, ◌^◌, ◌++◌, ◌∷◌, [], ℕ, List, false, length, chars, encode_utf8_all, ◌↔◌, IsTrue};
+ghost use Rattle.std.specs.Char.{InScalarRange};
+ghost use Rattle.std.specs.Char.Escape.{encode_utf16};
+ghost use Rattle.ndef_lang.specs.Utf16.{spelled, unit_octets, units_of};
+ghost use Rattle.ndef_c.specs.Rooms.{Gives, IsPut};
+ghost use Rattle.ndef_c.specs.Texts.{AreSpelled};
+
+use crate::room::put;
+use crate::status::{NO_ROOM, OK};
+
+/// The unit of two octets.
+fn unit_of(little: bool, first: u8, second: u8) -> u32
+    ensures { unit_octets little result ≡ first ∷ second ∷ [] }
+{
+    if little {
+        u32::from(u16::from_le_bytes([first, second]))
+    } else {
+        u32::from(u16::from_be_bytes([first, second]))
+    }
+}
+
+/// The unit with which the octets begin, and those behind it.
+fn first_unit(little: bool, octets: &[u8]) -> (u32, &[u8])
+    requires { 2 ≤ length octets.now }
+    ensures { octets.now ≡ unit_octets little result.0 ++ result.1.now }
+{
+    let [first, second, rest @ ..] = octets else {
+        unreachable!()
+    };
+    (unit_of(little, *first, *second), rest)
+}
+
+/// The character with a number.
+fn character(code: u32) -> char
+    requires { InScalarRange code }
+    ensures { result ≡ code }
+{
+    match char::from_u32(code) {
+        Some(c) => c,
+        None => unreachable!(),
+    }
+}
+
+/// Whether the unit is half of a pair of surrogates.
+fn is_surrogate(unit: u32) -> bool
+    ensures { IsTrue result ↔ ((0xd800 ≤ unit) × (unit < 0xe000)) }
+{
+    0xd800 <= unit && unit < 0xe000
+}
+
+/// The character with which the octets begin, and those behind it.
+fn first_character(little: bool, octets: &[u8]) -> (char, &[u8])
+    requires { (c : ℕ) × (cs : List ℕ) × AreSpelled little (c ∷ cs) octets.now }
+    ensures { (c : ℕ) (cs : List ℕ) → AreSpelled little (c ∷ cs) octets.now
+        → (result.0 ≡ c) × AreSpelled little cs result.1.now }
+{
+    let (unit, rest) = first_unit(little, octets);
+    if !is_surrogate(unit) {
+        return (character(unit), rest);
+    }
+    let (low, behind) = first_unit(little, rest);
+    let code = 0x10000 + (unit - 0xd800) * 0x400 + (low - 0xdc00);
+    (character(code), behind)
+}
+
+/// How many bytes the text that the octets spell has in UTF-8.
+fn utf8_length(little: bool, octets: &[u8]) -> usize
+    requires text { (cs : List ℕ) × AreSpelled little cs octets.now }
+    requires short { length octets.now < 2 ^ 32 }
+    ensures { (cs : List ℕ) → AreSpelled little cs octets.now → result ≡ length (encode_utf8_all cs) }
+{
+    let mut count = 0;
+    let mut rest = octets;
+    while !rest.is_empty() {
+        let (c, behind) = first_character(little, rest);
+        count += c.len_utf8();
+        rest = behind;
+    }
+    count
+}
+
+/// Writes the text that the octets spell to the front of the room in UTF-8.
+fn put_in_utf8(room: &mut [u8], little: bool, octets: &[u8])
+    requires text { (cs : List ℕ) × AreSpelled little cs octets.now }
+    requires room { (cs : List ℕ) → AreSpelled little cs octets.now
+        → length (encode_utf8_all cs) ≤ length room.old }
+    ensures { (cs : List ℕ) → AreSpelled little cs octets.now → IsPut 0 (encode_utf8_all cs) room.old room.new }
+{
+    let mut at = 0;
+    let mut rest = octets;
+    while !rest.is_empty() {
+        let (c, behind) = first_character(little, rest);
+        let mut buffer = [0; 4];
+        at = put(room, at, c.encode_utf8(&mut buffer).as_bytes());
+        rest = behind;
+    }
+}
+
+/// Writes the text that the octets spell to the room in UTF-8 where it is large enough, tells how many
+/// bytes it has, and answers the status.
+pub(crate) fn give_in_utf8(little: bool, octets: &[u8], room: &mut [u8], count: &mut usize) -> u32
+    requires text { (cs : List ℕ) × AreSpelled little cs octets.now }
+    requires short { length octets.now < 2 ^ 32 }
+    ensures { (cs : List ℕ) → AreSpelled little cs octets.now
+        → Gives (encode_utf8_all cs) room.old room.new count.new result }
+{
+    let needed = utf8_length(little, octets);
+    *count = needed;
+    if room.len() < needed {
+        return NO_ROOM;
+    }
+    put_in_utf8(room, little, octets);
+    OK
+}
+
+/// Writes the units of a character, big-endian, at a place of the room, and answers the place behind
+/// them.
+fn put_character(room: &mut [u8], at: usize, c: char) -> usize
+    requires { at + length (spelled false (encode_utf16 c)) ≤ length room.old }
+    ensures put { IsPut at (spelled false (encode_utf16 c)) room.old room.new }
+    ensures size { length room.new ≡ length room.old }
+    ensures behind { result ≡ at + length (spelled false (encode_utf16 c)) }
+{
+    let mut units = [0; 2];
+    let mut end = at;
+    for unit in c.encode_utf16(&mut units).iter() {
+        end = put(room, end, &unit.to_be_bytes());
+    }
+    end
+}
+
+/// Writes the units of a text, big-endian, at a place of the room, and answers the place behind them.
+pub(crate) fn put_units(room: &mut [u8], at: usize, text: &str) -> usize
+    requires { at + length (spelled false (units_of (chars text.now))) ≤ length room.old }
+    ensures put { IsPut at (spelled false (units_of (chars text.now))) room.old room.new }
+    ensures size { length room.new ≡ length room.old }
+    ensures behind { result ≡ at + length (spelled false (units_of (chars text.now))) }
+{
+    let mut end = at;
+    for c in text.chars() {
+        end = put_character(room, end, c);
+    }
+    end
+}
