@@ -7,6 +7,7 @@ from .errors import DecodeError, EncodeError
 OK, REFUSED, NO_ROOM, BAD_ARGUMENT, END = range(5)
 STANDARD, OPAQUE = 1, 2
 FIRST, LAST = 1, 2
+UTF16 = 1
 END_OF_INPUT = 24
 
 _u32, _size, _octets, _to = ctypes.c_uint32, ctypes.c_size_t, ctypes.c_char_p, ctypes.c_void_p
@@ -75,7 +76,8 @@ write_record = _call('ndef_write_record', _octets, _size, _octets, _size, _octet
 uri = _call('ndef_uri', _octets, _size, _u32, *_room, _to)
 write_uri = _call('ndef_write_uri', _octets, _size, *_room)
 text = _call('ndef_text', _octets, _size, _to, _to)
-write_text = _call('ndef_write_text', _octets, _size, _octets, _size, *_room)
+text_in_utf8 = _call('ndef_text_in_utf8', _octets, _size, *_room, _to)
+write_text = _call('ndef_write_text', _octets, _size, _octets, _size, _u32, *_room)
 poster = _call('ndef_poster', _octets, _size, _u32, _to, _to)
 carrier = _call('ndef_carrier', _octets, _size, _to, _to)
 write_carrier = _call('ndef_write_carrier', _u32, _octets, _size, _octets, _size, *_room)

@@ -2,12 +2,13 @@
 from ctypes import byref
 
 from . import _library as library
-from .errors import left_out
 from .record import GlobalRecord, Record, octets_of, text_of
+
+_ENCODINGS = ('UTF-8', 'UTF-16')
 
 
 class TextRecord(GlobalRecord):
-    """A text, its language code and its encoding, 'UTF-8'."""
+    """A text, its language code and its encoding, 'UTF-8' or 'UTF-16'."""
 
     _type = 'urn:nfc:wkt:T'
 
@@ -38,16 +39,15 @@ class TextRecord(GlobalRecord):
 
     @encoding.setter
     def encoding(self, value):
-        if value == 'UTF-16':
-            raise left_out('texts in UTF-16')
-        if value != 'UTF-8':
+        if value not in _ENCODINGS:
             raise ValueError('the encoding is UTF-8 or UTF-16, not %r' % (value,))
         self._encoding = value
 
     def _encode_payload(self):
         language, text = octets_of(self.language), octets_of(self.text)
+        flags = library.UTF16 if self.encoding == 'UTF-16' else 0
         return library.written('no text has these parts', library.write_text, len(language) + len(text) + 32, language,
-                               len(language), text, len(text))
+                               len(language), text, len(text), flags)
 
     @classmethod
     def _decode_payload(cls, octets, errors):
@@ -57,10 +57,11 @@ class TextRecord(GlobalRecord):
         made = cls.__new__(cls)
         at = parts.language_at
         made._language = octets[at:at + parts.language_length].decode('ascii')
-        if parts.utf16:
-            raise left_out('texts in UTF-16')
         at = parts.text_at
-        made._text, made._encoding = octets[at:at + parts.text_length].decode('utf-8'), 'UTF-8'
+        text = octets[at:at + parts.text_length]
+        if parts.utf16:
+            _, text = library.put(library.text_in_utf8, 2 * len(text), octets, len(octets), behind=(byref(why),))
+        made._text, made._encoding = text.decode('utf-8'), _ENCODINGS[parts.utf16]
         return made
 
     def _shown(self):

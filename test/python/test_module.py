@@ -24,12 +24,6 @@ KNOWN = (ndef.TextRecord, ndef.UriRecord, ndef.SmartposterRecord, ndef.HandoverR
          ndef.HandoverCarrierRecord)
 
 
-def is_wide(record):
-    """Whether it is the octets of a text in UTF-16, as a line tells them."""
-    tnf, kind, _, payload = record.split()
-    return (tnf, kind) == ('1', 'T') and octets_of(payload)[:1] >= b'\x80'
-
-
 def some(word):
     """What stands in Some(..), or None."""
     return None if word == 'None' else word[len('Some('):-1]
@@ -45,8 +39,6 @@ class Suite(unittest.TestCase):
     def test_cases(self):
         count = 0
         for line, typed, given, answer, records in cases():
-            if typed and answer[0] == 'accepted' and any(map(is_wide, records.split(','))):
-                continue
             count += 1
             with self.subTest(line):
                 stream = io.BytesIO(given)
@@ -72,8 +64,6 @@ class Suite(unittest.TestCase):
         """The records for the payloads of a kind: the record, the value that a line tells, and the payload that it has written."""
         names = {'text': 'T', 'URI': 'U', 'poster': 'Sp', 'carrier': 'Hc', 'request': 'Hr', 'select': 'Hs'}
         for line, payload, value, written in values(kind):
-            if value.startswith('Utf16'):
-                continue
             given = octets(ndef.Record('urn:nfc:wkt:' + names[kind], '', payload))
             for known in (None, {known._type: known for known in KNOWN}):
                 with self.subTest(line, known=known):
@@ -147,7 +137,8 @@ class Records(unittest.TestCase):
             for _ in range(chance.randint(1, 5)):
                 kind = chance.choice(types)
                 if kind == 'urn:nfc:wkt:T':
-                    message.append(ndef.TextRecord(chance.choice(['', 'a', 'é' * 200, '\U0001f600']), chance.choice(['', 'de', 'x' * 63])))
+                    message.append(ndef.TextRecord(chance.choice(['', 'a', 'é' * 200, '\U0001f600']), chance.choice(['', 'de', 'x' * 63]),
+                                                   chance.choice(['UTF-8', 'UTF-16'])))
                 elif kind == 'urn:nfc:wkt:Hc':
                     message.append(ndef.HandoverCarrierRecord(chance.choice(['a/b', 'urn:nfc:wkt:x']), chance.randbytes(20), 'n'))
                 elif kind:
@@ -318,7 +309,7 @@ class Refusals(unittest.TestCase):
             known = chance.choice([None, {known._type: known for known in KNOWN}])
             try:
                 records = list(ndef.message_decoder(given, known_types=known))
-            except (ndef.DecodeError, NotImplementedError):
+            except ndef.DecodeError:
                 continue
             self.assertEqual(list(ndef.message_decoder(octets(*records), known_types=known)), records)
             for record in records:
