@@ -3,3 +3,4 @@ pub mod Lists
 pub mod Made
 pub mod Messages
 pub mod Values
+pub mod Words

@@ -44,6 +44,12 @@ cut_has_parts p xs = omega (arith, length-slice_split p xs)
 pub mapped_more : {A B : Type 0} (f : A → B) (ps : List A) (n : ℕ) (p : A) → n < length ps → p ≡ get_or ps n p → map f (take (n + 1) ps) ≡ map f (take n ps) ++ f p ∷ []
 mapped_more f ps n p l e = ap (map f) (take_more ps n p l) ∙ map-append f (take n ps) (get_or ps n p ∷ []) ∙ ap (λ x. map f (take n ps) ++ f x ∷ []) (sym e)
 
+-- no element that stands for a missing one is read there
+pub got_there : {A : Type 0} (ps : List A) (n : ℕ) (d e : A) → n < length ps → get_or ps n d ≡ get_or ps n e
+got_there [] n d e l = absurd (omega arith)
+got_there (x ∷ ps) zero d e l = refl
+got_there (x ∷ ps) (suc n) d e l = got_there ps n d e (omega arith)
+
 -- what is before it and behind it
 pub mapped_at : {A B : Type 0} (f : A → B) (ps : List A) (n : ℕ) (p : A) → n < length ps → p ≡ get_or ps n p
     → (rest : List B) × (map f ps ≡ map f (take n ps) ++ f p ∷ rest)

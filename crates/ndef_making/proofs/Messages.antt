@@ -1,17 +1,17 @@
 -- The message of all parts, or why there is none.
-use Rattle.std.proofs.Common.{◌≡◌, ◌∙◌, ◌<◌, ◌≤◌, ℕ, List, [], length, map, take, get_or, Option, Some, Err, sym, ap, arith}
+use Rattle.std.proofs.Common.{◌≡◌, ◌∙◌, ◌<◌, ◌≤◌, ℕ, List, [], length, map, take, get_or, Option, Some, Err, sym, ap, arith, Bool, Result, Ok, refl, subst, inl, inr, None}
 use Rattle.std.specs.Prelude.{codes, drop}
 use Rattle.std.specs.Str.{bytes_eq}
 use Rattle.std.proofs.lemmas.List.{length-map, take_all}
 use Rattle.clap.specs.Words.{Text}
 use Rattle.ndef_value.specs.Wire.{Item}
 use Rattle.ndef_making.specs.Asked.{Part, SaidAll, Says, all_or_none, asked_of, part_in, parts_of}
-use Rattle.ndef_making.specs.Making.{AreAnswered, AreMade}
-use Rattle.ndef_making.specs.Records.{Makes}
+use Rattle.ndef_message.specs.Sources.{Supply}
+use Rattle.ndef_making.specs.Making.{AreMade, IsMade, IsMadeFor, IsMessage, IsWritten, Makes, ReadsFor, readers_of, wants_hex}
 use Rattle.ndef_making.specs.declared.fault.Fault.{Fault}
 use Rattle.ndef_making.specs.declared.fault.Fault.TheVariants.{Usage, Refused, Reading, TooLong, Memory}
 use Rattle.ndef_making.proofs.Lists.{all_as_long, cut_has_parts, map_twice, none_at}
-use Rattle.ndef_making.proofs.Made.{fails_at, made_as_many}
+use Rattle.ndef_making.proofs.Made.{made_as_many}
 
 -- where a part says nothing, all do
 pub say_fails : {A : Type 0} (g : A → List Text) (ps : List A) (n : ℕ) (p : A) (fault : Fault) → n < length ps → p ≡ get_or ps n p → Says (g p) (Err fault)
@@ -34,14 +34,32 @@ asked g words behind slice parts o same is rest said =
     ap (λ ws. all_or_none (map part_in (parts_of ws))) (sym rest) ∙ ap (λ ps. all_or_none (map part_in ps)) (sym is)
     ∙ ap (λ ps. all_or_none (map part_in (map g ps))) (sym same) ∙ said
 
--- no records where one isn't made
-pub answered_fails : {A : Type 0} (f : A → Part) (ps : List A) (n : ℕ) (p : A) (input : List ℕ) (items : List Item) (fault : Fault) → n < length ps → p ≡ get_or ps n p
-    → AreMade (map f (take n ps)) input items → Makes (f p) input (Err fault) → AreAnswered (map f ps) input (Err fault)
-answered_fails f ps n p input items Usage l e are is = fails_at f ps n p input items Usage l e are is
-answered_fails f ps n p input items (Refused why) l e are is = fails_at f ps n p input items (Refused why) l e are is
-answered_fails f ps n p input items Reading l e are is = fails_at f ps n p input items Reading l e are is
-answered_fails f ps n p input items TooLong l e are is = fails_at f ps n p input items TooLong l e are is
-answered_fails f ps n p input items Memory l e are is = tt
+-- ---- what is made
+
+-- where the input is read
+pub written : (words : List Text) (parts : List Part) (before after : Supply) (failed : Bool) (input : List ℕ) (made : Result Text Fault) → asked_of words ≡ Some parts
+    → ReadsFor (readers_of parts) before after failed (Ok input) → IsWritten parts input made → IsMade words before after failed made
+written words parts before after failed input (Ok text) e reads is =
+    subst (λ (o : Option (List Part)). IsMadeFor o before after failed (Ok text)) (sym e) (Ok input, reads, is)
+written words parts before after failed input (Err Usage) e reads is =
+    subst (λ (o : Option (List Part)). IsMadeFor o before after failed (Err Usage)) (sym e) (Ok input, reads, is)
+written words parts before after failed input (Err (Refused why)) e reads is =
+    subst (λ (o : Option (List Part)). IsMadeFor o before after failed (Err (Refused why))) (sym e) (Ok input, reads, is)
+written words parts before after failed input (Err Reading) e reads is =
+    subst (λ (o : Option (List Part)). IsMadeFor o before after failed (Err Reading)) (sym e) (Ok input, reads, is)
+written words parts before after failed input (Err TooLong) e reads is =
+    subst (λ (o : Option (List Part)). IsMadeFor o before after failed (Err TooLong)) (sym e) (Ok input, reads, is)
+written words parts before after failed input (Err Memory) e reads is = tt
+
+-- where the records are made
+pub answers : (parts : List Part) (input : List ℕ) (items : List Item) (made : Result Text Fault) → AreMade parts input items → IsMessage (wants_hex parts) items made
+    → IsWritten parts input made
+answers parts input items (Ok text) are is = (items, are, is)
+answers parts input items (Err Usage) are is = inr (items, are, is)
+answers parts input items (Err (Refused why)) are is = inr (items, are, is)
+answers parts input items (Err Reading) are is = inr (items, are, is)
+answers parts input items (Err TooLong) are is = inr (items, are, is)
+answers parts input items (Err Memory) are is = tt
 
 -- there is a record, since there is a part
 pub some_record : (words : List Text) (parts : List Part) (input : List ℕ) (items : List Item) → asked_of words ≡ Some parts → AreMade parts input items → items ≡ [] → ⊥
@@ -49,6 +67,6 @@ some_record words parts input items e are none =
     let said = all_as_long (map part_in (parts_of (drop 1 words))) parts e in
     let long = length-map (parts_of (drop 1 words)) part_in in
     let parted = cut_has_parts (λ word. bytes_eq word (codes "--and")) (drop 1 words) in
-    let many = made_as_many parts input items are in
+    let many = made_as_many (λ part. Makes part input) parts items are in
     let zero = ap length none in
     omega (arith, said, long, parted, many, zero)

@@ -1,7 +1,7 @@
 -- The command line of a part: which subcommands and options there are, in clap's words.
 use Rattle.std.specs.Prelude.{Some, true, codes}
 use Rattle.clap.specs.Words.{App, Rule, Text, new_app, new_rule, with_rule, with_subcommand}
-use Rattle.clap.specs.declared.builder.action.ArgAction.TheVariants.{SetTrue}
+use Rattle.clap.specs.declared.builder.action.ArgAction.TheVariants.{Append, SetTrue}
 
 -- a flag
 abbrev pub flag_rule : Text → Rule
@@ -32,6 +32,18 @@ text_app =
 abbrev pub uri_app : App
 uri_app = with_rule (hex_app (codes "uri")) (given_rule (codes "uri"))
 
+-- any word, which may be given again and again
+abbrev pub repeated_rule : Text → Rule
+repeated_rule name = record (new_rule name) { long = Some name; action = Some Append }
+
+-- a URI and its titles
+abbrev pub titled_app : App
+titled_app = with_rule (with_rule (hex_app (codes "poster")) (given_rule (codes "uri"))) (repeated_rule (codes "title"))
+
+-- a URI, titles, an action, a size and a media type
+abbrev pub poster_app : App
+poster_app = with_rule (with_rule (with_rule titled_app (word_rule (codes "action"))) (word_rule (codes "size"))) (word_rule (codes "media"))
+
 -- a type name format, a type and an id
 abbrev pub record_app : App
 record_app =
@@ -42,6 +54,10 @@ abbrev pub empty_app : App
 empty_app = let a = new_app (codes "ndef-make") in
     record a { top = record a.top { no_binary_name = true; subcommand_required = true; disable_help_flag = true; disable_help_subcommand = true } }
 
+-- texts and URIs
+abbrev pub plain_app : App
+plain_app = with_subcommand (with_subcommand empty_app text_app.top) uri_app.top
+
 -- all of it
 abbrev pub make_app : App
-make_app = with_subcommand (with_subcommand (with_subcommand empty_app text_app.top) uri_app.top) record_app.top
+make_app = with_subcommand (with_subcommand plain_app poster_app.top) record_app.top

@@ -43,7 +43,7 @@ record_fault records.NoMemory = Memory
 
 -- for words that don't parse
 abbrev pub usage_line : Text
-usage_line = codes "usage: ndef-make text [--language L] [--utf16] TEXT | uri URI | record --tnf N [--type T] [--id I] < payload; [--hex]; more records: --and ..\n"
+usage_line = codes "usage: ndef-make text [--language L] [--utf16] TEXT | uri URI | poster URI [--title L=TEXT].. [--action do|save|open] [--size N] [--media TYPE] | record --tnf N [--type T] [--id I] < payload; [--hex]; more records: --and ..\n"
 
 -- the line of a fault
 abbrev pub line_of : Fault → Text
@@ -53,6 +53,7 @@ line_of (Refused refused.LanguageNotAscii) = codes "refused: a language code tha
 line_of (Refused refused.PayloadTooLong) = codes "refused: a payload of more than 4294967295 bytes\n"
 line_of (Refused refused.BadShape) = codes "refused: parts that do not go with the type name format\n"
 line_of (Refused refused.PartTooLong) = codes "refused: a type or an id of more than 255 bytes\n"
+line_of (Refused refused.NoPoster) = codes "refused: records that are no smart poster\n"
 line_of (Refused refused.TooManyRecords) = codes "refused: more than 65535 records\n"
 line_of Reading = codes "fault: reading\n"
 line_of TooLong = codes "fault: more than 1048576 bytes of payload\n"

@@ -4,5 +4,6 @@ pub mod Asked
 pub mod Faults
 pub mod Inputs
 pub mod Records
+pub mod Posters
 pub mod Making
 pub mod Runs

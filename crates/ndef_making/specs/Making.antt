@@ -3,24 +3,25 @@ use Rattle.std.specs.Prelude.{◌≡◌, ◌<◌, ◌⊎◌, ℕ, zero, suc, Boo
 use Rattle.std.specs.declared.alloc.Global.{Global}
 use Rattle.std.specs.List.{list_any}
 use Rattle.hex.specs.Hex.{encode_lower}
-use Rattle.clap.specs.Words.{Text}
+use Rattle.clap.specs.Words.{Row, Text}
 use Rattle.ndef_value.specs.Wire.{AreItems, Item, canonical}
 use Rattle.ndef_message.specs.Sources.{Supply}
 use Rattle.ndef_making.specs.Asked.{Part, asked_of}
 use Rattle.ndef_making.specs.Inputs.{IsPayload}
 use Rattle.ndef_making.specs.Options.{flag_of, subject_named}
-use Rattle.ndef_making.specs.Records.{Makes}
+use Rattle.ndef_making.specs.Posters.{MakesPoster}
+use Rattle.ndef_making.specs.Records.{Answer, AreAnsweredBy, AreMadeBy, Asks, FailsBy, MakesItem, MakesText, MakesUri, item_said, text_said, uri_said}
 use Rattle.ndef_making.specs.declared.fault.Fault.{Fault}
 use Rattle.ndef_making.specs.declared.fault.Fault.TheVariants.{Usage, Refused, Memory}
 use Rattle.ndef_making.specs.declared.fault.Refused.TheVariants.{TooManyRecords}
 use Rattle.ndef_making.specs.declared.options.Subject.{Subject}
-use Rattle.ndef_making.specs.declared.options.Subject.TheVariants.{Record}
+use Rattle.ndef_making.specs.declared.options.Subject.TheVariants as subject
 
 -- ---- the input
 
 -- the subject is a record whose payload is the input
 abbrev pub takes_input : Option Subject → Bool
-takes_input (Some Record) = true
+takes_input (Some subject.Record) = true
 takes_input _ = false
 
 -- whether the part takes the input
@@ -39,23 +40,29 @@ ReadsFor (suc (suc n)) before after failed input = (after ≡ before) × (input 
 
 -- ---- the records
 
+-- what is made of the options of a subject
+abbrev pub MakesBy : Option Subject → List Row → (input : List ℕ) → Answer → Type 0
+MakesBy None rows input answer = answer ≡ Err Usage
+MakesBy (Some subject.Text) rows input answer = Asks MakesText (text_said rows) answer
+MakesBy (Some subject.Uri) rows input answer = Asks MakesUri (uri_said rows) answer
+MakesBy (Some subject.Poster) rows input answer = MakesPoster rows answer
+MakesBy (Some subject.Record) rows input answer = Asks MakesItem (item_said rows input) answer
+
+-- what is made of a part, with the input
+abbrev pub Makes : Part → (input : List ℕ) → Answer → Type 0
+Makes part input answer = MakesBy (subject_named part.0) part.1 input answer
+
 -- the records of the parts, in order
 abbrev pub AreMade : List Part → (input : List ℕ) → List Item → Type 0
-AreMade [] input [] = ⊤
-AreMade (part ∷ parts) input (i ∷ items) = Makes part input (Ok i) × AreMade parts input items
-AreMade _ input _ = ⊥
+AreMade parts input items = AreMadeBy (λ part. Makes part input) parts items
 
 -- the first part of which no record is made, and why
 abbrev pub FailsAt : List Part → (input : List ℕ) → Fault → Type 0
-FailsAt parts input fault =
-    (done : List Part) × (items : List Item) × (part : Part) × (rest : List Part)
-    × (parts ≡ done ++ part ∷ rest) × AreMade done input items × Makes part input (Err fault)
+FailsAt parts input fault = FailsBy (λ part. Makes part input) parts fault
 
 -- the records of the parts, or why there are none
 abbrev pub AreAnswered : List Part → (input : List ℕ) → Result (Vec Item Global) Fault → Type 0
-AreAnswered parts input (Ok records) = AreMade parts input records.items
-AreAnswered parts input (Err Memory) = ⊤
-AreAnswered parts input (Err fault) = FailsAt parts input fault
+AreAnswered parts input answer = AreAnsweredBy (λ part. Makes part input) parts answer
 
 -- ---- what is written
 

@@ -20,7 +20,8 @@ flag_of id rows = option_map_or (λ t. bytes_eq t (codes "true")) (first_of id r
 abbrev pub subject_named : Text → Option Subject
 subject_named name = if bytes_eq name (codes "text") then Some subject.Text
     else (if bytes_eq name (codes "uri") then Some subject.Uri
-    else (if bytes_eq name (codes "record") then Some subject.Record else None))
+    else (if bytes_eq name (codes "poster") then Some subject.Poster
+    else (if bytes_eq name (codes "record") then Some subject.Record else None)))
 
 -- NDEF 1.0, TNF: the type name format of this number, as it is written in decimal; 6 and 7 are of no record
 abbrev pub tnf_named : Text → Option Tnf

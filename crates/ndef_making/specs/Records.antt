@@ -1,5 +1,6 @@
 -- The records that parts ask for (NFC Forum, NDEF 1.0, RTD Text 1.0 and RTD URI 1.0).
-use Rattle.std.specs.Prelude.{◌≡◌, ◌<◌, ◌≤◌, ◌^◌, ℕ, Bool, true, false, List, [], length, Option, Some, None, Result, Ok, Err, ⊤, option_and_then, option_map, codes, chars, IsAscii}
+use Rattle.std.specs.Prelude.{◌++◌, ◌∷◌, ◌≡◌, ◌<◌, ◌≤◌, ◌^◌, ℕ, Bool, true, false, List, [], length, Option, Some, None, Result, Ok, Err, ⊤, option_and_then, option_map, codes, chars, IsAscii, Vec}
+use Rattle.std.specs.declared.alloc.Global.{Global}
 use Rattle.clap.specs.Words.{Row, Text, first_of}
 use Rattle.ndef_value.specs.Wire.{HasLengths, IsShaped, Item}
 use Rattle.ndef_value.specs.declared.tnf.Tnf.TheVariants.{WellKnown}
@@ -7,13 +8,10 @@ use Rattle.ndef_types.specs.Decoding.{IsTooLong}
 use Rattle.ndef_types.specs.Values.{TextValue, WritesText, WritesUri}
 use Rattle.ndef_types.specs.declared.encoding.Encoding.{Encoding}
 use Rattle.ndef_types.specs.declared.encoding.Encoding.TheVariants.{Utf8, Utf16}
-use Rattle.ndef_making.specs.Asked.{Part}
-use Rattle.ndef_making.specs.Options.{flag_of, subject_named, tnf_named, word_or}
+use Rattle.ndef_making.specs.Options.{flag_of, tnf_named, word_or}
 use Rattle.ndef_making.specs.declared.fault.Fault.{Fault}
 use Rattle.ndef_making.specs.declared.fault.Fault.TheVariants.{Usage, Refused, Memory}
 use Rattle.ndef_making.specs.declared.fault.Refused.TheVariants.{LanguageTooLong, LanguageNotAscii, PayloadTooLong, BadShape, PartTooLong}
-use Rattle.ndef_making.specs.declared.options.Subject.{Subject}
-use Rattle.ndef_making.specs.declared.options.Subject.TheVariants as subject
 
 -- what is made of a part: a record, or why there is none
 abbrev pub Answer : Type 0
@@ -79,20 +77,26 @@ MakesItem i (Err (Refused PartTooLong)) = IsShaped i × (HasLengths i → ⊥)
 MakesItem i (Err Memory) = ⊤
 MakesItem i (Err _) = ⊥
 
--- ---- parts
+-- ---- what is said
 
 -- what is made of what is said; the usage line where nothing is
 abbrev pub Asks : {X : Type 0} → (X → Answer → Type 0) → Option X → Answer → Type 0
 Asks makes None answer = answer ≡ Err Usage
 Asks makes (Some x) answer = makes x answer
 
--- what is made of the options of a subject
-abbrev pub MakesBy : Option Subject → List Row → (input : List ℕ) → Answer → Type 0
-MakesBy None rows input answer = answer ≡ Err Usage
-MakesBy (Some subject.Text) rows input answer = Asks MakesText (text_said rows) answer
-MakesBy (Some subject.Uri) rows input answer = Asks MakesUri (uri_said rows) answer
-MakesBy (Some subject.Record) rows input answer = Asks MakesItem (item_said rows input) answer
+-- the records of what is said, in order
+abbrev pub AreMadeBy : {X : Type 0} → (X → Answer → Type 0) → List X → List Item → Type 0
+AreMadeBy makes [] [] = ⊤
+AreMadeBy makes (x ∷ xs) (i ∷ items) = makes x (Ok i) × AreMadeBy makes xs items
+AreMadeBy makes _ _ = ⊥
 
--- what is made of a part, with the input
-abbrev pub Makes : Part → (input : List ℕ) → Answer → Type 0
-Makes part input answer = MakesBy (subject_named part.0) part.1 input answer
+-- the first of which no record is made, and why
+abbrev pub FailsBy : {X : Type 0} → (X → Answer → Type 0) → List X → Fault → Type 0
+FailsBy {X} makes xs fault =
+    (done : List X) × (items : List Item) × (x : X) × (rest : List X) × (xs ≡ done ++ x ∷ rest) × AreMadeBy makes done items × makes x (Err fault)
+
+-- the records of what is said, or why there are none
+abbrev pub AreAnsweredBy : {X : Type 0} → (X → Answer → Type 0) → List X → Result (Vec Item Global) Fault → Type 0
+AreAnsweredBy makes xs (Ok records) = AreMadeBy makes xs records.items
+AreAnsweredBy makes xs (Err Memory) = ⊤
+AreAnsweredBy makes xs (Err fault) = FailsBy makes xs fault

@@ -2,7 +2,7 @@
 ghost use Rattle.std.specs.Prelude.{◌≡◌, false, IfOk};
 ghost use Rattle.clap.specs.Words.{app_of, rule_of};
 ghost use Rattle.clap.specs.declared.builder.command.Command.TheViews.{out-Command as fields_of};
-ghost use Rattle.ndef_making.specs.CommandLine.{asked_rule, empty_app, flag_rule, given_rule, hex_app, make_app, record_app, text_app, uri_app, word_rule};
+ghost use Rattle.ndef_making.specs.CommandLine.{asked_rule, empty_app, flag_rule, given_rule, hex_app, make_app, plain_app, poster_app, record_app, repeated_rule, text_app, titled_app, uri_app, word_rule};
 
 use clap::{Arg, ArgAction, Command};
 use std::alloc::{AllocError, Global};
@@ -66,6 +66,35 @@ fn uri_command<'a>(alloc: Global) -> Result<Command<'a>, AllocError>
     hex_command(alloc, "uri")?.arg(given_word(alloc, "uri"))
 }
 
+/// An option for a word, which may be given again and again.
+fn repeated_option<'a>(alloc: Global, name: &'a str) -> Arg<'a>
+    ensures rule { rule_of result ≡ repeated_rule name.entry.now }
+    ensures local { result.global ≡ false }
+{
+    Arg::new(alloc, name).long(name).action(ArgAction::Append)
+}
+
+/// The subcommand `poster`, with its URI and titles.
+fn titled_command<'a>(alloc: Global) -> Result<Command<'a>, AllocError>
+    ensures app { IfOk result (λ c. app_of c ≡ titled_app) }
+    ensures local { IfOk result (λ c. (fields_of c).has_globals ≡ false) }
+{
+    hex_command(alloc, "poster")?
+        .arg(given_word(alloc, "uri"))?
+        .arg(repeated_option(alloc, "title"))
+}
+
+/// The subcommand `poster`.
+fn poster_command<'a>(alloc: Global) -> Result<Command<'a>, AllocError>
+    ensures app { IfOk result (λ c. app_of c ≡ poster_app) }
+    ensures local { IfOk result (λ c. (fields_of c).has_globals ≡ false) }
+{
+    titled_command(alloc)?
+        .arg(word_option(alloc, "action"))?
+        .arg(word_option(alloc, "size"))?
+        .arg(word_option(alloc, "media"))
+}
+
 /// The subcommand `record`.
 fn record_command<'a>(alloc: Global) -> Result<Command<'a>, AllocError>
     ensures app { IfOk result (λ c. app_of c ≡ record_app) }
@@ -89,12 +118,21 @@ fn empty_command<'a>(alloc: Global) -> Command<'a>
         .disable_help_subcommand(true)
 }
 
+/// The subcommands for texts and URIs.
+fn plain_command<'a>(alloc: Global) -> Result<Command<'a>, AllocError>
+    ensures app { IfOk result (λ c. app_of c ≡ plain_app) }
+    ensures local { IfOk result (λ c. (fields_of c).has_globals ≡ false) }
+{
+    empty_command(alloc)
+        .subcommand(text_command(alloc)?)?
+        .subcommand(uri_command(alloc)?)
+}
+
 /// The subcommands and their options.
 pub fn make_command<'a>(alloc: Global) -> Result<Command<'a>, AllocError>
     ensures { IfOk result (λ c. app_of c ≡ make_app) }
 {
-    empty_command(alloc)
-        .subcommand(text_command(alloc)?)?
-        .subcommand(uri_command(alloc)?)?
+    plain_command(alloc)?
+        .subcommand(poster_command(alloc)?)?
         .subcommand(record_command(alloc)?)
 }

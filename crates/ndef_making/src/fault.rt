@@ -27,6 +27,9 @@ pub enum Refused {
     /// A type or an id of more than 255 bytes (NDEF 1.0, TYPE_LENGTH and ID_LENGTH).
     #[error("a type or an id of more than 255 bytes")]
     PartTooLong,
+    /// Records that are no smart poster (RTD Smart Poster 1.0).
+    #[error("records that are no smart poster")]
+    NoPoster,
     /// More than 65535 records.
     #[error("more than 65535 records")]
     TooManyRecords,
@@ -154,6 +157,7 @@ fn refused_line(refused: Refused) -> &'static [u8]
         Refused::PayloadTooLong => b"refused: a payload of more than 4294967295 bytes\n",
         Refused::BadShape => b"refused: parts that do not go with the type name format\n",
         Refused::PartTooLong => b"refused: a type or an id of more than 255 bytes\n",
+        Refused::NoPoster => b"refused: records that are no smart poster\n",
         Refused::TooManyRecords => b"refused: more than 65535 records\n",
     }
 }
@@ -173,6 +177,7 @@ pub(crate) fn line_of(fault: Fault) -> &'static [u8]
 
 /// What is printed where the words don't parse.
 const USAGE: &[u8] = b"usage: ndef-make text [--language L] [--utf16] TEXT | uri URI | \
+    poster URI [--title L=TEXT].. [--action do|save|open] [--size N] [--media TYPE] | \
     record --tnf N [--type T] [--id I] < payload; [--hex]; more records: --and ..\n";
 
 /// The status of a fault.

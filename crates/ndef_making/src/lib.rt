@@ -8,6 +8,7 @@ mod input;
 mod making;
 mod options;
 mod parts;
+mod poster;
 mod records;
 mod running;
 

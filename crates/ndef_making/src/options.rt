@@ -13,6 +13,8 @@ pub(crate) enum Subject {
     Text,
     /// A URI record (RTD URI 1.0).
     Uri,
+    /// A Smart Poster record (RTD Smart Poster 1.0).
+    Poster,
     /// A record whose payload is the input.
     Record,
 }
@@ -51,6 +53,7 @@ pub(crate) fn subject_named(name: &str) -> Option<Subject>
     match name {
         "text" => Some(Subject::Text),
         "uri" => Some(Subject::Uri),
+        "poster" => Some(Subject::Poster),
         "record" => Some(Subject::Record),
         _ => None,
     }

@@ -1,35 +1,43 @@
 //! The records that parts ask for.
-ghost use Rattle.std.specs.Prelude.{◌≡◌, ◌<◌, ◌^◌, [], ◌∷◌, length, chars};
+ghost use Rattle.std.specs.Prelude.{◌≡◌, ◌<◌, ◌≤◌, ◌^◌, length, chars};
 ghost use Rattle.clap.specs.Words.{found_of, rows_of};
 ghost use Rattle.ndef_making.specs.Asked.{part_of};
-ghost use Rattle.ndef_making.specs.Records.{Asks, Makes, MakesBy, MakesItem, MakesText, MakesUri, item_said, text_said, uri_said, well_known};
+ghost use Rattle.ndef_making.specs.Making.{Makes};
+ghost use Rattle.ndef_making.specs.Records.{Asks, MakesItem, MakesText, MakesUri, item_said, text_said, uri_said, well_known};
 
 use crate::Fault;
 use crate::options::{Subject, flag, subject_named, tnf_named, word, word_or};
 use crate::parts::Said;
+use crate::poster::poster_record;
 use clap::ArgMatches;
 use ndef_types::{Encoding, Text, Uri};
 use ndef_value::{Bytes, Name, Record, Tnf};
 use std::alloc::Global;
 
 /// A record of a well-known type, without an id.
-fn well_known(alloc: Global, kind: u8, payload: Bytes) -> Record
-    requires { length payload < 2 ^ 32 }
-    ensures { result ≡ well_known (kind ∷ []) payload }
+pub(crate) fn well_known(alloc: Global, kind: &[u8], payload: Bytes) -> Record
+    requires kind { (1 ≤ length kind.now) × (length kind.now ≤ 32) }
+    requires payload { length payload < 2 ^ 32 }
+    ensures { result ≡ well_known kind.now payload }
 {
-    let Ok(kind) = Name::from_slice(alloc, &[kind]) else {
+    let Ok(kind) = Name::from_slice(alloc, kind) else {
         unreachable!()
     };
     Record::from_parts(Tnf::WellKnown, kind, Name::new(alloc), payload)
 }
 
 /// The record of a text.
-fn make_text(alloc: Global, encoding: Encoding, language: &str, text: &str) -> Result<Record, Fault>
+pub(crate) fn make_text(
+    alloc: Global,
+    encoding: Encoding,
+    language: &str,
+    text: &str,
+) -> Result<Record, Fault>
     ensures { MakesText (record { encoding = encoding; language = language.now; text = chars text.now }) result }
 {
     let text = Text::new(alloc, encoding, language, text)?;
     let payload = text.encode(alloc)?;
-    Ok(well_known(alloc, b'T', payload))
+    Ok(well_known(alloc, b"T", payload))
 }
 
 /// The record of the text of a part.
@@ -49,12 +57,12 @@ fn text_record(alloc: Global, matches: &ArgMatches<'_>) -> Result<Record, Fault>
 }
 
 /// The record of a URI.
-fn make_uri(alloc: Global, uri: &str) -> Result<Record, Fault>
+pub(crate) fn make_uri(alloc: Global, uri: &str) -> Result<Record, Fault>
     ensures { MakesUri uri.now result }
 {
     let uri = Uri::new(alloc, uri)?;
     let payload = uri.encode(alloc)?;
-    Ok(well_known(alloc, b'U', payload))
+    Ok(well_known(alloc, b"U", payload))
 }
 
 /// The record of the URI of a part.
@@ -89,6 +97,7 @@ pub(crate) fn make_record(alloc: Global, said: &Said<'_>, input: &[u8]) -> Resul
     match subject_named(said.name) {
         Some(Subject::Text) => text_record(alloc, &said.matches),
         Some(Subject::Uri) => uri_record(alloc, &said.matches),
+        Some(Subject::Poster) => poster_record(alloc, &said.matches),
         Some(Subject::Record) => given_record(alloc, &said.matches, input),
         None => Err(Fault::Usage),
     }
