@@ -12,6 +12,7 @@ mod handovers;
 mod heads;
 mod links;
 mod made;
+mod making;
 mod memory;
 mod nested_memory;
 mod nested_payloads;
