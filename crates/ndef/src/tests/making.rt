@@ -7,14 +7,14 @@ use std::test::Fail;
 
 /// What came of a run: its status, what was written, and what was told.
 #[derive(Drop)]
-struct Made {
+struct Outcome {
     status: u8,
     bytes: Vec<u8>,
     lines: Vec<u8>,
 }
 
 /// Runs the program on an input.
-fn made(alloc: Global, texts: &[&str], input: &[u8]) -> Result<Made, Fail> {
+fn run_words(alloc: Global, texts: &[&str], input: &[u8]) -> Result<Outcome, Fail> {
     let words = words(alloc, texts)?;
     let mut source = SliceSource::whole(input);
     let mut bytes = Vec::new(alloc);
@@ -24,7 +24,7 @@ fn made(alloc: Global, texts: &[&str], input: &[u8]) -> Result<Made, Fail> {
     let status = run(alloc, words.as_slice(), &mut source, &mut sink, &mut told);
     drop(sink);
     drop(told);
-    Ok(Made {
+    Ok(Outcome {
         status: status as u8,
         bytes,
         lines,
@@ -42,7 +42,7 @@ fn texts_of<'a>(alloc: Global, line: &'a str) -> Result<Vec<&'a str>, Fail> {
 }
 
 /// The words, the input, the digits that are written with `--hex`, and what `show` prints of the bytes.
-const MADE: [(&str, &[u8], &str, &str); 16] = [
+const WRITTEN: [(&str, &[u8], &str, &str); 16] = [
     (
         "text Hello",
         b"",
@@ -144,9 +144,9 @@ const MADE: [(&str, &[u8], &str, &str); 16] = [
 #[test]
 fn makes_what_is_shown(rt: HostRuntime) -> Result<(), Fail> {
     let alloc = rt.alloc();
-    for (line, input, digits, shown) in MADE {
+    for (line, input, digits, shown) in WRITTEN {
         let texts = texts_of(alloc, line)?;
-        let plain = made(alloc, texts.as_slice(), input)?;
+        let plain = run_words(alloc, texts.as_slice(), input)?;
         let wanted = hex::decode(alloc, digits).or(Err("no digits"))?;
         assert!(rt;
             plain.status == 0 && plain.bytes == wanted && plain.lines.is_empty(),
@@ -171,7 +171,7 @@ fn makes_hexadecimal_text(rt: HostRuntime) -> Result<(), Fail> {
         "text Hello --hex --and uri a --hex",
     ] {
         let texts = texts_of(alloc, line)?;
-        let text = made(alloc, texts.as_slice(), b"")?;
+        let text = run_words(alloc, texts.as_slice(), b"")?;
         let wanted = b"9101085402656e48656c6c6f510102550061\n".as_slice();
         assert!(rt;
             text.status == 0 && text.bytes.as_slice() == wanted,
@@ -220,7 +220,7 @@ fn tells_usage(rt: HostRuntime) -> Result<(), Fail> {
     let alloc = rt.alloc();
     for line in NO_WORDS.lines() {
         let texts = texts_of(alloc, line)?;
-        let none = made(alloc, texts.as_slice(), b"")?;
+        let none = run_words(alloc, texts.as_slice(), b"")?;
         let same = none.lines.as_slice() == USAGE.as_bytes();
         assert!(rt; none.status == 2 && none.bytes.is_empty() && same, "{line}");
     }
@@ -266,7 +266,7 @@ fn tells_what_is_refused(rt: HostRuntime) -> Result<(), Fail> {
     let alloc = rt.alloc();
     for (line, input, wanted) in REFUSED {
         let texts = texts_of(alloc, line)?;
-        let none = made(alloc, texts.as_slice(), input)?;
+        let none = run_words(alloc, texts.as_slice(), input)?;
         let same = none.lines.as_slice() == wanted.as_bytes();
         assert!(rt; none.status == 1 && none.bytes.is_empty() && same, "{line}");
     }
