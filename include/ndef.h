@@ -239,6 +239,20 @@ typedef struct ndef_poster_parts {
  * records), and `out` is as it was. NDEF_BAD_ARGUMENT: an unknown flag. */
 uint32_t ndef_poster(const uint8_t *payload, size_t length, uint32_t flags, ndef_poster_parts *out, ndef_checked *why);
 
+/* ---- payloads of the records within smart posters and handovers, which ndef_write_record writes */
+
+/* Writes the payload of an Action record (`act`) of a smart poster, one byte, to the front of the room, and its length to
+ * *count. NDEF_OK, NDEF_NO_ROOM; NDEF_BAD_ARGUMENT: an action above 255. */
+uint32_t ndef_write_action(uint32_t action, uint8_t *room, size_t size, size_t *count);
+
+/* Writes the payload of a Size record (`s`) of a smart poster, the bytes of what the URI leads to, to the front of the
+ * room, and its length, 4, to *count. NDEF_OK, NDEF_NO_ROOM. */
+uint32_t ndef_write_size(uint32_t bytes, uint8_t *room, size_t size, size_t *count);
+
+/* Writes the payload of a Collision Resolution record (`cr`), with which a handover request begins, to the front of the
+ * room, and its length, 2, to *count. NDEF_OK, NDEF_NO_ROOM; NDEF_BAD_ARGUMENT: a number above 65535. */
+uint32_t ndef_write_collision(uint32_t number, uint8_t *room, size_t size, size_t *count);
+
 #ifdef __cplusplus
 }
 #endif

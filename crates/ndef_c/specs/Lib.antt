@@ -2,6 +2,7 @@ pub mod Alternatives
 pub mod Carriers
 pub mod Checks
 pub mod Nested
+pub mod Numbers
 pub mod Payloads
 pub mod Posters
 pub mod Rooms
