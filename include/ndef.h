@@ -225,6 +225,13 @@ typedef struct ndef_part {
  * NDEF_OK; NDEF_END: there is none with that index. NDEF_BAD_ARGUMENT: it is no such payload. */
 uint32_t ndef_reference(const uint8_t *payload, size_t length, size_t index, ndef_part *out);
 
+/* Writes the payload of an Alternative Carrier record, its reserved bits 0, to the front of the room, and its length to
+ * *count. Each reference is a part of `bytes`: the first is the carrier data reference, and the auxiliary ones follow.
+ * NDEF_OK, NDEF_NO_ROOM; NDEF_BAD_ARGUMENT: a power state above 3; no part, or more than 256; a part that isn't within
+ * the bytes, or is longer than 255. */
+uint32_t ndef_write_alternative(uint32_t power, const uint8_t *bytes, size_t length, const ndef_part *parts, size_t parts_count,
+                                uint8_t *room, size_t size, size_t *count);
+
 /* A smart poster. */
 typedef struct ndef_poster_parts {
     size_t uri_at, uri_length;   /* the payload of its URI record, for ndef_uri */

@@ -39,6 +39,38 @@ static void numbers(void) {
     expect(ndef_write_collision(0x0102, room, 2, &count) == NDEF_OK && is(room, count, "\1\2", 2), "a number has another payload");
 }
 
+static void alternatives(void) {
+    static uint8_t room[70000], long_one[300];
+    static ndef_part many[257];
+    size_t count = 77;
+    const uint8_t *bytes = (const uint8_t *)"0xy";
+    const ndef_part parts[3] = { { 0, 1 }, { 1, 2 }, { 3, 0 } };
+    expect(ndef_write_alternative(1, bytes, 3, parts, 3, room, 7, &count) == NDEF_NO_ROOM && count == 8 && room[0] == 0, "another length is needed");
+    expect(ndef_write_alternative(1, bytes, 3, parts, 3, room, sizeof room, &count) == NDEF_OK, "an alternative carrier isn't written");
+    expect(is(room, count, "\1\1" "0\2\2xy\0", 8), "an alternative carrier has another payload");
+    ndef_alternative_parts told;
+    ndef_part part;
+    ndef_checked why = { 7, 7, 7 };
+    expect(ndef_alternative(room, count, &told, &why) == NDEF_OK && told.power == 1 && told.references == 3, "an alternative carrier isn't read");
+    expect(ndef_reference(room, count, 1, &part) == NDEF_OK && part.length == 2 && memcmp(room + part.at, "xy", 2) == 0, "a reference isn't read");
+    expect(ndef_write_alternative(3, bytes, 3, parts + 2, 1, room, sizeof room, &count) == NDEF_OK && is(room, count, "\3\0\0", 3),
+           "the least alternative carrier isn't written");
+    count = 77;
+    expect(ndef_write_alternative(4, bytes, 3, parts, 3, room, sizeof room, &count) == NDEF_BAD_ARGUMENT, "a power state of three bits is written");
+    expect(ndef_write_alternative(0, bytes, 3, parts, 0, room, sizeof room, &count) == NDEF_BAD_ARGUMENT, "no reference is written");
+    expect(ndef_write_alternative(0, bytes, 2, parts, 3, room, sizeof room, &count) == NDEF_BAD_ARGUMENT, "a reference lies beyond the bytes");
+    const ndef_part wild[2] = { { (size_t)-1, 2 }, { 4, 0 } };
+    expect(ndef_write_alternative(0, bytes, 3, wild, 1, room, sizeof room, &count) == NDEF_BAD_ARGUMENT, "a reference lies before the bytes");
+    expect(ndef_write_alternative(0, bytes, 3, wild + 1, 1, room, sizeof room, &count) == NDEF_BAD_ARGUMENT, "an empty reference lies beyond the bytes");
+    many[0].length = 256;
+    expect(ndef_write_alternative(0, long_one, 300, many, 1, room, sizeof room, &count) == NDEF_BAD_ARGUMENT && count == 77, "a long reference is written");
+    for (int i = 0; i < 257; i++) many[i].length = 255;
+    expect(ndef_write_alternative(0, long_one, 300, many, 256, room, sizeof room, &count) == NDEF_OK && count == 2 + 256 * 256, "256 references aren't written");
+    expect(ndef_alternative(room, count, &told, &why) == NDEF_OK && told.references == 256, "256 references aren't read");
+    count = 77;
+    expect(ndef_write_alternative(0, long_one, 300, many, 257, room, sizeof room, &count) == NDEF_BAD_ARGUMENT && count == 77, "257 references are written");
+}
+
 static void posters(void) {
     uint8_t room[512], payload[8];
     size_t count = 0, at;
@@ -55,6 +87,7 @@ static void posters(void) {
 
 int main(void) {
     numbers();
+    alternatives();
     posters();
     return failed != 0;
 }

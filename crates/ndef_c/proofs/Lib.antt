@@ -3,6 +3,7 @@ pub mod Alternatives
 pub mod Carriers
 pub mod Characters
 pub mod Copied
+pub mod Counted
 pub mod Followed
 pub mod Places
 pub mod Posters

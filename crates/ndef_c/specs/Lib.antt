@@ -1,3 +1,4 @@
+pub mod AlternativeWrites
 pub mod Alternatives
 pub mod Carriers
 pub mod Checks

@@ -3,6 +3,7 @@
 #![tactic(auto)]
 
 mod alternative;
+mod alternative_writing;
 mod carrier;
 mod checking;
 mod laws;
@@ -24,6 +25,7 @@ mod utf16;
 mod writing;
 
 pub use alternative::{NdefAlternative, ndef_alternative, ndef_reference};
+pub use alternative_writing::ndef_write_alternative;
 pub use carrier::{NdefCarrier, ndef_carrier, ndef_write_carrier};
 pub use checking::{NdefChecked, ndef_check};
 pub use laws::{checks_are_walked, one_record_is_there, records_make_a_message};

@@ -1,0 +1,71 @@
+-- References within some bytes, each behind its length, and the payload of an alternative carrier that has them.
+use Rattle.std.proofs.Common.{◌≡◌, ℕ, zero, suc, ◌+◌, ◌<◌, List, [], ◌∷◌, ◌++◌, take, drop, get_or, map, refl, sym, ◌∙◌, ap, ap₂, arith, length, length-append, length-drop, append-nil}
+use Rattle.std.specs.List.{flat_map}
+use Rattle.std.proofs.lemmas.List.{length-map, length-take-le, take_more}
+use Rattle.std.proofs.lemmas.List.Folds.{flat_map-map}
+use Rattle.std.proofs.lemmas.Grind.{flat_map-append}
+use Rattle.ndef_types.specs.Values.{AcValue, ac_payload, counted, power_code}
+use Rattle.ndef_types.specs.declared.power.Power.{Power}
+use Rattle.ndef_types.specs.declared.power.Power.TheVariants.{Inactive, Active, Activating, Unknown}
+use Rattle.ndef_c.specs.AlternativeWrites.{IsAlternativeOf, MayBeReference, counted_part, part_of}
+use Rattle.ndef_c.specs.declared.part.NdefPart.{NdefPart}
+
+pub part_length : (bytes : List ℕ) (part : NdefPart) → MayBeReference (length bytes) part → length (part_of bytes part) ≡ part.length
+part_length bytes part h = let n = length-drop part.at bytes in let w = h.0 in length-take-le part.length (drop part.at bytes) (omega (arith, n, w))
+
+pub counted_length : (bytes : List ℕ) (part : NdefPart) → MayBeReference (length bytes) part → length (counted_part bytes part) ≡ 1 + part.length
+counted_length bytes part h = let e = part_length bytes part h in omega (arith, e)
+
+-- a reference behind its length, put together
+pub counted_is : (bytes from : List ℕ) (part : NdefPart) → MayBeReference (length bytes) part → from ≡ drop part.at bytes → (part.length ∷ []) ++ take part.length from ≡ counted_part bytes part
+counted_is bytes from part h e = ap₂ (λ n x. n ∷ x) (sym (part_length bytes part h)) (ap (take part.length) e)
+
+-- one more of some lists, joined
+pub joined_more : {X : Type 0} (f : X → List ℕ) (xs : List X) (i : ℕ) (d : X) → i < length xs → flat_map f (take i xs) ++ f (get_or xs i d) ≡ flat_map f (take (i + 1) xs)
+joined_more f xs i d h =
+    let e = flat_map-append f (take i xs) (get_or xs i d ∷ []) in
+    ap (λ x. flat_map f (take i xs) ++ x) (sym (append-nil (f (get_or xs i d)))) ∙ sym e ∙ ap (flat_map f) (sym (take_more xs i d h))
+
+-- ---- the alternative carrier
+
+power_named : ℕ → Power
+power_named zero = Inactive
+power_named (suc zero) = Active
+power_named (suc (suc zero)) = Activating
+power_named _ = Unknown
+
+code_named : (n : ℕ) → n < 4 → power_code (power_named n) ≡ n
+unfolding power_named
+code_named zero h = refl
+code_named (suc zero) h = refl
+code_named (suc (suc zero)) h = refl
+code_named (suc (suc (suc n))) h = omega (arith, h)
+
+pub alternative_of : (power : ℕ) (bytes : List ℕ) (reference : NdefPart) (auxiliary : List NdefPart) → AcValue
+alternative_of power bytes reference auxiliary = record { power = power_named power; reference = part_of bytes reference; auxiliary = map (part_of bytes) auxiliary; rest = [] }
+
+pub is_alternative_of : (power : ℕ) (bytes : List ℕ) (reference : NdefPart) (auxiliary : List NdefPart) → power < 4
+    → IsAlternativeOf power bytes (reference ∷ auxiliary) (alternative_of power bytes reference auxiliary)
+unfolding alternative_of
+is_alternative_of power bytes reference auxiliary h = record { power_is = code_named power h; references_are = refl; rest = refl }
+
+-- its payload, part by part
+abbrev pub put_parts : (power : ℕ) (bytes : List ℕ) (reference : NdefPart) (auxiliary : List NdefPart) → List ℕ
+put_parts power bytes reference auxiliary =
+    (power ∷ []) ++ (counted_part bytes reference ++ ((length auxiliary ∷ []) ++ flat_map (counted_part bytes) auxiliary))
+
+pub payload_of : (power : ℕ) (bytes : List ℕ) (reference : NdefPart) (auxiliary : List NdefPart) → power < 4
+    → put_parts power bytes reference auxiliary ≡ ac_payload (alternative_of power bytes reference auxiliary)
+unfolding alternative_of
+payload_of power bytes reference auxiliary h =
+    let names = map (part_of bytes) auxiliary in
+    let e = sym (flat_map-map counted (part_of bytes) auxiliary) ∙ sym (append-nil (flat_map counted names)) in
+    let n : length auxiliary ≡ length names = sym (length-map auxiliary (part_of bytes)) in
+    ap₂ (λ p x. p ∷ (counted_part bytes reference ++ x)) (sym (code_named power h)) (ap₂ (λ k x. k ∷ x) n e)
+
+pub put_length : (power : ℕ) (bytes : List ℕ) (reference : NdefPart) (auxiliary : List NdefPart) → MayBeReference (length bytes) reference
+    → length (put_parts power bytes reference auxiliary) ≡ 3 + reference.length + length (flat_map (counted_part bytes) auxiliary)
+put_length power bytes reference auxiliary h =
+    let n = counted_length bytes reference h in
+    let m = length-append (counted_part bytes reference) ((length auxiliary ∷ []) ++ flat_map (counted_part bytes) auxiliary) in
+    omega (arith, n, m)

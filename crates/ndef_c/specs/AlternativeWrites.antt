@@ -1,0 +1,42 @@
+-- Which alternative carriers may be written, and what is written of them.
+use Rattle.std.specs.Prelude.{◌≡◌, ℕ, ◌+◌, ◌<◌, ◌≤◌, List, [], length, map, take, drop}
+use Rattle.std.specs.List.{All}
+use Rattle.ndef_types.specs.Values.{AcValue, WritesAc, counted, power_code}
+use Rattle.ndef_c.specs.Alternatives.{references}
+use Rattle.ndef_c.specs.Payloads.{GivesFor}
+use Rattle.ndef_c.specs.declared.part.NdefPart.{NdefPart}
+
+-- the part of the bytes
+abbrev pub part_of : List ℕ → NdefPart → List ℕ
+part_of bytes part = take part.length (drop part.at bytes)
+
+-- the part lies within so many bytes
+abbrev pub IsWithin : (size : ℕ) → NdefPart → Type 0
+IsWithin size part = part.at + part.length ≤ size
+
+-- Connection Handover 1.2, Carrier Data Reference: up to 255 octets, all of them there
+abbrev pub MayBeReference : (size : ℕ) → NdefPart → Type 0
+MayBeReference size part = IsWithin size part × (part.length < 256)
+
+-- Connection Handover 1.2, Alternative Carrier record: a power state of two bits, a carrier data reference and up to 255 auxiliary ones
+pub record MayBeAlternative (power : ℕ) (bytes : List ℕ) (parts : List NdefPart) : Type 0 where
+  pub two_bits : power < 4
+  pub some : 1 ≤ length parts
+  pub few : length parts ≤ 256
+  pub references : All (MayBeReference (length bytes)) parts
+
+-- Connection Handover 1.2, Alternative Carrier record: it has this power state and these references, and nothing behind them
+pub record IsAlternativeOf (power : ℕ) (bytes : List ℕ) (parts : List NdefPart) (v : AcValue) : Type 0 where
+  pub power_is : power_code v.power ≡ power
+  pub references_are : references v ≡ map (part_of bytes) parts
+  pub rest : v.rest ≡ []
+
+-- what is written for that alternative carrier is given
+pub record GivesAlternative (power : ℕ) (bytes : List ℕ) (parts : List NdefPart) (before after : List ℕ) (count status : ℕ) : Type 0 where
+  pub alternative : AcValue
+  pub is : IsAlternativeOf power bytes parts alternative
+  pub gives : GivesFor WritesAc alternative before after count status
+
+-- Connection Handover 1.2, Alternative Carrier record: a reference behind its length
+abbrev pub counted_part : List ℕ → NdefPart → List ℕ
+counted_part bytes part = counted (part_of bytes part)
