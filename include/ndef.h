@@ -260,6 +260,15 @@ uint32_t ndef_write_size(uint32_t bytes, uint8_t *room, size_t size, size_t *cou
  * room, and its length, 2, to *count. NDEF_OK, NDEF_NO_ROOM; NDEF_BAD_ARGUMENT: a number above 65535. */
 uint32_t ndef_write_collision(uint32_t number, uint8_t *room, size_t size, size_t *count);
 
+/* Writes the payload of an Error record (`err`) of a handover select, its reason and its data, to the front of the room,
+ * and its length to *count. NDEF_OK, NDEF_NO_ROOM; NDEF_BAD_ARGUMENT: a reason above 255; data of another length than 1
+ * with the reasons 1 and 3, or than 4 with 2; or no payload has room for them. */
+uint32_t ndef_write_error(uint32_t reason, const uint8_t *data, size_t length, uint8_t *room, size_t size, size_t *count);
+
+/* The same with the reasons 1 to 3, whose data are a number.
+ * NDEF_OK, NDEF_NO_ROOM; NDEF_BAD_ARGUMENT: another reason, or a number above 255 with the reasons 1 and 3. */
+uint32_t ndef_write_error_number(uint32_t reason, uint32_t number, uint8_t *room, size_t size, size_t *count);
+
 #ifdef __cplusplus
 }
 #endif

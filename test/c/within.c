@@ -39,6 +39,30 @@ static void numbers(void) {
     expect(ndef_write_collision(0x0102, room, 2, &count) == NDEF_OK && is(room, count, "\1\2", 2), "a number has another payload");
 }
 
+static void errors(void) {
+    uint8_t room[8];
+    size_t count = 77;
+    const uint8_t *data = (const uint8_t *)"abcdefg";
+    expect(ndef_write_error(1, data, 1, room, sizeof room, &count) == NDEF_OK && is(room, count, "\1a", 2), "reason 1 isn't written");
+    expect(ndef_write_error(2, data, 4, room, sizeof room, &count) == NDEF_OK && is(room, count, "\2abcd", 5), "reason 2 isn't written");
+    expect(ndef_write_error(3, data, 1, room, 1, &count) == NDEF_NO_ROOM && count == 2, "reason 3 needs another length");
+    expect(ndef_write_error(255, data, 7, room, sizeof room, &count) == NDEF_OK && is(room, count, "\xff" "abcdefg", 8), "another reason isn't written");
+    expect(ndef_write_error(0, data, 0, room, sizeof room, &count) == NDEF_OK && is(room, count, "", 1), "a reason with no data isn't written");
+    count = 77;
+    expect(ndef_write_error(1, data, 0, room, sizeof room, &count) == NDEF_BAD_ARGUMENT, "reason 1 is written with no data");
+    expect(ndef_write_error(2, data, 5, room, sizeof room, &count) == NDEF_BAD_ARGUMENT, "reason 2 is written with five bytes");
+    expect(ndef_write_error(3, data, 2, room, sizeof room, &count) == NDEF_BAD_ARGUMENT, "reason 3 is written with two bytes");
+    expect(ndef_write_error(256, data, 1, room, sizeof room, &count) == NDEF_BAD_ARGUMENT && count == 77, "a reason of two bytes is written");
+    expect(ndef_write_error_number(1, 255, room, sizeof room, &count) == NDEF_OK && is(room, count, "\1\xff", 2), "a number of reason 1 isn't written");
+    expect(ndef_write_error_number(2, 0x01020304, room, sizeof room, &count) == NDEF_OK && is(room, count, "\2\1\2\3\4", 5),
+           "a number of reason 2 isn't written");
+    expect(ndef_write_error_number(3, 0, room, 0, &count) == NDEF_NO_ROOM && count == 2, "a number of reason 3 needs another length");
+    count = 77;
+    expect(ndef_write_error_number(3, 256, room, sizeof room, &count) == NDEF_BAD_ARGUMENT, "a number of two bytes is written");
+    expect(ndef_write_error_number(0, 0, room, sizeof room, &count) == NDEF_BAD_ARGUMENT, "a number of reason 0 is written");
+    expect(ndef_write_error_number(4, 0, room, sizeof room, &count) == NDEF_BAD_ARGUMENT && count == 77, "a number of reason 4 is written");
+}
+
 static void alternatives(void) {
     static uint8_t room[70000], long_one[300];
     static ndef_part many[257];
@@ -87,6 +111,7 @@ static void posters(void) {
 
 int main(void) {
     numbers();
+    errors();
     alternatives();
     posters();
     return failed != 0;

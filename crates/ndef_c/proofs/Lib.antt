@@ -4,6 +4,7 @@ pub mod Carriers
 pub mod Characters
 pub mod Copied
 pub mod Counted
+pub mod Errors
 pub mod Followed
 pub mod Places
 pub mod Posters

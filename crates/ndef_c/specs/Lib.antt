@@ -2,6 +2,7 @@ pub mod AlternativeWrites
 pub mod Alternatives
 pub mod Carriers
 pub mod Checks
+pub mod ErrorWrites
 pub mod Nested
 pub mod Numbers
 pub mod Payloads

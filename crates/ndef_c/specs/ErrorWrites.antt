@@ -1,0 +1,34 @@
+-- Which handover errors may be written, and what is written of them.
+use Rattle.std.specs.Prelude.{◌≡◌, ℕ, ◌<◌, ◌+◌, ◌^◌, ◌==◌, ◌⊎◌, List, length, slice_index, if◌then◌else◌}
+use Rattle.std.specs.Int.{w32, from_be_bytes}
+use Rattle.ndef_types.specs.Values.{ErrorValue, IsErrorValue, WritesError}
+use Rattle.ndef_c.specs.Payloads.{GivesFor}
+
+-- Connection Handover 1.2, Error record: the error of this reason with these data
+abbrev pub error_of : (reason : ℕ) → List ℕ → ErrorValue
+error_of reason detail = record { reason = reason; detail = detail }
+
+-- Connection Handover 1.2, Error record: a reason of one octet and the data that go with it, which leave room in a payload
+pub record MayBeError (reason : ℕ) (detail : List ℕ) : Type 0 where
+  pub error : IsErrorValue (error_of reason detail)
+  pub fits : 1 + length detail < 2 ^ 32
+
+-- Connection Handover 1.2, Error record: the data of a defined reason are a number, of four octets for reason 2, most significant first, else of one
+abbrev pub number_in : (reason : ℕ) → List ℕ → ℕ
+number_in reason detail = if reason == 2 then from_be_bytes w32 detail else slice_index detail 0
+
+-- Connection Handover 1.2, Error record: a defined reason, and a number that its data can tell
+abbrev pub MayBeNumber : (reason number : ℕ) → Type 0
+MayBeNumber reason number = (reason ≡ 2) ⊎ (((reason ≡ 1) ⊎ (reason ≡ 3)) × (number < 256))
+
+-- Connection Handover 1.2, Error record: the error of this reason, whose data tell this number
+pub record IsErrorOf (reason number : ℕ) (v : ErrorValue) : Type 0 where
+  pub error : IsErrorValue v
+  pub reason_is : v.reason ≡ reason
+  pub number_is : number_in reason v.detail ≡ number
+
+-- what is written for that error is given
+pub record GivesError (reason number : ℕ) (before after : List ℕ) (count status : ℕ) : Type 0 where
+  pub error : ErrorValue
+  pub is : IsErrorOf reason number error
+  pub gives : GivesFor WritesError error before after count status
