@@ -269,6 +269,16 @@ uint32_t ndef_write_error(uint32_t reason, const uint8_t *data, size_t length, u
  * NDEF_OK, NDEF_NO_ROOM; NDEF_BAD_ARGUMENT: another reason, or a number above 255 with the reasons 1 and 3. */
 uint32_t ndef_write_error_number(uint32_t reason, uint32_t number, uint8_t *room, size_t size, size_t *count);
 
+/* Writes the payload of a Handover Request record (`Hr`) or a Handover Select record (`Hs`), a version byte and the message
+ * behind it, to the front of the room, and its length to *count; a select may have no message, and then `length` is 0.
+ * NDEF_OK, NDEF_NO_ROOM; NDEF_BAD_ARGUMENT: no such handover; another major version than 1, or a minor one above 15; or it
+ * isn't what a strict reader takes, so that ndef_check would refuse it: bytes that are no message of at most 65535 records,
+ * each in one piece; the payload of an `ac` or, in a request, a `cr`, in a select an `err`, that is none of its type; a
+ * request whose first record isn't a `cr`; or no payload has room for it. */
+uint32_t ndef_write_handover(uint32_t handover, uint32_t major, uint32_t minor, const uint8_t *message, size_t length,
+                             uint8_t *room, size_t size, size_t *count);
+enum ndef_handover { NDEF_REQUEST = 0, NDEF_SELECT = 1 };
+
 #ifdef __cplusplus
 }
 #endif

@@ -109,10 +109,63 @@ static void posters(void) {
     expect(parts.has_action && parts.action == 1 && parts.has_size && parts.size == 65536, "a poster says something else");
 }
 
+/* Whether the payload of a record of the type is what ndef_check takes. */
+static int is_taken(const char *type, const uint8_t *payload, size_t length) {
+    uint8_t room[512];
+    size_t end = record(room, 0, NDEF_FIRST | NDEF_LAST, type, payload, length);
+    ndef_limits limits;
+    ndef_checked checked;
+    ndef_usual_limits(&limits);
+    return ndef_check(room, end, &limits, &checked) == NDEF_OK && checked.place == end;
+}
+
+static void requests(void) {
+    uint8_t message[512] = { 0 }, room[512], payload[16];
+    size_t count = 77, end;
+    const uint8_t *bytes = (const uint8_t *)"0";
+    const ndef_part part = { 0, 1 };
+    expect(ndef_write_collision(0x1234, payload, sizeof payload, &count) == NDEF_OK, "a number isn't written");
+    end = record(message, 0, NDEF_FIRST, "cr", payload, count);
+    expect(ndef_write_alternative(1, bytes, 1, &part, 1, payload, sizeof payload, &count) == NDEF_OK, "an alternative carrier isn't written");
+    end = record(message, end, NDEF_LAST, "ac", payload, count);
+    expect(ndef_write_handover(NDEF_REQUEST, 1, 3, message, end, room, end, &count) == NDEF_NO_ROOM && count == end + 1, "a request needs another length");
+    expect(ndef_write_handover(NDEF_REQUEST, 1, 3, message, end, room, sizeof room, &count) == NDEF_OK && count == end + 1, "a request isn't written");
+    expect(room[0] == 0x13 && memcmp(room + 1, message, end) == 0 && is_taken("Hr", room, count), "a request has another payload");
+    count = 77;
+    expect(ndef_write_handover(2, 1, 3, message, end, room, sizeof room, &count) == NDEF_BAD_ARGUMENT, "a third handover is written");
+    expect(ndef_write_handover(NDEF_REQUEST, 0, 0x13, message, end, room, sizeof room, &count) == NDEF_BAD_ARGUMENT, "a minor version of five bits is written");
+    expect(ndef_write_handover(NDEF_REQUEST, 0, 3, message, end, room, sizeof room, &count) == NDEF_BAD_ARGUMENT, "version 0 is written");
+    expect(ndef_write_handover(NDEF_REQUEST, 2, 3, message, end, room, sizeof room, &count) == NDEF_BAD_ARGUMENT, "version 2 is written");
+    expect(ndef_write_handover(NDEF_REQUEST, 0x10000001, 3, message, end, room, sizeof room, &count) == NDEF_BAD_ARGUMENT, "a wild version is written");
+    expect(ndef_write_handover(NDEF_REQUEST, 1, 3, message, 0, room, sizeof room, &count) == NDEF_BAD_ARGUMENT, "a request with no message is written");
+    expect(ndef_write_handover(NDEF_REQUEST, 1, 3, message, end - 1, room, sizeof room, &count) == NDEF_BAD_ARGUMENT, "half a message is written");
+    message[1] = 1;
+    expect(ndef_write_handover(NDEF_REQUEST, 1, 3, message, end, room, sizeof room, &count) == NDEF_BAD_ARGUMENT && count == 77,
+           "a request with no collision resolution is written");
+}
+
+static void selects(void) {
+    uint8_t message[512] = { 0 }, room[512], payload[16];
+    size_t count = 77, end;
+    expect(ndef_write_handover(NDEF_SELECT, 1, 2, message, 0, room, sizeof room, &count) == NDEF_OK && is(room, count, "\x12", 1),
+           "a select with no message isn't written");
+    expect(is_taken("Hs", room, count), "a select with no message isn't taken");
+    expect(ndef_write_error_number(2, 1000, payload, sizeof payload, &count) == NDEF_OK, "an error isn't written");
+    end = record(message, 0, NDEF_FIRST | NDEF_LAST, "err", payload, count);
+    expect(ndef_write_handover(NDEF_SELECT, 1, 15, message, end, room, sizeof room, &count) == NDEF_OK && room[0] == 0x1f && is_taken("Hs", room, count),
+           "a select with an error isn't written");
+    count = 77;
+    expect(ndef_write_handover(NDEF_REQUEST, 1, 15, message, end, room, sizeof room, &count) == NDEF_BAD_ARGUMENT, "a select is written for a request");
+    end = record(message, 0, NDEF_FIRST | NDEF_LAST, "err", payload, 4);
+    expect(ndef_write_handover(NDEF_SELECT, 1, 2, message, end, room, sizeof room, &count) == NDEF_BAD_ARGUMENT && count == 77, "a short error is written");
+}
+
 int main(void) {
     numbers();
     errors();
     alternatives();
     posters();
+    requests();
+    selects();
     return failed != 0;
 }

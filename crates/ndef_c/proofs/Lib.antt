@@ -11,5 +11,6 @@ pub mod Posters
 pub mod Prefixed
 pub mod Puts
 pub mod Records
+pub mod Stepped
 pub mod Texts
 pub mod Walked

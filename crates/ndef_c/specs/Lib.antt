@@ -3,6 +3,7 @@ pub mod Alternatives
 pub mod Carriers
 pub mod Checks
 pub mod ErrorWrites
+pub mod HandoverWrites
 pub mod Nested
 pub mod Numbers
 pub mod Payloads

@@ -1,0 +1,25 @@
+-- Which handovers may be written.
+use Rattle.std.specs.Prelude.{◌≡◌, ℕ, ◌+◌, ◌*◌, ◌<◌, ◌^◌, List, ◌∷◌, length}
+use Rattle.ndef_value.specs.declared.profile.Profile.TheVariants.{Strict}
+use Rattle.ndef_nest.specs.Nested.{IsNest}
+use Rattle.ndef_nest.specs.declared.table.Table.{Table}
+use Rattle.ndef_nest.specs.declared.table.Table.TheVariants.{Request, Select}
+use Rattle.ndef_c.specs.declared.handover_writing.TheConstants.{REQUEST, SELECT}
+
+-- Connection Handover 1.2, version octet: the major version in the high four bits, the minor one in the low four
+abbrev pub version_of : (major minor : ℕ) → ℕ
+version_of major minor = 16 * major + minor
+
+-- a number that asks for a request or a select
+abbrev pub IsHandover : ℕ → Table → Type 0
+IsHandover number Request = number ≡ REQUEST
+IsHandover number Select = number ≡ SELECT
+IsHandover number _ = ⊥
+
+-- Connection Handover 1.2, Handover Request and Select records: a version octet and a message that a strict reader takes, which leave room in a payload
+pub record MayBeHandover (number major minor : ℕ) (message : List ℕ) : Type 0 where
+  pub table : Table
+  pub asked : IsHandover number table
+  pub four_bits : minor < 16
+  pub fits : 1 + length message < 2 ^ 32
+  pub handover : IsNest table 65535 Strict (version_of major minor ∷ message)

@@ -1,0 +1,63 @@
+//! Writes the payloads of Handover Request and Handover Select records (Connection Handover 1.2).
+ghost use Rattle.std.specs.Prelude.{◌≡◌, ◌+◌, ◌<◌, ◌^◌, ◌↔◌, ◌∷◌, length, IsTrue};
+ghost use Rattle.ndef_value.specs.declared.profile.Profile.TheVariants.{Strict};
+ghost use Rattle.ndef_c.specs.HandoverWrites.{MayBeHandover, version_of};
+ghost use Rattle.ndef_c.specs.Rooms.{Gives};
+
+use crate::room::give_parts;
+use crate::status::BAD_ARGUMENT;
+use ndef_lang::{Kind, Language};
+use ndef_nest::Nest;
+use ndef_value::Profile;
+
+/// A handover request.
+pub const REQUEST: u32 = 0;
+/// A handover select.
+pub const SELECT: u32 = 1;
+
+/// The most records that a message within a payload may have.
+const RECORDS: u32 = 65535;
+
+/// Whether an octet and the bytes behind it are a payload of the kind.
+fn is_payload<L: Language>(kind: Kind, octet: u8, behind: &[u8]) -> bool
+    requires { 1 + length behind.now < 2 ^ 32 }
+    ensures { IsTrue result ↔ L.set kind 65535 Strict (octet ∷ behind.now) }
+{
+    let mut state = L::start(kind, RECORDS, Profile::Strict);
+    state.step(octet);
+    let length = behind.len() as u64;
+    if !state.fits(length, length) {
+        return false;
+    }
+    state.step_all(behind, length, length) == behind.len()
+}
+
+/// Writes the payload of a handover record, a version octet and the bytes of a message, to the room.
+#[unsafe(no_mangle)]
+pub extern "C" fn ndef_write_handover(
+    number: u32,
+    major: u32,
+    minor: u32,
+    message: &[u8],
+    room: &mut [u8],
+    count: &mut usize,
+) -> u32
+    ensures bad { result ≡ BAD_ARGUMENT ↔ ¬ MayBeHandover number major minor message.now }
+    ensures kept { result ≡ BAD_ARGUMENT → (room.new ≡ room.old) × (count.new ≡ count.old) }
+    ensures payload { MayBeHandover number major minor message.now
+        → Gives (version_of major minor ∷ message.now) room.old room.new count.new result }
+{
+    let kind = match number {
+        REQUEST => Kind::Request,
+        SELECT => Kind::Select,
+        _ => return BAD_ARGUMENT,
+    };
+    if major > 15 || minor > 15 || message.len() >= u32::MAX as usize {
+        return BAD_ARGUMENT;
+    }
+    let version = (16 * major + minor) as u8;
+    if !is_payload::<Nest>(kind, version, message) {
+        return BAD_ARGUMENT;
+    }
+    give_parts(&[], &[version], message, room, count)
+}
