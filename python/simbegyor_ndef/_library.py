@@ -8,6 +8,7 @@ OK, REFUSED, NO_ROOM, BAD_ARGUMENT, END = range(5)
 STANDARD, OPAQUE = 1, 2
 FIRST, LAST = 1, 2
 UTF16 = 1
+REQUEST, SELECT = range(2)
 END_OF_INPUT = 24
 
 _u32, _size, _octets, _to = ctypes.c_uint32, ctypes.c_size_t, ctypes.c_char_p, ctypes.c_void_p
@@ -83,6 +84,13 @@ carrier = _call('ndef_carrier', _octets, _size, _to, _to)
 write_carrier = _call('ndef_write_carrier', _u32, _octets, _size, _octets, _size, *_room)
 alternative = _call('ndef_alternative', _octets, _size, _to, _to)
 reference = _call('ndef_reference', _octets, _size, _size, _to)
+write_alternative = _call('ndef_write_alternative', _u32, _octets, _size, _to, _size, *_room)
+write_action = _call('ndef_write_action', _u32, *_room)
+write_size = _call('ndef_write_size', _u32, *_room)
+write_collision = _call('ndef_write_collision', _u32, *_room)
+write_error = _call('ndef_write_error', _u32, _octets, _size, *_room)
+write_error_number = _call('ndef_write_error_number', _u32, _u32, *_room)
+write_handover = _call('ndef_write_handover', _u32, _u32, _u32, _octets, _size, *_room)
 
 
 def limits(flags):
@@ -106,8 +114,9 @@ def put(call, guess, *arguments, behind=()):
 
 
 def written(what, call, guess, *arguments):
-    """What the call writes to its room; EncodeError says what it refused to write."""
-    status, octets = put(call, guess, *arguments)
+    """What the call writes to its room; EncodeError says what it refused to write. Numbers of more than 32 bits are refused too."""
+    beyond = any(isinstance(value, int) and not 0 <= value < 1 << 32 for value in arguments)
+    status, octets = (BAD_ARGUMENT, b'') if beyond else put(call, guess, *arguments)
     if status != OK:
         raise EncodeError(what)
     return octets

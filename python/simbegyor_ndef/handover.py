@@ -4,14 +4,20 @@ from ctypes import byref
 
 from . import _library as library
 from .errors import left_out
-from .message import check_payload, records_of
-from .record import GlobalRecord, Record, parts_of, spelled_of, text_of
+from .message import check_payload, message_encoder, records_of
+from .record import GlobalRecord, Record, number_of, parts_of, spelled_of, text_of
 
 _POWERS = ('inactive', 'active', 'activating', 'unknown')
-_ALTERNATIVE = parts_of('urn:nfc:wkt:ac')
+_ALTERNATIVE, _COLLISION, _ERROR = 'urn:nfc:wkt:ac', 'urn:nfc:wkt:cr', 'urn:nfc:wkt:err'
 
 AlternativeCarrier = namedtuple('AlternativeCarrier', 'carrier_power_state carrier_data_reference auxiliary_data_reference')
 AlternativeCarrier.__doc__ = """An alternative carrier: its power state, the name of the record that it refers to, and those of others."""
+
+HandoverError = namedtuple('HandoverError', 'error_reason error_data')
+HandoverError.__doc__ = """Why a handover fails: a reason, and its data, a number for the reasons 1 to 3 and octets for others."""
+
+Version = namedtuple('Version', 'major minor')
+Version.__doc__ = """The version of a handover."""
 
 
 def _references(octets, count):
@@ -31,31 +37,93 @@ def _alternative_of(octets):
     return AlternativeCarrier(_POWERS[parts.power], reference, auxiliary)
 
 
-def _hidden(what):
-    """An attribute that ndeflib has and this module hasn't."""
-    def refuse(*_):
-        raise left_out(what)
-    return property(refuse, refuse)
+def _alternative(carrier):
+    """The record of an alternative carrier."""
+    names = [name.encode('latin-1') for name in (carrier.carrier_data_reference, *carrier.auxiliary_data_reference)]
+    octets, at, parts = b''.join(names), 0, (library.Part * len(names))()
+    for part, name in zip(parts, names):
+        part.at, part.length = at, len(name)
+        at += len(name)
+    power = _POWERS.index(carrier.carrier_power_state)
+    return Record(_ALTERNATIVE, '', library.written('no alternative carrier has these parts', library.write_alternative, len(octets) + 32,
+                                                    power, octets, len(octets), parts, len(parts)))
+
+
+def _collision(number):
+    """The record of the number that resolves a collision."""
+    return Record(_COLLISION, '', library.written('no collision is resolved by this number', library.write_collision, 2, number))
+
+
+def _error(error):
+    """The record of an error."""
+    reason, told = error
+    if isinstance(told, int):
+        octets = library.written('no error has this number', library.write_error_number, 8, reason, told)
+    else:
+        octets = library.written('no error has these data', library.write_error, len(told) + 1, reason, bytes(told), len(told))
+    return Record(_ERROR, '', octets)
+
+
+def _version_of(version):
+    """The version that a str such as '1.3' spells, or a number with the major version in its high four bits."""
+    if isinstance(version, int):
+        return Version(*divmod(version, 16))
+    major, minor = text_of(version, 'a version').split('.')
+    return Version(int(major), int(minor))
 
 
 class _Handover(GlobalRecord):
-    """A handover that was decoded: its payload is kept and written again, and none is made of values."""
+    """A handover. One that was decoded is kept as it is and written again."""
 
     # The message of the payload stands behind a version byte (ndef.h).
     _before = 1
-    version_info = version_string = _hidden('versions of handovers')
+    _data = None
 
-    def __init__(self, *values, **named):
-        raise left_out('making a %s of values' % self.__class__.__name__)
+    def __init__(self, version, alternative_carriers):
+        self._version = _version_of(version)
+        self._carriers = []
+        for carrier in alternative_carriers:
+            self.add_alternative_carrier(*carrier)
+
+    def _of_values(self, what):
+        """Refuses to tell of a handover that was decoded what the library has no call for."""
+        if self._data is not None:
+            raise left_out(what + ' of a handover that was decoded')
+
+    @property
+    def version_info(self):
+        self._of_values('the version')
+        return self._version
+
+    @property
+    def version_string(self):
+        return '%d.%d' % self.version_info
+
+    @property
+    def hexversion(self):
+        major, minor = self.version_info
+        return 16 * major + minor
 
     @property
     def alternative_carriers(self):
         """The alternative carriers, each with its power state and the names of the records that it refers to."""
+        if self._data is None:
+            return list(self._carriers)
         records = records_of(self._data, len(self._data), {}, self._before)
-        return [_alternative_of(bytes(record.data)) for record in records if record._kind() == _ALTERNATIVE]
+        return [_alternative_of(bytes(record.data)) for record in records if record._kind() == parts_of(_ALTERNATIVE)]
+
+    def add_alternative_carrier(self, carrier_power_state, carrier_data_reference, *auxiliary_data_reference):
+        """Adds a carrier: its power state, the name of the record that it refers to, and those of others."""
+        self._of_values('another carrier')
+        names = [text_of(name, 'a reference') for name in (carrier_data_reference, *auxiliary_data_reference)]
+        self._carriers.append(AlternativeCarrier(_POWERS[_POWERS.index(carrier_power_state)], names[0], names[1:]))
 
     def _encode_payload(self):
-        return self._data
+        if self._data is not None:
+            return self._data
+        message = b''.join(message_encoder(self._records()))
+        return library.written('no handover has these parts', library.write_handover, len(message) + 1, self._number, *self._version,
+                               message, len(message))
 
     @classmethod
     def _decode_payload(cls, octets, errors):
@@ -65,21 +133,59 @@ class _Handover(GlobalRecord):
         return made
 
     def __repr__(self):
-        return '<%s of %d octets>' % (self.__class__.__name__, len(self._data))
+        return '<%s of %d octets>' % (self.__class__.__name__, len(self.data))
 
 
 class HandoverRequestRecord(_Handover):
-    """A handover request."""
+    """A handover request: its version, the number that resolves a collision, and alternative carriers, each a power state,
+    the name of the record that it refers to, and those of others. A request without a number is refused when it is encoded."""
 
-    _type = 'urn:nfc:wkt:Hr'
-    collision_resolution_number = _hidden('numbers of collision records')
+    _type, _number = 'urn:nfc:wkt:Hr', library.REQUEST
+
+    def __init__(self, version='1.3', crn=None, *alternative_carriers):
+        super().__init__(version, alternative_carriers)
+        self.collision_resolution_number = crn
+
+    @property
+    def collision_resolution_number(self):
+        self._of_values('the collision resolution number')
+        return self._crn
+
+    @collision_resolution_number.setter
+    def collision_resolution_number(self, value):
+        self._of_values('another collision resolution number')
+        self._crn = value if value is None else number_of(value, 'a collision resolution number')
+
+    def _records(self):
+        first = [] if self._crn is None else [_collision(self._crn)]
+        return first + [_alternative(carrier) for carrier in self._carriers]
 
 
 class HandoverSelectRecord(_Handover):
-    """A handover select."""
+    """A handover select: its version, an error or None, and alternative carriers, each a power state, the name of the record
+    that it refers to, and those of others."""
 
-    _type = 'urn:nfc:wkt:Hs'
-    error = _hidden('errors of handovers')
+    _type, _number = 'urn:nfc:wkt:Hs', library.SELECT
+
+    def __init__(self, version='1.3', error=None, *alternative_carriers):
+        super().__init__(version, alternative_carriers)
+        self._told = None
+        if error is not None:
+            self.set_error(*error)
+
+    @property
+    def error(self):
+        self._of_values('the error')
+        return self._told
+
+    def set_error(self, error_reason, error_data):
+        """Sets the error: a reason, and its data, a number for the reasons 1 to 3 and octets for others."""
+        self._of_values('another error')
+        self._told = HandoverError(number_of(error_reason, 'the reason of an error'), error_data)
+
+    def _records(self):
+        last = [] if self._told is None else [_error(self._told)]
+        return [_alternative(carrier) for carrier in self._carriers] + last
 
 
 class HandoverCarrierRecord(GlobalRecord):

@@ -46,6 +46,13 @@ def text_of(value, what):
     return value
 
 
+def number_of(value, what):
+    """The value, if it is a whole number; the library refuses those that are too great."""
+    if not isinstance(value, int):
+        raise TypeError('%s is a number, not %s' % (what, type(value).__name__))
+    return value
+
+
 class Record:
     """A record.
 

@@ -2,14 +2,13 @@
 from ctypes import byref
 
 from . import _library as library
-from .errors import left_out
 from .message import message_encoder, records_of
-from .record import GlobalRecord, Record, octets_of, parts_of, text_of
+from .record import GlobalRecord, Record, number_of, octets_of, parts_of, text_of
 from .text import TextRecord
 from .uri import UriRecord
 
 _WITHIN = {parts_of(known._type): known for known in (TextRecord, UriRecord)}
-_TYPE = 'urn:nfc:wkt:t'
+_TYPE, _ACTION, _SIZE = 'urn:nfc:wkt:t', 'urn:nfc:wkt:act', 'urn:nfc:wkt:s'
 _ACTIONS = ('exec', 'save', 'edit')
 
 
@@ -25,8 +24,8 @@ class SmartposterRecord(GlobalRecord):
     """A smart poster: the URI of a resource, with titles, icons, and the resource's media type, size and action.
 
     A title is a str, for the language 'en', or a dict of texts by language; an icon octets of the type 'image/png', or a
-    dict of octets by media type. The action is 'exec', 'save', 'edit' or another number; it and the size are read alone.
-    Records of other types within a poster are kept.
+    dict of octets by media type. The action is 'exec', 'save', 'edit' or another number. Records of other types within a
+    poster are kept.
     """
 
     _type = 'urn:nfc:wkt:Sp'
@@ -45,7 +44,7 @@ class SmartposterRecord(GlobalRecord):
             self.resource_type = resource_type
 
     def _first(self, spelled):
-        return next((record for record in self._records if record.type == spelled), None)
+        return next((record for record in self._records if record._kind() == parts_of(spelled)), None)
 
     @property
     def resource(self):
@@ -95,6 +94,14 @@ class SmartposterRecord(GlobalRecord):
             raise ValueError('an icon is of a type image/.. or video/.., not %r' % icon_type)
         self._records.append(Record(icon_type, '', icon_data))
 
+    def _set(self, spelled, octets):
+        """Sets the payload of the first record of a type, or adds such a record."""
+        record = self._first(spelled)
+        if record is None:
+            record = Record(spelled)
+            self._records.append(record)
+        record.data[:] = octets
+
     def _parts(self):
         return _parts_of(self._encode_payload())
 
@@ -107,7 +114,8 @@ class SmartposterRecord(GlobalRecord):
 
     @action.setter
     def action(self, value):
-        raise left_out('writing the action of a smart poster')
+        number = _ACTIONS.index(value) if isinstance(value, str) else number_of(value, 'an action')
+        self._set(_ACTION, library.written('no action has this number', library.write_action, 1, number))
 
     @property
     def resource_size(self):
@@ -116,7 +124,8 @@ class SmartposterRecord(GlobalRecord):
 
     @resource_size.setter
     def resource_size(self, value):
-        raise left_out('writing the size of a resource')
+        number = number_of(value, 'the size of a resource')
+        self._set(_SIZE, library.written('no resource has this size', library.write_size, 4, number))
 
     @property
     def resource_type(self):
@@ -125,11 +134,7 @@ class SmartposterRecord(GlobalRecord):
 
     @resource_type.setter
     def resource_type(self, value):
-        record = self._first(_TYPE)
-        if record is None:
-            record = Record(_TYPE)
-            self._records.append(record)
-        record.data[:] = octets_of(text_of(value, 'a media type'))
+        self._set(_TYPE, octets_of(text_of(value, 'a media type')))
 
     def _encode_payload(self):
         return b''.join(message_encoder(self._records))

@@ -101,6 +101,11 @@ class Suite(unittest.TestCase):
             self.assertEqual(poster.resource_type, None if media == '-' else octets_of(media).decode())
             self.assertEqual([title.text for title in poster.title_records], titles.split(',') if titles else [])
             self.assertEqual(poster.data, written)
+            made = ndef.SmartposterRecord(uri, action=action, resource_size=size and int(size))
+            (back,) = ndef.message_decoder(octets(made))
+            self.assertEqual((back.resource.iri, back.action, back.resource_size), (uri, action, size and int(size)))
+            poster.action, poster.resource_size = 7, 65536
+            self.assertEqual((poster.action, poster.resource_size), (7, 65536))
 
     def test_carriers(self):
         for carrier, value, written in self.decoded('carrier'):
@@ -115,17 +120,42 @@ class Suite(unittest.TestCase):
                 self.assertLessEqual(len(handover.alternative_carriers), 1)
 
     def test_alternative_carriers(self):
-        for line, payload, value, _ in values('alternative carrier'):
+        for line, payload, value, written in values('alternative carrier'):
             if value.startswith('refused'):
                 continue
             with self.subTest(line):
-                power, reference, count, first, _ = value.split()
+                power, reference, count, first, rest = value.split()
                 (select,) = ndef.message_decoder(octets(ndef.Record('urn:nfc:wkt:Hs', '', b'\x12' + octets(ndef.Record('urn:nfc:wkt:ac', '', payload)))))
                 (carrier,) = select.alternative_carriers
                 self.assertEqual(carrier.carrier_power_state, power.lower())
                 self.assertEqual(carrier.carrier_data_reference, octets_of(reference).decode())
                 auxiliary = carrier.auxiliary_data_reference
                 self.assertEqual((len(auxiliary), auxiliary[:1]), (int(count), [octets_of(first).decode()] if int(count) else []))
+                made = ndef.HandoverSelectRecord('1.2', None, (power.lower(), octets_of(reference).decode(), *auxiliary))
+                self.assertEqual(made.alternative_carriers, [carrier])
+                self.assertEqual(made.data, b'\x12' + octets(ndef.Record('urn:nfc:wkt:ac', '', written[:len(written) - len(octets_of(rest))])))
+
+    def test_errors(self):
+        for line, _, value, written in values('error'):
+            if value.startswith('refused'):
+                continue
+            with self.subTest(line):
+                reason, told = int(value.split()[0]), octets_of(value.split()[1])
+                numbers = [int.from_bytes(told, 'big')] if reason in (1, 2, 3) else []
+                for data in [told] + numbers:
+                    made = ndef.HandoverSelectRecord('1.2', (reason, data))
+                    self.assertEqual((made.error.error_reason, made.error.error_data), (reason, data))
+                    self.assertEqual(made.data, b'\x12' + octets(ndef.Record('urn:nfc:wkt:err', '', written)))
+
+    def test_requests(self):
+        for line, _, value, written in values('request'):
+            if value.startswith('refused'):
+                continue
+            with self.subTest(line):
+                minor, number, records = (int(part) for part in value.split())
+                made = ndef.HandoverRequestRecord(16 + minor, number)
+                self.assertEqual((made.data, records), (written, 1))
+                self.assertEqual((made.version_info, made.hexversion), ((1, minor), 16 + minor))
 
 
 class Records(unittest.TestCase):
@@ -200,8 +230,25 @@ class Records(unittest.TestCase):
         carrier = ndef.HandoverCarrierRecord('application/vnd.bluetooth.ep.oob', b'data', 'name')
         (back,) = ndef.message_decoder(octets(carrier))
         self.assertEqual((back.carrier_type, back.carrier_data, back.name), ('application/vnd.bluetooth.ep.oob', b'data', 'name'))
-        for hidden in ('version_info', 'version_string', 'error'):
-            self.assertRaises(NotImplementedError, getattr, select, hidden)
+
+    def test_handovers_that_are_made(self):
+        request = ndef.HandoverRequestRecord('1.3', 0x1234, ('active', '0'), ('unknown', 'a', 'b', ''))
+        self.assertEqual((request.version_string, request.version_info.minor, request.hexversion), ('1.3', 3, 0x13))
+        request.collision_resolution_number = 1
+        request.add_alternative_carrier('inactive', 'n')
+        self.assertEqual(octets(request).hex(), 'd102264872' '13' '91020263720001' '110204616301013000' '110207616303016102016200' '510204616300016e00')
+        (back,) = ndef.message_decoder(octets(request))
+        self.assertEqual(back, request)
+        self.assertEqual(back.alternative_carriers, request.alternative_carriers)
+        self.assertEqual(back.alternative_carriers, [('active', '0', []), ('unknown', 'a', ['b', '']), ('inactive', 'n', [])])
+        select = ndef.HandoverSelectRecord('1.2', (2, 1000), ('activating', 'é'))
+        self.assertEqual(octets(select).hex(), 'd102154873' '12' '9102046163' '0201e900' '510305657272' '02000003e8')
+        (back,) = ndef.message_decoder(octets(select))
+        self.assertEqual((back, back.alternative_carriers), (select, [('activating', 'é', [])]))
+        select.set_error(7, b'any')
+        self.assertEqual((select.error.error_reason, select.error.error_data), (7, b'any'))
+        self.assertEqual(octets(ndef.HandoverSelectRecord()).hex(), 'd10201487313')
+        self.assertIsNone(ndef.HandoverSelectRecord().error)
 
     def test_a_class_of_ones_own(self):
         class Own(ndef.GlobalRecord):
@@ -278,6 +325,30 @@ class Streams(unittest.TestCase):
 
 
 class Refusals(unittest.TestCase):
+    def test_values_that_no_handover_has(self):
+        request, select, active = ndef.HandoverRequestRecord, ndef.HandoverSelectRecord, 'active'
+        for made in (request(), request('1.3', 65536), request('1.3', -1), request('1.3', 2 ** 32), request('2.0', 1), request('0.3', 1),
+                     request('1.16', 1), request(0x100000013, 1), request('1.-1', 1), select('1.3', (1, 256)), select('1.3', (4, 1)),
+                     select('1.3', (2, 2 ** 32)), select('1.3', (2, b'abc')), select('1.3', (256, b'')), select('1.3', (257, 1)),
+                     select('1.3', None, (active, 256 * 'x')), select('1.3', None, (active, 'a', 256 * 'x')),
+                     select('1.3', None, [active, 'a'] + 256 * ['b'])):
+            self.assertRaises(ndef.EncodeError, octets, made)
+        (back,) = ndef.message_decoder(octets(select('1.3', None, [active, 255 * 'x'] + 255 * [255 * 'y'])))
+        self.assertEqual(len(back.alternative_carriers[0].auxiliary_data_reference), 255)
+        for call in (lambda: request('1'), lambda: request('a.b'), lambda: select('1.3', None, ('off', 'a'))):
+            self.assertRaises(ValueError, call)
+        for call in (lambda: request(None), lambda: request('1.3', 'a'), lambda: select('1.3', None, (active, 0)), lambda: select('1.3', ('1', 1))):
+            self.assertRaises(TypeError, call)
+
+    def test_values_that_no_poster_has(self):
+        poster = ndef.SmartposterRecord('a')
+        for name, value in (('action', 256), ('action', -1), ('action', 2 ** 32), ('resource_size', -1), ('resource_size', 2 ** 32)):
+            self.assertRaises(ndef.EncodeError, setattr, poster, name, value)
+        for name in ('action', 'resource_size'):
+            self.assertRaises(TypeError, setattr, poster, name, 1.5)
+        self.assertRaises(ValueError, setattr, poster, 'action', 'run')
+        self.assertEqual((poster.action, poster.resource_size, len(poster._records)), (None, None, 1))
+
     def test_values_that_no_record_has(self):
         first = ndef.TextRecord('Hello')
         for record in (ndef.Record('urn:nfc:wkt:' + 256 * 'x'), ndef.Record('unknown', 256 * 'x'), ndef.TextRecord('a', 64 * 'x'),
@@ -288,10 +359,18 @@ class Refusals(unittest.TestCase):
 
     def test_what_is_left_out(self):
         for call in (lambda: ndef.message_decoder(HELLO, 'relax'), lambda: ndef.message_decoder(HELLO, 'ignore'),
-                     lambda: ndef.Record('unchanged'), lambda: ndef.SmartposterRecord('a', action='save'),
-                     lambda: ndef.SmartposterRecord('a', resource_size=1), lambda: ndef.HandoverRequestRecord(),
-                     lambda: ndef.HandoverSelectRecord()):
+                     lambda: ndef.Record('unchanged')):
             self.assertRaises(NotImplementedError, call)
+
+    def test_what_is_left_out_of_handovers_that_were_decoded(self):
+        request, select = ndef.message_decoder(octets(ndef.HandoverRequestRecord('1.3', 1), ndef.HandoverSelectRecord()))
+        for call in (lambda: request.collision_resolution_number, lambda: setattr(request, 'collision_resolution_number', 1),
+                     lambda: select.error, lambda: select.set_error(1, 1)):
+            self.assertRaises(NotImplementedError, call)
+        for handover in (request, select):
+            for hidden in ('version_info', 'version_string', 'hexversion'):
+                self.assertRaises(NotImplementedError, getattr, handover, hidden)
+            self.assertRaises(NotImplementedError, handover.add_alternative_carrier, 'active', 'a')
 
     def test_other_arguments(self):
         self.assertRaises(TypeError, ndef.message_decoder, 'text')
