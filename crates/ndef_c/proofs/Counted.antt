@@ -1,13 +1,18 @@
 -- References within some bytes, each behind its length, and the payload of an alternative carrier that has them.
-use Rattle.std.proofs.Common.{◌≡◌, ℕ, zero, suc, ◌+◌, ◌<◌, List, [], ◌∷◌, ◌++◌, take, drop, get_or, map, refl, sym, ◌∙◌, ap, ap₂, arith, length, length-append, length-drop, append-nil}
-use Rattle.std.specs.List.{flat_map}
-use Rattle.std.proofs.lemmas.List.{length-map, length-take-le, take_more}
+use Rattle.std.proofs.Common.{◌≡◌, ℕ, zero, suc, ◌+◌, ◌<◌, List, [], ◌∷◌, ◌++◌, take, drop, get_or, map, refl, sym, subst, ◌∙◌, ap, ap₂, arith, length, length-append, length-drop, append-nil}
+use Rattle.std.specs.List.{AllByRecursion, flat_map}
+use Rattle.std.proofs.lemmas.List.Elements.{recursion_from_All}
+use Rattle.ndef_value.specs.ListLaws.{octets_front}
+use Rattle.ndef_value.specs.SliceLaws.{octets_drop}
+use Rattle.ndef_value.specs.Wire.{AreOctets}
+use Rattle.std.proofs.lemmas.List.{length-map, length-take-le, take-append-drop, take_more}
 use Rattle.std.proofs.lemmas.List.Folds.{flat_map-map}
 use Rattle.std.proofs.lemmas.Grind.{flat_map-append}
-use Rattle.ndef_types.specs.Values.{AcValue, ac_payload, counted, power_code}
+use Rattle.ndef_types.specs.Values.{AcValue, IsAcValue, IsReference, ac_payload, counted, power_code}
 use Rattle.ndef_types.specs.declared.power.Power.{Power}
 use Rattle.ndef_types.specs.declared.power.Power.TheVariants.{Inactive, Active, Activating, Unknown}
-use Rattle.ndef_c.specs.AlternativeWrites.{IsAlternativeOf, MayBeReference, counted_part, part_of}
+use Rattle.ndef_c.specs.AlternativeWrites.{IsAlternativeOf, MayBeAlternative, MayBeReference, WritesAlternative, counted_part, part_of}
+use Rattle.ndef_c.proofs.AlternativePayload.{payload_in_set, payload_stands}
 use Rattle.ndef_c.specs.declared.part.NdefPart.{NdefPart}
 
 pub part_length : (bytes : List ℕ) (part : NdefPart) → MayBeReference (length bytes) part → length (part_of bytes part) ≡ part.length
@@ -44,10 +49,35 @@ code_named (suc (suc (suc n))) h = omega (arith, h)
 pub alternative_of : (power : ℕ) (bytes : List ℕ) (reference : NdefPart) (auxiliary : List NdefPart) → AcValue
 alternative_of power bytes reference auxiliary = record { power = power_named power; reference = part_of bytes reference; auxiliary = map (part_of bytes) auxiliary; rest = [] }
 
-pub is_alternative_of : (power : ℕ) (bytes : List ℕ) (reference : NdefPart) (auxiliary : List NdefPart) → power < 4
-    → IsAlternativeOf power bytes (reference ∷ auxiliary) (alternative_of power bytes reference auxiliary)
+part_octets : (bytes : List ℕ) (part : NdefPart) → AreOctets bytes → AreOctets (part_of bytes part)
+part_octets bytes part a =
+    let behind = octets_drop part.at bytes a in
+    octets_front (part_of bytes part) (drop part.length (drop part.at bytes)) (subst AreOctets (sym (take-append-drop part.length (drop part.at bytes))) behind)
+
+part_is : (bytes : List ℕ) (part : NdefPart) → AreOctets bytes → MayBeReference (length bytes) part → IsReference (part_of bytes part)
+part_is bytes part a h = let n = part_length bytes part h in let w = h.1 in (omega (arith, n, w), part_octets bytes part a)
+
+parts_are : (bytes : List ℕ) (parts : List NdefPart) → AreOctets bytes → AllByRecursion (MayBeReference (length bytes)) parts → AllByRecursion IsReference (map (part_of bytes) parts)
+parts_are bytes [] a h = tt
+parts_are bytes (part ∷ parts) a h = (part_is bytes part a h.0, parts_are bytes parts a h.1)
+
+pub is_alternative_of : (power : ℕ) (bytes : List ℕ) (reference : NdefPart) (auxiliary : List NdefPart) → AreOctets bytes
+    → MayBeAlternative power bytes (reference ∷ auxiliary) → IsAlternativeOf power bytes (reference ∷ auxiliary) (alternative_of power bytes reference auxiliary)
 unfolding alternative_of
-is_alternative_of power bytes reference auxiliary h = record { power_is = code_named power h; references_are = refl; rest = refl }
+is_alternative_of power bytes reference auxiliary a may =
+    let all = recursion_from_All (MayBeReference (length bytes)) (reference ∷ auxiliary) may.references in
+    let few = may.few in
+    let n = length-map auxiliary (part_of bytes) in
+    record {
+      value = record { reference = part_is bytes reference a all.0; few = omega (arith, few, n); auxiliary = parts_are bytes auxiliary a all.1; rest = tt };
+      power_is = code_named power may.two_bits;
+      references_are = refl;
+      rest = refl;
+    }
+
+-- what is written for it
+pub writes_alternative : (v : AcValue) → IsAcValue v → WritesAlternative v (ac_payload v)
+writes_alternative v h = record { is = refl; in_set = payload_in_set v h; stands = payload_stands v }
 
 -- its payload, part by part
 abbrev pub put_parts : (power : ℕ) (bytes : List ℕ) (reference : NdefPart) (auxiliary : List NdefPart) → List ℕ

@@ -1,4 +1,5 @@
 pub mod Ahead
+pub mod AlternativePayload
 pub mod Alternatives
 pub mod Carriers
 pub mod Characters

@@ -1,7 +1,8 @@
 -- Which alternative carriers may be written, and what is written of them.
 use Rattle.std.specs.Prelude.{◌≡◌, ℕ, ◌+◌, ◌<◌, ◌≤◌, List, [], length, map, take, drop}
 use Rattle.std.specs.List.{All}
-use Rattle.ndef_types.specs.Values.{AcValue, WritesAc, counted, power_code}
+use Rattle.ndef_lang.specs.Alternative.{IsAlternative}
+use Rattle.ndef_types.specs.Values.{AcValue, IsAcValue, StandsForAc, WritesAc, counted, power_code}
 use Rattle.ndef_c.specs.Alternatives.{references}
 use Rattle.ndef_c.specs.Payloads.{GivesFor}
 use Rattle.ndef_c.specs.declared.part.NdefPart.{NdefPart}
@@ -27,15 +28,22 @@ pub record MayBeAlternative (power : ℕ) (bytes : List ℕ) (parts : List NdefP
 
 -- Connection Handover 1.2, Alternative Carrier record: it has this power state and these references, and nothing behind them
 pub record IsAlternativeOf (power : ℕ) (bytes : List ℕ) (parts : List NdefPart) (v : AcValue) : Type 0 where
+  pub value : IsAcValue v
   pub power_is : power_code v.power ≡ power
   pub references_are : references v ≡ map (part_of bytes) parts
   pub rest : v.rest ≡ []
+
+-- Connection Handover 1.2, Alternative Carrier record: what is written for the alternative carrier, which is read as it
+pub record WritesAlternative (v : AcValue) (payload : List ℕ) : Type 0 where
+  pub is : WritesAc v payload
+  pub in_set : IsAlternative payload
+  pub stands : StandsForAc payload v
 
 -- what is written for that alternative carrier is given
 pub record GivesAlternative (power : ℕ) (bytes : List ℕ) (parts : List NdefPart) (before after : List ℕ) (count status : ℕ) : Type 0 where
   pub alternative : AcValue
   pub is : IsAlternativeOf power bytes parts alternative
-  pub gives : GivesFor WritesAc alternative before after count status
+  pub gives : GivesFor WritesAlternative alternative before after count status
 
 -- Connection Handover 1.2, Alternative Carrier record: a reference behind its length
 abbrev pub counted_part : List ℕ → NdefPart → List ℕ

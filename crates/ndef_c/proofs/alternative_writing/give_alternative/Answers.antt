@@ -1,9 +1,10 @@
-use Rattle.std.proofs.Common.{◌∷◌, [], ◌++◌, length, length-append, refl, ap, arith}
+use Rattle.std.proofs.Common.{◌∷◌, [], ◌++◌, length, length-append, ap, arith}
 use Rattle.std.specs.List.{flat_map}
 use Rattle.std.proofs.lemmas.List.Elements.{All-head, All-tail}
 use Rattle.ndef_types.specs.Values.{ac_payload}
 use Rattle.ndef_c.specs.AlternativeWrites.{MayBeReference, counted_part}
-use Rattle.ndef_c.proofs.Counted.{alternative_of, is_alternative_of, payload_of, put_length, put_parts}
+use Rattle.ndef_c.proofs.Counted.{alternative_of, is_alternative_of, payload_of, put_length, put_parts, writes_alternative}
+use Rattle.ndef_value.specs.SliceLaws.{each_octet}
 use Rattle.ndef_c.proofs.Puts.{gives_put, no_room, put_on}
 use Rattle.ndef_c.proofs.alternative_writing.give_alternative.Goals as goal
 
@@ -20,6 +21,7 @@ returns-then-room-needed c =
     let first = a.reference.now in
     let others = a.auxiliary.now in
     let value = alternative_of a.power bytes first others in
+    let is = is_alternative_of a.power bytes first others (each_octet bytes c.type_inv.bytes) c.requires in
     let fits = All-head (MayBeReference (length bytes)) first others c.requires.references in
     let n = put_length a.power bytes first others fits in
     let e = ap length (payload_of a.power bytes first others c.requires.two_bits) in
@@ -29,8 +31,8 @@ returns-then-room-needed c =
     let small = c.if-room-needed.true in
     record {
       alternative = value;
-      is = is_alternative_of a.power bytes first others c.requires.two_bits;
-      gives = record { payload = ac_payload value; is = refl; short = omega (arith, n, e, v, b, w); gives = no_room (ac_payload value) a.room.now _ (omega (arith, n, e, v)) (omega (arith, n, e, v, small)) };
+      is = is;
+      gives = record { payload = ac_payload value; is = writes_alternative value is.value; short = omega (arith, n, e, v, b, w); gives = no_room (ac_payload value) a.room.now _ (omega (arith, n, e, v)) (omega (arith, n, e, v, small)) };
     }
 
 pub returns : goal.returns
@@ -40,6 +42,7 @@ returns c =
     let first = a.reference.now in
     let others = a.auxiliary.now in
     let value = alternative_of a.power bytes first others in
+    let is = is_alternative_of a.power bytes first others (each_octet bytes c.type_inv.bytes) c.requires in
     let fits = All-head (MayBeReference (length bytes)) first others c.requires.references in
     let n = put_length a.power bytes first others fits in
     let same = payload_of a.power bytes first others c.requires.two_bits in
@@ -66,10 +69,10 @@ returns c =
     let p1 = put_on 0 c.put-after_power.result (a.power ∷ []) (counted ++ ((length others ∷ []) ++ parts)) a.room.now r1 last (omega arith) c.put-after_power.ensures.put (omega (arith, e1)) p2 in
     record {
       alternative = value;
-      is = is_alternative_of a.power bytes first others c.requires.two_bits;
+      is = is;
       gives = record {
         payload = ac_payload value;
-        is = refl;
+        is = writes_alternative value is.value;
         short = omega (arith, n, e, v, b, w);
         gives = gives_put (put_parts a.power bytes first others) (ac_payload value) a.room.now last _ same (omega (arith, n, v)) room p1;
       };
