@@ -232,6 +232,23 @@ uint32_t ndef_reference(const uint8_t *payload, size_t length, size_t index, nde
 uint32_t ndef_write_alternative(uint32_t power, const uint8_t *bytes, size_t length, const ndef_part *parts, size_t parts_count,
                                 uint8_t *room, size_t size, size_t *count);
 
+/* A link of a message: an alternative carrier of its handover, and the record to which it refers. */
+typedef struct ndef_link {
+    size_t carrier_at, carrier_length; /* the payload of its Alternative Carrier record, in that of the handover */
+    size_t record_index, record_at;    /* the record's index in the message, counted from 0, and its place there */
+    uint32_t has_record;               /* 1, or 0 where it refers to none; then that index and place are 0 */
+} ndef_link;
+
+/* Tells the link with an index, counted from 0: the alternative carrier with that index, and the first record of the
+ * message whose id is its carrier data reference; none where the reference is empty, or no record has that id. The bytes
+ * begin with the message, and others may follow it; the payload is that of its Handover Request or Handover Select
+ * record, its pieces joined, as ndef_payload writes it.
+ * NDEF_OK; NDEF_END: the handover has no such alternative carrier. NDEF_BAD_ARGUMENT: the payload is that of no request
+ * and no select, as the standard reads them; or the bytes don't begin with records up to one that is the last, all of
+ * them whole. */
+uint32_t ndef_link_at(const uint8_t *bytes, size_t length, const uint8_t *payload, size_t payload_length, size_t index,
+                      ndef_link *out);
+
 /* A smart poster. */
 typedef struct ndef_poster_parts {
     size_t uri_at, uri_length;   /* the payload of its URI record, for ndef_uri */

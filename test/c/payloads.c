@@ -1,4 +1,5 @@
-/* URIs, texts, carriers, alternative carriers and smart posters: each payload read, and written where it can be. */
+/* URIs, texts, carriers, alternative carriers and smart posters: each payload read, and written where it can be;
+ * and the links of messages. */
 #include "ndef.h"
 
 #include <stdio.h>
@@ -145,6 +146,52 @@ static void alternatives(void) {
     expect(why.place == 1 && why.reason == NDEF_DOES_NOT_FIT && why.records == 0, "no count is refused otherwise");
 }
 
+/* Version 1.2, "ac" to "0", "err" 1 with 5, "ac" to nothing, "ac" to "zz", "ac" to "b" */
+static const uint8_t select_payload[] = {
+    0x12, 0x91, 2, 4, 'a', 'c', 1, 1, '0', 0, 0x11, 3, 2, 'e', 'r', 'r', 1, 5, 0x11, 2, 3, 'a', 'c', 0, 0, 0,
+    0x11, 2, 5, 'a', 'c', 3, 2, 'z', 'z', 0, 0x51, 2, 4, 'a', 'c', 1, 1, 'b', 0 };
+
+/* Version 1.2, "cr" 258, "ac" to "h" */
+static const uint8_t request_payload[] = { 0x12, 0x91, 2, 2, 'c', 'r', 1, 2, 0x51, 2, 4, 'a', 'c', 1, 1, 'h', 0 };
+
+static int is_link(const ndef_link *link, size_t at, size_t length, uint32_t has, size_t index, size_t record_at) {
+    return link->carrier_at == at && link->carrier_length == length && link->has_record == has && link->record_index == index
+        && link->record_at == record_at;
+}
+
+static void links(void) {
+    /* The select, a record with the id "0", one in pieces with the id "b", and one more with the id "0" */
+    uint8_t message[128] = { 0x91, 2, sizeof select_payload, 'H', 's' };
+    static const uint8_t records[] = { 0x1c, 1, 1, 1, 'x', '0', 0x7f, 0x3c, 1, 1, 1, 'x', 'b', 0x41, 0x16, 0, 1, 0x42, 0x5c, 1, 0, 1, 'x', '0' };
+    const size_t whole = 5 + sizeof select_payload + sizeof records;
+    ndef_link link;
+    memcpy(message + 5, select_payload, sizeof select_payload);
+    memcpy(message + 5 + sizeof select_payload, records, sizeof records);
+    for (size_t length = whole; length < sizeof message; length += sizeof message - whole - 1) {
+        expect(ndef_link_at(message, length, select_payload, sizeof select_payload, 0, &link) == NDEF_OK, "a link isn't told");
+        expect(is_link(&link, 6, 4, 1, 1, 50), "a link leads elsewhere");
+        expect(ndef_link_at(message, length, select_payload, sizeof select_payload, 1, &link) == NDEF_OK, "an empty link isn't told");
+        expect(is_link(&link, 23, 3, 0, 0, 0), "an empty link leads somewhere");
+        expect(ndef_link_at(message, length, select_payload, sizeof select_payload, 2, &link) == NDEF_OK, "an unknown link isn't told");
+        expect(is_link(&link, 31, 5, 0, 0, 0), "an unknown link leads somewhere");
+        expect(ndef_link_at(message, length, select_payload, sizeof select_payload, 3, &link) == NDEF_OK, "the last link isn't told");
+        expect(is_link(&link, 41, 4, 1, 2, 57), "the last link leads elsewhere");
+    }
+    link.has_record = 77;
+    expect(ndef_link_at(message, whole, select_payload, sizeof select_payload, 4, &link) == NDEF_END && link.has_record == 77, "a link too many is there");
+    expect(ndef_link_at(message, whole, select_payload, 1, 0, &link) == NDEF_END, "a select without a message has a link");
+    expect(ndef_link_at(message, whole, select_payload, sizeof select_payload, (size_t)-1, &link) == NDEF_END, "the last link of all is there");
+    expect(ndef_link_at(message, whole - 1, select_payload, sizeof select_payload, 0, &link) == NDEF_BAD_ARGUMENT, "half a record is there");
+    expect(ndef_link_at(message, 50, select_payload, sizeof select_payload, 0, &link) == NDEF_BAD_ARGUMENT, "a message has no last record");
+    expect(ndef_link_at(message, 0, select_payload, sizeof select_payload, 0, &link) == NDEF_BAD_ARGUMENT, "no message has links");
+    expect(ndef_link_at(message, whole, select_payload, 9, 0, &link) == NDEF_BAD_ARGUMENT && link.has_record == 77, "half a handover has links");
+    /* A request that refers to itself */
+    uint8_t itself[7 + sizeof request_payload] = { 0xd9, 2, sizeof request_payload, 1, 'H', 'r', 'h' };
+    memcpy(itself + 7, request_payload, sizeof request_payload);
+    expect(ndef_link_at(itself, sizeof itself, request_payload, sizeof request_payload, 0, &link) == NDEF_OK, "a link to the handover isn't told");
+    expect(is_link(&link, 13, 4, 1, 0, 0), "a link to the handover leads elsewhere");
+}
+
 static void posters(void) {
     ndef_poster_parts parts;
     ndef_checked why = { 7, 7, 7 };
@@ -176,6 +223,7 @@ int main(void) {
     conversions();
     carriers();
     alternatives();
+    links();
     posters();
     return failed != 0;
 }

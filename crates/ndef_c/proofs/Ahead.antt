@@ -1,5 +1,5 @@
 -- The records that are ahead in a message of one piece a record.
-use Rattle.std.proofs.Common.{◌≡◌, ℕ, suc, ◌+◌, ◌<◌, ◌∷◌, [], take, drop, refl, sym, ◌∙◌, ap, subst, arith, Bool, ne_eqb, true≢false, List, drop_at, ◌++◌, length, map, append_assoc, append-nil, take_at, Some}
+use Rattle.std.proofs.Common.{◌≡◌, ℕ, suc, ◌+◌, ◌<◌, ◌∷◌, [], take, drop, refl, sym, ◌∙◌, ap, subst, arith, Bool, ne_eqb, true≢false, List, drop_at, ◌++◌, length, map, append_assoc, append-nil, take_at, Some, inl, inr}
 use Rattle.std.specs.List.{AllByRecursion}
 use Rattle.std.specs.Prelude.{◌==◌, true, slice_get}
 use Rattle.std.proofs.lemmas.List.{drop-drop}
@@ -7,8 +7,10 @@ use Rattle.ndef_value.specs.Wire.{Item, Piece, Run, SpellAll, all_pieces, payloa
 use Rattle.ndef_value.specs.declared.profile.Profile.{Profile}
 use Rattle.ndef_piece.specs.Heads.{HeadsAreApart}
 use Rattle.ndef_piece.specs.Whole.{IsSplit, BeginWithPiece}
-use Rattle.ndef_types.specs.Contents.{IsFirst, Lack}
-use Rattle.ndef_c.specs.Nested.{IsInPieces}
+use Rattle.ndef_types.specs.Contents.{IsFirst, IsFirstAt, Lack}
+use Rattle.ndef_c.specs.Nested.{IsFound, IsInPieces, MayBeInPieces}
+use Rattle.ndef_c.specs.Walks.{Lies}
+use Rattle.ndef_c.specs.declared.nested.Found.{Found}
 use Rattle.ndef_c.proofs.Followed.{same_split, split_size}
 
 -- of the records these are done and those of these runs are left, which the rest spells
@@ -20,6 +22,11 @@ pub record Ahead (items : List Item) (rest : List ℕ) (done : List Item) : Type
 
 pub ahead_at : (profile : Profile) (items : List Item) (bytes : List ℕ) → IsInPieces profile items bytes → Ahead items bytes []
 ahead_at profile items bytes h = record { left = h.runs; all = sym h.flat.message.items; single = h.single; spelled = h.flat.spelled }
+
+-- .. of a message, if there is one
+pub ahead_in : (profile : Profile) (items : List Item) (bytes : List ℕ) → MayBeInPieces profile items bytes → Ahead items bytes []
+ahead_in profile items bytes (inl h) = record { left = []; all = h.0; single = tt; spelled = h.1 }
+ahead_in profile items bytes (inr h) = ahead_at profile items bytes h
 
 -- the record of a piece
 pub record IsOfPiece (i : Item) (p : Piece) : Type 0 where
@@ -99,19 +106,25 @@ pub lack_on : (P : Item → Type 0) (xs : List Item) (i : Item) → Lack P xs �
 lack_on P [] i h k = (k, tt)
 lack_on P (x ∷ xs) i h k = (h.0, lack_on P xs i h.1 k)
 
-get_behind : (xs : List Item) (i : Item) (more : List Item) → slice_get (xs ++ i ∷ more) (length xs) ≡ Some i
+pub get_behind : {X : Type 0} (xs : List X) (i : X) (more : List X) → slice_get (xs ++ i ∷ more) (length xs) ≡ Some i
 get_behind [] i more = refl
 get_behind (x ∷ xs) i more = get_behind xs i more
 
+pub first_at : (P : Item → Type 0) (items done : List Item) (i : Item) → (more : List Item) × (items ≡ done ++ i ∷ more) → Lack P done → P i → IsFirstAt P items (length done) i
+first_at P items done i w lack has = record {
+  at = ap (λ xs. slice_get xs (length done)) w.1 ∙ get_behind done i w.0;
+  has = has;
+  before = subst (Lack P) (sym (ap (take (length done)) w.1 ∙ take_at done (i ∷ w.0) (length done) refl)) lack;
+}
+
 pub first_is : (P : Item → Type 0) (items done : List Item) (i : Item) → (more : List Item) × (items ≡ done ++ i ∷ more) → Lack P done → P i → IsFirst P items (Some i)
-first_is P items done i w lack has = (
-  length done,
-  record {
-    at = ap (λ xs. slice_get xs (length done)) w.1 ∙ get_behind done i w.0;
-    has = has;
-    before = subst (Lack P) (sym (ap (take (length done)) w.1 ∙ take_at done (i ∷ w.0) (length done) refl)) lack;
-  },
-)
+first_is P items done i w lack has = (length done, first_at P items done i w lack has)
+
+pub found_of : (bytes : List ℕ) (i : Item) (f : Found) (payload : List ℕ) → f.payload.now ≡ payload → i.payload ≡ payload → Lies bytes f.at (length payload) payload → IsFound bytes i f
+found_of bytes i f payload e n l = record {
+  payload = e ∙ sym n;
+  lies = subst (Lies bytes f.at (length f.payload.now)) (sym n) (subst (λ x. Lies bytes f.at (length x) payload) (sym e) l);
+}
 
 -- ---- the bytes that are left
 

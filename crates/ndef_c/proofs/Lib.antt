@@ -7,6 +7,8 @@ pub mod Copied
 pub mod Counted
 pub mod Errors
 pub mod Followed
+pub mod Handovers
+pub mod Messages
 pub mod Places
 pub mod Posters
 pub mod Prefixed

@@ -1,7 +1,7 @@
 -- Where the parts of a record lie.
 use Rattle.std.proofs.Common.{◌≡◌, ℕ, ◌+◌, ◌-◌, ◌<◌, ◌≤◌, [], take, drop, refl, sym, ◌∙◌, ap, arith, List, ◌++◌, length, length-append, length-drop, append_assoc, take_at, drop_at, Bool, true, false}
 use Rattle.std.specs.Prelude.{unwrap_or, Some, None, if◌then◌else◌}
-use Rattle.std.proofs.lemmas.List.{take-append-drop}
+use Rattle.std.proofs.lemmas.List.{drop-drop, length-take, take-append-drop}
 use mir.Val.{bool_byte}
 use Rattle.ndef_value.specs.Wire.{bit, Run, fields, octets}
 use Rattle.ndef_piece.specs.Header.{is_set}
@@ -16,6 +16,21 @@ lies bytes front part rest at count e n a =
     let tail = length-append part rest in
     let place : length front ≡ at = omega (arith, whole, tail, n, a) in
     record { are = ap (λ x. take count (drop at x)) e ∙ ap (take count) (drop_at front (part ++ rest) at place) ∙ take_at part rest count (sym n); count_is = n }
+
+-- a part that isn't empty begins within the bytes
+pub lies_within : (bytes part : List ℕ) (at count : ℕ) → Lies bytes at count part → 0 < length part → at < length bytes
+lies_within bytes part at count l h =
+    let n = ap length l.are in
+    let t = length-take count (drop at bytes) in
+    let d = length-drop at bytes in
+    omega (arith, n, t, d, h)
+
+-- a part of what is behind the first octet
+pub lies_behind : (payload bytes part : List ℕ) (at count : ℕ) → bytes ≡ drop 1 payload → Lies bytes at count part → Lies payload (at + 1) count part
+lies_behind payload bytes part at count e l = record {
+  are = ap (λ k. take count (drop k payload)) (omega arith) ∙ sym (ap (take count) (drop-drop at 1 payload)) ∙ ap (λ x. take count (drop at x)) (sym e) ∙ l.are;
+  count_is = l.count_is;
+}
 
 -- what is behind a record
 pub record Ends (bytes rest : List ℕ) (at : ℕ) : Type 0 where

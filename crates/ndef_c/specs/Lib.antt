@@ -4,6 +4,8 @@ pub mod Carriers
 pub mod Checks
 pub mod ErrorWrites
 pub mod HandoverWrites
+pub mod Handovers
+pub mod Links
 pub mod Nested
 pub mod Numbers
 pub mod Payloads

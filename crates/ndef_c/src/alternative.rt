@@ -76,6 +76,16 @@ fn counted_at(payload: &[u8], at: usize) -> NdefPart
     }
 }
 
+/// The carrier data reference.
+pub(crate) fn carrier_reference(payload: &[u8]) -> &[u8]
+    requires { IsAlternative payload.now }
+    ensures { (v : AcValue) → StandsForAc payload.now v → result.now ≡ v.reference }
+{
+    let (_before, behind) = payload.split_at(2);
+    let (reference, _behind) = behind.split_at(usize::from(payload[1]));
+    reference
+}
+
 /// The auxiliary reference with an index of at most their count.
 fn auxiliary_at(payload: &[u8], index: usize) -> NdefPart
     requires alternative { IsAlternative payload.now }

@@ -1,13 +1,18 @@
 //! Records of the messages in payloads, where they lie.
-ghost use Rattle.std.specs.Prelude.{List};
-ghost use Rattle.ndef_value.specs.Wire.{Item};
+ghost use Rattle.std.specs.Prelude.{◌≡◌, ℕ, false, List, [], drop, length};
+ghost use Rattle.ndef_value.specs.Wire.{Item, tnf_of};
 ghost use Rattle.ndef_value.specs.declared.profile.Profile.{Profile};
+ghost use Rattle.ndef_lang.specs.Kind.{kind_of};
+ghost use Rattle.ndef_piece.specs.Header.{is_set};
+ghost use Rattle.ndef_piece.specs.Whole.{IsSplit, shown};
 ghost use Rattle.ndef_types.specs.Contents.{IsOfKind};
-ghost use Rattle.ndef_c.specs.Nested.{IsInPieces, FirstLies};
+ghost use Rattle.ndef_types.specs.Links.{alternatives, is_alternative};
+ghost use Rattle.ndef_c.specs.Nested.{IsInPieces, MayBeInPieces, FirstLies, LiesWithIndex};
+ghost use Rattle.ndef_c.specs.Walks.{Lies};
 
 use ndef_lang::Kind;
 use ndef_nest::Table;
-use ndef_piece::{heads_are_apart, whole_piece};
+use ndef_piece::{WholePiece, heads_are_apart, whole_piece};
 use ndef_types::is_kind;
 
 /// The payload of a record in one piece, and where it lies.
@@ -17,6 +22,20 @@ pub(crate) struct Found<'a> {
     pub(crate) at: usize,
     /// Its bytes.
     pub(crate) payload: &'a [u8],
+}
+
+/// The payload of a piece that lies in the bytes.
+fn found_in<'a>(bytes: &'a [u8], piece: &WholePiece<'a>) -> Found<'a>
+    requires split { (at : ℕ) × IsSplit (shown piece.now) (is_set 4 piece.now.header) piece.now.rest.now
+        (drop at bytes.now) }
+    requires no_id { is_set 3 piece.now.header ≡ false → piece.now.id.now ≡ [] }
+    ensures payload { result.payload.now ≡ piece.now.payload.now }
+    ensures lies { Lies bytes.now result.at (length piece.now.payload.now) piece.now.payload.now }
+{
+    Found {
+        at: bytes.len() - piece.rest.len() - piece.payload.len(),
+        payload: piece.payload,
+    }
 }
 
 /// The payload of the first record of a kind in a nested message, each record of which is in one piece.
@@ -32,13 +51,65 @@ pub(crate) fn first_of(table: Table, bytes: &[u8], kind: Kind) -> Option<Found<'
             unreachable!()
         };
         if is_kind(table.kind(piece.tnf(), piece.kind), kind) {
-            let at = bytes.len() - piece.rest.len() - piece.payload.len();
-            return Some(Found {
-                at,
-                payload: piece.payload,
-            });
+            return Some(found_in(bytes, &piece));
         }
         rest = piece.rest;
     }
     None
+}
+
+/// Whether a record in one piece is an alternative carrier.
+fn is_alternative(piece: &WholePiece<'_>) -> bool
+    ensures { result ≡ is_alternative (kind_of (tnf_of (shown piece.now).tnf) piece.now.kind.now) }
+{
+    match Kind::of(piece.tnf(), piece.kind) {
+        Kind::Alternative => true,
+        _ => false,
+    }
+}
+
+/// The payload of the alternative carrier with an index in a message, each record of which is in one
+/// piece.
+pub(crate) fn alternative_at(bytes: &[u8], index: usize) -> Option<Found<'_>>
+    requires { (profile : Profile) × (items : List Item) × MayBeInPieces profile items bytes.now }
+    ensures { (profile : Profile) (items : List Item) → MayBeInPieces profile items bytes.now
+        → LiesWithIndex (alternatives items) index bytes.now result }
+{
+    heads_are_apart();
+    let mut rest = bytes;
+    let mut left = index;
+    while !rest.is_empty() {
+        let Some(piece) = whole_piece(rest) else {
+            unreachable!()
+        };
+        if is_alternative(&piece) {
+            if left == 0 {
+                return Some(found_in(bytes, &piece));
+            }
+            left -= 1;
+        }
+        rest = piece.rest;
+    }
+    None
+}
+
+/// How many alternative carriers there are in a message, each record of which is in one piece.
+pub(crate) fn alternatives_in(bytes: &[u8]) -> usize
+    requires { (profile : Profile) × (items : List Item) × MayBeInPieces profile items bytes.now }
+    ensures { (profile : Profile) (items : List Item) → MayBeInPieces profile items bytes.now
+        → result ≡ length (alternatives items) }
+{
+    heads_are_apart();
+    let mut rest = bytes;
+    let mut count = 0;
+    while !rest.is_empty() {
+        let Some(piece) = whole_piece(rest) else {
+            unreachable!()
+        };
+        if is_alternative(&piece) {
+            count += 1;
+        }
+        rest = piece.rest;
+    }
+    count
 }

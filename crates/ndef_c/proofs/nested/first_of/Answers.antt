@@ -2,10 +2,8 @@ use Rattle.std.proofs.Common.{◌≡◌, ◌+◌, ◌++◌, ◌∷◌, [], lengt
 use Rattle.ndef_message.specs.WrittenLaws.{some_left}
 use Rattle.ndef_nest.specs.Nested.{kind_in}
 use Rattle.ndef_types.specs.Contents.{IsOfKind, Lack}
-use Rattle.ndef_piece.specs.Whole.{shown}
-use Rattle.ndef_c.specs.Walks.{Lies}
-use Rattle.ndef_c.proofs.Ahead.{ahead_at, all_done, behind_piece, empty_rest, first_is, lack_on, piece_ahead, reached}
-use Rattle.ndef_c.proofs.Places.{lie_in, shown_parts}
+use Rattle.ndef_piece.specs.Whole.{IsSplit, shown}
+use Rattle.ndef_c.proofs.Ahead.{all_done, ahead_at, behind_piece, empty_rest, first_is, found_of, lack_on, piece_ahead, reached}
 use Rattle.ndef_c.proofs.nested.first_of.Goals as goal
 
 pub loop-rest-init : goal.loop-rest-init
@@ -16,6 +14,12 @@ unreachable-requires c =
     let a = c.loop-rest.invariant.ahead c.requires.0 c.requires.1 c.requires.2 in
     c.in_default.ensures.none (piece_ahead a.1 (some_left c.loop-rest.rest.now _ c.is_empty.ensures c.loop-rest-test.true))
 
+pub found_in-requires-clause-split : goal.found_in-requires-clause-split
+found_in-requires-clause-split c =
+    let i = c.loop-rest.invariant in
+    let s = c.in-Some.ensures.piece in
+    (i.at, subst (IsSplit (shown c.in-Some.piece) _ _) i.rest_is s)
+
 pub returns-then-is_kind : goal.returns-then-is_kind
 returns-then-is_kind c = λ profile items h.
     let bytes = c.args.bytes.now in
@@ -23,12 +27,10 @@ returns-then-is_kind c = λ profile items h.
     let i = c.loop-rest.invariant in
     let a = i.ahead profile items h in
     let r = reached c.heads_are_apart.ensures.apart a.1 (shown f) _ _ c.in-Some.ensures.piece in
-    let k : kind_in c.args.table r.item.tnf r.item.kind ≡ c.kind.result = (λ j. kind_in c.args.table (r.is.tnf j) (r.is.kind j)) ∙ sym (c.kind.ensures ∙ ap (λ t. kind_in c.args.table t f.kind.now) c.tnf.ensures) in
-    let p = lie_in f.header f.kind.now f.id.now f.payload.now f.rest.now bytes
-    (shown_parts f.header _ f.kind.now f.id.now f.payload.now f.rest.now c.loop-rest.rest.now bytes i.at i.rest_is c.in-Some.ensures.no_id c.in-Some.ensures.piece) in (
+    let k : kind_in c.args.table r.item.tnf r.item.kind ≡ c.kind.result = (λ j. kind_in c.args.table (r.is.tnf j) (r.is.kind j)) ∙ sym (c.kind.ensures ∙ ap (λ t. kind_in c.args.table t f.kind.now) c.tnf.ensures) in (
       r.item,
       first_is (IsOfKind c.args.table c.args.kind) items a.0 r.item r.within a.2 (k ∙ c.is_kind.ensures.0 c.if-is_kind.true),
-      record { payload = sym r.is.payload; lies = subst (Lies bytes _ _) (sym r.is.payload) p.payload_lies },
+      found_of bytes r.item c.found_in.result f.payload.now c.found_in.ensures.payload r.is.payload c.found_in.ensures.lies,
     )
 
 pub loop-rest-preserved : goal.loop-rest-preserved

@@ -1,0 +1,147 @@
+-- The records of a message, one behind another.
+use Rattle.std.proofs.Common.{◌≡◌, ◌≢◌, ℕ, ◌-◌, ◌<◌, ◌≤◌, ◌++◌, ◌∷◌, [], take, drop, refl, sym, ◌∙◌, ap, subst, arith, true, false, true≢false, List, length, length-append, append_assoc, map, take_at, Some}
+use Rattle.std.specs.List.{AllByRecursion}
+use Rattle.std.specs.Prelude.{slice_get, unwrap_or}
+use Rattle.std.proofs.lemmas.List.{length-map, map-append}
+use Rattle.ndef_value.specs.Wire.{Run, joined}
+use Rattle.ndef_piece.specs.Header.{is_set}
+use Rattle.ndef_piece.specs.Heads.{HeadsAreApart}
+use Rattle.ndef_types.specs.Contents.{IsFirstAt, Lack}
+use Rattle.ndef_types.specs.Links.{HasId, IsIndexOf}
+use Rattle.ndef_c.specs.Links.{BeginsWithRuns, IsPlaceOf, LieBetween}
+use Rattle.ndef_c.specs.Runs.{HasRun, IsFirst}
+use Rattle.ndef_c.specs.Walks.{AreWalked, BeginsWith, ends_message, is_last}
+use Rattle.ndef_c.specs.declared.message.Place.{Place}
+use Rattle.ndef_c.specs.declared.run.FirstRun.{FirstRun}
+use Rattle.ndef_c.proofs.Ahead.{first_at, get_behind, lack_on}
+use Rattle.ndef_c.proofs.Followed.{initial_of, one_record, split_size}
+use Rattle.ndef_c.proofs.Places.{ends, id_is}
+
+-- ---- one more run
+
+-- it doesn't end its message
+abbrev pub IsAmid : Run → Type 0
+IsAmid r = ends_message r.initial r.later ≡ false
+
+pub between_on : (bytes : List ℕ) (from at next : ℕ) (done : List Run) (r : Run) → LieBetween bytes from done at → BeginsWith r (drop next bytes) (drop at bytes) → LieBetween bytes from (done ++ r ∷ []) next
+between_on bytes from at next [] r l b = (next, subst (λ n. BeginsWith r (drop next bytes) (drop n bytes)) (sym l) b, refl)
+between_on bytes from at next (d ∷ done) r l b = (l.0, l.1, between_on bytes l.0 at next done r l.2 b)
+
+pub amid_on : (done : List Run) (r : Run) → AllByRecursion IsAmid done → IsAmid r → AllByRecursion IsAmid (done ++ r ∷ [])
+amid_on [] r h e = (e, tt)
+amid_on (d ∷ done) r h e = (h.0, amid_on done r h.1 e)
+
+not_last : (done : List Run) (r : Run) → is_last (done ++ r ∷ []) ≡ false
+not_last [] r = refl
+not_last (d ∷ done) r = refl
+
+pub walked_to : (bytes : List ℕ) (from at next : ℕ) (done : List Run) (r : Run) → LieBetween bytes from done at → AllByRecursion IsAmid done
+    → BeginsWith r (drop next bytes) (drop at bytes) → ends_message r.initial r.later ≡ true → AreWalked bytes from (done ++ r ∷ []) next
+walked_to bytes from at next [] r l h b e = (next, subst (λ n. BeginsWith r (drop next bytes) (drop n bytes)) (sym l) b, e, refl)
+walked_to bytes from at next (d ∷ done) r l h b e = (l.0, l.1, h.0 ∙ sym (not_last done r), walked_to bytes l.0 at next done r l.2 h.1 b e)
+
+pub some_runs : (done : List Run) (r : Run) → done ++ r ∷ [] ≢ []
+some_runs [] r e = cc
+some_runs (d ∷ done) r e = cc
+
+-- ---- those that are left
+
+-- of the runs of the message these lie before the place, and the others from there on
+pub record Left (bytes : List ℕ) (runs : List Run) (at : ℕ) (done : List Run) : Type 0 where
+  pub more : List Run
+  pub all : runs ≡ done ++ more
+  pub some : more ≢ []
+  pub end : ℕ
+  pub walked : AreWalked bytes at more end
+
+pub left_at : (bytes : List ℕ) (runs : List Run) → BeginsWithRuns runs bytes → Left bytes runs 0 []
+left_at bytes runs b = record { more = runs; all = refl; some = b.some; end = b.end; walked = b.walked }
+
+there : (bytes : List ℕ) (at : ℕ) (more : List Run) (end : ℕ) → more ≢ [] → AreWalked bytes at more end → HasRun (drop at bytes)
+there bytes at [] end s w = absurd (s refl)
+there bytes at (r ∷ more) end s w = (r, drop w.0 bytes, w.1)
+
+pub run_there : {bytes : List ℕ} {runs : List Run} {at : ℕ} {done : List Run} → Left bytes runs at done → HasRun (drop at bytes)
+run_there {bytes} {runs} {at} {done} l = there bytes at l.more l.end l.some l.walked
+
+-- the run that begins there is one of the message, and the others are left behind it
+pub record Onward (bytes : List ℕ) (runs : List Run) (next : ℕ) (done : List Run) (run : Run) : Type 0 where
+  pub more : List Run
+  pub all : runs ≡ done ++ run ∷ more
+  pub ends : ends_message run.initial run.later ≡ is_last more
+  pub left : IsAmid run → Left bytes runs next (done ++ run ∷ [])
+
+left_behind : (bytes : List ℕ) (runs done : List Run) (next place : ℕ) (run : Run) (more : List Run) (end : ℕ) → runs ≡ done ++ run ∷ more → drop place bytes ≡ drop next bytes
+    → ends_message run.initial run.later ≡ is_last more → IsAmid run → AreWalked bytes place more end → Left bytes runs next (done ++ run ∷ [])
+left_behind bytes runs done next place run [] end a d l e w = absurd (true≢false (sym l ∙ e))
+left_behind bytes runs done next place run (q ∷ more) end a d l e w = record {
+  more = q ∷ more;
+  all = a ∙ sym (append_assoc done (run ∷ []) (q ∷ more));
+  some = λ x. cc;
+  end = end;
+  walked = (w.0, subst (BeginsWith q (drop w.0 bytes)) d w.1, w.2, w.3);
+}
+
+onward_in : HeadsAreApart → (bytes : List ℕ) (runs done : List Run) (at next : ℕ) (run : Run) (more : List Run) (end : ℕ) → runs ≡ done ++ more → more ≢ [] → AreWalked bytes at more end
+    → BeginsWith run (drop next bytes) (drop at bytes) → Onward bytes runs next done run
+onward_in apart bytes runs done at next run [] end a s w b = absurd (s refl)
+onward_in apart bytes runs done at next run (r ∷ more) end a s w b =
+    let o = one_record apart r run (drop w.0 bytes) (drop next bytes) (drop at bytes) w.1 b in
+    let all : runs ≡ done ++ run ∷ more = a ∙ ap (λ x. done ++ x ∷ more) o.0 in
+    let ends : ends_message run.initial run.later ≡ is_last more = subst (λ x. ends_message x.initial x.later ≡ is_last more) o.0 w.2 in
+    record { more = more; all = all; ends = ends; left = λ e. left_behind bytes runs done next w.0 run more end all o.1 ends e w.3 }
+
+pub onward : HeadsAreApart → {bytes : List ℕ} {runs done : List Run} {at : ℕ} → Left bytes runs at done → (next : ℕ) (run : Run) → BeginsWith run (drop next bytes) (drop at bytes) → Onward bytes runs next done run
+onward apart {bytes} {runs} {done} {at} l next run b = onward_in apart bytes runs done at next run l.more l.end l.all l.some l.walked b
+
+-- ---- where a run ends
+
+-- the run at a place ends at the next one
+pub record Next (bytes behind rest : List ℕ) (at next : ℕ) (run : Run) : Type 0 where
+  pub begins : BeginsWith run (drop next bytes) (drop at bytes)
+  pub rest_is : rest ≡ drop next bytes
+  pub within : next ≤ length bytes
+  pub shorter : length rest < length behind
+
+pub next_at : (run : Run) (bytes behind rest : List ℕ) (at : ℕ) → at ≤ length bytes → behind ≡ drop at bytes → BeginsWith run rest behind → Next bytes behind rest at (length bytes - length rest) run
+next_at run bytes behind rest at h e b =
+    let n = ends run bytes behind rest at h e b in
+    let i = initial_of run rest behind b in
+    let s = split_size run.initial i.short i.behind behind i.split in
+    let m = ap length i.others.joined ∙ length-append i.others.front rest in
+    record {
+      begins = subst (BeginsWith run (drop (length bytes - length rest) bytes)) e (subst (λ y. BeginsWith run y behind) (sym n.rest_is) b);
+      rest_is = sym n.rest_is;
+      within = omega arith;
+      shorter = omega (arith, s, m);
+    }
+
+-- ---- the record with an id
+
+pub index_of : (runs done : List Run) (run : Run) (more : List Run) (id : List ℕ) (index : ℕ) → runs ≡ done ++ run ∷ more → 0 < length id → index ≡ length done → Lack (HasId id) (map joined done)
+    → HasId id (joined run) → IsIndexOf (map joined runs) id (Some index)
+index_of runs done run more id index a some n lack has =
+    let all : map joined runs ≡ map joined done ++ joined run ∷ map joined more = ap (map joined) a ∙ map-append joined done (run ∷ more) in
+    let count : length (map joined done) ≡ index = length-map done joined ∙ sym n in
+    (λ e. let none = ap length e in omega (arith, none, some), joined run, subst (λ k. IsFirstAt (HasId id) (map joined runs) k (joined run)) count (first_at (HasId id) (map joined runs) (map joined done) (joined run) (map joined more, all) lack has))
+
+pub place_of : (bytes : List ℕ) (runs done : List Run) (run : Run) (more : List Run) (at next : ℕ) (p : Place) → runs ≡ done ++ run ∷ more → LieBetween bytes 0 done at → BeginsWith run (drop next bytes) (drop at bytes)
+    → p.index ≡ length done → p.at ≡ at → IsPlaceOf bytes runs p
+place_of bytes runs done run more at next p a l b n e = record {
+  run = run;
+  is = ap (λ k. slice_get runs k) n ∙ ap (λ rs. slice_get rs (length done)) a ∙ get_behind done run more;
+  before = subst (λ rs. LieBetween bytes 0 rs p.at) (sym (ap (λ k. take k runs) n ∙ ap (take (length done)) a ∙ take_at done (run ∷ more) (length done) refl)) (subst (LieBetween bytes 0 done) (sym e) l);
+  rest = drop next bytes;
+  begins = subst (λ k. BeginsWith run (drop next bytes) (drop k bytes)) (sym e) b;
+}
+
+pub lack_all : (done : List Run) (run : Run) (id : List ℕ) → Lack (HasId id) (map joined done) → (HasId id (joined run) → ⊥) → Lack (HasId id) (map joined (done ++ run ∷ []))
+lack_all done run id lack h = subst (Lack (HasId id)) (sym (map-append joined done (run ∷ []))) (lack_on (HasId id) (map joined done) (joined run) lack h)
+
+pub none_with : (runs done : List Run) (run : Run) (id : List ℕ) (more : List Run) → runs ≡ done ++ run ∷ more → is_last more ≡ true → Lack (HasId id) (map joined done) → (HasId id (joined run) → ⊥) → Lack (HasId id) (map joined runs)
+none_with runs done run id [] a e lack h = subst (λ rs. Lack (HasId id) (map joined rs)) (sym a) (lack_all done run id lack h)
+none_with runs done run id (r ∷ more) a e lack h = absurd (true≢false (sym e))
+
+-- the id that is shown of a run
+pub id_of : {bytes : List ℕ} (f : FirstRun) → (x : IsFirst bytes f) → (joined x.run).id ≡ f.first.id.now
+id_of {bytes} f x = ap (λ q. unwrap_or q.id []) (sym x.initial) ∙ id_is (is_set 3 f.first.header) f.first.id.now x.no_id

@@ -1,0 +1,27 @@
+use Rattle.std.proofs.Common.{length-drop, refl, arith}
+use Rattle.ndef_piece.specs.Whole.{shown}
+use Rattle.ndef_c.proofs.Followed.{split_size}
+use Rattle.ndef_c.proofs.Places.{lie_in, shown_parts}
+use Rattle.ndef_c.proofs.nested.found_in.Goals as goal
+
+pub overflow_sub-result : goal.overflow_sub-result
+overflow_sub-result c =
+    let s = c.requires.split in
+    let n = split_size (shown c.args.piece.now) _ _ _ s.1 in
+    let d = length-drop s.0 c.args.bytes.now in
+    omega (arith, n, d)
+
+pub overflow_sub-result-2 : goal.overflow_sub-result-2
+overflow_sub-result-2 c =
+    let s = c.requires.split in
+    let n = split_size (shown c.args.piece.now) _ _ _ s.1 in
+    let d = length-drop s.0 c.args.bytes.now in
+    omega (arith, n, d)
+
+pub returns-clause-lies : goal.returns-clause-lies
+returns-clause-lies c =
+    let bytes = c.args.bytes.now in
+    let f = c.args.piece.now in
+    let s = c.requires.split in
+    (lie_in f.header f.kind.now f.id.now f.payload.now f.rest.now bytes
+    (shown_parts f.header _ f.kind.now f.id.now f.payload.now f.rest.now _ bytes s.0 refl c.requires.no_id s.1)).payload_lies

@@ -1,0 +1,82 @@
+-- What is told of the links of a message.
+use Rattle.std.specs.Prelude.{◌≡◌, ◌≢◌, ℕ, ◌^◌, ◌<◌, ◌≤◌, List, [], ◌∷◌, length, map, take, drop, slice_get, Option, Some, None}
+use Rattle.ndef_value.specs.Wire.{Item, Run, joined}
+use Rattle.ndef_value.specs.declared.profile.Profile.TheVariants.{Standard}
+use Rattle.ndef_types.specs.Links.{IsIndexOf, alternatives}
+use Rattle.ndef_types.specs.Values.{AcValue, StandsForAc}
+use Rattle.ndef_c.specs.Handovers.{IsHandover, HasMessage}
+use Rattle.ndef_c.specs.Walks.{BeginsWith, AreWalked, Lies}
+use Rattle.ndef_c.specs.declared.link.NdefLink.{NdefLink}
+use Rattle.ndef_c.specs.declared.message.Place.{Place}
+
+-- ---- the records of a message
+
+-- NDEF 1.0, messages: the bytes begin with these runs, one behind another, and the last of them alone ends the message
+pub record BeginsWithRuns (runs : List Run) (bytes : List ℕ) : Type 0 where
+  pub some : runs ≢ []
+  pub end : ℕ
+  pub walked : AreWalked bytes 0 runs end
+
+-- NDEF 1.0, messages: the bytes begin with the records of a message, all of them whole
+abbrev pub HasRuns : List ℕ → Type 0
+HasRuns bytes = (runs : List Run) × BeginsWithRuns runs bytes
+
+-- these runs lie one behind another from a place to another
+abbrev pub LieBetween : List ℕ → (at : ℕ) → List Run → (end : ℕ) → Type 0
+LieBetween bytes at [] end = at ≡ end
+LieBetween bytes at (r ∷ rs) end = (next : ℕ) × BeginsWith r (drop next bytes) (drop at bytes) × LieBetween bytes next rs end
+
+-- the run with the index begins at the place, behind those before it
+pub record IsPlaceOf (bytes : List ℕ) (runs : List Run) (p : Place) : Type 0 where
+  pub run : Run
+  pub is : slice_get runs p.index ≡ Some run
+  pub before : LieBetween bytes 0 (take p.index runs) p.at
+  pub rest : List ℕ
+  pub begins : BeginsWith run rest (drop p.at bytes)
+
+-- Connection Handover 1.2, carrier data reference: the place of the first record with the id; the empty id is none's
+abbrev pub FindsRecord : List ℕ → List Run → List ℕ → Option Place → Type 0
+FindsRecord bytes runs id None = IsIndexOf (map joined runs) id None
+FindsRecord bytes runs id (Some p) = IsIndexOf (map joined runs) id (Some p.index) × IsPlaceOf bytes runs p
+
+-- ---- links
+
+-- 1, the index and the place of a record, or 0s for none
+abbrev pub TellsPlace : Option Place → (has index at : ℕ) → Type 0
+TellsPlace None has index at = (has ≡ 0) × (index ≡ 0) × (at ≡ 0)
+TellsPlace (Some p) has index at = (has ≡ 1) × (index ≡ p.index) × (at ≡ p.at)
+
+-- Connection Handover 1.2, carrier data reference: the record of the message to which it refers, if there is one
+abbrev pub TellsRecord : List ℕ → List Run → List ℕ → NdefLink → Type 0
+TellsRecord bytes runs reference out =
+    (p : Option Place) × FindsRecord bytes runs reference p × TellsPlace p out.has_record out.record_index out.record_at
+
+-- the bytes begin with a message, and the payload is that of a handover
+pub record MayHaveLinks (bytes payload : List ℕ) : Type 0 where
+  pub handover : IsHandover payload
+  pub short : length payload < 2 ^ 32
+  pub message : HasRuns bytes
+
+-- Connection Handover 1.2, Alternative Carrier record: the one with the index lies there in the payload, and refers to that record
+pub record IsLinkAt (bytes payload : List ℕ) (index : ℕ) (out : NdefLink) : Type 0 where
+  pub handover : IsHandover payload
+  pub short : length payload < 2 ^ 32
+  pub runs : List Run
+  pub message : BeginsWithRuns runs bytes
+  pub items : List Item
+  pub records : HasMessage Standard items payload
+  pub carrier : Item
+  pub is_carrier : slice_get (alternatives items) index ≡ Some carrier
+  pub lies : Lies payload out.carrier_at out.carrier_length carrier.payload
+  pub alternative : AcValue
+  pub stands : StandsForAc carrier.payload alternative
+  pub refers : TellsRecord bytes runs alternative.reference out
+
+-- Connection Handover 1.2, Alternative Carrier record: the handover has none with the index
+pub record HasNoLink (bytes payload : List ℕ) (index : ℕ) : Type 0 where
+  pub handover : IsHandover payload
+  pub short : length payload < 2 ^ 32
+  pub message : HasRuns bytes
+  pub items : List Item
+  pub records : HasMessage Standard items payload
+  pub beyond : length (alternatives items) ≤ index

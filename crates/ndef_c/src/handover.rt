@@ -1,0 +1,36 @@
+//! The payloads of handover requests and selects (Connection Handover 1.2).
+ghost use Rattle.std.specs.Prelude.{◌≡◌, ◌<◌, ◌^◌, ◌↔◌, length, drop, IsTrue};
+ghost use Rattle.ndef_value.specs.declared.profile.Profile.TheVariants.{Standard};
+ghost use Rattle.ndef_nest.specs.Nested.{IsNest, table_of};
+ghost use Rattle.ndef_c.specs.Handovers.{IsHandover};
+
+use ndef_lang::Kind;
+use ndef_nest::Nest;
+use ndef_types::accept;
+use ndef_value::Profile;
+
+/// Whether the payload is one of this kind, as the standard reads it.
+fn is_nest(kind: Kind, payload: &[u8]) -> bool
+    ensures { IsTrue result
+        ↔ (IsNest (table_of kind) 65535 Standard payload.now × (length payload.now < 2 ^ 32)) }
+{
+    match accept::<Nest>(kind, Profile::Standard, payload) {
+        Ok(()) => true,
+        Err(_) => false,
+    }
+}
+
+/// Whether the payload is that of a handover request or of a select.
+pub(crate) fn is_handover(payload: &[u8]) -> bool
+    ensures { IsTrue result ↔ (IsHandover payload.now × (length payload.now < 2 ^ 32)) }
+{
+    is_nest(Kind::Request, payload) || is_nest(Kind::Select, payload)
+}
+
+/// The message of a handover, behind its version octet.
+pub(crate) fn behind_version(payload: &[u8]) -> &[u8]
+    requires { 0 < length payload.now }
+    ensures { result.now ≡ drop 1 payload.now }
+{
+    &payload[1..]
+}
