@@ -81,6 +81,7 @@ impl Name {
     }
 
     /// Appends a byte to fewer than 255, up to 32 bytes without memory. On `NoMemory` nothing has changed.
+    #[inline]
     pub fn push(&mut self, byte: u8) -> Result<(), NoMemory>
         requires { length self.old < 255 }
         ensures ok { OnOk result (self.new ≡ self.old ++ byte ∷ []) }
@@ -91,15 +92,28 @@ impl Name {
     }
 
     /// Appends the bytes, to at most 255 in all, up to 32 without memory. On `NoMemory` nothing has changed.
+    #[inline]
     pub fn extend(&mut self, bytes: &[u8]) -> Result<(), NoMemory>
         requires { length self.old + length bytes.now ≤ 255 }
         ensures ok { OnOk result (self.new ≡ self.old ++ bytes.now) }
         ensures err { OnErr result (self.new ≡ self.old) }
         ensures inline { length self.old + length bytes.now ≤ 32 → IsOk result }
     {
-        if bytes.len() == 1 {
-            return self.push(bytes[0]);
+        match bytes {
+            [] => Ok(()),
+            [byte] => self.push(*byte),
+            _ => self.extend_more(bytes),
         }
+    }
+
+    /// The same of any bytes. It stays out of line, so that none or one go fast.
+    #[inline(never)]
+    fn extend_more(&mut self, bytes: &[u8]) -> Result<(), NoMemory>
+        requires { length self.old + length bytes.now ≤ 255 }
+        ensures ok { OnOk result (self.new ≡ self.old ++ bytes.now) }
+        ensures err { OnErr result (self.new ≡ self.old) }
+        ensures inline { length self.old + length bytes.now ≤ 32 → IsOk result }
+    {
         Ok(self.bytes.extend_from_slice(bytes)?)
     }
 
