@@ -101,9 +101,11 @@ pub fn whole_piece(bytes: &[u8]) -> Option<WholePiece<'_>>
 fn has_shape(profile: Profile, tnf: u8, kind: usize, id: usize, payload: usize) -> bool
     ensures { IsTrue result → IsRead profile tnf × (tnf ≢ 6) × HasShape (tnf_of tnf) kind id payload }
 {
+    if 1 <= tnf && tnf <= 4 {
+        return kind > 0;
+    }
     match tnf {
         0 => kind == 0 && id == 0 && payload == 0,
-        1..=4 => kind > 0,
         5 => kind == 0,
         7 => matches!(profile, Profile::Standard) && kind == 0,
         _ => false,
