@@ -1,3 +1,4 @@
+pub mod AsciiLemmas
 pub mod Following
 pub mod KindLemmas
 pub mod Members

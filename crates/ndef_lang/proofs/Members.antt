@@ -1,9 +1,7 @@
 -- Payloads from their parts, as a slice's pattern cuts them.
 use Rattle.std.proofs.Common.{◌≡◌, ℕ, zero, suc, ◌+◌, ◌*◌, ◌/◌, ◌%◌, ◌<◌, ◌≤◌, ◌⊎◌, inl, inr, Bool, true, false, if◌then◌else◌, List, [], ◌∷◌, length, get_or, take, drop, refl, sym, ◌∙◌, ap, subst, arith}
-use Rattle.std.proofs.lemmas.Nat.{le_or_l, le_or_r}
-use Rattle.std.proofs.lemmas.Str.{IsUtf8-from_ascii}
+use Rattle.std.proofs.lemmas.Bool.{lt-leb}
 use Rattle.std.specs.List.{AllByRecursion}
-use Rattle.std.specs.Prelude.{IsUtf8, bit_or}
 use Rattle.ndef_value.specs.Wire.{AreOctets}
 use Rattle.ndef_value.specs.SliceLaws.{behind, behind_drop, octet_at, octets_drop, octets_behind, cut_one, cut_two}
 use Rattle.ndef_lang.specs.Octets.{IsOctet, Octets}
@@ -12,6 +10,7 @@ use Rattle.ndef_lang.specs.Alternative.{IsAlternative, AreAuxiliary, AreReferenc
 use Rattle.ndef_lang.specs.Carrier.{IsCarrier}
 use Rattle.ndef_lang.specs.Utf16.{IsSpelled, spelled}
 use Rattle.ndef_lang.specs.Utf16Laws.{units_alone, units_paired, no_units}
+use Rattle.ndef_lang.proofs.AsciiLemmas.{ascii_is_utf8, ascii_parts}
 
 -- ---- fields
 
@@ -25,41 +24,6 @@ any_from zero set s l h t = t
 any_from (suc n) set [] l h t = absurd (omega arith)
 any_from (suc n) set (x ∷ s) l h t = (h.0, any_from n set s (omega arith) h.1 t)
 
-pub ascii_is_utf8 : (s : List ℕ) → AllByRecursion IsCodeOctet s → IsUtf8 s
-ascii_is_utf8 s h = IsUtf8-from_ascii s (each s h)
-  where
-    each : (s : List ℕ) → AllByRecursion IsCodeOctet s → (k : ℕ) → get_or s k 0 < 128
-    each [] h k = omega arith
-    each (x ∷ s) h zero = omega (arith, h.0)
-    each (x ∷ s) h (suc k) = each s h.1 k
-
--- the octets that an or joins are no greater than it
-abbrev union : (s : List ℕ) → ℕ
-union s = bit_or (bit_or (bit_or (bit_or (bit_or (bit_or (bit_or (get_or s 0 0) (get_or s 1 0)) (get_or s 2 0)) (get_or s 3 0)) (get_or s 4 0)) (get_or s 5 0)) (get_or s 6 0)) (get_or s 7 0)
-
-or_small : (a b n : ℕ) → bit_or a b ≤ n → (a ≤ n) × (b ≤ n)
-or_small a b n h = (omega (arith, le_or_l a b), omega (arith, le_or_r a b))
-
--- eight octets of ASCII, and more
-pub ascii_eight : (s : List ℕ) → 8 ≤ length s → union s ≤ 127 → AllByRecursion IsCodeOctet (behind 8 s) → AllByRecursion IsCodeOctet s
-ascii_eight (a ∷ b ∷ c ∷ d ∷ e ∷ f ∷ g ∷ h ∷ s) l u more =
-    let u7 = or_small _ h 127 u in
-    let u6 = or_small _ g 127 u7.0 in
-    let u5 = or_small _ f 127 u6.0 in
-    let u4 = or_small _ e 127 u5.0 in
-    let u3 = or_small _ d 127 u4.0 in
-    let u2 = or_small _ c 127 u3.0 in
-    let u1 = or_small a b 127 u2.0 in
-    (u1.0, (u1.1, (u2.1, (u3.1, (u4.1, (u5.1, (u6.1, (u7.1, subst (AllByRecursion IsCodeOctet) (behind_drop 8 (a ∷ b ∷ c ∷ d ∷ e ∷ f ∷ g ∷ h ∷ s)) more))))))))
-ascii_eight (a ∷ b ∷ c ∷ d ∷ e ∷ f ∷ g ∷ []) l u more = absurd (omega arith)
-ascii_eight (a ∷ b ∷ c ∷ d ∷ e ∷ f ∷ []) l u more = absurd (omega arith)
-ascii_eight (a ∷ b ∷ c ∷ d ∷ e ∷ []) l u more = absurd (omega arith)
-ascii_eight (a ∷ b ∷ c ∷ d ∷ []) l u more = absurd (omega arith)
-ascii_eight (a ∷ b ∷ c ∷ []) l u more = absurd (omega arith)
-ascii_eight (a ∷ b ∷ []) l u more = absurd (omega arith)
-ascii_eight (a ∷ []) l u more = absurd (omega arith)
-ascii_eight [] l u more = absurd (omega arith)
-
 -- a status octet, a code of length k and a text
 pub text_from : (s : List ℕ) (k : ℕ) → AreOctets s → 1 ≤ length s → get_or s 0 0 % 128 < 64 → k ≡ get_or s 0 0 % 64 → k ≤ length (behind 1 s)
     → AllByRecursion IsCodeOctet (take k (behind 1 s)) → IsTextIn (is_wide (get_or s 0 0)) (drop k (behind 1 s)) → IsText s
@@ -70,6 +34,14 @@ text_from s k octets some plain is long code text =
     let rest = behind 1 s in
     let tail : Octets IsCodeOctet (status % 64) (IsTextIn wide) rest = subst (λ k. Octets IsCodeOctet k (IsTextIn wide) rest) is (field_from IsCodeOctet k (IsTextIn wide) rest long code text) in
     subst IsText (cut_one s some) (small, (λ h. omega arith), tail)
+
+-- a status octet of UTF-8, and a code of length k and a text that are ASCII together
+pub ascii_text_from : (s : List ℕ) (k : ℕ) → AreOctets s → 1 ≤ length s → get_or s 0 0 % 128 < 64 → k ≡ get_or s 0 0 % 64 → k ≤ length (behind 1 s)
+    → get_or s 0 0 < 128 → AllByRecursion IsCodeOctet (behind 1 s) → IsText s
+ascii_text_from s k octets some plain is long narrow h =
+    let p = ascii_parts k (behind 1 s) h in
+    let wide : is_wide (get_or s 0 0) ≡ false = lt-leb 128 (get_or s 0 0) narrow in
+    text_from s k octets some plain is long p.0 (subst (λ w. IsTextIn w (drop k (behind 1 s))) (sym wide) (ascii_is_utf8 _ p.1))
 
 -- a format, a type behind its length, and any octets
 pub carrier_from : (s : List ℕ) → AreOctets s → 2 ≤ length s → get_or s 1 0 ≤ length (behind 2 s) → IsCarrier s

@@ -1,44 +1,44 @@
 //! Whole payloads: whether they are in their set. Only a true answer tells something.
-ghost use Rattle.std.specs.Prelude.{◌≡◌, ◌≤◌, ◌<◌, length, IsTrue, IsUtf8};
+ghost use Rattle.std.specs.Prelude.{◌≡◌, ◌≤◌, ◌<◌, length, take, drop, IsTrue, IsUtf8};
 ghost use Rattle.std.specs.List.{AllByRecursion};
 ghost use Rattle.ndef_lang.specs.Utf16.{IsSpelled, IsUtf16};
-ghost use Rattle.ndef_lang.specs.Text.{IsText, IsCodeOctet};
+ghost use Rattle.ndef_lang.specs.Text.{IsText, IsTextIn, IsCodeOctet};
 ghost use Rattle.ndef_lang.specs.Uri.{IsUri};
 ghost use Rattle.ndef_lang.specs.Alternative.{IsAlternative, AreReferences};
 ghost use Rattle.ndef_lang.specs.HandoverError.{IsError};
 ghost use Rattle.ndef_lang.specs.Carrier.{IsCarrier};
 ghost use Rattle.ndef_lang.specs.Leaf.{IsPayload};
 
+use super::ascii::is_ascii;
 use super::kind::Kind;
 use ndef_value::Profile;
 
-/// Whether all octets are ASCII; eight at a time.
-fn is_ascii(bytes: &[u8]) -> bool
+/// Whether they are so few octets that a test for ASCII pays before one for UTF-8, and are ASCII.
+#[inline(always)]
+fn are_short_ascii(bytes: &[u8]) -> bool
     ensures { IsTrue result → AllByRecursion IsCodeOctet bytes.now }
 {
-    let mut rest = bytes;
-    while let [a, b, c, d, e, f, g, h, more @ ..] = rest {
-        let union = *a | *b | *c | *d | *e | *f | *g | *h;
-        if union > 0x7f {
-            return false;
-        }
-        rest = more;
-    }
-    rest.iter().all(|b| *b <= 0x7f)
+    bytes.len() < 64 && is_ascii(bytes)
 }
 
 /// The most octets of a text that are tested at once. A longer one is taken block by block, so that one
 /// that is refused at its end isn't tested twice.
 const MOST_AT_ONCE: usize = 16384;
 
+/// Whether it is a UTF-8 text, of any characters. It stays out of line, so that short ASCII goes fast.
+#[inline(never)]
+fn is_long_utf8(bytes: &[u8]) -> bool
+    ensures { IsTrue result → IsUtf8 bytes.now }
+{
+    bytes.len() <= MOST_AT_ONCE && simdutf8::is_utf8(bytes)
+}
+
 /// Whether it is a UTF-8 text.
+#[inline(always)]
 fn is_utf8(bytes: &[u8]) -> bool
     ensures { IsTrue result → IsUtf8 bytes.now }
 {
-    if bytes.len() < 64 && is_ascii(bytes) {
-        return true;
-    }
-    bytes.len() <= MOST_AT_ONCE && simdutf8::is_utf8(bytes)
+    are_short_ascii(bytes) || is_long_utf8(bytes)
 }
 
 /// Whether it is UTF-16 units, each pair whole.
@@ -75,7 +75,20 @@ fn is_utf16(bytes: &[u8]) -> bool
     }
 }
 
+/// Whether it is a language code of that length and a text. It stays out of line, so that short ASCII goes
+/// fast.
+#[inline(never)]
+fn is_coded_text(count: usize, wide: bool, bytes: &[u8]) -> bool
+    requires { count ≤ length bytes.now }
+    ensures code { IsTrue result → AllByRecursion IsCodeOctet (take count bytes.now) }
+    ensures text { IsTrue result → IsTextIn wide (drop count bytes.now) }
+{
+    let (code, text) = bytes.split_at(count);
+    is_ascii(code) && if wide { is_utf16(text) } else { is_utf8(text) }
+}
+
 /// Whether it is the payload of a Text record.
+#[inline(always)]
 fn is_text(payload: &[u8]) -> bool
     ensures { IsTrue result → IsText payload.now }
 {
@@ -86,16 +99,15 @@ fn is_text(payload: &[u8]) -> bool
     if status % 128 >= 64 || rest.len() < length {
         return false;
     }
-    let (code, text) = rest.split_at(length);
-    is_ascii(code)
-        && if *status < 128 {
-            is_utf8(text)
-        } else {
-            is_utf16(text)
-        }
+    let wide = *status >= 128;
+    if !wide && are_short_ascii(rest) {
+        return true;
+    }
+    is_coded_text(length, wide, rest)
 }
 
 /// Whether it is the payload of a URI record.
+#[inline(always)]
 fn is_uri(profile: Profile, payload: &[u8]) -> bool
     ensures { IsTrue result → IsUri profile payload.now }
 {
@@ -165,6 +177,7 @@ fn is_carrier(payload: &[u8]) -> bool
 }
 
 /// Whether the payload is one of the kind; of a kind whose payloads are messages, any is.
+#[inline(always)]
 pub(crate) fn is_leaf_payload(kind: Kind, profile: Profile, payload: &[u8]) -> bool
     ensures { IsTrue result → IsPayload kind profile payload.now }
 {

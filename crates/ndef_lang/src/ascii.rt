@@ -1,0 +1,66 @@
+//! Whether octets are ASCII. Only a true answer tells something.
+ghost use Rattle.std.specs.Prelude.{◌≡◌, ◌<◌, [], ◌∷◌, length, IsTrue};
+ghost use Rattle.std.specs.List.{AllByRecursion};
+ghost use Rattle.ndef_lang.specs.Text.{IsCodeOctet};
+
+/// Whether up to three octets are ASCII.
+#[inline(always)]
+fn are_few(bytes: &[u8]) -> bool
+    ensures { IsTrue result → AllByRecursion IsCodeOctet bytes.now }
+{
+    match bytes {
+        [] => true,
+        [a] => *a <= 0x7f,
+        [a, b] => *a <= 0x7f && *b <= 0x7f,
+        [a, b, c] => *a <= 0x7f && *b <= 0x7f && *c <= 0x7f,
+        _ => false,
+    }
+}
+
+/// Whether four octets are ASCII.
+#[inline(always)]
+fn are_four(a: u8, b: u8, c: u8, d: u8) -> bool
+    ensures { IsTrue result → AllByRecursion IsCodeOctet (a ∷ b ∷ c ∷ d ∷ []) }
+{
+    u32::from_le_bytes([a, b, c, d]) & 0x8080_8080 == 0
+}
+
+/// Whether four to seven octets are ASCII: the first four, and the last four.
+#[inline(always)]
+fn are_up_to_seven(bytes: &[u8]) -> bool
+    requires { length bytes.now < 8 }
+    ensures { IsTrue result → AllByRecursion IsCodeOctet bytes.now }
+{
+    if let [a, b, c, d, ..] = bytes
+        && let [.., e, f, g, h] = bytes
+    {
+        return are_four(*a, *b, *c, *d) && are_four(*e, *f, *g, *h);
+    }
+    are_few(bytes)
+}
+
+/// Whether they are eight octets of ASCII.
+#[inline(always)]
+fn are_eight(bytes: &[u8]) -> bool
+    ensures { IsTrue result → AllByRecursion IsCodeOctet bytes.now }
+{
+    match bytes {
+        [a, b, c, d, e, f, g, h] => { are_four(*a, *b, *c, *d) && are_four(*e, *f, *g, *h) }
+        _ => false,
+    }
+}
+
+/// Whether all octets are ASCII, of which there are mostly few.
+#[inline(always)]
+pub(crate) fn is_ascii(bytes: &[u8]) -> bool
+    ensures { IsTrue result → AllByRecursion IsCodeOctet bytes.now }
+{
+    if bytes.len() < 8 {
+        return are_up_to_seven(bytes);
+    }
+    if bytes.len() > 16 {
+        return bytes.is_ascii();
+    }
+    // The ends of up to sixteen octets overlap.
+    are_eight(&bytes[..8]) && are_eight(&bytes[bytes.len() - 8..])
+}
