@@ -320,20 +320,20 @@ module _ (laws : FormatLaws) {L : Type 0} {language : Ghosts L} {limits : LimitV
       let m = members_append language.set limits given items (given_members laws language.set limits range bytes given (InHead c []) at v) ends.members in
       let all : bytes ++ t ≡ (at.done ++ t) ++ [] = ap (λ x. x ++ t) start_is ∙ sym (append-nil (at.done ++ t)) in
       let more : IsViable language.set limits (bytes ++ t) = subst (IsViable language.set limits) (sym all) (viable laws limits language.set range ps d (given ++ items) (at.done ++ t) w s [] m (finished_by laws language.set limits ((others limits.records limits.profile []).1 tt) last left)) in
-      let reader : new.reader ≡ record { spot = spot limits.profile d; octets = []; answer = steps.More } = behind.reader_is ∙ ap (λ x. record { spot = spot_of limits.profile x; octets = []; answer = steps.More }) is in
-      let opens : IsOpen (spot limits.profile d) [] = subst (λ x. IsOpen (spot_of limits.profile x) []) is behind.opens in
+      let reader : last ≡ false → new.reader ≡ record { spot = spot limits.profile d; octets = []; answer = steps.More } = λ e. behind.reader_is e ∙ ap (λ x. record { spot = spot_of limits.profile x; octets = []; answer = steps.More }) is in
+      let opens : last ≡ false → IsOpen (spot limits.profile d) [] = λ e. subst (λ x. IsOpen (spot_of limits.profile x) []) is (behind.opens e) in
       by_end last ps w s all more (behind.place_is ∙ is) reader opens behind.phase_is
     where
       by_end : (last : Bool) (ps : List Piece) → Walked limits (start limits) ps (given ++ items) (outside limits false last left) → SpellAll ps (at.done ++ t) → bytes ++ t ≡ (at.done ++ t) ++ []
           → IsViable language.set limits (bytes ++ t) → new.place ≡ numbers (outside limits false last left)
-          → new.reader ≡ record { spot = spot limits.profile (outside limits false last left); octets = []; answer = steps.More } → IsOpen (spot limits.profile (outside limits false last left)) []
+          → (last ≡ false → new.reader ≡ record { spot = spot limits.profile (outside limits false last left); octets = []; answer = steps.More }) → (last ≡ false → IsOpen (spot limits.profile (outside limits false last left)) [])
           → new.phase ≡ (if last then phases.Done else phases.Head) → LeadsBetween (Stands language limits new) (bytes ++ t) (given ++ items)
       by_end true ps w s e v e1 e2 o ee =
           let d = outside limits false true left in
           (AtEnd d, (d, refl, inr refl), record { at = record { pieces = ps; done = at.done ++ t; walked = w; spelled = s; split = e; proper = refl }; viable = v; matches = (e1, ee) })
       by_end false ps w s e v e1 e2 o ee =
           let d = outside limits false false left in
-          (InHead d [], (d, refl, inl refl), record { at = record { pieces = ps; done = at.done ++ t; walked = w; spelled = s; split = e; proper = (refl, o) }; viable = v; matches = (e1, ee, e2, tt) })
+          (InHead d [], (d, refl, inl refl), record { at = record { pieces = ps; done = at.done ++ t; walked = w; spelled = s; split = e; proper = (refl, o refl) }; viable = v; matches = (e1, ee, e2 refl, tt) })
 
 -- the record in one piece leads behind it
 pub record_passed : (laws : FormatLaws) {L : Type 0} {language : Ghosts L} (limits : LimitValues) → AreInRange limits → ((n : ℕ) (profile : Profile) (s : List ℕ) → language.set Other n profile s ↔ AreOctets s)

@@ -41,8 +41,12 @@ impl<L: OuterLanguage> State<L> {
         ensures { IsBehind limits.now self.new place last }
     {
         self.place = place;
+        if last {
+            self.phase = Phase::Done;
+            return;
+        }
         self.reader = HeadReader::new(place.spot(limits.profile()));
-        self.phase = if last { Phase::Done } else { Phase::Head };
+        self.phase = Phase::Head;
     }
 
     /// Takes as many whole records at the front of the bytes as are seen at once to be right, where one

@@ -111,8 +111,8 @@ pub record IsFresh {L : Type 0} (state : State L) : Type 0 where
 -- whole records have led to this place, where another may begin or the message ends
 pub record IsBehind {L : Type 0} (limits : LimitValues) (state : State L) (place : Place) (last : Bool) : Type 0 where
   pub place_is : state.place ≡ place
-  pub reader_is : state.reader ≡ record { spot = spot_of limits.profile place; octets = []; answer = steps.More }
-  pub opens : IsOpen (spot_of limits.profile place) []
+  pub reader_is : last ≡ false → state.reader ≡ record { spot = spot_of limits.profile place; octets = []; answer = steps.More }
+  pub opens : last ≡ false → IsOpen (spot_of limits.profile place) []
   pub phase_is : state.phase ≡ (if last then phases.Done else phases.Head)
 
 -- the bytes end these records, and no record is begun
