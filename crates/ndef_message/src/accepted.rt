@@ -14,6 +14,7 @@ use ndef_value::Limits;
 
 /// The bytes with which the run at the place goes on to its end, and whether the message ends there;
 /// none where that isn't seen at once. Its payload isn't looked into.
+#[inline(never)]
 fn accepted_run(limits: &Limits, place: Place, bytes: &[u8]) -> Option<(usize, bool)>
     requires { place.inside ≡ true }
     ensures within { IfSome result (λ r. r.0 ≤ length bytes.now) }
@@ -37,6 +38,7 @@ fn accepted_run(limits: &Limits, place: Place, bytes: &[u8]) -> Option<(usize, b
 }
 
 /// Whether the piece is a record, which may stand at the place, with a payload of its kind.
+#[inline(always)]
 fn is_record<L: OuterLanguage>(limits: &Limits, place: &Place, piece: &WholePiece<'_>) -> bool
     ensures stands { IsTrue result → pieces.Stands (spot_of limits.now.profile place.now) (shown piece.now) }
     ensures one { IsTrue result → is_set 5 piece.now.header ≡ false }

@@ -186,7 +186,8 @@ impl<L: OuterLanguage> Checker<L> {
     }
 
     /// Takes the next bytes, as far as they are of one field, up to the first that is refused; answers
-    /// how many, a refused one too.
+    /// how many, a refused one too. It stays out of line, so that whole records go fast.
+    #[inline(never)]
     pub(crate) fn step(&mut self, bytes: &[u8]) -> usize
         requires going { answer_of self.old.state.phase 0 ≡ None }
         requires some { 0 < length bytes.now }

@@ -61,6 +61,7 @@ fn are_records(table: Table, records: u32, profile: Profile, bytes: &[u8]) -> bo
 }
 
 /// Whether the payload is a nested message (RTD Smart Poster 1.0, Connection Handover 1.2).
+#[inline(never)]
 pub(crate) fn is_nested(table: Table, records: u32, profile: Profile, payload: &[u8]) -> bool
     ensures { IsTrue result → IsNest table records profile payload.now }
 {
