@@ -5,6 +5,7 @@ pub mod Conditions
 pub mod Ranges
 pub mod Reading
 pub mod Inside
+pub mod InsideLaws
 pub mod Bounds
 pub mod Pieces
 pub mod Field

@@ -70,11 +70,16 @@ impl Model for HeadReader {
 
     ghost Value = { Reading };
 
-    ghost use Rattle.ndef_piece.specs.Inside.{reading, IsConsistent};
+    ghost use Rattle.ndef_piece.specs.Inside.{fields, reading, IsConsistent};
+    ghost use Rattle.ndef_piece.specs.InsideLaws.{fields_are_told};
 
     ghost view = { reading };
 
     ghost invariant = { IsConsistent };
+
+    ghost inverse = { fields };
+
+    ghost inverse_ok = { fields_are_told };
 }
 
 impl HeadReader {
