@@ -3,7 +3,7 @@ use Rattle.std.proofs.Common.{◌≡◌, ℕ, suc, ◌+◌, ◌<◌, ◌∷◌, 
 use Rattle.std.specs.List.{AllByRecursion}
 use Rattle.std.specs.Prelude.{◌==◌, true, slice_get}
 use Rattle.std.proofs.lemmas.List.{drop-drop}
-use Rattle.ndef_value.specs.Wire.{Item, Piece, Run, SpellAll, all_pieces, payload_of, joined, tnf_of}
+use Rattle.ndef_value.specs.Wire.{Item, Piece, Run, SpellAll, all_pieces, payload_of, run_record, tnf_of}
 use Rattle.ndef_value.specs.declared.profile.Profile.{Profile}
 use Rattle.ndef_piece.specs.Heads.{HeadsAreApart}
 use Rattle.ndef_piece.specs.Whole.{IsSplit, BeginWithPiece}
@@ -16,7 +16,7 @@ use Rattle.ndef_c.proofs.Followed.{same_split, split_size}
 -- of the records these are done and those of these runs are left, which the rest spells
 pub record Ahead (items : List Item) (rest : List ℕ) (done : List Item) : Type 0 where
   pub left : List Run
-  pub all : items ≡ done ++ map joined left
+  pub all : items ≡ done ++ map run_record left
   pub single : AllByRecursion (λ r. r.later ≡ []) left
   pub spelled : SpellAll (all_pieces left) rest
 
@@ -34,7 +34,7 @@ pub record IsOfPiece (i : Item) (p : Piece) : Type 0 where
   pub kind : i.kind ≡ p.kind
   pub payload : i.payload ≡ p.payload
 
-alone : (r : Run) → r.later ≡ [] → IsOfPiece (joined r) r.initial
+alone : (r : Run) → r.later ≡ [] → IsOfPiece (run_record r) r.initial
 alone r e = record { tnf = refl; kind = refl; payload = ap (λ ps. r.initial.payload ++ payload_of ps) e ∙ append-nil r.initial.payload }
 
 -- the next record, and those behind it
@@ -48,21 +48,21 @@ pub record NextItem (items : List Item) (rest : List ℕ) (done : List Item) : T
   pub within : (more : List Item) × (items ≡ done ++ item ∷ more)
   pub next : Ahead items behind (done ++ item ∷ [])
 
-next_in : (items done : List Item) (rest : List ℕ) (left : List Run) → items ≡ done ++ map joined left → AllByRecursion (λ r. r.later ≡ []) left → SpellAll (all_pieces left) rest → 0 < length rest
+next_in : (items done : List Item) (rest : List ℕ) (left : List Run) → items ≡ done ++ map run_record left → AllByRecursion (λ r. r.later ≡ []) left → SpellAll (all_pieces left) rest → 0 < length rest
     → NextItem items rest done
 next_in items done rest [] a s w h = let n = ap length w in absurd (omega (arith, n, h))
 next_in items done rest (r ∷ left) a s w h =
     let one : all_pieces (r ∷ left) ≡ r.initial ∷ all_pieces left = ap (λ ps. r.initial ∷ (ps ++ all_pieces left)) s.0 in
     let v = subst (λ ps. SpellAll ps rest) one w in
     record {
-      item = joined r;
+      item = run_record r;
       piece = r.initial;
       is = alone r s.0;
       short = v.0;
       behind = v.2;
       split = record { front = v.1; spells = v.4; joined = v.3 };
-      within = (map joined left, a);
-      next = record { left = left; all = a ∙ sym (append_assoc done (joined r ∷ []) (map joined left)); single = s.1; spelled = v.5 };
+      within = (map run_record left, a);
+      next = record { left = left; all = a ∙ sym (append_assoc done (run_record r ∷ []) (map run_record left)); single = s.1; spelled = v.5 };
     }
 
 pub next_item : {items done : List Item} {rest : List ℕ} → Ahead items rest done → 0 < length rest → NextItem items rest done
@@ -99,7 +99,7 @@ none_left (r ∷ left) w =
     absurd (omega (arith, n))
 
 pub all_done : (items done : List Item) (rest : List ℕ) → Ahead items rest done → length rest ≡ 0 → items ≡ done
-all_done items done [] k h = k.all ∙ ap (λ rs. done ++ map joined rs) (none_left k.left k.spelled) ∙ append-nil done
+all_done items done [] k h = k.all ∙ ap (λ rs. done ++ map run_record rs) (none_left k.left k.spelled) ∙ append-nil done
 all_done items done (x ∷ rest) k h = absurd (omega (arith, h))
 
 pub lack_on : (P : Item → Type 0) (xs : List Item) (i : Item) → Lack P xs → (P i → ⊥) → Lack P (xs ++ i ∷ [])

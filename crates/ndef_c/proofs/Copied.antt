@@ -1,6 +1,6 @@
 -- The payload of a run, copied piece by piece.
 use Rattle.std.proofs.Common.{◌≡◌, ℕ, ◌+◌, ◌≤◌, ◌∷◌, [], sym, refl, ◌∙◌, ap, subst, arith, List, ◌++◌, length, length-append, append_assoc, append-nil, Bool, true, false}
-use Rattle.ndef_value.specs.Wire.{Piece, Run, joined, payload_of}
+use Rattle.ndef_value.specs.Wire.{Piece, Run, run_record, payload_of}
 use Rattle.ndef_piece.specs.Heads.{HeadsAreApart}
 use Rattle.ndef_piece.specs.Whole.{IsSplit}
 use Rattle.ndef_c.specs.Walks.{BeginsWith}
@@ -16,7 +16,7 @@ pub record Copying (payload end rest done : List ℕ) : Type 0 where
   pub others : Later next.chunked later end behind
   pub left : done ++ payload_of (next ∷ later) ≡ payload
 
-pub copying_at : (run : Run) (end bytes : List ℕ) → BeginsWith run end bytes → Copying (joined run).payload end bytes []
+pub copying_at : (run : Run) (end bytes : List ℕ) → BeginsWith run end bytes → Copying (run_record run).payload end bytes []
 copying_at run end bytes b =
     let i = initial_of run end bytes b in
     record { next = run.initial; later = run.later; short = i.short; behind = i.behind; split = i.split; others = i.others; left = refl }

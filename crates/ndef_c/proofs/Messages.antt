@@ -3,7 +3,7 @@ use Rattle.std.proofs.Common.{◌≡◌, ◌≢◌, ℕ, ◌-◌, ◌<◌, ◌�
 use Rattle.std.specs.List.{AllByRecursion}
 use Rattle.std.specs.Prelude.{slice_get, unwrap_or}
 use Rattle.std.proofs.lemmas.List.{length-map, map-append}
-use Rattle.ndef_value.specs.Wire.{Run, joined}
+use Rattle.ndef_value.specs.Wire.{Run, run_record}
 use Rattle.ndef_piece.specs.Header.{is_set}
 use Rattle.ndef_piece.specs.Heads.{HeadsAreApart}
 use Rattle.ndef_types.specs.Contents.{IsFirstAt, Lack}
@@ -118,12 +118,12 @@ next_at run bytes behind rest at h e b =
 
 -- ---- the record with an id
 
-pub index_of : (runs done : List Run) (run : Run) (more : List Run) (id : List ℕ) (index : ℕ) → runs ≡ done ++ run ∷ more → 0 < length id → index ≡ length done → Lack (HasId id) (map joined done)
-    → HasId id (joined run) → IsIndexOf (map joined runs) id (Some index)
+pub index_of : (runs done : List Run) (run : Run) (more : List Run) (id : List ℕ) (index : ℕ) → runs ≡ done ++ run ∷ more → 0 < length id → index ≡ length done → Lack (HasId id) (map run_record done)
+    → HasId id (run_record run) → IsIndexOf (map run_record runs) id (Some index)
 index_of runs done run more id index a some n lack has =
-    let all : map joined runs ≡ map joined done ++ joined run ∷ map joined more = ap (map joined) a ∙ map-append joined done (run ∷ more) in
-    let count : length (map joined done) ≡ index = length-map done joined ∙ sym n in
-    (λ e. let none = ap length e in omega (arith, none, some), joined run, subst (λ k. IsFirstAt (HasId id) (map joined runs) k (joined run)) count (first_at (HasId id) (map joined runs) (map joined done) (joined run) (map joined more, all) lack has))
+    let all : map run_record runs ≡ map run_record done ++ run_record run ∷ map run_record more = ap (map run_record) a ∙ map-append run_record done (run ∷ more) in
+    let count : length (map run_record done) ≡ index = length-map done run_record ∙ sym n in
+    (λ e. let none = ap length e in omega (arith, none, some), run_record run, subst (λ k. IsFirstAt (HasId id) (map run_record runs) k (run_record run)) count (first_at (HasId id) (map run_record runs) (map run_record done) (run_record run) (map run_record more, all) lack has))
 
 pub place_of : (bytes : List ℕ) (runs done : List Run) (run : Run) (more : List Run) (at next : ℕ) (p : Place) → runs ≡ done ++ run ∷ more → LieBetween bytes 0 done at → BeginsWith run (drop next bytes) (drop at bytes)
     → p.index ≡ length done → p.at ≡ at → IsPlaceOf bytes runs p
@@ -135,13 +135,13 @@ place_of bytes runs done run more at next p a l b n e = record {
   begins = subst (λ k. BeginsWith run (drop next bytes) (drop k bytes)) (sym e) b;
 }
 
-pub lack_all : (done : List Run) (run : Run) (id : List ℕ) → Lack (HasId id) (map joined done) → (HasId id (joined run) → ⊥) → Lack (HasId id) (map joined (done ++ run ∷ []))
-lack_all done run id lack h = subst (Lack (HasId id)) (sym (map-append joined done (run ∷ []))) (lack_on (HasId id) (map joined done) (joined run) lack h)
+pub lack_all : (done : List Run) (run : Run) (id : List ℕ) → Lack (HasId id) (map run_record done) → (HasId id (run_record run) → ⊥) → Lack (HasId id) (map run_record (done ++ run ∷ []))
+lack_all done run id lack h = subst (Lack (HasId id)) (sym (map-append run_record done (run ∷ []))) (lack_on (HasId id) (map run_record done) (run_record run) lack h)
 
-pub none_with : (runs done : List Run) (run : Run) (id : List ℕ) (more : List Run) → runs ≡ done ++ run ∷ more → is_last more ≡ true → Lack (HasId id) (map joined done) → (HasId id (joined run) → ⊥) → Lack (HasId id) (map joined runs)
-none_with runs done run id [] a e lack h = subst (λ rs. Lack (HasId id) (map joined rs)) (sym a) (lack_all done run id lack h)
+pub none_with : (runs done : List Run) (run : Run) (id : List ℕ) (more : List Run) → runs ≡ done ++ run ∷ more → is_last more ≡ true → Lack (HasId id) (map run_record done) → (HasId id (run_record run) → ⊥) → Lack (HasId id) (map run_record runs)
+none_with runs done run id [] a e lack h = subst (λ rs. Lack (HasId id) (map run_record rs)) (sym a) (lack_all done run id lack h)
 none_with runs done run id (r ∷ more) a e lack h = absurd (true≢false (sym e))
 
 -- the id that is shown of a run
-pub id_of : {bytes : List ℕ} (f : FirstRun) → (x : IsFirst bytes f) → (joined x.run).id ≡ f.first.id.now
+pub id_of : {bytes : List ℕ} (f : FirstRun) → (x : IsFirst bytes f) → (run_record x.run).id ≡ f.first.id.now
 id_of {bytes} f x = ap (λ q. unwrap_or q.id []) (sym x.initial) ∙ id_is (is_set 3 f.first.header) f.first.id.now x.no_id

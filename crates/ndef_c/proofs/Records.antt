@@ -4,7 +4,7 @@ use Rattle.std.specs.Prelude.{unwrap_or}
 use Rattle.std.specs.List.{flat_map}
 use Rattle.std.proofs.lemmas.Grind.{flat_map-append}
 use Rattle.ndef_value.specs.Wire.{Item, fields, pieces, all_pieces, is_nil}
-use Rattle.ndef_piece.specs.Heads.{written}
+use Rattle.ndef_piece.specs.Heads.{written_fields}
 use Rattle.ndef_piece.specs.declared.head.Head.{Head}
 use Rattle.ndef_message.specs.declared.form.Form.{Form}
 use Rattle.ndef_message.specs.Cut.{first_piece, later_piece, later_pieces, all_parts, cut_run, cut_runs}
@@ -19,17 +19,17 @@ abbrev pub left_octets : Form → Bool → ℕ → List ℕ → List ℕ
 left_octets form last size rest = flat_map (written_piece form) (later_pieces last (all_parts size rest))
 
 pub first_octets : (form : Form) (first last alone : Bool) (size : ℕ) (m : Item) (head : Head) (part rest : List ℕ) → 1 ≤ size → part ≡ take size m.payload → rest ≡ drop size m.payload → alone ≡ (length rest == 0)
-    → written head ≡ fields (first_piece first (alone && last) (not alone) m part) (is_short form (length part))
+    → written_fields head ≡ fields (first_piece first (alone && last) (not alone) m part) (is_short form (length part))
     → piece_octets head m.kind m.id part ++ left_octets form last size rest ≡ record_octets form first last (Some size) m
 first_octets form first last alone size m head part rest h e f n w =
-    ap (λ x. x ++ left_octets form last size rest) (first_is form first (alone && last) (not alone) m part (written head) m.kind m.id w refl refl)
+    ap (λ x. x ++ left_octets form last size rest) (first_is form first (alone && last) (not alone) m part (written_fields head) m.kind m.id w refl refl)
     ∙ first-step form first last alone size m m.payload part rest h refl e f n
 
 pub later_octets : (form : Form) (last ends : Bool) (size : ℕ) (rest part later : List ℕ) (head : Head) → 1 ≤ size → 0 < length rest → part ≡ take size rest → later ≡ drop size rest → ends ≡ (length later == 0)
-    → written head ≡ fields (later_piece (ends && last) (not ends) part) (is_short form (length part))
+    → written_fields head ≡ fields (later_piece (ends && last) (not ends) part) (is_short form (length part))
     → piece_octets head [] [] part ++ left_octets form last size later ≡ left_octets form last size rest
 later_octets form last ends size rest part later head h some e f n w =
-    ap (λ x. x ++ left_octets form last size later) (later_is form (ends && last) (not ends) part (written head) w)
+    ap (λ x. x ++ left_octets form last size later) (later_is form (ends && last) (not ends) part (written_fields head) w)
     ∙ later-step form last ends size rest part later h some e f n
 
 pub none_is_left : (form : Form) (last : Bool) (size : ℕ) (rest : List ℕ) → 1 ≤ size → (length rest == 0) ≡ true → [] ≡ left_octets form last size rest

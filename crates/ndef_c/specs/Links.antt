@@ -1,6 +1,6 @@
 -- What is told of the links of a message.
 use Rattle.std.specs.Prelude.{◌≡◌, ◌≢◌, ℕ, ◌^◌, ◌<◌, ◌≤◌, List, [], ◌∷◌, length, map, take, drop, slice_get, Option, Some, None}
-use Rattle.ndef_value.specs.Wire.{Item, Run, joined}
+use Rattle.ndef_value.specs.Wire.{Item, Run, run_record}
 use Rattle.ndef_value.specs.declared.profile.Profile.TheVariants.{Standard}
 use Rattle.ndef_types.specs.Links.{IsIndexOf, alternatives}
 use Rattle.ndef_types.specs.Values.{AcValue, StandsForAc}
@@ -36,8 +36,8 @@ pub record IsPlaceOf (bytes : List ℕ) (runs : List Run) (p : Place) : Type 0 w
 
 -- Connection Handover 1.2, carrier data reference: the place of the first record with the id; the empty id is none's
 abbrev pub FindsRecord : List ℕ → List Run → List ℕ → Option Place → Type 0
-FindsRecord bytes runs id None = IsIndexOf (map joined runs) id None
-FindsRecord bytes runs id (Some p) = IsIndexOf (map joined runs) id (Some p.index) × IsPlaceOf bytes runs p
+FindsRecord bytes runs id None = IsIndexOf (map run_record runs) id None
+FindsRecord bytes runs id (Some p) = IsIndexOf (map run_record runs) id (Some p.index) × IsPlaceOf bytes runs p
 
 -- ---- links
 

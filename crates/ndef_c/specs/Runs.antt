@@ -1,6 +1,6 @@
 -- The run at the front of some bytes, as it is read.
 use Rattle.std.specs.Prelude.{◌≡◌, ℕ, false, List, [], length}
-use Rattle.ndef_value.specs.Wire.{Run, joined, pieces}
+use Rattle.ndef_value.specs.Wire.{Run, run_record, pieces}
 use Rattle.ndef_piece.specs.Header.{is_set}
 use Rattle.ndef_piece.specs.Whole.{IsSplit, shown}
 use Rattle.ndef_c.specs.Walks.{BeginsWith, ends_message}
@@ -17,6 +17,6 @@ pub record IsFirst (bytes : List ℕ) (f : FirstRun) : Type 0 where
   pub initial : shown f.first ≡ run.initial
   pub split : IsSplit (shown f.first) (is_set 4 f.first.header) f.first.rest.now bytes
   pub no_id : is_set 3 f.first.header ≡ false → f.first.id.now ≡ []
-  pub payload : f.payload ≡ length (joined run).payload
+  pub payload : f.payload ≡ length (run_record run).payload
   pub pieces_are : f.pieces ≡ length (pieces run)
   pub last : f.last ≡ ends_message run.initial run.later

@@ -1,6 +1,6 @@
 -- Where the records of some bytes lie.
 use Rattle.std.specs.Prelude.{◌≡◌, ℕ, ◌<◌, ◌≤◌, Bool, true, false, List, [], ◌∷◌, ◌++◌, length, take, drop, Ok}
-use Rattle.ndef_value.specs.Wire.{Piece, Run, IsRun, SpellAll, pieces, joined, code, bit, LimitValues}
+use Rattle.ndef_value.specs.Wire.{Piece, Run, IsRun, SpellAll, pieces, run_record, code, bit, LimitValues}
 use Rattle.ndef_value.specs.declared.profile.Profile.TheVariants.{Standard}
 use Rattle.ndef_lang.specs.Language.{Sets, Conditions}
 use Rattle.ndef_message.specs.Views.{Viewed, Views}
@@ -35,11 +35,11 @@ pub record IsRecordAt (bytes : List ℕ) (at : ℕ) (r : NdefRecord) : Type 0 wh
   pub at_is : r.at ≡ at
   pub onward : at < r.end
   pub within : r.end ≤ length bytes
-  pub tnf : r.tnf ≡ code (joined run).tnf
-  pub kind : Lies bytes r.type_at r.type_length (joined run).kind
-  pub id : Lies bytes r.id_at r.id_length (joined run).id
+  pub tnf : r.tnf ≡ code (run_record run).tnf
+  pub kind : Lies bytes r.type_at r.type_length (run_record run).kind
+  pub id : Lies bytes r.id_at r.id_length (run_record run).id
   pub part : Lies bytes r.payload_at r.part_length run.initial.payload
-  pub payload : r.payload_length ≡ length (joined run).payload
+  pub payload : r.payload_length ≡ length (run_record run).payload
   pub pieces_are : r.pieces ≡ length (pieces run)
   pub last : r.last ≡ bit (ends_message run.initial run.later)
 
@@ -48,7 +48,7 @@ pub record GivesPayload (bytes : List ℕ) (at : ℕ) (before after : List ℕ) 
   pub run : Run
   pub rest : List ℕ
   pub begins : BeginsWith run rest (drop at bytes)
-  pub gives : Gives (joined run).payload before after count status
+  pub gives : Gives (run_record run).payload before after count status
 
 -- ---- laws
 

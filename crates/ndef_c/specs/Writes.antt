@@ -2,12 +2,12 @@
 use Rattle.std.specs.Prelude.{◌≡◌, ℕ, ◌/◌, ◌%◌, ◌≤◌, ◌==◌, nat_le, Bool, true, false, List, [], ◌∷◌, ◌++◌, Option, Some, None, if◌then◌else◌}
 use Rattle.std.specs.List.{flat_map}
 use Rattle.ndef_value.specs.Wire.{Item, IsShaped, HasLengths, octets, pieces, tnf_of, is_nil}
-use Rattle.ndef_piece.specs.Heads.{written}
+use Rattle.ndef_piece.specs.Heads.{written_fields}
 use Rattle.ndef_piece.specs.declared.head.Head.{Head}
 use Rattle.ndef_message.specs.declared.form.Form.{Form}
 use Rattle.ndef_message.specs.declared.form.Form.TheVariants.{Short, Long}
 use Rattle.ndef_message.specs.Cut.{cut_run}
-use Rattle.ndef_message.specs.Written.{written_piece, encoded}
+use Rattle.ndef_message.specs.Written.{written_piece, cut_octets}
 use Rattle.ndef_c.specs.declared.writing.NdefWriting.{NdefWriting}
 use Rattle.ndef_c.specs.declared.writing.Parts.{Parts}
 use Rattle.ndef_c.specs.declared.writing.Way.{Way}
@@ -22,7 +22,7 @@ item_of p = record { tnf = p.tnf; kind = p.kind.now; id = p.id.now; payload = p.
 
 -- NDEF 1.0, record layout: the octets of a head, and what follows it in its piece
 abbrev pub piece_octets : Head → (kind id part : List ℕ) → List ℕ
-piece_octets head kind id part = octets (written head) ++ (kind ++ (id ++ part))
+piece_octets head kind id part = octets (written_fields head) ++ (kind ++ (id ++ part))
 
 -- the octets of a record that is written so
 abbrev pub octets_by : Way → Item → List ℕ
@@ -70,4 +70,4 @@ one_by_one form first size (m ∷ ms) = record_octets form first (is_nil ms) siz
 
 -- Records that are written one after another are the bytes of their message.
 abbrev pub RecordsMakeAMessage : Type 0
-RecordsMakeAMessage = (form : Form) (size : Option ℕ) (m : List Item) → one_by_one form true size m ≡ encoded form size m
+RecordsMakeAMessage = (form : Form) (size : Option ℕ) (m : List Item) → one_by_one form true size m ≡ cut_octets form size m

@@ -1,6 +1,6 @@
 //! The joined payload of a record.
 ghost use Rattle.std.specs.Prelude.{◌≡◌, ◌≢◌, ◌≤◌, ◌↔◌, length, List, ℕ};
-ghost use Rattle.ndef_value.specs.Wire.{Run, joined};
+ghost use Rattle.ndef_value.specs.Wire.{Run, run_record};
 ghost use Rattle.ndef_c.specs.Rooms.{written_over};
 ghost use Rattle.ndef_c.specs.Runs.{HasRun};
 ghost use Rattle.ndef_c.specs.Walks.{BeginsWith, IsRecordThere, GivesPayload};
@@ -15,9 +15,9 @@ use ndef_piece::{heads_are_apart, whole_piece};
 fn copy_pieces(bytes: &[u8], room: &mut [u8])
     requires run { HasRun bytes.now }
     requires room { (run : Run) (rest : List ℕ) → BeginsWith run rest bytes.now
-        → length (joined run).payload ≤ length room.old }
+        → length (run_record run).payload ≤ length room.old }
     ensures { (run : Run) (rest : List ℕ) → BeginsWith run rest bytes.now
-        → room.new ≡ written_over (joined run).payload room.old }
+        → room.new ≡ written_over (run_record run).payload room.old }
 {
     heads_are_apart();
     let mut rest = bytes;

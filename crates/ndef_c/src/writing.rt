@@ -1,7 +1,7 @@
 //! Writes a record.
 ghost use Rattle.std.specs.Prelude.{◌≡◌, ◌≢◌, ◌+◌, ◌*◌, ◌≤◌, ◌<◌, ◌^◌, ◌++◌, ◌&&◌, [], not, take, drop, length, unwrap_or, Some, IfSome, IsNone, IsTrue, ◌↔◌};
 ghost use Rattle.ndef_value.specs.Wire.{FitsForm, IsShaped, HasLengths, fields, tnf_of};
-ghost use Rattle.ndef_piece.specs.Heads.{written};
+ghost use Rattle.ndef_piece.specs.Heads.{written_fields};
 ghost use Rattle.ndef_message.specs.Cut.{first_piece, later_piece};
 ghost use Rattle.ndef_message.specs.Written.{is_short};
 ghost use Rattle.ndef_c.specs.Rooms.{Gives, IsPut};
@@ -94,7 +94,7 @@ fn is_short(form: Form, length: usize) -> bool
 fn first_head(parts: &Parts<'_>, way: Way, alone: bool, part: &[u8]) -> Head
     requires part { length part.now < 2 ^ 32 }
     requires lengths { HasLengths (item_of parts.now) }
-    ensures head { written result
+    ensures head { written_fields result
         ≡ fields (first_piece way.first (alone && way.last) (not alone) (item_of parts.now) part.now)
         (is_short way.form (length part.now)) }
     ensures form { FitsForm result.short result.payload_length }
@@ -118,7 +118,7 @@ fn first_head(parts: &Parts<'_>, way: Way, alone: bool, part: &[u8]) -> Head
 /// The head of a later piece of a record, which has this part of the payload, the last one or not.
 fn later_head(way: Way, ends: bool, part: &[u8]) -> Head
     requires { length part.now < 2 ^ 32 }
-    ensures head { written result ≡ fields (later_piece (ends && way.last) (not ends) part.now)
+    ensures head { written_fields result ≡ fields (later_piece (ends && way.last) (not ends) part.now)
         (is_short way.form (length part.now)) }
     ensures form { FitsForm result.short result.payload_length }
 {

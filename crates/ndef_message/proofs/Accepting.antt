@@ -16,7 +16,7 @@ use Rattle.ndef_lang.specs.StepLaws.{rest, rest_length, take_rests}
 use Rattle.ndef_piece.specs.Header.{is_set, tnf_number}
 use Rattle.ndef_piece.specs.Heads.{IsOpen}
 use Rattle.ndef_piece.specs.Pieces as pieces
-use Rattle.ndef_piece.specs.Walk.{Before, start, spot, ended, extended, after, inside, outside, Walked}
+use Rattle.ndef_piece.specs.Walk.{Before, start, spot, ending_record, record_with, after, inside, outside, Walked}
 use Rattle.ndef_piece.specs.Whole.{IsSplit, shown}
 use Rattle.ndef_piece.specs.declared.head_reader.Step.TheVariants as steps
 use Rattle.ndef_piece.specs.declared.whole.WholePiece.{WholePiece}
@@ -64,18 +64,18 @@ walked_append : (limits : LimitValues) (ps qs : List Piece) (b c d : Before) (gi
 walked_append limits [] qs b c d given items w x =
     subst (λ g. Walked limits b qs (g ++ items) d) (sym w.0) (subst (λ y. Walked limits y qs items d) w.1 x)
 walked_append limits (p ∷ ps) qs b c d given items w x =
-    (w.0, w.1, w.2 ++ items, ap (λ z. z ++ items) w.3 ∙ append_assoc (ended b p) w.2 items, walked_append limits ps qs (after limits b p) c d w.2 items w.4 x)
+    (w.0, w.1, w.2 ++ items, ap (λ z. z ++ items) w.3 ∙ append_assoc (ending_record b p) w.2 items, walked_append limits ps qs (after limits b p) c d w.2 items w.4 x)
 
 -- a piece that ends its record
 walked_end : (limits : LimitValues) (c : Before) (p : Piece) → c.over ≡ false → pieces.Stands (spot limits.profile c) p → p.chunked ≡ false
-    → Walked limits c (p ∷ []) (extended c.begun p ∷ []) (outside limits false p.last (c.records - 1))
+    → Walked limits c (p ∷ []) (record_with c.begun p ∷ []) (outside limits false p.last (c.records - 1))
 walked_end limits c p o s e =
     let w = walked_snoc limits [] c c [] p (refl, refl) o s in
-    subst (Walked limits c (p ∷ []) (extended c.begun p ∷ [])) (after_end limits c p e) (subst (λ x. Walked limits c (p ∷ []) x (after limits c p)) (ended_one c p e) w)
+    subst (Walked limits c (p ∷ []) (record_with c.begun p ∷ [])) (after_end limits c p e) (subst (λ x. Walked limits c (p ∷ []) x (after limits c p)) (ended_one c p e) w)
 
 -- a piece that doesn't end its record
 walked_on : (limits : LimitValues) (c : Before) (p : Piece) → c.over ≡ false → pieces.Stands (spot limits.profile c) p → p.chunked ≡ true
-    → Walked limits c (p ∷ []) [] (inside c.records (c.pieces - 1) (c.room - length p.payload) (extended c.begun p))
+    → Walked limits c (p ∷ []) [] (inside c.records (c.pieces - 1) (c.room - length p.payload) (record_with c.begun p))
 walked_on limits c p o s e =
     let w = walked_snoc limits [] c c [] p (refl, refl) o s in
     subst (Walked limits c (p ∷ []) []) (after_chunk limits c p e) (subst (λ x. Walked limits c (p ∷ []) x (after limits c p)) (ended_none c p e) w)
@@ -89,10 +89,10 @@ split_shorter p short rest bytes split =
 -- ---- a record in one piece
 
 -- what it is
-pub record_is : (w : WholePiece) → (is_set 3 w.header ≡ false → w.id.now ≡ []) → record_of w ≡ extended None (shown w)
+pub record_is : (w : WholePiece) → (is_set 3 w.header ≡ false → w.id.now ≡ []) → record_of w ≡ record_with None (shown w)
 record_is w none = by_flag (is_set 3 w.header) refl
   where
-    by_flag : (there : Bool) → is_set 3 w.header ≡ there → record_of w ≡ extended None (shown w)
+    by_flag : (there : Bool) → is_set 3 w.header ≡ there → record_of w ≡ record_with None (shown w)
     by_flag true e = rw e refl
     by_flag false e = rw e (ap (λ id. record { tnf = tnf_of (tnf_number w.header); kind = w.kind.now; id = id; payload = w.payload.now }) (none e))
 
@@ -103,7 +103,7 @@ module _ (set : Sets) (limits : LimitValues) (place : Place) (bytes : List ℕ) 
   pub one_record : (c : Before) → place ≡ numbers c → c.begun ≡ None → c.over ≡ false → EndsRecords set limits c (record_of w ∷ []) (c.records - 1) (is_set 6 w.header) (take taken bytes)
   one_record c e none over =
       let f = front_of bytes b.split.front w.rest.now taken b.split.joined is in
-      let item : extended c.begun p ≡ record_of w = ap (λ m. extended m p) none ∙ sym (record_is w b.no_id) in
+      let item : record_with c.begun p ≡ record_of w = ap (λ m. record_with m p) none ∙ sym (record_is w b.no_id) in
       record {
         pieces = p ∷ [];
         spelled = subst (SpellAll (p ∷ [])) (sym f.1) (spelled_one p (is_set 4 w.header) b.split.front b.split.spells);
@@ -160,7 +160,7 @@ module _ (limits : LimitValues) (records count room : ℕ) (m : Item) (bytes res
   abbrev more : Item
   more = with_payload m (g.payload ++ p.payload)
 
-  more_is : extended (Some (with_payload m g.payload)) p ≡ more
+  more_is : record_with (Some (with_payload m g.payload)) p ≡ more
   more_is = ap (λ z. record { tnf = m.tnf; kind = m.kind; id = m.id; payload = z }) (append_assoc m.payload g.payload p.payload)
 
   at_c : pieces.Stands (spot limits.profile c) p
@@ -208,7 +208,7 @@ pub run_from : (set : Sets) (limits : LimitValues) (place : Place) (bytes : List
 run_from set limits place bytes p short rest taken k last next split stands chunked outer any is ne small run =
     let f = front_and bytes split.front rest taken k split.joined is small in
     let shorter = split_shorter p short rest bytes split in
-    let m = extended None p in
+    let m = record_with None p in
     record {
       some = omega arith;
       within = f.0;
@@ -216,7 +216,7 @@ run_from set limits place bytes p short rest taken k last next split stands chun
       ends = λ c e none over.
           let d = inside c.records (c.pieces - 1) (c.room - length p.payload) m in
           let r = run c.records (c.pieces - 1) (c.room - length p.payload) m (ne ∙ ap (λ x. behind_chunk x (length p.payload)) e) in
-          let w : Walked limits c (p ∷ []) [] d = subst (λ b. Walked limits c (p ∷ []) [] (inside c.records (c.pieces - 1) (c.room - length p.payload) (extended b p))) none
+          let w : Walked limits c (p ∷ []) [] d = subst (λ b. Walked limits c (p ∷ []) [] (inside c.records (c.pieces - 1) (c.room - length p.payload) (record_with b p))) none
           (walked_on limits c p over (subst (λ x. pieces.Stands (spot_of limits.profile x) p) e stands) chunked) in (
             with_payload m r.payload,
             record {

@@ -22,7 +22,7 @@ use Rattle.ndef_message.specs.Machine.DecoderState.{DecoderKnows}
 use Rattle.ndef_message.specs.Machine.Format.{FormatLaws}
 use Rattle.ndef_message.specs.Machine.Open.{AsksMemory}
 use Rattle.ndef_message.specs.Machine.State.{answer_of, is_done, spot_of, Stands, Reached}
-use Rattle.ndef_message.specs.Opened.{Opened, opened_head, unopened, MayGrow, AreRecords}
+use Rattle.ndef_message.specs.Opened.{Opened, opened_head, no_octets, MayGrow, AreRecords}
 use Rattle.ndef_message.specs.declared.checker.Checker.{Checker}
 use Rattle.ndef_message.specs.declared.phase.Phase.TheVariants as phases
 use Rattle.ndef_message.proofs.Accepting.{AtBetween, between, front_of, record_is}
@@ -51,7 +51,7 @@ before_payload o k i z = simp (append_assoc, append-nil)
 
 -- ---- what is kept between records
 
-between_opened : (point : Point) → IsBetween point → opened_at point ≡ unopened
+between_opened : (point : Point) → IsBetween point → opened_at point ≡ no_octets
 between_opened point (c, none, inl e) = ap opened_at e ∙ ap (λ b. opened_head b []) none
 between_opened point (c, none, inr e) = ap opened_at e
 

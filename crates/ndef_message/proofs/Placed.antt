@@ -1,6 +1,6 @@
 -- A point that bytes lead to is a field behind whole runs and the pieces of an open one.
 use Rattle.std.proofs.Common.{◌≡◌, ℕ, Bool, refl, sym, ◌∙◌, ap, subst, List, [], ◌∷◌, ◌++◌, map, append-nil, None, inl, inr}
-use Rattle.ndef_value.specs.Wire.{Item, Piece, Run, SpellAll, all_pieces, joined, octets, LimitValues}
+use Rattle.ndef_value.specs.Wire.{Item, Piece, Run, SpellAll, all_pieces, run_record, octets, LimitValues}
 use Rattle.ndef_value.specs.declared.reason.Reason.{Reason}
 use Rattle.ndef_lang.specs.Language.{Conditions}
 use Rattle.ndef_piece.specs.declared.spot.Spot.{Spot}
@@ -16,7 +16,7 @@ use Rattle.ndef_message.specs.Machine.Points.{Point, InHead, InType, InId, InPay
 pub record Placed (limits : LimitValues) (bytes : List ℕ) (given : List Item) (point : Point) : Type 0 where
   pub runs : List Run
   pub begun : List Piece
-  pub means : given ≡ map joined runs
+  pub means : given ≡ map run_record runs
   pub at : IsAt limits bytes runs begun (field_of point)
   pub record_is : (before point).begun ≡ begun_record begun
   pub spot_is : spot limits.profile (before point) ≡ spot_after limits runs begun

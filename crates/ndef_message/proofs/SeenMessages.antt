@@ -1,7 +1,7 @@
 -- What is seen of a message that was checked.
 use Rattle.std.proofs.Common.{◌≡◌, ℕ, ◌<◌, ◌≤◌, ◌^◌, refl, sym, ◌∙◌, ap, subst, arith, List, [], ◌∷◌, length, map, take, length-take-le, Ok}
 use Rattle.std.specs.List.{AllByRecursion}
-use Rattle.ndef_value.specs.Wire.{Run, Item, pieces, all_pieces, payload_of, joined, IsRun, IsShaped, FlatBy, BeginsOnce, LimitValues, AreInRange, OneMeaning}
+use Rattle.ndef_value.specs.Wire.{Run, Item, pieces, all_pieces, payload_of, run_record, IsRun, IsShaped, FlatBy, BeginsOnce, LimitValues, AreInRange, OneMeaning}
 use Rattle.ndef_value.specs.declared.profile.Profile.{Profile}
 use Rattle.ndef_lang.specs.Language.{Sets, Conditions}
 use Rattle.ndef_message.specs.Checkings.{HasRecords}
@@ -16,11 +16,11 @@ use Rattle.ndef_message.proofs.SeenBytes.{pieces_told, runs_told, follow_of_read
 pub whole_told : {bytes : List ℕ} (a : AreRuns bytes) → runs_of (pieces_of bytes) ≡ a.runs
 whole_told {bytes} a = ap runs_of (pieces_told (all_pieces a.runs) bytes a.spelled) ∙ runs_told a.runs (follow_of_read a.runs a.read)
 
-pub length_joined : (rs : List Run) → length (map joined rs) ≡ length rs
+pub length_joined : (rs : List Run) → length (map run_record rs) ≡ length rs
 length_joined [] = refl
 length_joined (r ∷ rs) = let e = length_joined rs in omega (arith, e)
 
-reads : (profile : Profile) (most : ℕ) (rs : List Run) → most < 2 ^ 32 → AllByRecursion (IsRun profile) rs → AllByRecursion IsShaped (map joined rs)
+reads : (profile : Profile) (most : ℕ) (rs : List Run) → most < 2 ^ 32 → AllByRecursion (IsRun profile) rs → AllByRecursion IsShaped (map run_record rs)
     → AllByRecursion (λ r. length (payload_of (pieces r)) ≤ most) rs → AllByRecursion IsRecord rs
 reads profile most [] n a b c = tt
 reads profile most (r ∷ rs) n a b c =
@@ -55,7 +55,7 @@ module _ (set : Sets) (limits : LimitValues) where
   views_of holds input taken records profile v range n (items, d, k) p e =
       let runs : v.runs ≡ d.runs = ap (λ v. v.runs) e ∙ whole_told (deep_runs (take taken input) items range d) in
       let bytes : v.taken ≡ taken = ap (λ v. v.taken) e ∙ length-take-le taken input n in
-      let same : items ≡ map joined d.runs = sym d.flat.message.items in
+      let same : items ≡ map run_record d.runs = sym d.flat.message.items in
       rw (runs, bytes) (
         n,
         (
@@ -80,10 +80,10 @@ some_seen v profile m e =
 pub one_view : OneMeaning → (set : Sets) (holds : Conditions) → OneView set holds
 one_view meaning set holds limits input v items count r h d =
     let e = r.1.0 in
-    let t = one_front meaning set limits input items (map joined v.runs) count v.taken h r.0 d e in
+    let t = one_front meaning set limits input items (map run_record v.runs) count v.taken h r.0 d e in
     let runs : d.runs ≡ v.runs =
     sym (flat_told limits.profile d.runs items (take count input) d.flat) ∙ ap (λ n. runs_of (pieces_of (take n input))) t.1
-    ∙ flat_told limits.profile e.runs (map joined v.runs) (take v.taken input) e.flat ∙ r.1.1 in
+    ∙ flat_told limits.profile e.runs (map run_record v.runs) (take v.taken input) e.flat ∙ r.1.1 in
     record { items_are = t.0; runs_are = runs; count_is = t.1 }
 
 pub never_refused : (set : Sets) (holds : Conditions) → NoPrefixIsDeep set → NeverRefused set holds

@@ -2,7 +2,7 @@
 use Rattle.std.proofs.Common.{◌≡◌, ℕ, ◌+◌, ◌-◌, ◌<◌, ◌≤◌, take, drop, take_at, drop_at, ◌^◌, true, false, refl, sym, ◌∙◌, ap, ap₂, subst, arith, List, [], ◌∷◌, ◌++◌, length, length-append, append_assoc, append-nil, true≢false, Some, None}
 use Rattle.std.specs.Prelude.{unwrap_or}
 use Rattle.std.specs.List.{AllByRecursion, concat}
-use Rattle.ndef_value.specs.Wire.{Piece, SpellAll, Run, pieces, all_pieces, payload_of, Follow, joined, HasLengths}
+use Rattle.ndef_value.specs.Wire.{Piece, SpellAll, Run, pieces, all_pieces, payload_of, Follow, run_record, HasLengths}
 use Rattle.ndef_message.specs.Machine.Seen.{AreRun, AreRuns, IsRecord, pieces_of, runs_of, run_of}
 use Rattle.ndef_message.specs.Views.{payloads, only_payload}
 use Rattle.ndef_message.proofs.Rests.{spell_append}
@@ -176,7 +176,7 @@ id_size : (p : Piece) (bytes : List ℕ) (later : List Piece) → SpellAll (p �
 id_size p bytes later s = (s.4.piece.kind_length, s.4.piece.id_length)
 
 -- its parts are as long as those of a record
-pub lengths_seen : {bytes : List ℕ} {size : ℕ} {r : Run} (a : AreRun bytes size) → run_of bytes ≡ r → HasLengths (joined r)
+pub lengths_seen : {bytes : List ℕ} {size : ℕ} {r : Run} (a : AreRun bytes size) → run_of bytes ≡ r → HasLengths (run_record r)
 lengths_seen {bytes} a e =
     let n = id_size a.run.initial bytes a.run.later a.spelled in
-    subst (λ r. HasLengths (joined r)) (run_seen a e) (record { kind = n.0; id = n.1; payload = a.read.small })
+    subst (λ r. HasLengths (run_record r)) (run_seen a e) (record { kind = n.0; id = n.1; payload = a.read.small })

@@ -1,6 +1,6 @@
 -- What is seen of the bytes of a message without copying them.
 use Rattle.std.specs.Prelude.{◌≡◌, ℕ, ◌≤◌, List, [], ◌∷◌, length, map, take, Option, Some, None, Result, Ok, Err}
-use Rattle.ndef_value.specs.Wire.{Piece, Run, Item, joined, LimitValues}
+use Rattle.ndef_value.specs.Wire.{Piece, Run, Item, run_record, LimitValues}
 use Rattle.ndef_value.specs.declared.profile.Profile.{Profile}
 use Rattle.ndef_value.specs.declared.refusal.Refusal.{Refusal}
 use Rattle.ndef_lang.specs.Language.{Sets, Conditions}
@@ -16,7 +16,7 @@ pub record Viewed : Type 0 where
 -- NDEF 1.0, messages: what is seen of an input: so many bytes at its front are a message, in these runs; or it is refused.
 abbrev pub Views : Sets → Conditions → LimitValues → (input : List ℕ) → Result Viewed Refusal → Type 0
 Views set holds limits input (Ok v) =
-    (v.taken ≤ length input) × ((deep : Deep set limits (map joined v.runs) (take v.taken input)) × (deep.runs ≡ v.runs)) × (v.profile ≡ limits.profile)
+    (v.taken ≤ length input) × ((deep : Deep set limits (map run_record v.runs) (take v.taken input)) × (deep.runs ≡ v.runs)) × (v.profile ≡ limits.profile)
 Views set holds limits input (Err refusal) = Refuses set holds limits input refusal
 
 -- NDEF 1.0, chunked payloads: the payloads of some pieces
@@ -32,7 +32,7 @@ only_payload _ = None
 
 -- these records, in these runs and so many bytes, are what is seen
 pub record IsSeen (v : Viewed) (items : List Item) (runs : List Run) (count : ℕ) : Type 0 where
-  pub items_are : items ≡ map joined v.runs
+  pub items_are : items ≡ map run_record v.runs
   pub runs_are : runs ≡ v.runs
   pub count_is : count ≡ v.taken
 

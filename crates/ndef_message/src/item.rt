@@ -1,7 +1,7 @@
 //! A record of a message, where it lies.
 ghost use Rattle.std.specs.Prelude.{◌≡◌, ◌<◌, ◌∷◌, [], false, length, option_map, IfOk};
 ghost use Rattle.std.specs.List.{concat};
-ghost use Rattle.ndef_value.specs.Wire.{HasLengths, IsShaped, joined, pieces};
+ghost use Rattle.ndef_value.specs.Wire.{HasLengths, IsShaped, run_record, pieces};
 ghost use Rattle.ndef_piece.specs.Header.{is_set};
 ghost use Rattle.ndef_piece.specs.Whole.{shown};
 ghost use Rattle.ndef_message.specs.Machine.Seen.{AreRuns, IsRecord, pieces_of, runs_of};
@@ -62,36 +62,36 @@ impl<'a> Item<'a> {
         ensures shown { shown result ≡ self.now.initial }
         ensures no_id { is_set 3 result.header ≡ false → result.id.now ≡ [] }
         ensures read { IsRecord self.now }
-        ensures lengths { HasLengths (joined self.now) }
+        ensures lengths { HasLengths (run_record self.now) }
     {
         first_piece(self.bytes)
     }
 
     /// The type name format (NDEF 1.0, TNF): never Unchanged, and the reserved 7 as Unknown.
     pub fn tnf(&self) -> Tnf
-        ensures value { result ≡ (joined self.now).tnf }
-        ensures shaped { IsShaped (joined self.now) }
+        ensures value { result ≡ (run_record self.now).tnf }
+        ensures shaped { IsShaped (run_record self.now) }
     {
         self.first().tnf()
     }
 
     /// The type (NDEF 1.0, TYPE), at most 255 bytes.
     pub fn kind(&self) -> &'a [u8]
-        ensures { result.now ≡ (joined self.now).kind }
+        ensures { result.now ≡ (run_record self.now).kind }
     {
         self.first().kind
     }
 
     /// The id (NDEF 1.0, ID), at most 255 bytes; it is empty where the record has none.
     pub fn id(&self) -> &'a [u8]
-        ensures { result.now ≡ (joined self.now).id }
+        ensures { result.now ≡ (run_record self.now).id }
     {
         self.first().id
     }
 
     /// How many bytes the payload has, those of all pieces together.
     pub fn length(&self) -> u32
-        ensures { result ≡ length (joined self.now).payload }
+        ensures { result ≡ length (run_record self.now).payload }
     {
         self.length
     }
@@ -99,7 +99,7 @@ impl<'a> Item<'a> {
     /// The payloads of its pieces, in order (NDEF 1.0, chunked payloads). Joined they are the payload.
     pub fn pieces(&self) -> Pieces<'a>
         ensures each { result ≡ payloads (pieces self.now) }
-        ensures joined { concat result ≡ (joined self.now).payload }
+        ensures joined { concat result ≡ (run_record self.now).payload }
     {
         Pieces::new(self.bytes)
     }
@@ -119,7 +119,7 @@ impl<'a> Item<'a> {
 
     /// A copy of the payload, all pieces joined; or `NoMemory` where a growth is refused.
     pub fn joined(&self, alloc: Global) -> Result<Bytes, NoMemory>
-        ensures { IfOk result (λ b. b ≡ (joined self.now).payload) }
+        ensures { IfOk result (λ b. b ≡ (run_record self.now).payload) }
     {
         let mut payload = Bytes::new(alloc);
         for piece in self.pieces() {
@@ -130,7 +130,7 @@ impl<'a> Item<'a> {
 
     /// A copy of the record; or `NoMemory` where a growth is refused.
     pub(crate) fn to_record(&self, alloc: Global) -> Result<Record, NoMemory>
-        ensures { IfOk result (λ r. r ≡ joined self.now) }
+        ensures { IfOk result (λ r. r ≡ run_record self.now) }
     {
         let first = self.first();
         let Ok(kind) = Name::from_slice(alloc, first.kind) else {

@@ -1,6 +1,6 @@
 //! A message, where it lies.
 ghost use Rattle.std.specs.Prelude.{◌≡◌, ◌≤◌, length, map, IfOk};
-ghost use Rattle.ndef_value.specs.Wire.{joined};
+ghost use Rattle.ndef_value.specs.Wire.{run_record};
 ghost use Rattle.ndef_message.specs.Machine.Seen.{AreChecked, viewed_of};
 
 use crate::Items;
@@ -77,7 +77,7 @@ impl<'a> View<'a> {
 
     /// A copy of the message; `NoMemory` where a growth is refused.
     pub fn to_message(&self, alloc: Global) -> Result<Message, NoMemory>
-        ensures { IfOk result (λ m. m ≡ map joined self.now.runs) }
+        ensures { IfOk result (λ m. m ≡ map run_record self.now.runs) }
     {
         let mut records = Vec::new(alloc);
         for item in self.items() {

@@ -3,7 +3,7 @@ use Rattle.std.proofs.Common.{◌≡◌, ℕ, ◌-◌, ◌^◌, ◌<◌, ◌≤�
 use Rattle.std.proofs.lemmas.List.{append-nil}
 use Rattle.ndef_value.specs.Wire.{Piece, Item, LimitValues, AreInRange}
 use Rattle.ndef_piece.specs.Pieces.{Stands}
-use Rattle.ndef_piece.specs.Walk.{Before, start, spot, ended, after, Walk, Walked, standing}
+use Rattle.ndef_piece.specs.Walk.{Before, start, spot, ending_record, after, Walk, Walked, standing}
 use Rattle.ndef_piece.specs.Fronts.{AreMessage, BeginMessage, FrontsHaveSpots}
 use Rattle.ndef_piece.proofs.Walks.{walks_are_messages, walks_are_cut}
 use Rattle.ndef_piece.proofs.WalksCounted.{walks_are_counted}
@@ -62,10 +62,10 @@ next limits ps done d p r small w = (
       (t.1.0, t.1.1)),
   (λ s.
       let t = rest_at limits (after limits d p) (room_after limits d p r.payload.1 small) in
-      let v = walks_join limits ps (p ∷ t.2.0) done (ended d p ++ t.1) d w (s.0, s.1, t.1, refl, t.2.1) in (
+      let v = walks_join limits ps (p ∷ t.2.0) done (ending_record d p ++ t.1) d w (s.0, s.1, t.1, refl, t.2.1) in (
         t.2.0,
-        walk_message limits ((ps ++ p ∷ []) ++ t.2.0) (done ++ (ended d p ++ t.1)) r
-            (subst (λ x. Walk limits (start limits) x (done ++ (ended d p ++ t.1))) (sym (append_assoc ps (p ∷ []) t.2.0)) v),
+        walk_message limits ((ps ++ p ∷ []) ++ t.2.0) (done ++ (ending_record d p ++ t.1)) r
+            (subst (λ x. Walk limits (start limits) x (done ++ (ending_record d p ++ t.1))) (sym (append_assoc ps (p ∷ []) t.2.0)) v),
       )),
 )
 

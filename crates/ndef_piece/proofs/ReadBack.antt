@@ -8,7 +8,7 @@ use Rattle.ndef_value.specs.declared.tnf.Tnf.{Tnf}
 use Rattle.ndef_piece.specs.declared.head.Head.{Head}
 use Rattle.ndef_value.specs.declared.tnf.Tnf.TheVariants.{Empty, WellKnown, Media, AbsoluteUri, External, Unknown, Unchanged}
 use Rattle.ndef_piece.specs.declared.spot.Spot.{Spot}
-use Rattle.ndef_piece.specs.Heads.{head, written, CanBeSpelled, MayStand, IsWhole}
+use Rattle.ndef_piece.specs.Heads.{head, written_fields, CanBeSpelled, MayStand, IsWhole}
 use Rattle.ndef_piece.specs.Header.{is_set, tnf_number, width}
 use Rattle.ndef_piece.specs.Conditions.{least_from}
 use Rattle.ndef_piece.specs.Ranges.{length_front}
@@ -72,9 +72,9 @@ same_name Unknown = refl
 same_name Unchanged = refl
 
 -- what is written is read as the head
-written_head : (h : Head) → head (written h) ≡ h
+written_head : (h : Head) → head (written_fields h) ≡ h
 written_head h = rw (same_name h.tnf) refl
 
 -- wherever it may stand
-pub written_is_read : (spot : Spot) (h : Head) → MayStand spot (written h) → IsWhole spot (octets (written h)) h
-written_is_read spot h m = record { fields = written h; stands = m; spelled = refl; read = written_head h }
+pub written_is_read : (spot : Spot) (h : Head) → MayStand spot (written_fields h) → IsWhole spot (octets (written_fields h)) h
+written_is_read spot h m = record { fields = written_fields h; stands = m; spelled = refl; read = written_head h }

@@ -3,7 +3,7 @@ use Rattle.std.proofs.Common.{subst, ◌≡◌, ◌^◌, ℕ, ◌<◌, inl, inr,
 use Rattle.std.proofs.lemmas.List.{append-nil}
 use Rattle.ndef_value.specs.Wire.{all_pieces, Piece, IsPiece, Item, Fields, fields, octets, body, SpellAll, LimitValues}
 use Rattle.ndef_piece.specs.Heads.{MayStand, IsOpen, IsViable}
-use Rattle.ndef_piece.specs.Walk.{extended, Before, spot, ended, after, Walk}
+use Rattle.ndef_piece.specs.Walk.{record_with, Before, spot, ending_record, after, Walk}
 use Rattle.ndef_piece.specs.Rest.{RestsCanFollow, Rest, RestsAreFlat, RestsEnd, RestsPastHeads, RestsWithinHeads}
 use Rattle.ndef_value.specs.ListLaws.{split_append}
 use Rattle.ndef_piece.proofs.PieceHeads.{zero_piece, zero_head, zero_fits, heads_of_pieces, pieces_of_heads}
@@ -31,7 +31,7 @@ rests_end limits c bytes items o = (to, λ w. ([], (o, w.1), w.0)) where
 -- the first piece has the head
 past : (limits : LimitValues) (c : Before) (f : Fields) (bytes : List ℕ) (items : List Item) → c.over ≡ false → MayStand (spot limits.profile c) f
     → (ps : List Piece) → Walk limits c ps items → SpellAll ps (octets f ++ bytes)
-    → (p : Piece) × (later : List ℕ) × (rest : List Item) × IsPiece p × (fields p f.short ≡ f) × (bytes ≡ body p ++ later) × (items ≡ ended c p ++ rest) × Rest limits (after limits c p) later rest
+    → (p : Piece) × (later : List ℕ) × (rest : List Item) × IsPiece p × (fields p f.short ≡ f) × (bytes ≡ body p ++ later) × (items ≡ ending_record c p ++ rest) × Rest limits (after limits c p) later rest
 past limits c f bytes items o m [] w s = absurd (both_ways c.over o w.0)
 past limits c f bytes items o m (p ∷ ps) w s =
     let v = s.4 in
@@ -80,7 +80,7 @@ rest_at limits d small =
           let w = walks_can_end limits d [] o tt (omega arith) small in
           let q = w.0 in (
             octets (fields q false) ++ body q,
-            extended d.begun q ∷ [],
+            record_with d.begun q ∷ [],
             (q ∷ [], w.3, (false, octets (fields q false) ++ body q, [], sym (append-nil _), record { piece = w.1; form = tt; spelled = refl }, refl)),
           )
     ]
@@ -99,6 +99,6 @@ rests_can_follow limits c f r o small m =
     let l = m.spelled in
     let t = rest_at limits (after limits c p) (room_after limits c p r.payload.1 small) in (
       body p ++ t.0,
-      ended c p ++ t.1,
-      (rests_past_heads limits c f (body p ++ t.0) (ended c p ++ t.1) o m).1 (p, t.0, t.1, zero_fits f l, zero_head f, refl, refl, t.2),
+      ending_record c p ++ t.1,
+      (rests_past_heads limits c f (body p ++ t.0) (ending_record c p ++ t.1) o m).1 (p, t.0, t.1, zero_fits f l, zero_head f, refl, refl, t.2),
     )

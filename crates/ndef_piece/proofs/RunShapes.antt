@@ -2,7 +2,7 @@
 use Rattle.std.proofs.Common.{ℕ, sym, subst, arith, List, [], ◌∷◌, ◌++◌, length, length-append}
 use Rattle.std.specs.Prelude.{unwrap_or}
 use Rattle.std.proofs.lemmas.List.{append-nil}
-use Rattle.ndef_value.specs.Wire.{Piece, Run, Item, HasShape, IsShaped, IsInitial, Follow, payload_of, joined, tnf_of}
+use Rattle.ndef_value.specs.Wire.{Piece, Run, Item, HasShape, IsShaped, IsInitial, Follow, payload_of, run_record, tnf_of}
 use Rattle.ndef_value.specs.declared.profile.Profile.{Profile}
 use Rattle.ndef_value.specs.TnfLaws.{changed_name}
 use Rattle.ndef_piece.proofs.Sorts.{empty, named, unnamed, sort, other_payload, read_small}
@@ -13,7 +13,7 @@ run p later = record { initial = p; later = later }
 
 -- the record of a run has the shape of its initial piece
 pub shaped_run : (profile : Profile) (p : Piece) (later : List Piece) → IsInitial profile p → Follow p.chunked later
-    → HasShape (tnf_of p.tnf) (length p.kind) (length (unwrap_or p.id [])) (length p.payload) → IsShaped (joined (run p later))
+    → HasShape (tnf_of p.tnf) (length p.kind) (length (unwrap_or p.id [])) (length p.payload) → IsShaped (run_record (run p later))
 shaped_run profile p [] i f s = record {
   changed = changed_name p.tnf (read_small profile p.tnf i.read) i.changed;
   shape = subst (λ xs. HasShape (tnf_of p.tnf) (length p.kind) (length (unwrap_or p.id [])) (length xs)) (sym (append-nil p.payload)) s;
@@ -24,7 +24,7 @@ shaped_run profile p (q ∷ later) i f s = record {
 }
 
 -- and the initial piece that of the record
-pub shaped_piece : (profile : Profile) (p : Piece) (later : List Piece) → IsInitial profile p → IsShaped (joined (run p later))
+pub shaped_piece : (profile : Profile) (p : Piece) (later : List Piece) → IsInitial profile p → IsShaped (run_record (run p later))
     → HasShape (tnf_of p.tnf) (length p.kind) (length (unwrap_or p.id [])) (length p.payload)
 shaped_piece profile p later i s =
     let k = length p.kind in

@@ -3,7 +3,7 @@ use Rattle.std.proofs.Common.{◌≡◌, true, false, refl, sym, ◌∙◌, ap, 
 use Rattle.std.specs.List.{AllByRecursion}
 use Rattle.std.proofs.lemmas.Bool.{false≢true}
 use Rattle.ndef_value.specs.Wire.{Piece, Run, Item, IsShaped, BeginsOnce, EndsOnce, all_pieces, IsMessage, IsWithin}
-use Rattle.ndef_piece.specs.Walk.{Before, start, ended, after, Walk, Walked, WalksAreMessages, WalksAreCut}
+use Rattle.ndef_piece.specs.Walk.{Before, start, ending_record, after, Walk, Walked, WalksAreMessages, WalksAreCut}
 use Rattle.ndef_piece.proofs.WalksToRuns.{not_first, to_runs, later_firsts, ends_once}
 use Rattle.ndef_piece.proofs.WalksFromRuns.{outer_back}
 
@@ -52,11 +52,11 @@ walks_are_cut limits c ps qs items = (cut ps c items, paste ps c items) where
   cut [] c items w = ([], items, c, refl, (refl, refl), w)
   cut (p ∷ ps) c items w =
       let t = cut ps (after limits c p) w.2 w.4 in
-      (ended c p ++ t.0, t.1, t.2, w.3 ∙ ap (λ x. ended c p ++ x) t.3 ∙ sym (append_assoc (ended c p) t.0 t.1), (w.0, w.1, t.0, refl, t.4), t.5)
+      (ending_record c p ++ t.0, t.1, t.2, w.3 ∙ ap (λ x. ending_record c p ++ x) t.3 ∙ sym (append_assoc (ending_record c p) t.0 t.1), (w.0, w.1, t.0, refl, t.4), t.5)
 
   paste : (ps : List Piece) (c : Before) (items : List Item) → ((done rest : List Item) × (d : Before) × (items ≡ done ++ rest) × Walked limits c ps done d × Walk limits d qs rest)
       → Walk limits c (ps ++ qs) items
   paste [] c items w = subst (λ x. Walk limits x qs items) w.4.1 (subst (Walk limits w.2 qs) (sym (w.3 ∙ ap (λ x. x ++ w.1) w.4.0)) w.5)
   paste (p ∷ ps) c items w =
       let s = w.4 in
-      (s.0, s.1, s.2 ++ w.1, w.3 ∙ ap (λ x. x ++ w.1) s.3 ∙ append_assoc (ended c p) s.2 w.1, paste ps (after limits c p) (s.2 ++ w.1) (s.2, w.1, w.2, refl, s.4, w.5))
+      (s.0, s.1, s.2 ++ w.1, w.3 ∙ ap (λ x. x ++ w.1) s.3 ∙ append_assoc (ending_record c p) s.2 w.1, paste ps (after limits c p) (s.2 ++ w.1) (s.2, w.1, w.2, refl, s.4, w.5))

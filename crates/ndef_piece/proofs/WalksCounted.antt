@@ -6,10 +6,10 @@ use Rattle.std.proofs.lemmas.List.{append-nil, map-append}
 use Rattle.std.proofs.lemmas.Bool.{cases_Bool, eq-eqb, false≢true}
 use Rattle.std.proofs.lemmas.Bool.Decides.{eqb_tells}
 use Rattle.std.proofs.lemmas.Grind.{flat_map-append}
-use Rattle.ndef_value.specs.Wire.{Piece, Run, Item, pieces, payload_of, joined, tnf_of, all_pieces, Follow, EndsOnce, LimitValues}
+use Rattle.ndef_value.specs.Wire.{Piece, Run, Item, pieces, payload_of, run_record, tnf_of, all_pieces, Follow, EndsOnce, LimitValues}
 use Rattle.ndef_piece.specs.Field.{spot_after, PiecesStand, RunsStand, AreBefore, NoneLast, ended_run, PiecesGoOn}
 use Rattle.ndef_piece.specs.Pieces.{Stands}
-use Rattle.ndef_piece.specs.Walk.{Before, outside, inside, start, spot, extended, ended, after, Walk, Walked, standing, WalksAreCounted}
+use Rattle.ndef_piece.specs.Walk.{Before, outside, inside, start, spot, record_with, ending_record, after, Walk, Walked, standing, WalksAreCounted}
 use Rattle.ndef_piece.proofs.RunShapes.{run}
 use Rattle.ndef_piece.proofs.WalksToRuns.{over_after, ends_once}
 
@@ -18,11 +18,11 @@ payload_last : (xs : List Piece) (p : Piece) → payload_of (xs ++ p ∷ []) ≡
 payload_last xs p = flat_map-append (λ q. q.payload) xs (p ∷ []) ∙ ap (λ z. payload_of xs ++ z) (append-nil p.payload)
 
 -- the record so far, one piece on
-joined_more : (q : Piece) (qs : List Piece) (p : Piece) → extended (Some (joined (run q qs))) p ≡ joined (run q (qs ++ p ∷ []))
+joined_more : (q : Piece) (qs : List Piece) (p : Piece) → record_with (Some (run_record (run q qs))) p ≡ run_record (run q (qs ++ p ∷ []))
 joined_more q qs p = ap (λ x. record { tnf = tnf_of q.tnf; kind = q.kind; id = unwrap_or q.id []; payload = x }) (sym (payload_last (q ∷ qs) p))
 
 -- the record of one piece
-joined_one : (p : Piece) → extended None p ≡ joined (run p [])
+joined_one : (p : Piece) → record_with None p ≡ run_record (run p [])
 joined_one p = ap (λ x. record { tnf = tnf_of p.tnf; kind = p.kind; id = unwrap_or p.id []; payload = x }) (sym (append-nil p.payload))
 
 same_inside : (n k k' room room' : ℕ) (m m' : Item) → k ≡ k' → room ≡ room' → m ≡ m' → inside n k room m ≡ inside n k' room' m'
@@ -34,7 +34,7 @@ minus_more a b c = omega arith
 
 -- what is known one piece on in a run
 inside_more : (limits : LimitValues) (first over : Bool) (n : ℕ) (q : Piece) (qs : List Piece) (p : Piece)
-    → inside n (limits.pieces - length (q ∷ qs) - 1) (limits.payload - length (payload_of (q ∷ qs)) - length p.payload) (extended (Some (joined (run q qs))) p)
+    → inside n (limits.pieces - length (q ∷ qs) - 1) (limits.payload - length (payload_of (q ∷ qs)) - length p.payload) (record_with (Some (run_record (run q qs))) p)
     ≡ standing limits first over n (q ∷ (qs ++ p ∷ []))
 inside_more limits first over n q qs p =
     same_inside _ _ _ _ _ _ _
@@ -45,7 +45,7 @@ inside_more limits first over n q qs p =
 
 -- what is known after an initial piece
 inside_one : (limits : LimitValues) (first over : Bool) (n : ℕ) (p : Piece)
-    → inside n (limits.pieces - 1) (limits.payload - length p.payload) (extended None p) ≡ standing limits first over n (p ∷ [])
+    → inside n (limits.pieces - 1) (limits.payload - length p.payload) (record_with None p) ≡ standing limits first over n (p ∷ [])
 inside_one limits first over n p =
     same_inside _ _ _ _ _ _ _ refl (ap (λ x. limits.payload - length x) (sym (append-nil p.payload))) (joined_one p)
 
@@ -152,7 +152,7 @@ record Counted (limits : LimitValues) (runs : List Run) (begun ps : List Piece) 
   all : List Run
   rest : List Piece
   pieces_are : (all_pieces runs ++ begun) ++ ps ≡ all_pieces all ++ rest
-  done_are : map joined runs ++ done ≡ map joined all
+  done_are : map run_record runs ++ done ≡ map run_record all
   before : AreBefore limits all rest
   known : d ≡ behind limits d.over all rest
 
@@ -165,13 +165,13 @@ outside_more limits last runs r =
     (λ i. outside limits (some i) last (left i))
 
 -- the record of a run that has ended
-ended_item : (limits : LimitValues) (over : Bool) (runs : List Run) (begun : List Piece) (p : Piece) → extended (behind limits over runs begun).begun p ≡ joined (ended_run begun p)
+ended_item : (limits : LimitValues) (over : Bool) (runs : List Run) (begun : List Piece) (p : Piece) → record_with (behind limits over runs begun).begun p ≡ run_record (ended_run begun p)
 ended_item limits over runs [] p = joined_one p
 ended_item limits over runs (q ∷ begun) p = joined_more q begun p
 
 -- what is known behind a piece with which a run goes on
-chunk_after : (limits : LimitValues) (c : Before) (p : Piece) → p.chunked ≡ true → after limits c p ≡ inside c.records (c.pieces - 1) (c.room - length p.payload) (extended c.begun p)
-chunk_after limits c p e = ap (λ b. if b then inside c.records (c.pieces - 1) (c.room - length p.payload) (extended c.begun p) else outside limits false p.last (c.records - 1)) e
+chunk_after : (limits : LimitValues) (c : Before) (p : Piece) → p.chunked ≡ true → after limits c p ≡ inside c.records (c.pieces - 1) (c.room - length p.payload) (record_with c.begun p)
+chunk_after limits c p e = ap (λ b. if b then inside c.records (c.pieces - 1) (c.room - length p.payload) (record_with c.begun p) else outside limits false p.last (c.records - 1)) e
 
 behind_more : (limits : LimitValues) (over : Bool) (runs : List Run) (begun : List Piece) (p : Piece) → p.chunked ≡ true → after limits (behind limits over runs begun) p ≡ behind limits over runs (begun ++ p ∷ [])
 behind_more limits over runs [] p c = chunk_after limits (behind limits over runs []) p c ∙ inside_one limits (length runs == 0) over (limits.records - length runs) p
@@ -192,7 +192,7 @@ counted limits [] over runs begun done d b w = record {
   all = runs;
   rest = begun;
   pieces_are = append-nil (all_pieces runs ++ begun);
-  done_are = ap (λ x. map joined runs ++ x) w.0 ∙ append-nil (map joined runs);
+  done_are = ap (λ x. map run_record runs ++ x) w.0 ∙ append-nil (map run_record runs);
   before = b;
   known = w.1 ∙ behind_over limits over runs begun ∙ ap (λ x. behind limits x.over runs begun) (sym w.1);
 }
@@ -200,13 +200,13 @@ counted limits (p ∷ ps) over runs begun done d b w =
     elim (cases_Bool p.chunked) [
       | inl c ↦
           let walk = subst (λ x. Walked limits x ps w.2 d) (behind_more limits over runs begun p c) w.4 in
-          let none : ended (behind limits over runs begun) p ≡ [] = ap (λ b. if b then [] else extended (behind limits over runs begun).begun p ∷ []) c in
+          let none : ending_record (behind limits over runs begun) p ≡ [] = ap (λ b. if b then [] else record_with (behind limits over runs begun).begun p ∷ []) c in
           let t = counted limits ps over runs (begun ++ p ∷ []) w.2 d (go.0 c) walk in
           record {
             all = t.all;
             rest = t.rest;
             pieces_are = sym (append_assoc (all_pieces runs ++ begun) (p ∷ []) ps) ∙ ap (λ x. x ++ ps) (append_assoc (all_pieces runs) begun (p ∷ [])) ∙ t.pieces_are;
-            done_are = ap (λ x. map joined runs ++ x) (w.3 ∙ ap (λ x. x ++ w.2) none) ∙ t.done_are;
+            done_are = ap (λ x. map run_record runs ++ x) (w.3 ∙ ap (λ x. x ++ w.2) none) ∙ t.done_are;
             before = t.before;
             known = t.known;
           }
@@ -215,14 +215,14 @@ counted limits (p ∷ ps) over runs begun done d b w =
           let later : after limits (behind limits over runs begun) p ≡ behind limits p.last (runs ++ r ∷ []) [] =
           after_ended c ∙ outside_more limits p.last runs r in
           let walk = subst (λ x. Walked limits x ps w.2 d) later w.4 in
-          let one : ended (behind limits over runs begun) p ≡ joined r ∷ [] =
-          ap (λ b. if b then [] else extended (behind limits over runs begun).begun p ∷ []) c ∙ ap (λ x. x ∷ []) (ended_item limits over runs begun p) in
+          let one : ending_record (behind limits over runs begun) p ≡ run_record r ∷ [] =
+          ap (λ b. if b then [] else record_with (behind limits over runs begun).begun p ∷ []) c ∙ ap (λ x. x ∷ []) (ended_item limits over runs begun p) in
           let t = counted limits ps p.last (runs ++ r ∷ []) [] w.2 d (go.1 c) walk in
           record {
             all = t.all;
             rest = t.rest;
             pieces_are = sym (append_assoc (all_pieces runs ++ begun) (p ∷ []) ps) ∙ ap (λ x. x ++ ps) (ended_regroup runs begun p ∙ sym (append-nil (all_pieces (runs ++ r ∷ [])))) ∙ t.pieces_are;
-            done_are = ap (λ x. map joined runs ++ x) (w.3 ∙ ap (λ x. x ++ w.2) one) ∙ sym (append_assoc (map joined runs) (joined r ∷ []) w.2) ∙ ap (λ x. x ++ w.2) (sym (map-append joined runs (r ∷ []))) ∙ t.done_are;
+            done_are = ap (λ x. map run_record runs ++ x) (w.3 ∙ ap (λ x. x ++ w.2) one) ∙ sym (append_assoc (map run_record runs) (run_record r ∷ []) w.2) ∙ ap (λ x. x ++ w.2) (sym (map-append run_record runs (r ∷ []))) ∙ t.done_are;
             before = t.before;
             known = t.known;
           }
@@ -234,7 +234,7 @@ counted limits (p ∷ ps) over runs begun done d b w =
     after_ended : p.chunked ≡ false → after limits (behind limits over runs begun) p ≡ outside limits false p.last (limits.records - length runs - 1)
     after_ended c =
         let d = behind limits over runs begun in
-        ap (λ b. if b then inside d.records (d.pieces - 1) (d.room - length p.payload) (extended d.begun p) else outside limits false p.last (d.records - 1)) c
+        ap (λ b. if b then inside d.records (d.pieces - 1) (d.room - length p.payload) (record_with d.begun p) else outside limits false p.last (d.records - 1)) c
         ∙ ap (λ n. outside limits false p.last (n - 1)) (records_left limits over runs begun)
 
 -- ---- from the start

@@ -4,7 +4,7 @@ use Rattle.std.specs.Prelude.{unwrap_or, ◌==◌}
 use Rattle.std.specs.List.{AllByRecursion}
 use Rattle.std.proofs.lemmas.List.{append-nil}
 use Rattle.std.proofs.lemmas.Bool.{ne_eqb, both_ways, true≢false, false≢true}
-use Rattle.ndef_value.specs.Wire.{Piece, Run, Item, IsShaped, Follow, IsRun, pieces, payload_of, joined, tnf_of, EndsOnce, all_pieces, LimitValues}
+use Rattle.ndef_value.specs.Wire.{Piece, Run, Item, IsShaped, Follow, IsRun, pieces, payload_of, run_record, tnf_of, EndsOnce, all_pieces, LimitValues}
 use Rattle.ndef_piece.specs.Walk.{outside, inside, Walk}
 use Rattle.ndef_piece.proofs.RunShapes.{run, grown, shaped_piece}
 
@@ -52,10 +52,10 @@ inner_back limits n k room m (p ∷ q ∷ later) tail rest f few small b e g =
     )
 
 -- a run walks from where a record begins
-one_run : (limits : LimitValues) (first : Bool) (n : ℕ) (p : Piece) (later tail : List Piece) (rest : List Item) → IsRun limits.profile (run p later) → IsShaped (joined (run p later))
+one_run : (limits : LimitValues) (first : Bool) (n : ℕ) (p : Piece) (later tail : List Piece) (rest : List Item) → IsRun limits.profile (run p later) → IsShaped (run_record (run p later))
     → length (p ∷ later) ≤ limits.pieces → length (payload_of (p ∷ later)) ≤ limits.payload → p.first ≡ first → AllByRecursion (λ q. q.first ≡ false) later
     → EndsOnce (p ∷ (later ++ tail)) → Goes limits n tail rest
-    → Walk limits (outside limits first false n) (p ∷ (later ++ tail)) (joined (run p later) ∷ rest)
+    → Walk limits (outside limits first false n) (p ∷ (later ++ tail)) (run_record (run p later) ∷ rest)
 one_run limits first n p [] tail rest r s few small b bs e g =
     let size = length-append p.payload [] in (
       refl,
@@ -85,7 +85,7 @@ one_run limits first n p (q ∷ later) tail rest r s few small b bs e g =
         followed = λ d l. absurd (both_ways p.chunked d c);
         room = omega (arith, size, small);
       },
-      joined (run p (q ∷ later)) ∷ rest,
+      run_record (run p (q ∷ later)) ∷ rest,
       rw c refl,
       rw c w,
     )
@@ -98,7 +98,7 @@ all_front (x ∷ xs) ys a = let w = all_front xs ys a.1 in ((a.0, w.0), w.1)
 -- the facts that a message has, from the first of some runs on
 pub record Message (limits : LimitValues) (first : Bool) (n : ℕ) (r : Run) (runs : List Run) : Type 0 where
   pub each_run : AllByRecursion (IsRun limits.profile) (r ∷ runs)
-  pub shaped : AllByRecursion IsShaped (map joined (r ∷ runs))
+  pub shaped : AllByRecursion IsShaped (map run_record (r ∷ runs))
   pub few_records : length (r ∷ runs) ≤ n
   pub few_pieces : AllByRecursion (λ r. length (pieces r) ≤ limits.pieces) (r ∷ runs)
   pub small : AllByRecursion (λ r. length (payload_of (pieces r)) ≤ limits.payload) (r ∷ runs)
@@ -112,7 +112,7 @@ ends_tail (q ∷ later) tail p e = ends_tail later tail q e.1
 
 -- the runs walk one after another
 pub outer_back : (limits : LimitValues) (first : Bool) (n : ℕ) (r : Run) (runs : List Run) → Message limits first n r runs
-    → Walk limits (outside limits first false n) (all_pieces (r ∷ runs)) (map joined (r ∷ runs))
+    → Walk limits (outside limits first false n) (all_pieces (r ∷ runs)) (map run_record (r ∷ runs))
 outer_back limits first n r [] m =
     let b = all_front r.later [] m.begins.1 in
     one_run limits first n r.initial r.later [] [] m.each_run.0 m.shaped.0 m.few_pieces.0 m.small.0 m.begins.0 b.0 m.ends
@@ -130,7 +130,7 @@ outer_back limits first n r (s ∷ runs) m =
       begins = b.1;
       ends = e.1.1;
     } in
-    one_run limits first n r.initial r.later (all_pieces (s ∷ runs)) (map joined (s ∷ runs)) m.each_run.0 m.shaped.0 m.few_pieces.0 m.small.0 m.begins.0 b.0 m.ends
+    one_run limits first n r.initial r.later (all_pieces (s ∷ runs)) (map run_record (s ∷ runs)) m.each_run.0 m.shaped.0 m.few_pieces.0 m.small.0 m.begins.0 b.0 m.ends
     (record {
       walk = λ p e. rw e.0 (outer_back limits false (n - 1) s runs next);
       followed = λ p e l. ne_eqb n 1 (λ z. omega (arith, few, z));

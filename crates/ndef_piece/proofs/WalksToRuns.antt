@@ -4,7 +4,7 @@ use Rattle.std.specs.Prelude.{unwrap_or}
 use Rattle.std.specs.List.{AllByRecursion}
 use Rattle.std.proofs.lemmas.List.{append-nil}
 use Rattle.std.proofs.lemmas.Bool.{eqb-false, cases_Bool, false≢true}
-use Rattle.ndef_value.specs.Wire.{Piece, Run, Item, IsShaped, Follow, IsRun, pieces, payload_of, joined, tnf_of, EndsOnce, all_pieces, LimitValues}
+use Rattle.ndef_value.specs.Wire.{Piece, Run, Item, IsShaped, Follow, IsRun, pieces, payload_of, run_record, tnf_of, EndsOnce, all_pieces, LimitValues}
 use Rattle.ndef_piece.specs.Pieces.{Stands}
 use Rattle.ndef_piece.specs.Walk.{Before, outside, inside, spot, after, Walk}
 use Rattle.ndef_piece.proofs.RunShapes.{run, grown, shaped_run}
@@ -12,7 +12,7 @@ use Rattle.ndef_piece.proofs.RunShapes.{run, grown, shaped_run}
 -- the records of these runs
 pub record Records (limits : LimitValues) (n : ℕ) (runs : List Run) (items : List Item) : Type 0 where
   pub each_run : AllByRecursion (IsRun limits.profile) runs
-  pub items_are : map joined runs ≡ items
+  pub items_are : map run_record runs ≡ items
   pub shaped : AllByRecursion IsShaped items
   pub few_records : length runs ≤ n
   pub few_pieces : AllByRecursion (λ r. length (pieces r) ≤ limits.pieces) runs
@@ -40,12 +40,12 @@ no_records : (limits : LimitValues) (n : ℕ) → Records limits n [] []
 no_records limits n = record { each_run = tt; items_are = refl; shaped = tt; few_records = omega arith; few_pieces = tt; small = tt }
 
 -- one run and its record more
-more_records : (limits : LimitValues) (n : ℕ) (r : Run) (runs : List Run) (items : List Item) → 1 ≤ n → IsRun limits.profile r → IsShaped (joined r)
+more_records : (limits : LimitValues) (n : ℕ) (r : Run) (runs : List Run) (items : List Item) → 1 ≤ n → IsRun limits.profile r → IsShaped (run_record r)
     → length (pieces r) ≤ limits.pieces → length (payload_of (pieces r)) ≤ limits.payload → Records limits (n - 1) runs items
-    → Records limits n (r ∷ runs) (joined r ∷ items)
+    → Records limits n (r ∷ runs) (run_record r ∷ items)
 more_records limits n r runs items h a s l p w = record {
   each_run = (a, w.each_run);
-  items_are = ap (λ x. joined r ∷ x) w.items_are;
+  items_are = ap (λ x. run_record r ∷ x) w.items_are;
   shaped = (s, w.shaped);
   few_records = (let f = w.few_records in omega (arith, f));
   few_pieces = (l, w.few_pieces);

@@ -19,8 +19,8 @@ head f = record {
 }
 
 -- NDEF 1.0, TNF: the fields that a head is written as; never 7
-abbrev pub written : Head → Fields
-written h = record {
+abbrev pub written_fields : Head → Fields
+written_fields h = record {
   first = h.first;
   last = h.last;
   chunked = h.chunked;

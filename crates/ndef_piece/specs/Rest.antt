@@ -2,7 +2,7 @@
 use Rattle.std.specs.Prelude.{◌≡◌, ℕ, ◌^◌, ◌<◌, true, false, List, [], ◌∷◌, ◌++◌, ◌↔◌}
 use Rattle.ndef_value.specs.Wire.{Piece, IsPiece, Item, Fields, fields, octets, body, SpellAll, FlatBy, Run, LimitValues, AreInRange, IsWithin}
 use Rattle.ndef_piece.specs.Heads.{MayStand, IsOpen, IsViable}
-use Rattle.ndef_piece.specs.Walk.{Before, start, spot, ended, after, Walk}
+use Rattle.ndef_piece.specs.Walk.{Before, start, spot, ending_record, after, Walk}
 
 -- NDEF 1.0, messages: these bytes complete a message of which this is known, and end these records
 abbrev pub Rest : LimitValues → Before → List ℕ → List Item → Type 0
@@ -24,7 +24,7 @@ RestsEnd = (limits : LimitValues) (c : Before) (bytes : List ℕ) (items : List 
 abbrev pub RestsPastHeads : Type 0
 RestsPastHeads = (limits : LimitValues) (c : Before) (f : Fields) (bytes : List ℕ) (items : List Item) → c.over ≡ false → MayStand (spot limits.profile c) f
     → Rest limits c (octets f ++ bytes) items
-    ↔ ((p : Piece) × (later : List ℕ) × (rest : List Item) × IsPiece p × (fields p f.short ≡ f) × (bytes ≡ body p ++ later) × (items ≡ ended c p ++ rest)
+    ↔ ((p : Piece) × (later : List ℕ) × (rest : List Item) × IsPiece p × (fields p f.short ≡ f) × (bytes ≡ body p ++ later) × (items ≡ ending_record c p ++ rest)
     × Rest limits (after limits c p) later rest)
 
 -- Within a head another octet follows, and it is one with which some head goes on.

@@ -1,6 +1,6 @@
 -- The pieces of a message, one after another, each at its spot.
 use Rattle.std.specs.Prelude.{◌≡◌, ℕ, ◌-◌, ◌^◌, ◌<◌, ◌≤◌, map, ◌==◌, Bool, true, false, List, [], ◌∷◌, ◌++◌, length, is_some, unwrap_or, Option, Some, None, ◌↔◌, if◌then◌else◌}
-use Rattle.ndef_value.specs.Wire.{Piece, IsPiece, AreOctets, Run, Item, joined, payload_of, tnf_of, all_pieces, EndsOnce, IsMessage, LimitValues, AreInRange, IsWithin}
+use Rattle.ndef_value.specs.Wire.{Piece, IsPiece, AreOctets, Run, Item, run_record, payload_of, tnf_of, all_pieces, EndsOnce, IsMessage, LimitValues, AreInRange, IsWithin}
 use Rattle.ndef_value.specs.declared.profile.Profile.{Profile}
 use Rattle.ndef_piece.specs.declared.spot.Spot.{Spot}
 use Rattle.ndef_piece.specs.Pieces.{Stands}
@@ -47,44 +47,44 @@ spot profile c = record {
 }
 
 -- NDEF 1.0, chunked payloads: the record as far as it has come with this piece
-abbrev pub extended : Option Item → Piece → Item
-extended None p = record { tnf = tnf_of p.tnf; kind = p.kind; id = unwrap_or p.id []; payload = p.payload }
-extended (Some m) p = record { tnf = m.tnf; kind = m.kind; id = m.id; payload = m.payload ++ p.payload }
+abbrev pub record_with : Option Item → Piece → Item
+record_with None p = record { tnf = tnf_of p.tnf; kind = p.kind; id = unwrap_or p.id []; payload = p.payload }
+record_with (Some m) p = record { tnf = m.tnf; kind = m.kind; id = m.id; payload = m.payload ++ p.payload }
 
 -- NDEF 1.0, CF: the record that the piece ends, if it does
-abbrev pub ended : Before → Piece → List Item
-ended c p = if p.chunked then [] else extended c.begun p ∷ []
+abbrev pub ending_record : Before → Piece → List Item
+ending_record c p = if p.chunked then [] else record_with c.begun p ∷ []
 
 -- NDEF 1.0, CF and ME: what is known after the piece
 abbrev pub after : LimitValues → Before → Piece → Before
 after limits c p =
-    if p.chunked then inside c.records (c.pieces - 1) (c.room - length p.payload) (extended c.begun p)
+    if p.chunked then inside c.records (c.pieces - 1) (c.room - length p.payload) (record_with c.begun p)
     else outside limits false p.last (c.records - 1)
 
 -- NDEF 1.0, messages: these pieces stand in turn, end these records, and the last of them ends the message
 abbrev pub Walk : LimitValues → Before → List Piece → List Item → Type 0
 Walk limits c [] items = (c.over ≡ true) × (items ≡ [])
 Walk limits c (p ∷ ps) items =
-    (c.over ≡ false) × Stands (spot limits.profile c) p × (rest : List Item) × (items ≡ ended c p ++ rest) × Walk limits (after limits c p) ps rest
+    (c.over ≡ false) × Stands (spot limits.profile c) p × (rest : List Item) × (items ≡ ending_record c p ++ rest) × Walk limits (after limits c p) ps rest
 
 -- NDEF 1.0, messages: these pieces stand in turn, end these records, and then d is known
 abbrev pub Walked : LimitValues → Before → List Piece → List Item → Before → Type 0
 Walked limits c [] items d = (items ≡ []) × (d ≡ c)
 Walked limits c (p ∷ ps) items d =
-    (c.over ≡ false) × Stands (spot limits.profile c) p × (rest : List Item) × (items ≡ ended c p ++ rest) × Walked limits (after limits c p) ps rest d
+    (c.over ≡ false) × Stands (spot limits.profile c) p × (rest : List Item) × (items ≡ ending_record c p ++ rest) × Walked limits (after limits c p) ps rest d
 
 -- what is known where these are the pieces of the open run, none where no run is open
 abbrev pub standing : LimitValues → (first over : Bool) → (records : ℕ) → List Piece → Before
 standing limits first over records [] = outside limits first over records
 standing limits first over records (p ∷ ps) =
-    inside records (limits.pieces - length (p ∷ ps)) (limits.payload - length (payload_of (p ∷ ps))) (joined (record { initial = p; later = ps }))
+    inside records (limits.pieces - length (p ∷ ps)) (limits.payload - length (payload_of (p ∷ ps))) (run_record (record { initial = p; later = ps }))
 
 -- the runs that a walk has completed, and the pieces of the one that it is in
 pub record IsCounted (limits : LimitValues) (ps : List Piece) (done : List Item) (d : Before) : Type 0 where
   pub runs : List Run
   pub begun : List Piece
   pub pieces_are : ps ≡ all_pieces runs ++ begun
-  pub done_are : done ≡ map joined runs
+  pub done_are : done ≡ map run_record runs
   pub before : AreBefore limits runs begun
   pub spot_is : spot limits.profile d ≡ spot_after limits runs begun
   pub known : d ≡ standing limits d.first d.over (limits.records - length runs) begun
@@ -119,4 +119,4 @@ WalksAreCounted = (limits : LimitValues) (ps : List Piece) (done : List Item) (d
 -- A message that is not over can be ended by one piece, with any payload that has room.
 abbrev pub WalksCanEnd : Type 0
 WalksCanEnd = (limits : LimitValues) (c : Before) (payload : List ℕ) → c.over ≡ false → AreOctets payload → length payload ≤ c.room → c.room < 2 ^ 32
-    → (p : Piece) × IsPiece p × (p.payload ≡ payload) × Walk limits c (p ∷ []) (extended c.begun p ∷ [])
+    → (p : Piece) × IsPiece p × (p.payload ≡ payload) × Walk limits c (p ∷ []) (record_with c.begun p ∷ [])

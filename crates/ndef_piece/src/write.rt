@@ -1,7 +1,7 @@
 //! The head of a piece, written.
 ghost use Rattle.std.specs.Prelude.{◌≡◌, ◌≤◌, ◌++◌, length, drop};
 ghost use Rattle.ndef_value.specs.Wire.{octets, FitsForm};
-ghost use Rattle.ndef_piece.specs.Heads.{written, MayStand, IsWhole};
+ghost use Rattle.ndef_piece.specs.Heads.{written_fields, MayStand, IsWhole};
 ghost use Rattle.ndef_piece.specs.declared.spot.Spot.{Spot};
 
 use crate::Head;
@@ -13,12 +13,12 @@ use byteorder::{BigEndian, ByteOrder};
 /// head is written with the reserved type name format 7.
 pub fn write_head(head: &Head, out: &mut [u8; 7]) -> usize
     requires { FitsForm head.now.short head.now.payload_length }
-    ensures written { out.new ≡ octets (written head.now) ++ drop result out.old }
-    ensures count { result ≡ length (octets (written head.now)) }
+    ensures written { out.new ≡ octets (written_fields head.now) ++ drop result out.old }
+    ensures count { result ≡ length (octets (written_fields head.now)) }
     ensures few { (3 ≤ result) × (result ≤ 7) }
     // Wherever the head may stand, these octets are read as it.
-    ensures read_back { (spot : Spot) → MayStand spot (written head.now)
-        → IsWhole spot (octets (written head.now)) head.now }
+    ensures read_back { (spot : Spot) → MayStand spot (written_fields head.now)
+        → IsWhole spot (octets (written_fields head.now)) head.now }
 {
     out[0] = header_octet(head);
     out[1] = head.kind_length;

@@ -1,6 +1,6 @@
 -- How many bytes a message has, or a front of one.
 use Rattle.std.proofs.Common.{◌+◌, ◌*◌, ◌≤◌, ◌<◌, ◌^◌, ℕ, List, ◌++◌, map, take, length-append, length-take, length-take-le, Ok, arith, mul-le-mul_left}
-use Rattle.ndef_value.specs.Wire.{LimitValues, AreInRange, MessagesAreBounded, greatest_length, joined}
+use Rattle.ndef_value.specs.Wire.{LimitValues, AreInRange, MessagesAreBounded, greatest_length, run_record}
 use Rattle.ndef_value.specs.declared.refusal.Refusal.{Refusal}
 use Rattle.ndef_lang.specs.Language.{Sets, Conditions}
 use Rattle.ndef_message.specs.Place.{Refuses}
@@ -30,4 +30,4 @@ pub viewed_bounded : MessagesAreBounded → (set : Sets) (holds : Conditions) (l
     → v.taken ≤ greatest_length limits
 viewed_bounded bounded set holds limits input v h =
     let d = h.1.0 in
-    omega (arith, bounded limits d.runs (map joined v.runs) (take v.taken input) d.flat d.within, length-take-le v.taken input h.0)
+    omega (arith, bounded limits d.runs (map run_record v.runs) (take v.taken input) d.flat d.within, length-take-le v.taken input h.0)

@@ -4,7 +4,7 @@ use Rattle.std.proofs.lemmas.List.{take-append-drop}
 use Rattle.std.specs.Prelude.{◌≤◌, IsErrAnd}
 use Rattle.std.specs.Io.KnownBytes.{Keeps, Consumes}
 use Rattle.std.proofs.KnownBytes.{Keeps-refl}
-use Rattle.ndef_value.specs.Wire.{LimitValues, greatest_length, joined}
+use Rattle.ndef_value.specs.Wire.{LimitValues, greatest_length, run_record}
 use Rattle.ndef_value.specs.declared.refusal.Refusal.{Refusal}
 use Rattle.ndef_lang.specs.Language.{Sets, Conditions}
 use Rattle.ndef_message.specs.Place.{Refuses}
@@ -73,7 +73,7 @@ checked_read set holds limits a b checked h =
 
 -- what is viewed can be read
 viewed_read : (set : Sets) (holds : Conditions) (limits : LimitValues) (input rest : List ℕ) (v : Viewed) → Views set holds limits input (Ok v) → rest ≡ drop v.taken input
-    → ReadsFrom set holds limits (Some input) (Some rest) (Ok (record { message = map joined v.runs; taken = v.taken }))
+    → ReadsFrom set holds limits (Some input) (Some rest) (Ok (record { message = map run_record v.runs; taken = v.taken }))
 viewed_read set holds limits input rest v h e =
     let split : input ≡ take v.taken input ++ rest = sym (take-append-drop v.taken input) ∙ ap (λ x. take v.taken input ++ x) (sym e) in
     (take v.taken input, split, sym (length-take-le v.taken input h.0), h.1.0)

@@ -5,7 +5,7 @@ use Rattle.hex.specs.Hex.{encode_lower}
 use Rattle.ndef_value.specs.Reason.{number_of, name_of}
 use Rattle.ndef_value.specs.declared.refusal.Refusal.{Refusal}
 use Rattle.ndef_message.specs.declared.message_reading.Read.{Read}
-use Rattle.ndef_message.specs.Written.{encoded}
+use Rattle.ndef_message.specs.Written.{cut_octets}
 use Rattle.ndef_tool.specs.Quoting.{Text}
 use Rattle.ndef_tool.specs.Showing.{AreRecordLines, IsTyped}
 use Rattle.ndef_tool.specs.Linking.{AreLinkLines}
@@ -95,7 +95,7 @@ IsShown profile number at read text =
 abbrev pub IsBlockBy : Action → Profile → (hex : Bool) → (number at : ℕ) → Read → Text → Type 0
 IsBlockBy Show profile hex number at read text = IsShown profile number at read text
 IsBlockBy Check profile hex number at read text = text ≡ message_line number at (length read.message) read.taken
-IsBlockBy (Encode form size) profile hex number at read text = text ≡ shown_in hex (encoded form size read.message)
+IsBlockBy (Encode form size) profile hex number at read text = text ≡ shown_in hex (cut_octets form size read.message)
 
 -- what is printed of a message as it was chosen
 abbrev pub IsBlock : Choice → (number at : ℕ) → Read → Text → Type 0

@@ -1,6 +1,6 @@
 //! What is printed of a message.
 ghost use Rattle.std.specs.Prelude.{◌≡◌, IfOk};
-ghost use Rattle.ndef_message.specs.Written.{encoded};
+ghost use Rattle.ndef_message.specs.Written.{cut_octets};
 ghost use Rattle.std.specs.List.{AllByRecursion};
 ghost use Rattle.ndef_tool.specs.Output.{IsShown, message_line, shown_in};
 ghost use Rattle.ndef_tool.specs.Showing.{IsTyped};
@@ -45,7 +45,7 @@ fn encode_by(
     size: Option<u32>,
 ) -> Result<Bytes, NoMemory>
     requires { HasSizeIfAny size }
-    ensures { IfOk result (λ bytes. bytes ≡ encoded form size message.now) }
+    ensures { IfOk result (λ bytes. bytes ≡ cut_octets form size message.now) }
 {
     match size {
         None => encode(alloc, message, form),
@@ -99,7 +99,7 @@ pub fn encode_block(
     message: &Message,
 ) -> Result<Block, NoMemory>
     requires { HasSizeIfAny size }
-    ensures { IfOk result (λ block. text_of block ≡ shown_in hex (encoded form size message.now)) }
+    ensures { IfOk result (λ block. text_of block ≡ shown_in hex (cut_octets form size message.now)) }
 {
     let bytes = encode_by(alloc, message, form, size)?;
     block_in(alloc, hex, bytes)

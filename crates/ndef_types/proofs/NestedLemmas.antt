@@ -1,7 +1,7 @@
 -- A nested message is a message of one piece a record, whatever its payloads.
 use Rattle.std.proofs.Common.{◌≡◌, ℕ, ◌≤◌, List, [], ◌∷◌, ◌++◌, length, map, refl, sym, subst, ◌<◌, ◌^◌, ◌∙◌, ap, arith, append-nil, suc, take, Ok, Err}
 use Rattle.std.specs.List.{AllByRecursion, flat_map}
-use Rattle.ndef_value.specs.Wire.{Item, Piece, Run, AreItems, IsItem, IsMessage, IsShaped, IsPiece, SpellAll, pieces, all_pieces, payload_of, joined, LimitValues, AreOctets}
+use Rattle.ndef_value.specs.Wire.{Item, Piece, Run, AreItems, IsItem, IsMessage, IsShaped, IsPiece, SpellAll, pieces, all_pieces, payload_of, run_record, LimitValues, AreOctets}
 use Rattle.ndef_value.specs.declared.profile.Profile.{Profile}
 use Rattle.ndef_lang.specs.Leaf.{IsPayload}
 use Rattle.ndef_lang.specs.LeafLaws.{payload_octets}
@@ -24,7 +24,7 @@ are_pieces : (ps : List Piece) (bytes : List ℕ) → SpellAll ps bytes → AllB
 are_pieces [] bytes h = tt
 are_pieces (p ∷ ps) bytes h = (h.4.piece, are_pieces ps h.2 h.5)
 
-map_length : (runs : List Run) → length (map joined runs) ≡ length runs
+map_length : (runs : List Run) → length (map run_record runs) ≡ length runs
 map_length [] = refl
 map_length (r ∷ runs) = ap suc (map_length runs)
 
@@ -65,7 +65,7 @@ nested_is_deep table profile runs items bytes h = record {
 
 -- ---- the records of a nested message
 
-is_item : (r : Run) → r.later ≡ [] → IsPiece r.initial → IsShaped (joined r) → IsItem (joined r)
+is_item : (r : Run) → r.later ≡ [] → IsPiece r.initial → IsShaped (run_record r) → IsItem (run_record r)
 is_item r e p s =
     let same = sym (one_payload r e) in
     record {
@@ -76,7 +76,7 @@ is_item r e p s =
       payload = subst AreOctets same p.payload;
     }
 
-are_items : (runs : List Run) → AllByRecursion (λ r. r.later ≡ []) runs → AllByRecursion IsPiece (all_pieces runs) → AllByRecursion IsShaped (map joined runs) → AllByRecursion IsItem (map joined runs)
+are_items : (runs : List Run) → AllByRecursion (λ r. r.later ≡ []) runs → AllByRecursion IsPiece (all_pieces runs) → AllByRecursion IsShaped (map run_record runs) → AllByRecursion IsItem (map run_record runs)
 are_items [] h p s = tt
 are_items (r ∷ runs) h p s = let q = append_parts (pieces r) (all_pieces runs) p in (is_item r h.0 q.0.0 s.0, are_items runs h.1 q.1 s.1)
 
@@ -100,7 +100,7 @@ whole_is_deep : (table : Table) (profile : Profile) (runs : List Run) (items : L
 whole_is_deep table profile runs items bytes h = rw take-length (nested_is_deep table profile runs items bytes h)
 
 pub is_seen : (holds : Conditions) (limits : LimitValues) (table : Table) (profile : Profile) (runs : List Run) (items : List Item) (bytes : List ℕ) (v : Viewed)
-    → OneView opaque holds → limits ≡ nested_limits profile → IsNestedBy table 65535 profile runs items bytes → Views opaque holds limits bytes (Ok v) → map joined v.runs ≡ items
+    → OneView opaque holds → limits ≡ nested_limits profile → IsNestedBy table 65535 profile runs items bytes → Views opaque holds limits bytes (Ok v) → map run_record v.runs ≡ items
 is_seen holds limits table profile runs items bytes v one l h r =
     let whole = whole_is_deep table profile runs items bytes h in
     let deep : Deep opaque limits items (take (length bytes) bytes) = rw l whole in

@@ -3,7 +3,7 @@ ghost use Rattle.std.specs.Iterator.Adapters.{IterYieldsInOrder, IterYieldsInRev
 ghost use Rattle.std.specs.Prelude.{◌≡◌, ◌≢◌, ◌<◌, ◌^◌, ◌++◌, ◌∷◌, ◌↔◌, ◌⊎◌, [], Some, length, map, slice_get, option_map, IfOk, IsTrue, OnOk};
 ghost use Rattle.std.specs.Slice.Iter.{iter_rest};
 ghost use Rattle.std.specs.List.{AllByRecursion, list_any};
-ghost use Rattle.ndef_value.specs.Wire.{joined};
+ghost use Rattle.ndef_value.specs.Wire.{run_record};
 ghost use Rattle.ndef_value.specs.declared.profile.Profile.TheVariants.{Strict};
 ghost use Rattle.ndef_lang.specs.Alternative.{IsAlternative};
 ghost use Rattle.ndef_lang.specs.Kind.{kind_of};
@@ -262,7 +262,7 @@ fn is_handover_kind(kind: Kind) -> bool
 
 /// Whether a record that is viewed is a handover request or select.
 fn has_handover(view: &View<'_>) -> bool
-    ensures { result ≡ list_any (λ r. is_handover (kind_of (joined r).tnf (joined r).kind)) view.now.runs }
+    ensures { result ≡ list_any (λ r. is_handover (kind_of (run_record r).tnf (run_record r).kind)) view.now.runs }
 {
     for item in view.items() {
         if is_handover_kind(Kind::of(item.tnf(), item.kind())) {
@@ -275,7 +275,7 @@ fn has_handover(view: &View<'_>) -> bool
 /// The links of a message that is viewed, for a reader of the view's profile. Without a handover there
 /// are none, and no memory is taken.
 pub fn carriers_view(alloc: Global, view: &View<'_>) -> Result<Links, LinkError>
-    ensures { FindsLinks view.now.profile (map joined view.now.runs) result }
+    ensures { FindsLinks view.now.profile (map run_record view.now.runs) result }
 {
     if !has_handover(view) {
         return Ok(Links::new(alloc));

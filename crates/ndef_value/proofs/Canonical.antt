@@ -5,7 +5,7 @@ use Rattle.std.specs.List.{flat_map, AllByRecursion}
 use Rattle.std.proofs.lemmas.List.{append-nil}
 use Rattle.std.proofs.lemmas.Bool.{ltb-true}
 use Rattle.ndef_value.specs.TnfLaws.{same_tnf, code_below, read_code, changed_code}
-use Rattle.ndef_value.specs.Wire.{code, Piece, IsPiece, octets, fields, body, FitsForm, SpellAll, Run, IsRun, joined, Item, IsItem, IsShaped, BeginsOnce, EndsOnce, all_pieces, AreOctets, written_id, whole_piece, whole_pieces, is_nil, canonical, CanonicalIsFlat}
+use Rattle.ndef_value.specs.Wire.{code, Piece, IsPiece, octets, fields, body, FitsForm, SpellAll, Run, IsRun, run_record, Item, IsItem, IsShaped, BeginsOnce, EndsOnce, all_pieces, AreOctets, written_id, whole_piece, whole_pieces, is_nil, canonical, CanonicalIsFlat}
 use Rattle.ndef_value.specs.declared.tnf.Tnf.{Tnf}
 use Rattle.ndef_value.specs.declared.profile.Profile.{Profile}
 
@@ -22,7 +22,7 @@ clash e = cc
 make : (t u : Tnf) (k i j n m : List ℕ) → t ≡ u → i ≡ j → n ≡ m → ◌≡◌ {A = Item} (record { tnf = t; kind = k; id = i; payload = n }) (record { tnf = u; kind = k; id = j; payload = m })
 make t u k i j n m e f g = rw (e, f, g) refl
 
-same_item : (first last : Bool) (m : Item) → joined (one (whole_piece first last m)) ≡ m
+same_item : (first last : Bool) (m : Item) → run_record (one (whole_piece first last m)) ≡ m
 same_item first last m = make _ _ m.kind _ _ _ _ (same_tnf m.tnf) (same_id m.id) (append-nil m.payload)
 
 is_run : (profile : Profile) (first last : Bool) (m : Item) → IsItem m → IsRun profile (one (whole_piece first last m))
@@ -35,12 +35,12 @@ runs : (profile : Profile) (first : Bool) (m : List Item) → AllByRecursion IsI
 runs profile first [] a = tt
 runs profile first (m ∷ ms) a = (is_run profile first (is_nil ms) m a.0, runs profile false ms a.1)
 
-items : (first : Bool) (m : List Item) → map joined (map one (whole_pieces first m)) ≡ m
+items : (first : Bool) (m : List Item) → map run_record (map one (whole_pieces first m)) ≡ m
 items first [] = refl
 items first (m ∷ ms) =
     let e = same_item first (is_nil ms) m in
     let f = items false ms in
-    ap (λ x. x ∷ map joined (map one (whole_pieces false ms))) e ∙ ap (λ x. m ∷ x) f
+    ap (λ x. x ∷ map run_record (map one (whole_pieces false ms))) e ∙ ap (λ x. m ∷ x) f
 
 shapes : (m : List Item) → AllByRecursion IsItem m → AllByRecursion IsShaped m
 shapes [] a = tt

@@ -7,7 +7,7 @@ use Rattle.std.specs.Int.{w32, to_be_bytes}
 use Rattle.std.proofs.lemmas.List.{append-nil}
 use Rattle.ndef_value.specs.PieceLaws.{same_body, same_fields, follow_once, same_run}
 use Rattle.ndef_value.specs.TnfLaws.{read_by_all}
-use Rattle.ndef_value.specs.Wire.{bit, header_octet, payload_length_octets, id_length_octets, octets, fields, body, Piece, Spells, Run, IsRun, all_pieces, joined, EndsOnce, SpellAll, OneMeaning, StrictIsRead}
+use Rattle.ndef_value.specs.Wire.{bit, header_octet, payload_length_octets, id_length_octets, octets, fields, body, Piece, Spells, Run, IsRun, all_pieces, run_record, EndsOnce, SpellAll, OneMeaning, StrictIsRead}
 use Rattle.ndef_value.specs.declared.profile.Profile.{Profile}
 use Rattle.ndef_value.specs.declared.profile.Profile.TheVariants.{Strict}
 
@@ -126,7 +126,7 @@ one_meaning p q m n front whole rest a b e =
     let x = a.1 in
     let y = b.1 in
     let w = pieces_once _ _ front whole rest [] x.message.ends y.message.ends x.spelled y.spelled (sym e ∙ sym (append-nil whole)) in
-    (sym x.message.items ∙ ap (map joined) (runs_once p q a.0 b.0 x.message.each_run y.message.each_run w.0) ∙ y.message.items, w.1)
+    (sym x.message.items ∙ ap (map run_record) (runs_once p q a.0 b.0 x.message.each_run y.message.each_run w.0) ∙ y.message.items, w.1)
 
 -- ---- profiles
 

@@ -183,8 +183,8 @@ abbrev pub payload_of : List Piece → List ℕ
 payload_of = flat_map (λ p. p.payload)
 
 -- NDEF 1.0, chunked payloads: the record that a run means
-abbrev pub joined : Run → Item
-joined r = record {
+abbrev pub run_record : Run → Item
+run_record r = record {
   tnf = tnf_of r.initial.tnf;
   kind = r.initial.kind;
   id = unwrap_or r.initial.id [];
@@ -214,7 +214,7 @@ all_pieces = flat_map pieces
 -- NDEF 1.0, messages: these runs are a message of these items
 pub record IsMessage (profile : Profile) (runs : List Run) (m : List Item) : Type 0 where
   pub each_run : AllByRecursion (IsRun profile) runs
-  pub items : map joined runs ≡ m
+  pub items : map run_record runs ≡ m
   pub shaped : AllByRecursion IsShaped m
   pub begins : BeginsOnce (all_pieces runs)
   pub ends : EndsOnce (all_pieces runs)

@@ -8,7 +8,7 @@ use Rattle.ndef_message.specs.Deep.{IsDeep, IsViable}
 use Rattle.ndef_message.specs.Feed.{Fronts}
 use Rattle.ndef_message.specs.Machine.Points.{Point, IsAtPoint, opened_at}
 use Rattle.ndef_message.specs.Machine.Checkers.{CheckerReached}
-use Rattle.ndef_message.specs.Opened.{Opened, unopened, AreRecords}
+use Rattle.ndef_message.specs.Opened.{Opened, no_octets, AreRecords}
 use Rattle.ndef_message.specs.declared.checker.Checker.{Checker}
 use Rattle.ndef_message.specs.declared.decoder.Took.{Took}
 use Rattle.ndef_message.specs.declared.decoder.Took.TheVariants as took
@@ -43,4 +43,4 @@ pub record Failed (set : Sets) (limits : LimitValues) (place : ℕ) (bytes : Lis
 -- these bytes led to a checker and to what is kept of the open record; or memory was refused at a place
 abbrev pub DecoderKnows : {L : Type 0} {language : Ghosts L} → Checker L language → (failed : Option ℕ) (open_record : Opened) → Fronts Point
 DecoderKnows c None o bytes given point = CheckerReached c bytes given point × (o ≡ opened_at point)
-DecoderKnows {language = language} c (Some at) o bytes given point = Failed language.set c.limits at bytes given point × (o ≡ unopened)
+DecoderKnows {language = language} c (Some at) o bytes given point = Failed language.set c.limits at bytes given point × (o ≡ no_octets)

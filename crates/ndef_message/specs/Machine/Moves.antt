@@ -2,7 +2,7 @@
 use Rattle.std.specs.Prelude.{◌≡◌, ◌+◌, ◌≤◌, ℕ, nat_lt, List, [], ◌++◌, length, unwrap_or, ◌⊎◌, if◌then◌else◌}
 use Rattle.ndef_value.specs.Wire.{Item, Fields, octets, LimitValues}
 use Rattle.ndef_piece.specs.Heads.{MayStand}
-use Rattle.ndef_piece.specs.Walk.{Before, spot, ended, after}
+use Rattle.ndef_piece.specs.Walk.{Before, spot, ending_record, after}
 use Rattle.ndef_message.specs.Machine.Points.{Point, InHead, InType, InId, InPayload, AtEnd, piece}
 
 -- the point where a piece begins, if one does
@@ -14,7 +14,7 @@ abbrev pub given_next : LimitValues → List Item → Before → Fields → (kin
 given_next limits given c f kind id payload =
     if nat_lt (length kind) f.kind_length then given
     else (if nat_lt (length id) (unwrap_or f.id_length 0) then given
-    else (if nat_lt (length payload) f.payload_length then given else given ++ ended c (piece f kind id payload)))
+    else (if nat_lt (length payload) f.payload_length then given else given ++ ending_record c (piece f kind id payload)))
 
 -- NDEF 1.0, record layout: the point behind these parts of a piece
 abbrev pub point_next : LimitValues → Before → Fields → (kind id payload : List ℕ) → Point

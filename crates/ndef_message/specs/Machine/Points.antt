@@ -7,7 +7,7 @@ use Rattle.ndef_piece.specs.Heads.{MayStand, IsOpen}
 use Rattle.ndef_piece.specs.Walk.{Before, start, spot, Walked}
 use Rattle.ndef_piece.specs.Field.{Field}
 use Rattle.ndef_piece.specs.Field as fields
-use Rattle.ndef_message.specs.Opened.{Opened, opened}
+use Rattle.ndef_message.specs.Opened.{Opened, open_record}
 use Rattle.ndef_message.specs.Place.{IsReasonOf}
 
 -- the field of the next octet, with what is known before its piece
@@ -92,7 +92,7 @@ IsReasonAt holds limits point b reason = IsReasonOf holds limits (spot limits.pr
 
 -- what has come of the record
 abbrev pub opened_at : Point → Opened
-opened_at point = opened (before point).begun (field_of point)
+opened_at point = open_record (before point).begun (field_of point)
 
 -- no record is begun
 abbrev pub IsBetween : Point → Type 0

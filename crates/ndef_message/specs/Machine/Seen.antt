@@ -2,7 +2,7 @@
 use Rattle.std.specs.Prelude.{◌≡◌, ℕ, zero, suc, ◌+◌, ◌-◌, ◌^◌, ◌<◌, ◌≤◌, Bool, true, false, List, [], ◌∷◌, length, take, drop, slice_index, Option, Some, None, unwrap_or, if◌then◌else◌}
 use Rattle.std.specs.Int.{w32, from_be_bytes}
 use Rattle.std.specs.List.{AllByRecursion}
-use Rattle.ndef_value.specs.Wire.{Fields, Piece, SpellAll, Run, pieces, all_pieces, Follow, joined, payload_of, IsShaped}
+use Rattle.ndef_value.specs.Wire.{Fields, Piece, SpellAll, Run, pieces, all_pieces, Follow, run_record, payload_of, IsShaped}
 use Rattle.ndef_value.specs.declared.profile.Profile.{Profile}
 use Rattle.ndef_piece.specs.Header.{is_set, tnf_number, size}
 use Rattle.ndef_message.specs.Machine.Points.{piece}
@@ -92,7 +92,7 @@ ArePieces bytes = (ps : List Piece) × SpellAll ps bytes
 -- NDEF 1.0, chunked payloads: a run of a message, with as long a payload as one piece can have
 pub record IsRecord (r : Run) : Type 0 where
   pub follow : Follow r.initial.chunked r.later
-  pub shaped : IsShaped (joined r)
+  pub shaped : IsShaped (run_record r)
   pub small : length (payload_of (pieces r)) < 2 ^ 32
 
 -- the bytes are those of one run, with so long a payload

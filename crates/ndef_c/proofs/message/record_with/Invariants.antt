@@ -1,6 +1,6 @@
 use Rattle.std.proofs.Common.{◌≡◌, ◌+◌, ◌≤◌, ℕ, List, length, drop}
 use Rattle.std.specs.Prelude.{map}
-use Rattle.ndef_value.specs.Wire.{Run, joined}
+use Rattle.ndef_value.specs.Wire.{Run, run_record}
 use Rattle.ndef_types.specs.Contents.{Lack}
 use Rattle.ndef_types.specs.Links.{HasId}
 use Rattle.ndef_c.specs.Links.{BeginsWithRuns, LieBetween}
@@ -14,7 +14,7 @@ invariant-loop-found l = record {
   rest_is : l.rest ≡ drop at l.bytes;
   counted : l.index + length l.rest ≤ length l.bytes;
   left : (runs : List Run) → BeginsWithRuns runs l.bytes
-      → (d : List Run) × Left l.bytes runs at d × LieBetween l.bytes 0 d at × (l.index ≡ length d) × Lack (HasId l.id) (map joined d);
+      → (d : List Run) × Left l.bytes runs at d × LieBetween l.bytes 0 d at × (l.index ≡ length d) × Lack (HasId l.id) (map run_record d);
 }
 
 abbrev pub decreases-loop-found : goal.decreases-loop-found

@@ -1,6 +1,6 @@
 use Rattle.std.proofs.Common.{◌++◌, [], length, length-append, refl, sym, ◌∙◌, ap, arith}
 use Rattle.ndef_piece.specs.Whole.{shown}
-use Rattle.ndef_value.specs.Wire.{joined}
+use Rattle.ndef_value.specs.Wire.{run_record}
 use Rattle.ndef_c.proofs.Copied.{copying_at, next_is, part_fits, copied_on, copied_all}
 use Rattle.ndef_c.proofs.Followed.{one_record}
 use Rattle.ndef_c.proofs.Puts.{put_on, put_all}
@@ -39,7 +39,7 @@ returns-then-not-is_chunked c = λ run rest b.
     let all = copied_all i.copying piece _ n (sym c.is_chunked.ensures ∙ c.if-not-is_chunked.true) in
     let same = one_record apart i.run run i.end rest c.args.bytes.now i.begins b in
     let put = put_on 0 c.loop-piece.at i.done piece.payload _ _ _ (omega arith) i.put (let at = i.at in omega (arith, at)) c.put-at.ensures.put in
-    put_all _ _ _ _ (all ∙ ap (λ r. (joined r).payload) same.0) put
+    put_all _ _ _ _ (all ∙ ap (λ r. (run_record r).payload) same.0) put
 
 pub loop-piece-preserved : goal.loop-piece-preserved
 loop-piece-preserved c =

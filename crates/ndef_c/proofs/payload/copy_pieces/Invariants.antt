@@ -1,5 +1,5 @@
 use Rattle.std.proofs.Common.{◌≡◌, ℕ, List, length}
-use Rattle.ndef_value.specs.Wire.{Run, joined}
+use Rattle.ndef_value.specs.Wire.{Run, run_record}
 use Rattle.ndef_c.specs.Rooms.{IsPut}
 use Rattle.ndef_c.specs.Walks.{BeginsWith}
 use Rattle.ndef_c.proofs.Copied.{Copying}
@@ -11,7 +11,7 @@ invariant-loop-piece l = record {
   end : List ℕ;
   begins : BeginsWith run end l.bytes;
   done : List ℕ;
-  copying : Copying (joined run).payload end l.rest done;
+  copying : Copying (run_record run).payload end l.rest done;
   put : IsPut 0 done l.fn.room l.room;
   at : l.at ≡ length done;
   size : length l.room ≡ length l.fn.room;

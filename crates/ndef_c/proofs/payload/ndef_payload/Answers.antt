@@ -1,12 +1,12 @@
 use Rattle.std.proofs.Common.{length, refl, ap, subst, arith}
-use Rattle.ndef_value.specs.Wire.{joined}
+use Rattle.ndef_value.specs.Wire.{run_record}
 use Rattle.ndef_c.specs.Walks.{BeginsWith}
 use Rattle.ndef_c.proofs.payload.ndef_payload.Goals as goal
 
 pub copy_pieces-requires-clause-room : goal.copy_pieces-requires-clause-room
 copy_pieces-requires-clause-room c = λ run rest b.
     let x = c.in-Some.ensures.some in
-    let same = ap (λ r. length (joined r).payload) (c.one_record_is_there.ensures x.run run _ _ _ x.begins b).0 in
+    let same = ap (λ r. length (run_record r).payload) (c.one_record_is_there.ensures x.run run _ _ _ x.begins b).0 in
     let size = x.payload in
     let room = c.if-room-found.false in
     omega (arith, same, size, room)

@@ -1,5 +1,5 @@
 use Rattle.std.proofs.Common.{◌≡◌, [], ◌≤◌, ◌-◌, length, drop, refl, sym, ◌∙◌, ap, subst, arith}
-use Rattle.ndef_value.specs.Wire.{bit, code, tnf_of, joined}
+use Rattle.ndef_value.specs.Wire.{bit, code, tnf_of, run_record}
 use Rattle.ndef_piece.specs.Header.{is_set}
 use Rattle.std.specs.Prelude.{unwrap_or}
 use Rattle.ndef_c.specs.Walks.{BeginsWith, Lies}
@@ -23,8 +23,8 @@ returns-clause-some c =
     let e = ends x.run bytes c.split_at.result.1.now run.rest.now c.args.at within behind x.begins in
     let p = lie_in f.header f.kind.now f.id.now f.payload.now f.rest.now bytes
     (shown_parts f.header _ f.kind.now f.id.now f.payload.now f.rest.now c.split_at.result.1.now bytes c.args.at behind x.no_id x.split) in
-    let kind : f.kind.now ≡ (joined x.run).kind = ap (λ q. q.kind) x.initial in
-    let id : f.id.now ≡ (joined x.run).id = sym (id_is (is_set 3 f.header) f.id.now x.no_id) ∙ ap (λ q. unwrap_or q.id []) x.initial in
+    let kind : f.kind.now ≡ (run_record x.run).kind = ap (λ q. q.kind) x.initial in
+    let id : f.id.now ≡ (run_record x.run).id = sym (id_is (is_set 3 f.header) f.id.now x.no_id) ∙ ap (λ q. unwrap_or q.id []) x.initial in
     let part : f.payload.now ≡ x.run.initial.payload = ap (λ q. q.payload) x.initial in
     record {
       run = x.run;

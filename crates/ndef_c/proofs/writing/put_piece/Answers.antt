@@ -1,13 +1,13 @@
 use Rattle.std.proofs.Common.{◌≡◌, ◌+◌, ◌++◌, length, length-append, take, sym, ◌∙◌, ap, subst, arith, take_at}
 use Rattle.ndef_value.specs.Wire.{octets}
-use Rattle.ndef_piece.specs.Heads.{written}
+use Rattle.ndef_piece.specs.Heads.{written_fields}
 use Rattle.ndef_c.specs.Rooms.{IsPut}
 use Rattle.ndef_c.proofs.Puts.{put_on}
 use Rattle.ndef_c.proofs.writing.put_piece.Goals as goal
 
 pub returns-clause-put : goal.returns-clause-put
 returns-clause-put c =
-    let head = octets (written c.args.head.now) in
+    let head = octets (written_fields c.args.head.now) in
     let w = c.write_head-count in
     let text : take w.result w.new.out ≡ head = ap (take w.result) w.ensures.written ∙ take_at head _ w.result (sym w.ensures.count) in
     let a = subst (λ x. IsPut c.args.at x c.args.room.now c.put-after_head.new.room) text c.put-after_head.ensures.put in
