@@ -1,6 +1,7 @@
 -- Which handovers may be written.
 use Rattle.std.specs.Prelude.{◌≡◌, ℕ, ◌+◌, ◌*◌, ◌<◌, ◌^◌, List, ◌∷◌, length}
 use Rattle.ndef_value.specs.declared.profile.Profile.TheVariants.{Strict}
+use Rattle.ndef_value.specs.declared.limits.TheConstants.{MOST_RECORDS}
 use Rattle.ndef_nest.specs.Nested.{IsNest}
 use Rattle.ndef_nest.specs.declared.table.Table.{Table}
 use Rattle.ndef_nest.specs.declared.table.Table.TheVariants.{Request, Select}
@@ -22,4 +23,4 @@ pub record MayBeHandover (number major minor : ℕ) (message : List ℕ) : Type 
   pub asked : IsHandover number table
   pub four_bits : minor < 16
   pub fits : 1 + length message < 2 ^ 32
-  pub handover : IsNest table 65535 Strict (version_of major minor ∷ message)
+  pub handover : IsNest table MOST_RECORDS Strict (version_of major minor ∷ message)

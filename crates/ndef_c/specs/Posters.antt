@@ -2,6 +2,7 @@
 use Rattle.std.specs.Prelude.{ℕ, ◌^◌, ◌<◌, List, length, Option, Some, option_map}
 use Rattle.ndef_value.specs.Wire.{Item, Run}
 use Rattle.ndef_value.specs.declared.profile.Profile.{Profile}
+use Rattle.ndef_value.specs.declared.limits.TheConstants.{MOST_RECORDS}
 use Rattle.ndef_lang.specs.declared.kind.Kind.TheVariants as kinds
 use Rattle.ndef_nest.specs.Nested.{IsNest, IsNestedBy}
 use Rattle.ndef_nest.specs.declared.table.Table.TheVariants.{SmartPoster}
@@ -13,7 +14,7 @@ use Rattle.ndef_c.specs.declared.poster.NdefPoster.{NdefPoster}
 
 -- RTD Smart Poster 1.0: the payload is a poster of these records
 abbrev pub HasRecords : Profile → List Item → List ℕ → Type 0
-HasRecords profile items payload = (runs : List Run) × IsNestedBy SmartPoster 65535 profile runs items payload
+HasRecords profile items payload = (runs : List Run) × IsNestedBy SmartPoster MOST_RECORDS profile runs items payload
 
 -- RTD Smart Poster 1.0: what the first action record of a poster says, as a number
 abbrev pub TellsAction : List Item → (has number : ℕ) → Type 0
@@ -25,7 +26,7 @@ TellsSize items has number = (n : Option ℕ) × Says kinds.Size size_in items n
 
 -- RTD Smart Poster 1.0: the payload is a poster: where the payload of its URI record lies, its action and its size
 pub record IsPosterAt (profile : Profile) (payload : List ℕ) (out : NdefPoster) : Type 0 where
-  pub in_set : IsNest SmartPoster 65535 profile payload
+  pub in_set : IsNest SmartPoster MOST_RECORDS profile payload
   pub short : length payload < 2 ^ 32
   pub items : List Item
   pub message : StandsForMessage profile payload (Some items)

@@ -1,6 +1,7 @@
 //! The payloads of handover requests and selects (Connection Handover 1.2).
 ghost use Rattle.std.specs.Prelude.{◌≡◌, ◌<◌, ◌^◌, ◌↔◌, length, drop, IsTrue};
 ghost use Rattle.ndef_value.specs.declared.profile.Profile.TheVariants.{Standard};
+ghost use Rattle.ndef_value.specs.declared.limits.TheConstants.{MOST_RECORDS};
 ghost use Rattle.ndef_nest.specs.Nested.{IsNest, table_of};
 ghost use Rattle.ndef_c.specs.Handovers.{IsHandover};
 
@@ -12,7 +13,7 @@ use ndef_value::Profile;
 /// Whether the payload is one of this kind, as the standard reads it.
 fn is_nest(kind: Kind, payload: &[u8]) -> bool
     ensures { IsTrue result
-        ↔ (IsNest (table_of kind) 65535 Standard payload.now × (length payload.now < 2 ^ 32)) }
+        ↔ (IsNest (table_of kind) MOST_RECORDS Standard payload.now × (length payload.now < 2 ^ 32)) }
 {
     match accept::<Nest>(kind, Profile::Standard, payload) {
         Ok(()) => true,

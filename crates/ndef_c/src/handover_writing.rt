@@ -1,6 +1,7 @@
 //! Writes the payloads of Handover Request and Handover Select records (Connection Handover 1.2).
 ghost use Rattle.std.specs.Prelude.{◌≡◌, ◌+◌, ◌<◌, ◌^◌, ◌↔◌, ◌∷◌, length, IsTrue};
 ghost use Rattle.ndef_value.specs.declared.profile.Profile.TheVariants.{Strict};
+ghost use Rattle.ndef_value.specs.declared.limits.TheConstants.{MOST_RECORDS};
 ghost use Rattle.ndef_c.specs.HandoverWrites.{MayBeHandover, version_of};
 ghost use Rattle.ndef_c.specs.Rooms.{Gives};
 
@@ -8,22 +9,19 @@ use crate::room::give_parts;
 use crate::status::BAD_ARGUMENT;
 use ndef_lang::{Kind, Language};
 use ndef_nest::Nest;
-use ndef_value::Profile;
+use ndef_value::{MOST_RECORDS, Profile};
 
 /// A handover request.
 pub const REQUEST: u32 = 0;
 /// A handover select.
 pub const SELECT: u32 = 1;
 
-/// The most records that a message within a payload may have.
-const RECORDS: u32 = 65535;
-
 /// Whether an octet and the bytes behind it are a payload of the kind.
 fn is_payload<L: Language>(kind: Kind, octet: u8, behind: &[u8]) -> bool
     requires { 1 + length behind.now < 2 ^ 32 }
-    ensures { IsTrue result ↔ L.set kind 65535 Strict (octet ∷ behind.now) }
+    ensures { IsTrue result ↔ L.set kind MOST_RECORDS Strict (octet ∷ behind.now) }
 {
-    let mut state = L::start(kind, RECORDS, Profile::Strict);
+    let mut state = L::start(kind, MOST_RECORDS, Profile::Strict);
     state.step(octet);
     let length = behind.len() as u64;
     if !state.fits(length, length) {

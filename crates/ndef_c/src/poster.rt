@@ -3,6 +3,7 @@ ghost use Rattle.std.specs.Prelude.{◌≡◌, ◌≢◌, ◌<◌, ◌^◌, ◌�
 ghost use Rattle.std.specs.Int.{w32, from_be_bytes};
 ghost use Rattle.ndef_value.specs.Wire.{Item};
 ghost use Rattle.ndef_value.specs.declared.profile.Profile.{Profile};
+ghost use Rattle.ndef_value.specs.declared.limits.TheConstants.{MOST_RECORDS};
 ghost use Rattle.ndef_lang.specs.declared.kind.Kind.TheVariants as kinds;
 ghost use Rattle.ndef_nest.specs.Conditions.{NestReason};
 ghost use Rattle.ndef_nest.specs.Nested.{IsNest};
@@ -100,9 +101,9 @@ fn told(number: Option<u32>) -> (u32, u32)
 
 /// Where the payload of the poster's URI record lies, its action and its size.
 fn poster_at(payload: &[u8]) -> NdefPoster
-    requires nest { (profile : Profile) × IsNest tables.SmartPoster 65535 profile payload.now }
+    requires nest { (profile : Profile) × IsNest tables.SmartPoster MOST_RECORDS profile payload.now }
     requires short { length payload.now < 2 ^ 32 }
-    ensures { (profile : Profile) → IsNest tables.SmartPoster 65535 profile payload.now
+    ensures { (profile : Profile) → IsNest tables.SmartPoster MOST_RECORDS profile payload.now
         → IsPosterAt profile payload.now result }
 {
     let uri = uri_of(payload);
@@ -129,8 +130,8 @@ pub extern "C" fn ndef_poster(
     ensures bad { result ≡ BAD_ARGUMENT ↔ (1 < flags) }
     ensures known { (result ≡ OK) ⊎ (result ≡ REFUSED) ⊎ (result ≡ BAD_ARGUMENT) }
     ensures poster { result ≡ OK → IsPosterAt (profile_of flags) payload.now out.new }
-    ensures refused { result ≡ REFUSED → RefusesWith (IsNest tables.SmartPoster 65535 (profile_of flags))
-        (NestReason tables.SmartPoster 65535 (profile_of flags)) payload.now why.new }
+    ensures refused { result ≡ REFUSED → RefusesWith (IsNest tables.SmartPoster MOST_RECORDS (profile_of flags))
+        (NestReason tables.SmartPoster MOST_RECORDS (profile_of flags)) payload.now why.new }
     ensures kept { result ≢ OK → out.new ≡ out.old }
     ensures kept_why { result ≢ REFUSED → why.new ≡ why.old }
 {

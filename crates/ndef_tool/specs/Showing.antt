@@ -2,6 +2,7 @@
 use Rattle.std.specs.Prelude.{◌≡◌, ◌+◌, ℕ, List, [], ◌∷◌, ◌++◌, length, codes, decimal, Option, None, Some, unwrap_or, encode_utf8_all}
 use Rattle.ndef_value.specs.Wire.{Item, code}
 use Rattle.ndef_value.specs.declared.profile.Profile.{Profile}
+use Rattle.ndef_value.specs.declared.limits.TheConstants.{MOST_RECORDS}
 use Rattle.ndef_lang.specs.Kind.{kind_of}
 use Rattle.ndef_lang.specs.declared.kind.Kind.{Kind}
 use Rattle.ndef_lang.specs.declared.kind.Kind.TheVariants as kinds
@@ -99,7 +100,7 @@ Tells _ profile payload text = text ≡ codes " other"
 
 -- the payload of a record is one of its type
 abbrev pub IsTyped : Profile → Item → Type 0
-IsTyped profile i = IsTypedPayload (kind_of i.tnf i.kind) 65535 profile i.payload
+IsTyped profile i = IsTypedPayload (kind_of i.tnf i.kind) MOST_RECORDS profile i.payload
 
 -- NDEF 1.0, record layout: the number of a record, its type name format, its type, its id and the length of its payload
 abbrev pub record_front : ℕ → Item → Text

@@ -1,5 +1,6 @@
 //! What is printed of handover requests and selects.
 ghost use Rattle.std.specs.Prelude.{◌≡◌, ◌<◌, ◌^◌, ◌++◌, [], length, unwrap_or, OnOk};
+ghost use Rattle.ndef_value.specs.declared.limits.TheConstants.{MOST_RECORDS};
 ghost use Rattle.ndef_lang.specs.Kind.{kind_of};
 ghost use Rattle.ndef_lang.specs.declared.kind.Kind.TheVariants as kinds;
 ghost use Rattle.ndef_nest.specs.Nested.{IsNest};
@@ -56,7 +57,7 @@ pub fn push_request(
     payload: &[u8],
 ) -> Result<(), NoMemory>
     requires short { length payload.now < 2 ^ 32 }
-    requires request { IsNest tables.Request 65535 profile payload.now }
+    requires request { IsNest tables.Request MOST_RECORDS profile payload.now }
     ensures { OnOk result (Adds line.old line.new (Tells kinds.Request profile payload.now)) }
 {
     match Request::decode_as(alloc, payload, profile) {
@@ -92,7 +93,7 @@ pub fn push_select(
     payload: &[u8],
 ) -> Result<(), NoMemory>
     requires short { length payload.now < 2 ^ 32 }
-    requires select { IsNest tables.Select 65535 profile payload.now }
+    requires select { IsNest tables.Select MOST_RECORDS profile payload.now }
     ensures { OnOk result (Adds line.old line.new (Tells kinds.Select profile payload.now)) }
 {
     match Select::decode_as(alloc, payload, profile) {

@@ -1,5 +1,6 @@
 //! What is printed of smart posters.
 ghost use Rattle.std.specs.Prelude.{◌≡◌, ◌<◌, ◌^◌, ◌++◌, length, option_map, OnOk};
+ghost use Rattle.ndef_value.specs.declared.limits.TheConstants.{MOST_RECORDS};
 ghost use Rattle.ndef_lang.specs.declared.kind.Kind.TheVariants as kinds;
 ghost use Rattle.ndef_nest.specs.Nested.{IsNest};
 ghost use Rattle.ndef_nest.specs.declared.table.Table.TheVariants as tables;
@@ -93,7 +94,7 @@ pub fn push_poster(
     payload: &[u8],
 ) -> Result<(), NoMemory>
     requires short { length payload.now < 2 ^ 32 }
-    requires poster { IsNest tables.SmartPoster 65535 profile payload.now }
+    requires poster { IsNest tables.SmartPoster MOST_RECORDS profile payload.now }
     ensures { OnOk result (Adds line.old line.new (Tells kinds.SmartPoster profile payload.now)) }
 {
     match SmartPoster::decode_as(alloc, payload, profile) {

@@ -6,6 +6,7 @@ use Rattle.ndef_value.specs.declared.profile.Profile.{Profile}
 use Rattle.ndef_lang.specs.Leaf.{IsPayload}
 use Rattle.ndef_lang.specs.LeafLaws.{payload_octets}
 use Rattle.ndef_lang.specs.Language.{Sets, Conditions}
+use Rattle.ndef_nest.specs.Conditions.{nested_limits}
 use Rattle.ndef_nest.specs.Nested.{Nested, IsNestedBy, kind_in}
 use Rattle.ndef_nest.specs.declared.table.Table.{Table}
 use Rattle.ndef_value.specs.declared.refusal.Refusal.{Refusal}
@@ -16,9 +17,6 @@ use Rattle.ndef_message.specs.Deep.{Deep, IsMember}
 -- what every list of octets is in
 abbrev pub opaque : Sets
 opaque kind records profile s = AreOctets s
-
-abbrev pub nested_limits : Profile → LimitValues
-nested_limits profile = record { payload = 4294967295; records = 65535; pieces = 1; profile = profile }
 
 are_pieces : (ps : List Piece) (bytes : List ℕ) → SpellAll ps bytes → AllByRecursion IsPiece ps
 are_pieces [] bytes h = tt
@@ -47,11 +45,11 @@ small (r ∷ runs) h k =
     (omega (arith, ap length (one_payload r h.0), l), small runs h.1 p.1)
 
 are_members : (table : Table) (profile : Profile) (items : List Item) → AllByRecursion (λ i. IsPayload (kind_in table i.tnf i.kind) profile i.payload) items
-    → AllByRecursion (IsMember opaque (nested_limits profile)) items
+    → AllByRecursion (IsMember opaque (nested_limits 65535 profile)) items
 are_members table profile [] h = tt
 are_members table profile (i ∷ items) h = (payload_octets (kind_in table i.tnf i.kind) profile i.payload h.0, are_members table profile items h.1)
 
-pub nested_is_deep : (table : Table) (profile : Profile) (runs : List Run) (items : List Item) (bytes : List ℕ) → IsNestedBy table 65535 profile runs items bytes → Deep opaque (nested_limits profile) items bytes
+pub nested_is_deep : (table : Table) (profile : Profile) (runs : List Run) (items : List Item) (bytes : List ℕ) → IsNestedBy table 65535 profile runs items bytes → Deep opaque (nested_limits 65535 profile) items bytes
 nested_is_deep table profile runs items bytes h = record {
   runs = runs;
   flat = h.flat;
@@ -96,18 +94,18 @@ nested_items table profile runs items bytes h =
 -- ---- what is seen
 
 whole_is_deep : (table : Table) (profile : Profile) (runs : List Run) (items : List Item) (bytes : List ℕ) → IsNestedBy table 65535 profile runs items bytes
-    → Deep opaque (nested_limits profile) items (take (length bytes) bytes)
+    → Deep opaque (nested_limits 65535 profile) items (take (length bytes) bytes)
 whole_is_deep table profile runs items bytes h = rw take-length (nested_is_deep table profile runs items bytes h)
 
 pub is_seen : (holds : Conditions) (limits : LimitValues) (table : Table) (profile : Profile) (runs : List Run) (items : List Item) (bytes : List ℕ) (v : Viewed)
-    → OneView opaque holds → limits ≡ nested_limits profile → IsNestedBy table 65535 profile runs items bytes → Views opaque holds limits bytes (Ok v) → map run_record v.runs ≡ items
+    → OneView opaque holds → limits ≡ nested_limits 65535 profile → IsNestedBy table 65535 profile runs items bytes → Views opaque holds limits bytes (Ok v) → map run_record v.runs ≡ items
 is_seen holds limits table profile runs items bytes v one l h r =
     let whole = whole_is_deep table profile runs items bytes h in
     let deep : Deep opaque limits items (take (length bytes) bytes) = rw l whole in
     sym (one limits bytes v items (length bytes) r (omega arith) deep).items_are
 
 pub is_not_refused : (holds : Conditions) (limits : LimitValues) (table : Table) (profile : Profile) (bytes : List ℕ) (refusal : Refusal)
-    → NeverRefused opaque holds → limits ≡ nested_limits profile → Nested table 65535 profile bytes → Views opaque holds limits bytes (Err refusal) → ⊥
+    → NeverRefused opaque holds → limits ≡ nested_limits 65535 profile → Nested table 65535 profile bytes → Views opaque holds limits bytes (Err refusal) → ⊥
 is_not_refused holds limits table profile bytes refusal never l h r =
     let whole = whole_is_deep table profile h.0 h.1 bytes h.2 in
     let deep : Deep opaque limits h.1 (take (length bytes) bytes) = rw l whole in

@@ -2,6 +2,7 @@
 use Rattle.std.specs.Prelude.{◌≡◌, ◌≢◌, ℕ, Bool, true, false, List, [], ◌∷◌, filter, Option, Some, None, ⊤, ◌⊎◌, Result, Ok, Err}
 use Rattle.ndef_value.specs.Wire.{Item}
 use Rattle.ndef_value.specs.declared.profile.Profile.{Profile}
+use Rattle.ndef_value.specs.declared.limits.TheConstants.{MOST_RECORDS}
 use Rattle.ndef_lang.specs.Kind.{kind_of}
 use Rattle.ndef_lang.specs.declared.kind.Kind.{Kind}
 use Rattle.ndef_lang.specs.declared.kind.Kind.TheVariants as kinds
@@ -62,9 +63,9 @@ StandsForLinks profile outer (version ∷ bytes) links =
 -- the links of the handover, if there is one; or its payload is refused
 abbrev pub LinksOf : Profile → List Item → Option Item → Result (List Link) LinkError → Type 0
 LinksOf profile outer None result = result ≡ Ok []
-LinksOf profile outer (Some i) (Ok links) = IsNest (table_of (kind_of i.tnf i.kind)) 65535 profile i.payload × StandsForLinks profile outer i.payload links
+LinksOf profile outer (Some i) (Ok links) = IsNest (table_of (kind_of i.tnf i.kind)) MOST_RECORDS profile i.payload × StandsForLinks profile outer i.payload links
 LinksOf profile outer (Some i) (Err (errors.Refused refusal)) =
-    RefusesPayload (IsNest (table_of (kind_of i.tnf i.kind)) 65535 profile) (NestReason (table_of (kind_of i.tnf i.kind)) 65535 profile) i.payload refusal
+    RefusesPayload (IsNest (table_of (kind_of i.tnf i.kind)) MOST_RECORDS profile) (NestReason (table_of (kind_of i.tnf i.kind)) MOST_RECORDS profile) i.payload refusal
 LinksOf profile outer (Some i) (Err errors.NoMemory) = ⊤
 
 -- Connection Handover 1.2: the links of a message are those of its first handover request or select

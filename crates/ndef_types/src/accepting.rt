@@ -1,22 +1,20 @@
 //! Whether a payload is in the set of its type (NDEF 1.0, PAYLOAD_LENGTH; the sets are ndef_lang's).
 ghost use Rattle.std.specs.Prelude.{◌^◌, ◌<◌, length, OnOk, IfErr};
+ghost use Rattle.ndef_value.specs.declared.limits.TheConstants.{MOST_RECORDS};
 ghost use Rattle.ndef_types.specs.Decoding.{RefusesPayload};
 
 use ndef_lang::{Kind, Language, refusal_of};
-use ndef_value::{Profile, Reason, Refusal};
+use ndef_value::{MOST_PAYLOAD, MOST_RECORDS, Profile, Reason, Refusal};
 
 /// The greatest length of a payload, in bytes: what the four octets of PAYLOAD_LENGTH can tell.
-pub(crate) const MOST: usize = 4294967295;
-
-/// The most records that a message within a payload may have.
-pub(crate) const RECORDS: u32 = 65535;
+pub(crate) const MOST: usize = MOST_PAYLOAD as usize;
 
 /// Nothing where the payload is in the set of its kind and of at most 4294967295 bytes, else where and
 /// why it is refused.
 pub fn accept<L: Language>(kind: Kind, profile: Profile, payload: &[u8]) -> Result<(), Refusal>
-    ensures ok { OnOk result ((length payload.now < 2 ^ 32) × L.set kind 65535 profile payload.now) }
+    ensures ok { OnOk result ((length payload.now < 2 ^ 32) × L.set kind MOST_RECORDS profile payload.now) }
     ensures err { IfErr result
-        (RefusesPayload (L.set kind 65535 profile) (L.holds kind 65535 profile) payload.now) }
+        (RefusesPayload (L.set kind MOST_RECORDS profile) (L.holds kind MOST_RECORDS profile) payload.now) }
 {
     if payload.len() > MOST {
         return Err(Refusal {
@@ -24,7 +22,7 @@ pub fn accept<L: Language>(kind: Kind, profile: Profile, payload: &[u8]) -> Resu
             reason: Reason::DoesNotFit,
         });
     }
-    match refusal_of::<L>(kind, RECORDS, profile, payload) {
+    match refusal_of::<L>(kind, MOST_RECORDS, profile, payload) {
         Some(refusal) => Err(refusal),
         None => Ok(()),
     }

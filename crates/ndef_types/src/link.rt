@@ -5,6 +5,7 @@ ghost use Rattle.std.specs.Slice.Iter.{iter_rest};
 ghost use Rattle.std.specs.List.{AllByRecursion, list_any};
 ghost use Rattle.ndef_value.specs.Wire.{run_record};
 ghost use Rattle.ndef_value.specs.declared.profile.Profile.TheVariants.{Strict};
+ghost use Rattle.ndef_value.specs.declared.limits.TheConstants.{MOST_RECORDS};
 ghost use Rattle.ndef_lang.specs.Alternative.{IsAlternative};
 ghost use Rattle.ndef_lang.specs.Kind.{kind_of};
 ghost use Rattle.ndef_lang.specs.declared.kind.Kind.TheVariants as kinds;
@@ -182,7 +183,7 @@ fn read_links(
     payload: &[u8],
     profile: Profile,
 ) -> Result<Links, NoMemory>
-    requires { (table : Table) × (table ≢ SmartPoster) × IsNest table 65535 profile payload.now }
+    requires { (table : Table) × (table ≢ SmartPoster) × IsNest table MOST_RECORDS profile payload.now }
     ensures { IfOk result (StandsForLinks profile outer.now payload.now) }
 {
     match read_optional(alloc, behind_first(payload), profile)? {

@@ -1,5 +1,6 @@
 //! Laws of the values that hold messages: what was written for a value is decoded to it.
 ghost use Rattle.ndef_value.specs.declared.profile.Profile.{Profile};
+ghost use Rattle.ndef_value.specs.declared.limits.TheConstants.{MOST_RECORDS};
 ghost use Rattle.ndef_nest.specs.Conditions.{NestReason};
 ghost use Rattle.ndef_nest.specs.Nested.{IsNest};
 ghost use Rattle.ndef_nest.specs.declared.table.Table.TheVariants.{SmartPoster, Request, Select};
@@ -13,11 +14,11 @@ use ndef_value::{canonical_is_a_spelling, one_meaning};
 /// A payload of a Smart Poster record stands for one poster, and what `SmartPoster::encode` writes is
 /// decoded, for either profile, to the poster that was written.
 pub fn posters_are_exact()
-    ensures one { (profile : Profile) → OneValue (IsNest SmartPoster 65535 profile) (StandsForPoster profile) }
+    ensures one { (profile : Profile) → OneValue (IsNest SmartPoster MOST_RECORDS profile) (StandsForPoster profile) }
     ensures each { (profile : Profile) →
-        EachHasValue (IsNest SmartPoster 65535 profile) (StandsForPoster profile) IsPosterValue }
+        EachHasValue (IsNest SmartPoster MOST_RECORDS profile) (StandsForPoster profile) IsPosterValue }
     ensures round_trip { (profile : Profile) →
-        RoundTrips (IsNest SmartPoster 65535 profile) (NestReason SmartPoster 65535 profile)
+        RoundTrips (IsNest SmartPoster MOST_RECORDS profile) (NestReason SmartPoster MOST_RECORDS profile)
         (StandsForPoster profile) IsPosterValue WritesPoster }
 {
     one_meaning();
@@ -28,11 +29,11 @@ pub fn posters_are_exact()
 /// A payload of a Handover Request record stands for one request, and what `Request::encode` writes is
 /// decoded, for either profile, to the request that was written.
 pub fn requests_are_exact()
-    ensures one { (profile : Profile) → OneValue (IsNest Request 65535 profile) (StandsForRequest profile) }
+    ensures one { (profile : Profile) → OneValue (IsNest Request MOST_RECORDS profile) (StandsForRequest profile) }
     ensures each { (profile : Profile) →
-        EachHasValue (IsNest Request 65535 profile) (StandsForRequest profile) IsRequestValue }
+        EachHasValue (IsNest Request MOST_RECORDS profile) (StandsForRequest profile) IsRequestValue }
     ensures round_trip { (profile : Profile) →
-        RoundTrips (IsNest Request 65535 profile) (NestReason Request 65535 profile)
+        RoundTrips (IsNest Request MOST_RECORDS profile) (NestReason Request MOST_RECORDS profile)
         (StandsForRequest profile) IsRequestValue WritesRequest }
 {
     one_meaning();
@@ -43,11 +44,11 @@ pub fn requests_are_exact()
 /// A payload of a Handover Select record stands for one select, and what `Select::encode` writes is
 /// decoded, for either profile, to the select that was written.
 pub fn selects_are_exact()
-    ensures one { (profile : Profile) → OneValue (IsNest Select 65535 profile) (StandsForSelect profile) }
+    ensures one { (profile : Profile) → OneValue (IsNest Select MOST_RECORDS profile) (StandsForSelect profile) }
     ensures each { (profile : Profile) →
-        EachHasValue (IsNest Select 65535 profile) (StandsForSelect profile) IsSelectValue }
+        EachHasValue (IsNest Select MOST_RECORDS profile) (StandsForSelect profile) IsSelectValue }
     ensures round_trip { (profile : Profile) →
-        RoundTrips (IsNest Select 65535 profile) (NestReason Select 65535 profile)
+        RoundTrips (IsNest Select MOST_RECORDS profile) (NestReason Select MOST_RECORDS profile)
         (StandsForSelect profile) IsSelectValue WritesSelect }
 {
     one_meaning();

@@ -1,22 +1,24 @@
 //! Messages within payloads.
 ghost use Rattle.std.specs.Prelude.{◌≡◌, ◌+◌, ◌^◌, ◌≤◌, ◌↔◌, ◌∷◌, ◌⊎◌, [], Some, length, IfOk, IfSome, IsErrOf};
 ghost use Rattle.ndef_value.specs.Wire.{canonical};
+ghost use Rattle.ndef_value.specs.declared.limits.TheConstants.{MOST_RECORDS};
+ghost use Rattle.ndef_nest.specs.Conditions.{nested_limits};
 ghost use Rattle.ndef_nest.specs.Nested.{HasContents, Nested};
 ghost use Rattle.ndef_nest.specs.declared.table.Table.{Table};
 ghost use Rattle.ndef_types.specs.Contents.{StandsForMessage};
 
 use crate::EncodeError;
-use crate::accepting::{MOST, RECORDS};
+use crate::accepting::MOST;
 use ndef_lang::Opaque;
 use ndef_message::{Form, encode, encoded_length, short_is_canonical, view, views_are_exact};
-use ndef_value::{Bytes, Limits, Message, NoMemory, Profile};
+use ndef_value::{Bytes, Limits, MOST_PAYLOAD, MOST_RECORDS, Message, NoMemory, Profile};
 use std::alloc::Global;
 
 /// Limits that each nested message meets.
 fn nested_limits(profile: Profile) -> Limits
-    ensures { result ≡ record { payload = 4294967295; records = 65535; pieces = 1; profile = profile } }
+    ensures { result ≡ nested_limits MOST_RECORDS profile }
 {
-    match Limits::new(u32::MAX, RECORDS, 1) {
+    match Limits::new(MOST_PAYLOAD, MOST_RECORDS, 1) {
         Ok(limits) => limits.with(profile),
         Err(_) => unreachable!(),
     }
@@ -28,10 +30,10 @@ pub(crate) fn read_nested(
     bytes: &[u8],
     profile: Profile,
 ) -> Result<Message, NoMemory>
-    requires { (table : Table) × Nested table 65535 profile bytes.now }
+    requires { (table : Table) × Nested table MOST_RECORDS profile bytes.now }
     ensures stands { IfOk result (λ message. StandsForMessage profile bytes.now (Some message)) }
     ensures contents { IfOk result
-        (λ message. (table : Table) → Nested table 65535 profile bytes.now → HasContents table profile message) }
+        (λ message. (table : Table) → Nested table MOST_RECORDS profile bytes.now → HasContents table profile message) }
 {
     views_are_exact::<Opaque>();
     match view::<Opaque>(bytes, nested_limits(profile)) {
@@ -46,10 +48,10 @@ pub(crate) fn read_optional(
     bytes: &[u8],
     profile: Profile,
 ) -> Result<Option<Message>, NoMemory>
-    requires { (table : Table) × ((bytes.now ≡ []) ⊎ Nested table 65535 profile bytes.now) }
+    requires { (table : Table) × ((bytes.now ≡ []) ⊎ Nested table MOST_RECORDS profile bytes.now) }
     ensures stands { IfOk result (StandsForMessage profile bytes.now) }
     ensures contents { IfOk result
-        (λ message. (table : Table) → (bytes.now ≡ []) ⊎ Nested table 65535 profile bytes.now
+        (λ message. (table : Table) → (bytes.now ≡ []) ⊎ Nested table MOST_RECORDS profile bytes.now
         → IfSome message (HasContents table profile)) }
 {
     if bytes.is_empty() {

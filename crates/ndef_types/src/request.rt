@@ -2,6 +2,7 @@
 ghost use Rattle.std.specs.Prelude.{◌≡◌, ◌<◌, ◌≤◌, ◌+◌, ◌^◌, ◌↔◌, length, IfOk, IsErrOf, MatchOption};
 ghost use Rattle.ndef_value.specs.Wire.{canonical};
 ghost use Rattle.ndef_value.specs.declared.profile.Profile.TheVariants.{Strict};
+ghost use Rattle.ndef_value.specs.declared.limits.TheConstants.{MOST_RECORDS};
 ghost use Rattle.ndef_nest.specs.Conditions.{NestReason};
 ghost use Rattle.ndef_nest.specs.Nested.{HasContents, IsNest};
 ghost use Rattle.ndef_nest.specs.declared.table.Table.TheVariants as tables;
@@ -45,7 +46,7 @@ impl Model for Request {
 
 /// The request for which a payload stands.
 fn read_request(alloc: Global, payload: &[u8], profile: Profile) -> Result<Request, NoMemory>
-    requires { IsNest tables.Request 65535 profile payload.now }
+    requires { IsNest tables.Request MOST_RECORDS profile payload.now }
     ensures { IfOk result (StandsForRequest profile payload.now) }
 {
     strict_contents_are_read();
@@ -76,7 +77,7 @@ impl Request {
     /// payload is `Refused` at the first byte after which no payload of its length is one. Else
     /// `NoMemory`.
     pub fn decode(alloc: Global, payload: &[u8]) -> Result<Request, DecodeError>
-        ensures { Decodes (IsNest tables.Request 65535 Strict) (NestReason tables.Request 65535 Strict)
+        ensures { Decodes (IsNest tables.Request MOST_RECORDS Strict) (NestReason tables.Request MOST_RECORDS Strict)
             (StandsForRequest Strict) payload.now result }
     {
         Request::decode_as(alloc, payload, Profile::Strict)
@@ -89,7 +90,7 @@ impl Request {
         payload: &[u8],
         profile: Profile,
     ) -> Result<Request, DecodeError>
-        ensures { Decodes (IsNest tables.Request 65535 profile) (NestReason tables.Request 65535 profile)
+        ensures { Decodes (IsNest tables.Request MOST_RECORDS profile) (NestReason tables.Request MOST_RECORDS profile)
             (StandsForRequest profile) payload.now result }
     {
         accept::<Nest>(Kind::Request, profile, payload)?;

@@ -1,6 +1,7 @@
 //! Handover selects.
 ghost use Rattle.std.specs.Prelude.{◌≡◌, ◌+◌, ◌^◌, ◌<◌, ◌≤◌, ◌↔◌, length, IfOk, IsErrOf, IfSome, option_map};
 ghost use Rattle.ndef_value.specs.declared.profile.Profile.TheVariants.{Strict};
+ghost use Rattle.ndef_value.specs.declared.limits.TheConstants.{MOST_RECORDS};
 ghost use Rattle.ndef_nest.specs.Conditions.{NestReason};
 ghost use Rattle.ndef_nest.specs.Nested.{HasContents, IsNest};
 ghost use Rattle.ndef_nest.specs.declared.table.Table.TheVariants as tables;
@@ -43,7 +44,7 @@ impl Model for Select {
 
 /// The select for which a payload stands.
 fn read_select(alloc: Global, payload: &[u8], profile: Profile) -> Result<Select, NoMemory>
-    requires { IsNest tables.Select 65535 profile payload.now }
+    requires { IsNest tables.Select MOST_RECORDS profile payload.now }
     ensures { IfOk result (StandsForSelect profile payload.now) }
 {
     strict_contents_are_read();
@@ -84,7 +85,7 @@ impl Select {
     /// other payload is `Refused` at the first byte after which no payload of its length is one. Else
     /// `NoMemory`.
     pub fn decode(alloc: Global, payload: &[u8]) -> Result<Select, DecodeError>
-        ensures { Decodes (IsNest tables.Select 65535 Strict) (NestReason tables.Select 65535 Strict)
+        ensures { Decodes (IsNest tables.Select MOST_RECORDS Strict) (NestReason tables.Select MOST_RECORDS Strict)
             (StandsForSelect Strict) payload.now result }
     {
         Select::decode_as(alloc, payload, Profile::Strict)
@@ -93,7 +94,7 @@ impl Select {
     /// The select for which the payload of a Handover Select record stands, as a reader of the
     /// profile takes it. Refusals as for `decode`.
     pub fn decode_as(alloc: Global, payload: &[u8], profile: Profile) -> Result<Select, DecodeError>
-        ensures { Decodes (IsNest tables.Select 65535 profile) (NestReason tables.Select 65535 profile)
+        ensures { Decodes (IsNest tables.Select MOST_RECORDS profile) (NestReason tables.Select MOST_RECORDS profile)
             (StandsForSelect profile) payload.now result }
     {
         accept::<Nest>(Kind::Select, profile, payload)?;

@@ -2,6 +2,7 @@
 ghost use Rattle.std.specs.Prelude.{◌≡◌, ◌≤◌, ◌^◌, ◌↔◌, ◌⊎◌, length, map, option_map, IfOk, IfSome, IsErrOf, MatchOption};
 ghost use Rattle.ndef_value.specs.Wire.{canonical};
 ghost use Rattle.ndef_value.specs.declared.profile.Profile.TheVariants.{Strict};
+ghost use Rattle.ndef_value.specs.declared.limits.TheConstants.{MOST_RECORDS};
 ghost use Rattle.ndef_lang.specs.Leaf.{IsPayload};
 ghost use Rattle.ndef_lang.specs.declared.kind.Kind.TheVariants as kinds;
 ghost use Rattle.ndef_nest.specs.Conditions.{NestReason};
@@ -129,7 +130,7 @@ fn plain_for(alloc: Global, message: Message, profile: Profile) -> Result<Messag
 
 /// The poster for which a payload stands.
 fn read_poster(alloc: Global, payload: &[u8], profile: Profile) -> Result<SmartPoster, NoMemory>
-    requires { IsNest tables.SmartPoster 65535 profile payload.now }
+    requires { IsNest tables.SmartPoster MOST_RECORDS profile payload.now }
     ensures { IfOk result (StandsForPoster profile payload.now) }
 {
     let message = read_nested(alloc, payload, profile)?;
@@ -161,7 +162,7 @@ impl SmartPoster {
     /// a message of at most 65535 records, each in one piece. Any other payload is `Refused` at the first
     /// byte after which no payload of its length is one. Else `NoMemory`.
     pub fn decode(alloc: Global, payload: &[u8]) -> Result<SmartPoster, DecodeError>
-        ensures { Decodes (IsNest tables.SmartPoster 65535 Strict) (NestReason tables.SmartPoster 65535 Strict)
+        ensures { Decodes (IsNest tables.SmartPoster MOST_RECORDS Strict) (NestReason tables.SmartPoster MOST_RECORDS Strict)
             (StandsForPoster Strict) payload.now result }
     {
         SmartPoster::decode_as(alloc, payload, Profile::Strict)
@@ -174,7 +175,7 @@ impl SmartPoster {
         payload: &[u8],
         profile: Profile,
     ) -> Result<SmartPoster, DecodeError>
-        ensures { Decodes (IsNest tables.SmartPoster 65535 profile) (NestReason tables.SmartPoster 65535 profile)
+        ensures { Decodes (IsNest tables.SmartPoster MOST_RECORDS profile) (NestReason tables.SmartPoster MOST_RECORDS profile)
             (StandsForPoster profile) payload.now result }
     {
         accept::<Nest>(Kind::SmartPoster, profile, payload)?;

@@ -16,7 +16,7 @@ mod tnf;
 
 pub use bytes::Bytes;
 pub use laws::{canonical_is_a_spelling, messages_are_bounded, one_meaning, ranks_are_apart};
-pub use limits::{Limits, OutOfRange};
+pub use limits::{Limits, MOST_PAYLOAD, MOST_PIECES, MOST_RECORDS, OutOfRange};
 pub use message::{Message, MessageError};
 pub use name::{Name, NameError};
 pub use no_memory::NoMemory;

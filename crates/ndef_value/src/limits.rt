@@ -6,6 +6,15 @@ use crate::Profile;
 use std::marker::Model;
 use thiserror::Error;
 
+/// The most bytes of a payload, its pieces joined (NDEF 1.0, PAYLOAD_LENGTH).
+pub const MOST_PAYLOAD: u32 = 4294967295;
+
+/// The most records of a message, a nested one too.
+pub const MOST_RECORDS: u32 = 65535;
+
+/// The most pieces of a record.
+pub const MOST_PIECES: u32 = 65535;
+
 /// How large a message may be that is read: the bytes of a payload, its pieces joined, 1 to 4294967295;
 /// the records of a message, a nested one too, 1 to 65535; the pieces of a record, 1 to 65535; and what
 /// is made of reserved values. NDEF 1.0 sets no limit but that of its 32-bit lengths.
@@ -56,8 +65,8 @@ impl Limits {
         ensures ok { IfOk result (λ limits. limits ≡ strict_limits payload records pieces) }
         ensures accepts { IsOk result ↔ AreInRange (strict_limits payload records pieces) }
     {
-        let records_fit = 1 <= records && records <= 65535;
-        let pieces_fit = 1 <= pieces && pieces <= 65535;
+        let records_fit = 1 <= records && records <= MOST_RECORDS;
+        let pieces_fit = 1 <= pieces && pieces <= MOST_PIECES;
         if payload == 0 || !records_fit || !pieces_fit {
             return Err(OutOfRange);
         }

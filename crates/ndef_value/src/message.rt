@@ -12,7 +12,7 @@ ghost use Rattle.ndef_value.specs.contracts.record.RecordPartialEq.TheImpl.Laws 
 ghost use Rattle.ndef_value.specs.Wire.{Item, IsItem, AreItems};
 ghost use Rattle.ndef_value.specs.Message.{Gives};
 
-use crate::Record;
+use crate::{MOST_RECORDS, Record};
 use std::hash::{Hash, Hasher};
 use std::marker::Model;
 use std::slice;
@@ -64,7 +64,7 @@ impl Message {
         if records.is_empty() {
             return Err(MessageError::NoRecords(records));
         }
-        if records.len() > 65535 {
+        if records.len() > MOST_RECORDS as usize {
             return Err(MessageError::TooMany(records));
         }
         are_items(&records);

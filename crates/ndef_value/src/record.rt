@@ -4,7 +4,7 @@ ghost use Rattle.ndef_value.specs.declared.record.RecordError.TheVariants as err
 ghost use Rattle.ndef_value.specs.Record.{record_error};
 ghost use Rattle.ndef_value.specs.Wire.{IsShaped, HasLengths, IsItem};
 
-use crate::{Bytes, Name, NameError, NoMemory, Tnf};
+use crate::{Bytes, MOST_PAYLOAD, Name, NameError, NoMemory, Tnf};
 use std::alloc::Global;
 use std::marker::Model;
 use thiserror::Error;
@@ -85,7 +85,7 @@ fn has_lengths(tnf: Tnf, kind: &[u8], id: &[u8], payload: &[u8]) -> bool
     ensures { IsTrue result
         ↔ HasLengths (record { tnf = tnf; kind = kind.now; id = id.now; payload = payload.now }) }
 {
-    kind.len() <= 255 && id.len() <= 255 && payload.len() <= 4294967295
+    kind.len() <= 255 && id.len() <= 255 && payload.len() <= MOST_PAYLOAD as usize
 }
 
 impl Record {
