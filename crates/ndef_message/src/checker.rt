@@ -15,7 +15,7 @@ use ndef_piece::{HeadReader, WholePiece};
 use ndef_value::{Limits, Reason, Refusal};
 
 /// Checks one message in memory of fixed size.
-#[derive(Drop)]
+#[derive(Debug, Drop)]
 pub struct Checker<L: OuterLanguage> {
     pub(crate) limits: Limits,
     pub(crate) state: State<L>,

@@ -12,7 +12,7 @@ use ndef_piece::{Head, HeadReader, Step, WholePiece};
 use ndef_value::{Limits, Reason, Refusal};
 
 /// What a checker keeps.
-#[derive(Drop)]
+#[derive(Debug, Drop)]
 pub(crate) struct State<L: OuterLanguage> {
     pub(crate) place: Place,
     pub(crate) reader: HeadReader,
