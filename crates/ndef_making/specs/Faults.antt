@@ -1,6 +1,8 @@
 -- Why no message is made, what is printed of it, and the status.
 use Rattle.std.specs.Prelude.{ℕ, codes}
 use Rattle.clap.specs.Words.{Text}
+use Rattle.ndef_message.specs.declared.input.InputError.{InputError}
+use Rattle.ndef_message.specs.declared.input.InputError.TheVariants as inputs
 use Rattle.ndef_types.specs.declared.error.EncodeError.{EncodeError}
 use Rattle.ndef_types.specs.declared.error.EncodeError.TheVariants as encode
 use Rattle.ndef_types.specs.declared.text.TextError.{TextError}
@@ -15,7 +17,13 @@ use Rattle.ndef_making.specs.declared.fault.Refused.TheVariants as refused
 use Rattle.ndef_making.specs.declared.fault.Status.{Status}
 use Rattle.ndef_making.specs.declared.fault.Status.TheVariants as status
 
--- ---- errors of parts
+-- ---- errors of the input and of parts
+
+-- why the payload on the input isn't read
+abbrev pub input_fault : InputError → Fault
+input_fault inputs.ReadFault = Reading
+input_fault inputs.TooLong = TooLong
+input_fault inputs.NoMemory = Memory
 
 -- RTD Text 1.0, language code: why there is no text
 abbrev pub text_fault : TextError → Fault

@@ -1,9 +1,9 @@
 //! Why no message is made, and the status of a run.
 ghost use Rattle.std.specs.Prelude.{◌≡◌};
-ghost use Rattle.ndef_making.specs.Faults.{encode_fault, line_of, name_fault, number_of_status, record_fault, status_of, text_fault};
-ghost use Rattle.ndef_making.specs.declared.fault.Fault.TheVariants.{Memory, Reading};
+ghost use Rattle.ndef_making.specs.Faults.{encode_fault, input_fault, line_of, name_fault, number_of_status, record_fault, status_of, text_fault};
+ghost use Rattle.ndef_making.specs.declared.fault.Fault.TheVariants.{Memory};
 
-use ndef_message::SourceFault;
+use ndef_message::InputError;
 use ndef_types::{EncodeError, TextError};
 use ndef_value::{NameError, NoMemory, RecordError};
 use std::alloc::{AllocError, AllocFailed};
@@ -80,11 +80,15 @@ impl<T: Drop> From<AllocFailed<T>> for Fault {
     }
 }
 
-impl From<SourceFault> for Fault {
-    ghost from_gives = { λ _ fault. fault ≡ Reading };
+impl From<InputError> for Fault {
+    ghost from_gives = { λ error fault. fault ≡ input_fault error };
 
-    fn from(_: SourceFault) -> Fault {
-        Fault::Reading
+    fn from(error: InputError) -> Fault {
+        match error {
+            InputError::ReadFault => Fault::Reading,
+            InputError::TooLong => Fault::TooLong,
+            InputError::NoMemory => Fault::Memory,
+        }
     }
 }
 

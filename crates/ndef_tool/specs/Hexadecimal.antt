@@ -1,20 +1,17 @@
 -- Hexadecimal text, and the bytes that it stands for.
-use Rattle.std.specs.Prelude.{◌≡◌, ◌<◌, ◌≤◌, ◌==◌, ◌||◌, not, ℕ, Bool, true, false, List, length, Result, Ok, Err, Vec, IfSome, ⊤}
-use Rattle.std.specs.declared.alloc.Global.{Global}
+use Rattle.std.specs.Prelude.{◌≡◌, ◌==◌, ◌||◌, not, ℕ, Bool, List, Result, Ok, Err, ⊤}
 use Rattle.std.specs.List.{filter}
 use Rattle.hex.specs.Hex.{decode_of}
 use Rattle.hex.specs.declared.error.FromHexError.{FromHexError}
 use Rattle.hex.specs.declared.error.FromHexError.TheVariants.{InvalidHexCharacter}
-use Rattle.ndef_message.specs.Sources.{Counts, Gave, Supply}
+use Rattle.ndef_message.specs.Inputs.{IsWhole}
+use Rattle.ndef_message.specs.Sources.{Supply}
+use Rattle.ndef_message.specs.declared.input.InputError.{InputError}
+use Rattle.ndef_message.specs.declared.input.InputError.TheVariants as errors
 use Rattle.ndef_tool.specs.declared.ending.Ending.{Ending}
 use Rattle.ndef_tool.specs.declared.ending.Ending.TheVariants.{Hex, Reading, Memory, TooLong}
 use Rattle.ndef_tool.specs.declared.ending.HexFault.{HexFault}
 use Rattle.ndef_tool.specs.declared.ending.HexFault.TheVariants.{Odd, BadDigit}
-
--- the bytes of a vector, if there is one
-abbrev pub items_of : {E : Type 0} → Result (Vec ℕ Global) E → Result (List ℕ) E
-items_of (Ok bytes) = Ok bytes.items
-items_of (Err e) = Err e
 
 -- ASCII space, tab, CR and LF
 abbrev pub is_space : ℕ → Bool
@@ -29,15 +26,15 @@ abbrev pub fault_of : FromHexError → HexFault
 fault_of (InvalidHexCharacter c place) = BadDigit place
 fault_of _ = Odd
 
--- the whole text to come, where it has at most 16777216 bytes; of a longer one so many are taken, and no more where something failed
-abbrev pub IsText : (before after : Supply) → Bool → Result (List ℕ) Ending → Type 0
-IsText before after failed (Ok text) =
-    (failed ≡ false) × (length text ≤ 16777216) × Gave before after text × IfSome before.coming (λ input. input ≡ text)
-IsText before after failed (Err TooLong) =
-    (failed ≡ false) × IfSome before.coming (λ input. 16777216 < length input) × (text : List ℕ) × (length text ≡ 16777216) × Gave before after text
-IsText before after failed (Err Reading) = (failed ≡ true) × (n : ℕ) × (n ≤ 16777216) × Counts before.taken after.taken n
-IsText before after failed (Err Memory) = (failed ≡ false) × (text : List ℕ) × (length text ≤ 16777216) × Gave before after text
-IsText before after failed (Err _) = ⊥
+-- the ending where the text isn't read to its end
+abbrev pub input_ending : InputError → Ending
+input_ending errors.ReadFault = Reading
+input_ending errors.TooLong = TooLong
+input_ending errors.NoMemory = Memory
+
+-- the text to come is read, at most 16777216 bytes of it
+abbrev pub IsText : (before after : Supply) → Bool → Result (List ℕ) InputError → Type 0
+IsText = IsWhole 16777216
 
 -- the bytes that the digits of a text stand for, or what is wrong with them
 abbrev pub IsDecoded : List ℕ → Result (List ℕ) Ending → Type 0
@@ -50,4 +47,4 @@ IsDecoded text (Err _) = ⊥
 abbrev pub IsInput : (before after : Supply) → Bool → Result (List ℕ) Ending → Type 0
 IsInput before after failed (Ok bytes) = (text : List ℕ) × IsText before after failed (Ok text) × IsDecoded text (Ok bytes)
 IsInput before after failed (Err (Hex fault)) = (text : List ℕ) × IsText before after failed (Ok text) × IsDecoded text (Err (Hex fault))
-IsInput before after failed (Err ending) = IsText before after failed (Err ending)
+IsInput before after failed (Err ending) = (error : InputError) × IsText before after failed (Err error) × (ending ≡ input_ending error)

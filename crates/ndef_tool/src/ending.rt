@@ -1,8 +1,9 @@
 //! How a run of the command ends.
 ghost use Rattle.std.specs.Prelude.{◌≡◌};
+ghost use Rattle.ndef_tool.specs.Hexadecimal.{input_ending};
 ghost use Rattle.ndef_tool.specs.declared.ending.Ending.TheVariants.{Memory, Reading};
 
-use ndef_message::SourceFault;
+use ndef_message::{InputError, SourceFault};
 use ndef_value::{NoMemory, Refusal};
 
 /// What is wrong with hexadecimal digits.
@@ -48,6 +49,18 @@ impl From<SourceFault> for Ending {
 
     fn from(_fault: SourceFault) -> Ending {
         Ending::Reading
+    }
+}
+
+impl From<InputError> for Ending {
+    ghost from_gives = { λ error ending. ending ≡ input_ending error };
+
+    fn from(error: InputError) -> Ending {
+        match error {
+            InputError::ReadFault => Ending::Reading,
+            InputError::TooLong => Ending::TooLong,
+            InputError::NoMemory => Ending::Memory,
+        }
     }
 }
 

@@ -1,41 +1,20 @@
 //! Hexadecimal text, read whole.
 ghost use Rattle.std.specs.Prelude.{◌≡◌, ◌++◌, codes, false, string_bytes, IfErr, IfOk};
 ghost use Rattle.hex.specs.Hex.{encode_lower};
+ghost use Rattle.ndef_message.specs.Inputs.{bytes_of};
 ghost use Rattle.ndef_message.specs.Machine.Turns.{supply_of};
-ghost use Rattle.ndef_tool.specs.Hexadecimal.{IsDecoded, IsInput, IsText, digits_of, fault_of, is_space, items_of};
+ghost use Rattle.ndef_tool.specs.Hexadecimal.{IsDecoded, IsInput, digits_of, fault_of, is_space};
 ghost use Rattle.ndef_tool.specs.Output.{FitsPlace};
 ghost use Rattle.ndef_tool.specs.Sessions.{is_writing};
 
 use crate::ending::{Ending, HexFault};
 use hex::FromHexError;
-use ndef_message::Source;
+use ndef_message::{Source, read_all};
 use ndef_value::{Bytes, NoMemory};
 use std::alloc::Global;
 
 /// The most bytes of text that are read.
 const MOST: usize = 16777216;
-
-/// Reads the text to its end.
-fn read_text<S: Source>(alloc: Global, source: &mut S) -> Result<Vec<u8>, Ending>
-    ensures text { IsText (supply_of S.Source source.old) (supply_of S.Source source.new)
-        (S.has_failed source.new) (items_of result) }
-{
-    let mut text = Vec::new(alloc);
-    loop {
-        let bytes = source.fill()?;
-        if bytes.is_empty() {
-            return Ok(text);
-        }
-        let count = bytes.len().min(MOST - text.len());
-        if count == 0 {
-            return Err(Ending::TooLong);
-        }
-        let Ok(()) = text.extend_from_slice(&bytes[..count]) else {
-            return Err(Ending::Memory);
-        };
-        source.take(count);
-    }
-}
 
 /// Whether a byte is white space in hexadecimal text.
 fn is_space(byte: u8) -> bool
@@ -63,7 +42,7 @@ fn fault_of(error: FromHexError) -> HexFault
 
 /// The bytes that the digits of a text stand for.
 fn decode_text(alloc: Global, text: Vec<u8>) -> Result<Vec<u8>, Ending>
-    ensures { IsDecoded text.items (items_of result) }
+    ensures { IsDecoded text.items (bytes_of result) }
 {
     let mut text = text;
     drop_spaces(&mut text);
@@ -77,11 +56,11 @@ fn decode_text(alloc: Global, text: Vec<u8>) -> Result<Vec<u8>, Ending>
 /// The bytes that the text of the source stands for.
 pub fn read_hexadecimal<S: Source>(alloc: Global, source: &mut S) -> Result<Vec<u8>, Ending>
     ensures input { IsInput (supply_of S.Source source.old) (supply_of S.Source source.new)
-        (S.has_failed source.new) (items_of result) }
+        (S.has_failed source.new) (bytes_of result) }
     ensures room { IfErr result (λ ending. FitsPlace 0 ending) }
     ensures mark { IfErr result (λ ending. is_writing ending ≡ false) }
 {
-    let text = read_text(alloc, source)?;
+    let text = read_all(alloc, source, MOST)?;
     decode_text(alloc, text)
 }
 

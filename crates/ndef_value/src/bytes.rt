@@ -65,6 +65,15 @@ impl Bytes {
     }
 }
 
+/// The bytes of a vector, without a copy.
+impl From<Vec<u8>> for Bytes {
+    ghost from_gives = { λ bytes string. string ≡ bytes.items };
+
+    fn from(bytes: Vec<u8>) -> Bytes {
+        Bytes { bytes }
+    }
+}
+
 impl PartialEq for Bytes {
     ghost eq = { pointwise ◌==◌ };
 

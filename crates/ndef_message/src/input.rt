@@ -1,0 +1,63 @@
+//! All that a source gives.
+ghost use Rattle.std.specs.Prelude.{◌≡◌};
+ghost use Rattle.ndef_message.specs.Inputs.{bytes_of, IsWhole};
+ghost use Rattle.ndef_message.specs.Machine.Turns.{supply_of};
+ghost use Rattle.ndef_message.specs.declared.input.InputError.TheVariants as errors;
+
+use crate::{Source, SourceFault};
+use std::alloc::{AllocError, Global};
+use thiserror::Error;
+
+/// Why a source wasn't read to its end.
+#[derive(Clone, Copy, Debug, Drop, PartialEq, Eq, Hash, Error)]
+pub enum InputError {
+    /// The source failed, and fails from then on.
+    #[error("reading failed")]
+    ReadFault,
+    /// More bytes come than were asked for; so many of them were taken.
+    #[error("the input is too long")]
+    TooLong,
+    /// A growth was refused. At most as many bytes as were asked for were taken.
+    #[error("no memory")]
+    NoMemory,
+}
+
+impl From<SourceFault> for InputError {
+    ghost from_gives = { λ _ error. error ≡ errors.ReadFault };
+
+    fn from(_: SourceFault) -> InputError {
+        InputError::ReadFault
+    }
+}
+
+impl From<AllocError> for InputError {
+    ghost from_gives = { λ _ error. error ≡ errors.NoMemory };
+
+    fn from(_: AllocError) -> InputError {
+        InputError::NoMemory
+    }
+}
+
+/// Reads a source to its end, where it has at most so many bytes.
+pub fn read_all<S: Source>(
+    alloc: Global,
+    source: &mut S,
+    most: usize,
+) -> Result<Vec<u8>, InputError>
+    ensures { IsWhole most (supply_of S.Source source.old) (supply_of S.Source source.new)
+        (S.has_failed source.new) (bytes_of result) }
+{
+    let mut input = Vec::new(alloc);
+    loop {
+        let bytes = source.fill()?;
+        if bytes.is_empty() {
+            return Ok(input);
+        }
+        let count = bytes.len().min(most - input.len());
+        if count == 0 {
+            return Err(InputError::TooLong);
+        }
+        input.extend_from_slice(&bytes[..count])?;
+        source.take(count);
+    }
+}
