@@ -231,6 +231,34 @@ uint32_t ndef_reference(const uint8_t *payload, size_t length, size_t index, nde
  * the bytes, or is longer than 255. */
 uint32_t ndef_write_alternative(uint32_t power, const uint8_t *bytes, size_t length, const ndef_part *parts, size_t parts_count,
                                 uint8_t *room, size_t size, size_t *count);
+/* A handover request. */
+typedef struct ndef_request_parts {
+    size_t carriers;       /* its alternative carriers: ndef_link_at tells each */
+    uint32_t major, minor; /* its version, 1 and 0 to 15 */
+    uint32_t collision;    /* the random number of its Collision Resolution record, which is the first of its message */
+} ndef_request_parts;
+
+/* Tells the version, the random number and how many alternative carriers there are in the payload of a Handover Request
+ * record (`Hr`). Behind a version byte the payload is a message, which ndef_record_at walks to all its records. Flags:
+ * NDEF_STANDARD reads reserved values as the standard says.
+ * NDEF_OK: `out` has them, and `why` is as it was. NDEF_REFUSED: it is no such payload; `why` tells where and why (and 0
+ * records), and `out` is as it was. NDEF_BAD_ARGUMENT: an unknown flag. */
+uint32_t ndef_request(const uint8_t *payload, size_t length, uint32_t flags, ndef_request_parts *out, ndef_checked *why);
+
+/* A handover select. */
+typedef struct ndef_select_parts {
+    size_t carriers;                 /* its alternative carriers: ndef_link_at tells each */
+    size_t detail_at, detail_length; /* the data of its error, in its payload; 0 and 0 where it has none */
+    uint32_t major, minor;           /* its version, 1 and 0 to 15 */
+    uint32_t has_error, error;       /* 1 and the reason of its error (1 to 3 are defined), or 0 and 0 */
+} ndef_select_parts;
+
+/* Tells the version, the error, of several the first, and how many alternative carriers there are in the payload of a
+ * Handover Select record (`Hs`). The payload is a version byte, alone or with a message behind it, which ndef_record_at
+ * walks to all its records. Flags: NDEF_STANDARD reads reserved values as the standard says.
+ * NDEF_OK: `out` has them, and `why` is as it was. NDEF_REFUSED: it is no such payload; `why` tells where and why (and 0
+ * records), and `out` is as it was. NDEF_BAD_ARGUMENT: an unknown flag. */
+uint32_t ndef_select(const uint8_t *payload, size_t length, uint32_t flags, ndef_select_parts *out, ndef_checked *why);
 
 /* A link of a message: an alternative carrier of its handover, and the record to which it refers. */
 typedef struct ndef_link {

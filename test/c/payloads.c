@@ -1,4 +1,4 @@
-/* URIs, texts, carriers, alternative carriers and smart posters: each payload read, and written where it can be;
+/* URIs, texts, carriers, alternative carriers, handovers and smart posters: each payload read, and written where it can be;
  * and the links of messages. */
 #include "ndef.h"
 
@@ -154,6 +154,32 @@ static const uint8_t select_payload[] = {
 /* Version 1.2, "cr" 258, "ac" to "h" */
 static const uint8_t request_payload[] = { 0x12, 0x91, 2, 2, 'c', 'r', 1, 2, 0x51, 2, 4, 'a', 'c', 1, 1, 'h', 0 };
 
+static void handovers(void) {
+    ndef_request_parts request;
+    ndef_select_parts parts;
+    ndef_checked why = { 7, 7, 7 };
+    expect(ndef_request(request_payload, sizeof request_payload, 0, &request, &why) == NDEF_OK && why.place == 7, "a request isn't read");
+    expect(request.major == 1 && request.minor == 2 && request.collision == 258 && request.carriers == 1, "a request says something else");
+    request.minor = 77;
+    expect(ndef_request(request_payload, 1, 0, &request, &why) == NDEF_REFUSED && request.minor == 77, "a request has no message");
+    expect(ndef_request((const uint8_t *)"\x12\xd0\0\0\0\0\0\0", 8, 0, &request, &why) == NDEF_REFUSED && why.place == 1
+           && why.reason == NDEF_COLLISION_MISSING && why.records == 0, "a request with no random number is refused otherwise");
+    expect(ndef_request(request_payload, 1, 2, &request, &why) == NDEF_BAD_ARGUMENT, "an unknown flag is taken");
+
+    expect(ndef_select(select_payload, sizeof select_payload, 0, &parts, &why) == NDEF_OK && why.place == 1, "a select isn't read");
+    expect(parts.major == 1 && parts.minor == 2 && parts.carriers == 4, "a select says something else");
+    expect(parts.has_error == 1 && parts.error == 1 && parts.detail_at == 17 && parts.detail_length == 1, "a select has another error");
+    expect(ndef_select((const uint8_t *)"\x1f", 1, 0, &parts, &why) == NDEF_OK && parts.minor == 15, "a select without a message isn't read");
+    expect(!parts.carriers && !parts.has_error && !parts.error && !parts.detail_at && !parts.detail_length, "the least select says something");
+    parts.minor = 77;
+    expect(ndef_select((const uint8_t *)"\x20", 1, 0, &parts, &why) == NDEF_REFUSED && parts.minor == 77, "version 2 is read");
+    expect(why.place == 0 && why.reason == NDEF_VERSION && why.records == 0, "version 2 is refused otherwise");
+    const uint8_t *reserved = (const uint8_t *)"\x12\xd7\0\0";
+    expect(ndef_select(reserved, 4, 0, &parts, &why) == NDEF_REFUSED && why.place == 1 && why.reason == NDEF_RESERVED_TNF, "a reserved type is read");
+    expect(ndef_select(reserved, 4, NDEF_STANDARD, &parts, &why) == NDEF_OK && parts.minor == 2, "the standard reads no reserved type");
+    expect(ndef_select(reserved, 4, 2, &parts, &why) == NDEF_BAD_ARGUMENT, "an unknown flag is taken");
+}
+
 static int is_link(const ndef_link *link, size_t at, size_t length, uint32_t has, size_t index, size_t record_at) {
     return link->carrier_at == at && link->carrier_length == length && link->has_record == has && link->record_index == index
         && link->record_at == record_at;
@@ -223,6 +249,7 @@ int main(void) {
     conversions();
     carriers();
     alternatives();
+    handovers();
     links();
     posters();
     return failed != 0;

@@ -20,7 +20,7 @@ pub record Ahead (items : List Item) (rest : List ℕ) (done : List Item) : Type
   pub single : AllByRecursion (λ r. r.later ≡ []) left
   pub spelled : SpellAll (all_pieces left) rest
 
-pub ahead_at : (profile : Profile) (items : List Item) (bytes : List ℕ) → IsInPieces profile items bytes → Ahead items bytes []
+ahead_at : (profile : Profile) (items : List Item) (bytes : List ℕ) → IsInPieces profile items bytes → Ahead items bytes []
 ahead_at profile items bytes h = record { left = h.runs; all = sym h.flat.message.items; single = h.single; spelled = h.flat.spelled }
 
 -- .. of a message, if there is one

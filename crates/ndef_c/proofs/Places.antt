@@ -1,5 +1,5 @@
 -- Where the parts of a record lie.
-use Rattle.std.proofs.Common.{◌≡◌, ℕ, ◌+◌, ◌-◌, ◌<◌, ◌≤◌, [], take, drop, refl, sym, ◌∙◌, ap, arith, List, ◌++◌, length, length-append, length-drop, append_assoc, take_at, drop_at, Bool, true, false}
+use Rattle.std.proofs.Common.{◌≡◌, ℕ, suc, ◌+◌, ◌-◌, ◌<◌, ◌≤◌, ◌∷◌, [], take, drop, refl, sym, ◌∙◌, ap, arith, List, ◌++◌, length, length-append, length-drop, append_assoc, take_at, drop_at, Bool, true, false}
 use Rattle.std.specs.Prelude.{unwrap_or, Some, None, if◌then◌else◌}
 use Rattle.std.proofs.lemmas.List.{drop-drop, length-take, take-append-drop}
 use mir.Val.{bool_byte}
@@ -30,6 +30,17 @@ pub lies_behind : (payload bytes part : List ℕ) (at count : ℕ) → bytes ≡
 lies_behind payload bytes part at count e l = record {
   are = ap (λ k. take count (drop k payload)) (omega arith) ∙ sym (ap (take count) (drop-drop at 1 payload)) ∙ ap (λ x. take count (drop at x)) (sym e) ∙ l.are;
   count_is = l.count_is;
+}
+
+tail_of : (n x : ℕ) (s part : List ℕ) → take (suc n) s ≡ x ∷ part → take n (drop 1 s) ≡ part
+tail_of n x [] part e = absurd (cc)
+tail_of n x (y ∷ s) part e = ap (drop 1) e
+
+-- .. and of what is behind the first octet of a part
+pub lies_tail : (bytes part : List ℕ) (at count x : ℕ) → Lies bytes at count (x ∷ part) → Lies bytes (at + 1) (length part) part
+lies_tail bytes part at count x l = record {
+  are = sym (ap (take (length part)) (drop-drop 1 at bytes)) ∙ tail_of (length part) x (drop at bytes) part (ap (λ n. take n (drop at bytes)) (sym l.count_is) ∙ l.are);
+  count_is = refl;
 }
 
 -- what is behind a record

@@ -1,5 +1,5 @@
 -- The records of posters.
-use Rattle.std.proofs.Common.{ℕ, List, Some, subst}
+use Rattle.std.proofs.Common.{ℕ, List, Some, inr, subst}
 use Rattle.ndef_value.specs.Wire.{Item}
 use Rattle.ndef_value.specs.declared.profile.Profile.{Profile}
 use Rattle.ndef_lang.specs.Leaf.{IsPayload}
@@ -8,11 +8,11 @@ use Rattle.ndef_nest.specs.Nested.{kind_in}
 use Rattle.ndef_nest.specs.declared.table.Table.TheVariants.{SmartPoster}
 use Rattle.ndef_types.specs.Contents.{IsFirst, IsOfKind}
 use Rattle.ndef_types.specs.ContentsLaws.{has_at}
-use Rattle.ndef_c.specs.Nested.{IsInPieces}
+use Rattle.ndef_c.specs.Nested.{MayBeInPieces}
 use Rattle.ndef_c.specs.Posters.{HasRecords}
 
-pub in_pieces : (profile : Profile) (items : List Item) (payload : List ℕ) → HasRecords profile items payload → IsInPieces profile items payload
-in_pieces profile items payload h = record { runs = h.0; flat = h.1.flat; single = h.1.single }
+pub in_pieces : (profile : Profile) (items : List Item) (payload : List ℕ) → HasRecords profile items payload → MayBeInPieces profile items payload
+in_pieces profile items payload h = inr (record { runs = h.0; flat = h.1.flat; single = h.1.single })
 
 -- the first record of a kind has a payload of it
 pub first_has : (profile : Profile) (items : List Item) (payload : List ℕ) (kind : Kind) (i : Item) → HasRecords profile items payload → IsFirst (IsOfKind SmartPoster kind) items (Some i) → IsPayload kind profile i.payload

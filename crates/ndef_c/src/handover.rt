@@ -3,7 +3,7 @@ ghost use Rattle.std.specs.Prelude.{◌≡◌, ◌<◌, ◌^◌, ◌↔◌, leng
 ghost use Rattle.ndef_value.specs.declared.profile.Profile.TheVariants.{Standard};
 ghost use Rattle.ndef_value.specs.declared.limits.TheConstants.{MOST_RECORDS};
 ghost use Rattle.ndef_nest.specs.Nested.{IsNest, table_of};
-ghost use Rattle.ndef_c.specs.Handovers.{IsHandover};
+ghost use Rattle.ndef_c.specs.Handovers.{IsHandover, TellsVersion};
 
 use ndef_lang::Kind;
 use ndef_nest::Nest;
@@ -26,6 +26,15 @@ pub(crate) fn is_handover(payload: &[u8]) -> bool
     ensures { IsTrue result ↔ (IsHandover payload.now × (length payload.now < 2 ^ 32)) }
 {
     is_nest(Kind::Request, payload) || is_nest(Kind::Select, payload)
+}
+
+/// The major and the minor version of a handover.
+pub(crate) fn version_of(payload: &[u8]) -> (u32, u32)
+    requires { 0 < length payload.now }
+    ensures { TellsVersion payload.now result.0 result.1 }
+{
+    let version = u32::from(payload[0]);
+    (version / 16, version % 16)
 }
 
 /// The message of a handover, behind its version octet.

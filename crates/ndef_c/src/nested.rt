@@ -7,7 +7,7 @@ ghost use Rattle.ndef_piece.specs.Header.{is_set};
 ghost use Rattle.ndef_piece.specs.Whole.{IsSplit, shown};
 ghost use Rattle.ndef_types.specs.Contents.{IsOfKind};
 ghost use Rattle.ndef_types.specs.Links.{alternatives, is_alternative};
-ghost use Rattle.ndef_c.specs.Nested.{IsInPieces, MayBeInPieces, FirstLies, LiesWithIndex};
+ghost use Rattle.ndef_c.specs.Nested.{MayBeInPieces, FirstLies, LiesWithIndex};
 ghost use Rattle.ndef_c.specs.Walks.{Lies};
 
 use ndef_lang::Kind;
@@ -40,8 +40,8 @@ fn found_in<'a>(bytes: &'a [u8], piece: &WholePiece<'a>) -> Found<'a>
 
 /// The payload of the first record of a kind in a nested message, each record of which is in one piece.
 pub(crate) fn first_of(table: Table, bytes: &[u8], kind: Kind) -> Option<Found<'_>>
-    requires { (profile : Profile) × (items : List Item) × IsInPieces profile items bytes.now }
-    ensures { (profile : Profile) (items : List Item) → IsInPieces profile items bytes.now
+    requires { (profile : Profile) × (items : List Item) × MayBeInPieces profile items bytes.now }
+    ensures { (profile : Profile) (items : List Item) → MayBeInPieces profile items bytes.now
         → FirstLies (IsOfKind table kind) items bytes.now result }
 {
     heads_are_apart();

@@ -3,11 +3,11 @@ use Rattle.ndef_message.specs.WrittenLaws.{some_left}
 use Rattle.ndef_nest.specs.Nested.{kind_in}
 use Rattle.ndef_types.specs.Contents.{IsOfKind, Lack}
 use Rattle.ndef_piece.specs.Whole.{IsSplit, shown}
-use Rattle.ndef_c.proofs.Ahead.{all_done, ahead_at, behind_piece, empty_rest, first_is, found_of, lack_on, piece_ahead, reached}
+use Rattle.ndef_c.proofs.Ahead.{all_done, ahead_in, behind_piece, empty_rest, first_is, found_of, lack_on, piece_ahead, reached}
 use Rattle.ndef_c.proofs.nested.first_of.Goals as goal
 
 pub loop-rest-init : goal.loop-rest-init
-loop-rest-init c = record { at = 0; rest_is = refl; ahead = λ profile items h. ([], ahead_at profile items c.args.bytes.now h, tt) }
+loop-rest-init c = record { at = 0; rest_is = refl; ahead = λ profile items h. ([], ahead_in profile items c.args.bytes.now h, tt) }
 
 pub unreachable-requires : goal.unreachable-requires
 unreachable-requires c =

@@ -2,7 +2,7 @@ use Rattle.std.proofs.Common.{◌≡◌, ℕ, List, length, drop}
 use Rattle.ndef_value.specs.Wire.{Item}
 use Rattle.ndef_value.specs.declared.profile.Profile.{Profile}
 use Rattle.ndef_types.specs.Contents.{IsOfKind, Lack}
-use Rattle.ndef_c.specs.Nested.{IsInPieces}
+use Rattle.ndef_c.specs.Nested.{MayBeInPieces}
 use Rattle.ndef_c.proofs.Ahead.{Ahead}
 use Rattle.ndef_c.proofs.nested.first_of.Given as goal
 
@@ -10,7 +10,7 @@ abbrev pub invariant-loop-rest : goal.invariant-loop-rest
 invariant-loop-rest l = record {
   at : ℕ;
   rest_is : l.rest ≡ drop at l.bytes;
-  ahead : (profile : Profile) (items : List Item) → IsInPieces profile items l.bytes
+  ahead : (profile : Profile) (items : List Item) → MayBeInPieces profile items l.bytes
       → (done : List Item) × Ahead items l.rest done × Lack (IsOfKind l.table l.kind) done;
 }
 

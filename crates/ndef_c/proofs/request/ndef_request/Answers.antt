@@ -1,0 +1,18 @@
+use Rattle.std.proofs.Common.{subst}
+use Rattle.ndef_nest.specs.Conditions.{NestReason}
+use Rattle.ndef_nest.specs.Nested.{IsNest}
+use Rattle.ndef_nest.specs.declared.table.Table.TheVariants.{Request}
+use Rattle.ndef_types.specs.Decoding.{RefusesPayload}
+use Rattle.ndef_c.proofs.request.ndef_request.Goals as goal
+
+pub returns-in-Ok-clause-request : goal.returns-in-Ok-clause-request
+returns-in-Ok-clause-request c = λ _. c.request_at.ensures _ (subst (λ p. IsNest Request 65535 p c.args.payload.now) c.profile_of.ensures c.in-Ok.ensures.ok.1)
+
+pub returns-in-Err-clause-refused : goal.returns-in-Err-clause-refused
+returns-in-Err-clause-refused c = λ _. record {
+  refusal = c.in-Err.refusal;
+  refused = subst (λ p. RefusesPayload (IsNest Request 65535 p) (NestReason Request 65535 p) c.args.payload.now c.in-Err.refusal) c.profile_of.ensures c.in-Err.ensures.err;
+  place = c.refused_by.ensures.place;
+  records = c.refused_by.ensures.records;
+  reason = c.refused_by.ensures.reason;
+}

@@ -1,0 +1,109 @@
+//! The payloads of Handover Request records (Connection Handover 1.2).
+ghost use Rattle.std.specs.Prelude.{◌≡◌, ◌≢◌, ◌<◌, ◌^◌, ◌↔◌, ◌⊎◌, List, length};
+ghost use Rattle.std.specs.Int.{w16, from_be_bytes};
+ghost use Rattle.ndef_value.specs.Wire.{Item};
+ghost use Rattle.ndef_value.specs.declared.profile.Profile.{Profile};
+ghost use Rattle.ndef_value.specs.declared.limits.TheConstants.{MOST_RECORDS};
+ghost use Rattle.ndef_nest.specs.Conditions.{NestReason};
+ghost use Rattle.ndef_nest.specs.Nested.{IsNest};
+ghost use Rattle.ndef_nest.specs.declared.table.Table.TheVariants as tables;
+ghost use Rattle.ndef_types.specs.Handovers.{IsCollisionOf};
+ghost use Rattle.ndef_c.specs.Checks.{profile_of};
+ghost use Rattle.ndef_c.specs.Handovers.{AreContents, IsRequestAt};
+ghost use Rattle.ndef_c.specs.Payloads.{RefusesWith};
+
+use crate::checking::NdefChecked;
+use crate::handover::{behind_version, version_of};
+use crate::limits::profile_of;
+use crate::nested::{alternatives_in, first_of};
+use crate::refusal::refused_by;
+use crate::status::{BAD_ARGUMENT, OK, REFUSED};
+use ndef_lang::Kind;
+use ndef_nest::{Nest, Table};
+use ndef_types::accept;
+
+/// A handover request.
+#[repr(C)]
+#[derive(Clone, Copy, Drop)]
+pub struct NdefRequest {
+    /// Its alternative carriers.
+    pub carriers: usize,
+    /// The major version, which is 1.
+    pub major: u32,
+    /// The minor version, 0 to 15.
+    pub minor: u32,
+    /// The random number of its Collision Resolution record, 0 to 65535.
+    pub collision: u32,
+}
+
+/// The number of two octets, most significant first.
+fn number_of(octets: &[u8]) -> u16
+    requires { length octets.now ≡ 2 }
+    ensures { result ≡ from_be_bytes w16 octets.now }
+{
+    match octets {
+        [a, b] => u16::from_be_bytes([*a, *b]),
+        _ => unreachable!(),
+    }
+}
+
+/// The random number of the first record of a request.
+fn collision_of(message: &[u8]) -> u32
+    requires { (profile : Profile) × (items : List Item) × AreContents tables.Request profile items message.now }
+    ensures { (profile : Profile) (items : List Item) → AreContents tables.Request profile items message.now
+        → IsCollisionOf items result }
+{
+    match first_of(Table::Request, message, Kind::Collision) {
+        Some(found) => u32::from(number_of(found.payload)),
+        None => unreachable!(),
+    }
+}
+
+/// The version of a request, its random number and how many alternative carriers it has.
+fn request_at(payload: &[u8]) -> NdefRequest
+    requires nest { (profile : Profile) × IsNest tables.Request MOST_RECORDS profile payload.now }
+    requires short { length payload.now < 2 ^ 32 }
+    ensures { (profile : Profile) → IsNest tables.Request MOST_RECORDS profile payload.now
+        → IsRequestAt profile payload.now result }
+{
+    let message = behind_version(payload);
+    let (major, minor) = version_of(payload);
+    NdefRequest {
+        carriers: alternatives_in(message),
+        major,
+        minor,
+        collision: collision_of(message),
+    }
+}
+
+/// Tells the version of the handover request for which the payload of a Handover Request record stands,
+/// its random number and how many alternative carriers it has.
+#[unsafe(no_mangle)]
+pub extern "C" fn ndef_request(
+    payload: &[u8],
+    flags: u32,
+    out: &mut NdefRequest,
+    why: &mut NdefChecked,
+) -> u32
+    ensures bad { result ≡ BAD_ARGUMENT ↔ (1 < flags) }
+    ensures known { (result ≡ OK) ⊎ (result ≡ REFUSED) ⊎ (result ≡ BAD_ARGUMENT) }
+    ensures request { result ≡ OK → IsRequestAt (profile_of flags) payload.now out.new }
+    ensures refused { result ≡ REFUSED → RefusesWith (IsNest tables.Request MOST_RECORDS (profile_of flags))
+        (NestReason tables.Request MOST_RECORDS (profile_of flags)) payload.now why.new }
+    ensures kept { result ≢ OK → out.new ≡ out.old }
+    ensures kept_why { result ≢ REFUSED → why.new ≡ why.old }
+{
+    if flags > 1 {
+        return BAD_ARGUMENT;
+    }
+    match accept::<Nest>(Kind::Request, profile_of(flags), payload) {
+        Ok(()) => {
+            *out = request_at(payload);
+            OK
+        }
+        Err(refusal) => {
+            *why = refused_by(refusal);
+            REFUSED
+        }
+    }
+}

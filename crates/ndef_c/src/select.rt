@@ -1,0 +1,132 @@
+//! The payloads of Handover Select records (Connection Handover 1.2).
+ghost use Rattle.std.specs.Prelude.{◌≡◌, ◌≢◌, ◌<◌, ◌^◌, ◌↔◌, ◌⊎◌, List, length, drop, Option};
+ghost use Rattle.ndef_value.specs.Wire.{Item};
+ghost use Rattle.ndef_value.specs.declared.profile.Profile.{Profile};
+ghost use Rattle.ndef_value.specs.declared.limits.TheConstants.{MOST_RECORDS};
+ghost use Rattle.ndef_lang.specs.declared.kind.Kind.TheVariants as kinds;
+ghost use Rattle.ndef_nest.specs.Conditions.{NestReason};
+ghost use Rattle.ndef_nest.specs.Nested.{IsNest};
+ghost use Rattle.ndef_nest.specs.declared.table.Table.TheVariants as tables;
+ghost use Rattle.ndef_types.specs.Contents.{IsFirst, IsOfKind};
+ghost use Rattle.ndef_c.specs.Checks.{profile_of};
+ghost use Rattle.ndef_c.specs.Handovers.{AreContents, IsSelectAt, TellsError};
+ghost use Rattle.ndef_c.specs.Payloads.{RefusesWith};
+
+use crate::checking::NdefChecked;
+use crate::handover::{behind_version, version_of};
+use crate::limits::profile_of;
+use crate::nested::{alternatives_in, first_of};
+use crate::refusal::refused_by;
+use crate::status::{BAD_ARGUMENT, OK, REFUSED};
+use ndef_lang::Kind;
+use ndef_nest::{Nest, Table};
+use ndef_types::accept;
+
+/// A handover select.
+#[repr(C)]
+#[derive(Clone, Copy, Drop)]
+pub struct NdefSelect {
+    /// Its alternative carriers.
+    pub carriers: usize,
+    /// Where the data of its error begins; 0 without one.
+    pub detail_at: usize,
+    /// The bytes of that data; 0 without one.
+    pub detail_length: usize,
+    /// The major version, which is 1.
+    pub major: u32,
+    /// The minor version, 0 to 15.
+    pub minor: u32,
+    /// 1 where it tells an error, else 0.
+    pub has_error: u32,
+    /// The reason of that error, 0 to 255; 0 without one.
+    pub error: u32,
+}
+
+/// An error, and where its data lies.
+#[derive(Clone, Copy)]
+struct Detail {
+    /// 1 where there is one, else 0.
+    has: u32,
+    /// Its reason.
+    reason: u32,
+    /// Where its data begins.
+    at: usize,
+    /// The bytes of its data.
+    length: usize,
+}
+
+/// The first error of a select.
+fn error_in(payload: &[u8]) -> Detail
+    requires nest { (profile : Profile) × IsNest tables.Select MOST_RECORDS profile payload.now }
+    requires short { length payload.now < 2 ^ 32 }
+    ensures { (profile : Profile) (items : List Item) → AreContents tables.Select profile items (drop 1 payload.now)
+        → (error : Option Item) × IsFirst (IsOfKind tables.Select kinds.Error) items error
+        × TellsError payload.now error result.has result.reason result.at result.length }
+{
+    let Some(found) = first_of(Table::Select, behind_version(payload), Kind::Error) else {
+        return Detail {
+            has: 0,
+            reason: 0,
+            at: 0,
+            length: 0,
+        };
+    };
+    Detail {
+        has: 1,
+        reason: u32::from(found.payload[0]),
+        at: found.at + 2,
+        length: found.payload.len() - 1,
+    }
+}
+
+/// The version of a select, its first error and how many alternative carriers it has.
+fn select_at(payload: &[u8]) -> NdefSelect
+    requires nest { (profile : Profile) × IsNest tables.Select MOST_RECORDS profile payload.now }
+    requires short { length payload.now < 2 ^ 32 }
+    ensures { (profile : Profile) → IsNest tables.Select MOST_RECORDS profile payload.now
+        → IsSelectAt profile payload.now result }
+{
+    let (major, minor) = version_of(payload);
+    let error = error_in(payload);
+    NdefSelect {
+        carriers: alternatives_in(behind_version(payload)),
+        detail_at: error.at,
+        detail_length: error.length,
+        major,
+        minor,
+        has_error: error.has,
+        error: error.reason,
+    }
+}
+
+/// Tells the version of the handover select for which the payload of a Handover Select record stands,
+/// its error and how many alternative carriers it has.
+#[unsafe(no_mangle)]
+pub extern "C" fn ndef_select(
+    payload: &[u8],
+    flags: u32,
+    out: &mut NdefSelect,
+    why: &mut NdefChecked,
+) -> u32
+    ensures bad { result ≡ BAD_ARGUMENT ↔ (1 < flags) }
+    ensures known { (result ≡ OK) ⊎ (result ≡ REFUSED) ⊎ (result ≡ BAD_ARGUMENT) }
+    ensures select { result ≡ OK → IsSelectAt (profile_of flags) payload.now out.new }
+    ensures refused { result ≡ REFUSED → RefusesWith (IsNest tables.Select MOST_RECORDS (profile_of flags))
+        (NestReason tables.Select MOST_RECORDS (profile_of flags)) payload.now why.new }
+    ensures kept { result ≢ OK → out.new ≡ out.old }
+    ensures kept_why { result ≢ REFUSED → why.new ≡ why.old }
+{
+    if flags > 1 {
+        return BAD_ARGUMENT;
+    }
+    match accept::<Nest>(Kind::Select, profile_of(flags), payload) {
+        Ok(()) => {
+            *out = select_at(payload);
+            OK
+        }
+        Err(refusal) => {
+            *why = refused_by(refusal);
+            REFUSED
+        }
+    }
+}
