@@ -305,6 +305,19 @@ uint32_t ndef_write_size(uint32_t bytes, uint8_t *room, size_t size, size_t *cou
  * room, and its length, 2, to *count. NDEF_OK, NDEF_NO_ROOM; NDEF_BAD_ARGUMENT: a number above 65535. */
 uint32_t ndef_write_collision(uint32_t number, uint8_t *room, size_t size, size_t *count);
 
+/* A handover error, its data by their place and length in its payload. */
+typedef struct ndef_error_parts {
+    size_t data_at, data_length;
+    uint32_t reason;             /* 0 to 255; the standard defines 1 to 3 */
+    uint32_t has_number, number; /* 1 and the number that the data of a defined reason tell, or 0 and 0 */
+} ndef_error_parts;
+
+/* Tells the reason of an error, where its data lie and the number that they tell, in the payload of an Error record (`err`)
+ * of a handover select.
+ * NDEF_OK: `out` has them, and `why` is as it was. NDEF_REFUSED: it is no such payload; `why` tells where and why (and 0
+ * records), and `out` is as it was. */
+uint32_t ndef_error(const uint8_t *payload, size_t length, ndef_error_parts *out, ndef_checked *why);
+
 /* Writes the payload of an Error record (`err`) of a handover select, its reason and its data, to the front of the room,
  * and its length to *count. NDEF_OK, NDEF_NO_ROOM; NDEF_BAD_ARGUMENT: a reason above 255; data of another length than 1
  * with the reasons 1 and 3, or than 4 with 2; or no payload has room for them. */

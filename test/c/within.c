@@ -39,6 +39,22 @@ static void numbers(void) {
     expect(ndef_write_collision(0x0102, room, 2, &count) == NDEF_OK && is(room, count, "\1\2", 2), "a number has another payload");
 }
 
+static void errors_read(void) {
+    ndef_error_parts parts = { 7, 7, 7, 7, 7 };
+    ndef_checked why = { 7, 7, 7 };
+    expect(ndef_error((const uint8_t *)"\1\x40", 2, &parts, &why) == NDEF_OK && parts.reason == 1 && why.place == 7, "reason 1 isn't read");
+    expect(parts.has_number && parts.number == 0x40 && parts.data_at == 1 && parts.data_length == 1, "reason 1 tells something else");
+    expect(ndef_error((const uint8_t *)"\2\1\2\3\4", 5, &parts, &why) == NDEF_OK && parts.reason == 2, "reason 2 isn't read");
+    expect(parts.has_number && parts.number == 0x01020304 && parts.data_at == 1 && parts.data_length == 4, "reason 2 tells something else");
+    expect(ndef_error((const uint8_t *)"\3\xff", 2, &parts, &why) == NDEF_OK && parts.has_number && parts.number == 255, "reason 3 isn't read");
+    expect(ndef_error((const uint8_t *)"\4" "a", 2, &parts, &why) == NDEF_OK && parts.reason == 4 && parts.data_length == 1, "reason 4 isn't read");
+    expect(!parts.has_number && !parts.number, "reason 4 tells a number");
+    expect(ndef_error((const uint8_t *)"\0", 1, &parts, &why) == NDEF_OK && !parts.reason && !parts.has_number && !parts.data_length, "reason 0 isn't read");
+    parts.reason = 7;
+    expect(ndef_error((const uint8_t *)"\2\1\2\3", 4, &parts, &why) == NDEF_REFUSED && parts.reason == 7, "a short error is read");
+    expect(why.place == 0 && why.reason == NDEF_DOES_NOT_FIT && why.records == 0, "a short error is refused otherwise");
+}
+
 static void errors(void) {
     uint8_t room[8];
     size_t count = 77;
@@ -162,6 +178,7 @@ static void selects(void) {
 
 int main(void) {
     numbers();
+    errors_read();
     errors();
     alternatives();
     posters();

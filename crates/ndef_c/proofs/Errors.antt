@@ -1,8 +1,11 @@
--- Handover errors whose data are a number.
-use Rattle.std.proofs.Common.{◌≡◌, ℕ, ◌<◌, ◌^◌, ◌∷◌, [], ◌⊎◌, inl, inr, refl, rules, arith}
+-- Handover errors: where their data lie, and those whose data are a number.
+use Rattle.std.proofs.Common.{List, length, take, ◌∙◌, ap, sym, ◌≡◌, ℕ, ◌<◌, ◌^◌, ◌∷◌, [], ◌⊎◌, inl, inr, refl, rules, arith}
 use Rattle.std.specs.Int.{w32, to_be_bytes}
 use Rattle.std.proofs.lemmas.Nat.{from_be_bytes-to_be_bytes_4}
 use Rattle.ndef_value.specs.Wire.{AreOctets}
+use Rattle.std.proofs.lemmas.List.{take_all}
+use Rattle.ndef_value.specs.SliceLaws.{behind, behind_drop}
+use Rattle.ndef_c.specs.Walks.{Lies}
 use Rattle.ndef_c.specs.ErrorWrites.{IsErrorOf, error_of}
 
 -- of one octet
@@ -22,3 +25,7 @@ number_error number h = record {
   reason_is = refl;
   number_is = from_be_bytes-to_be_bytes_4 number h;
 }
+
+-- what stands behind some octets lies there
+pub lies_behind : (n : ℕ) (s : List ℕ) → Lies s n (length (behind n s)) (behind n s)
+lies_behind n s = record { are = ap (take (length (behind n s))) (sym (behind_drop n s)) ∙ take_all (length (behind n s)) (behind n s) (omega arith); count_is = refl }

@@ -1,7 +1,7 @@
 -- Which handover errors may be written, and what is written of them.
-use Rattle.std.specs.Prelude.{◌≡◌, ℕ, ◌<◌, ◌+◌, ◌^◌, ◌==◌, ◌⊎◌, List, length, slice_index, if◌then◌else◌}
-use Rattle.std.specs.Int.{w32, from_be_bytes}
+use Rattle.std.specs.Prelude.{◌≡◌, ℕ, ◌<◌, ◌+◌, ◌^◌, ◌⊎◌, List, length}
 use Rattle.ndef_types.specs.Values.{ErrorValue, IsErrorValue, WritesError}
+use Rattle.ndef_c.specs.Errors.{number_in}
 use Rattle.ndef_c.specs.Payloads.{GivesFor}
 
 -- Connection Handover 1.2, Error record: the error of this reason with these data
@@ -12,10 +12,6 @@ error_of reason detail = record { reason = reason; detail = detail }
 pub record MayBeError (reason : ℕ) (detail : List ℕ) : Type 0 where
   pub error : IsErrorValue (error_of reason detail)
   pub fits : 1 + length detail < 2 ^ 32
-
--- Connection Handover 1.2, Error record: the data of a defined reason are a number, of four octets for reason 2, most significant first, else of one
-abbrev pub number_in : (reason : ℕ) → List ℕ → ℕ
-number_in reason detail = if reason == 2 then from_be_bytes w32 detail else slice_index detail 0
 
 -- Connection Handover 1.2, Error record: a defined reason, and a number that its data can tell
 abbrev pub MayBeNumber : (reason number : ℕ) → Type 0

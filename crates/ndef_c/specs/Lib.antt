@@ -3,6 +3,7 @@ pub mod Alternatives
 pub mod Carriers
 pub mod Checks
 pub mod ErrorWrites
+pub mod Errors
 pub mod HandoverWrites
 pub mod Handovers
 pub mod Links

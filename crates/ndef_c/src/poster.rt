@@ -90,7 +90,7 @@ fn size_of(payload: &[u8]) -> Option<u32>
 }
 
 /// 1 and a number, or 0 and 0 for none.
-fn told(number: Option<u32>) -> (u32, u32)
+pub(crate) fn told(number: Option<u32>) -> (u32, u32)
     ensures { Tells number result.0 result.1 }
 {
     match number {

@@ -1,0 +1,26 @@
+-- What is told of the payload of a handover error.
+use Rattle.std.specs.Prelude.{◌≡◌, ℕ, ◌^◌, ◌<◌, ◌==◌, ◌&&◌, nat_le, List, length, slice_index, Option, Some, None, if◌then◌else◌}
+use Rattle.std.specs.Int.{w32, from_be_bytes}
+use Rattle.ndef_lang.specs.HandoverError.{IsError}
+use Rattle.ndef_types.specs.Values.{ErrorValue, StandsForError}
+use Rattle.ndef_c.specs.Nested.{Tells}
+use Rattle.ndef_c.specs.Walks.{Lies}
+use Rattle.ndef_c.specs.declared.error.NdefError.{NdefError}
+
+-- Connection Handover 1.2, Error record: the data of a defined reason are a number, of four octets for reason 2, most significant first, else of one
+abbrev pub number_in : (reason : ℕ) → List ℕ → ℕ
+number_in reason detail = if reason == 2 then from_be_bytes w32 detail else slice_index detail 0
+
+-- Connection Handover 1.2, Error record: the number that the data of a defined reason tell; 1 to 3 are defined
+abbrev pub number_told : (reason : ℕ) → List ℕ → Option ℕ
+number_told reason detail = if nat_le 1 reason && nat_le reason 3 then Some (number_in reason detail) else None
+
+-- Connection Handover 1.2, Error record: the payload is that of an error: its reason, where its data lie, and the number that they tell
+pub record IsErrorAt (payload : List ℕ) (out : NdefError) : Type 0 where
+  pub in_set : IsError payload
+  pub short : length payload < 2 ^ 32
+  pub error : ErrorValue
+  pub stands : StandsForError payload error
+  pub reason : out.reason ≡ error.reason
+  pub detail : Lies payload out.data_at out.data_length error.detail
+  pub number : Tells (number_told error.reason error.detail) out.has_number out.number

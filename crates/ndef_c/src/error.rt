@@ -1,0 +1,83 @@
+//! The payloads of Error records (Connection Handover 1.2).
+ghost use Rattle.std.specs.Prelude.{◌≡◌, ◌<◌, ◌^◌, ◌⊎◌, length};
+ghost use Rattle.ndef_lang.specs.HandoverError.{IsError, IsErrorData};
+ghost use Rattle.ndef_lang.specs.Language.{NoReason};
+ghost use Rattle.ndef_c.specs.Errors.{IsErrorAt, number_told};
+ghost use Rattle.ndef_c.specs.Payloads.{RefusesWith};
+
+use crate::checking::NdefChecked;
+use crate::poster::told;
+use crate::refusal::refused_by;
+use crate::status::{OK, REFUSED};
+use ndef_lang::{ErrLang, Kind};
+use ndef_types::accept;
+use ndef_value::Profile;
+
+/// A handover error, its data by their place and length in its payload.
+#[repr(C)]
+#[derive(Clone, Copy, Drop)]
+pub struct NdefError {
+    /// Where the data begin.
+    pub data_at: usize,
+    /// The bytes of the data.
+    pub data_length: usize,
+    /// The reason, 0 to 255.
+    pub reason: u32,
+    /// 1 where the reason is one of those that the standard defines, 1 to 3, else 0.
+    pub has_number: u32,
+    /// The number that the data of such a reason tell; 0 with another one.
+    pub number: u32,
+}
+
+/// The number that the data of a defined reason tell.
+fn number_of(reason: u8, detail: &[u8]) -> Option<u32>
+    requires { IsErrorData reason detail.now }
+    ensures { result ≡ number_told reason detail.now }
+{
+    match (reason, detail) {
+        (1 | 3, [number]) => Some(u32::from(*number)),
+        (2, [a, b, c, d]) => Some(u32::from_be_bytes([*a, *b, *c, *d])),
+        _ => None,
+    }
+}
+
+/// The reason of an error, where its data lie, and the number that they tell.
+fn error_at(payload: &[u8]) -> NdefError
+    requires error { IsError payload.now }
+    requires short { length payload.now < 2 ^ 32 }
+    ensures { IsErrorAt payload.now result }
+{
+    let [reason, detail @ ..] = payload else {
+        unreachable!()
+    };
+    let (has_number, number) = told(number_of(*reason, detail));
+    NdefError {
+        data_at: 1,
+        data_length: detail.len(),
+        reason: u32::from(*reason),
+        has_number,
+        number,
+    }
+}
+
+/// Tells the reason of the error for which the payload of an Error record stands, where its data lie,
+/// and the number that they tell.
+#[unsafe(no_mangle)]
+pub extern "C" fn ndef_error(payload: &[u8], out: &mut NdefError, why: &mut NdefChecked) -> u32
+    ensures known { (result ≡ OK) ⊎ (result ≡ REFUSED) }
+    ensures error { result ≡ OK → IsErrorAt payload.now out.new }
+    ensures refused { result ≡ REFUSED → RefusesWith IsError (λ s b. NoReason) payload.now why.new }
+    ensures kept { result ≡ REFUSED → out.new ≡ out.old }
+    ensures kept_why { result ≡ OK → why.new ≡ why.old }
+{
+    match accept::<ErrLang>(Kind::Error, Profile::Strict, payload) {
+        Ok(()) => {
+            *out = error_at(payload);
+            OK
+        }
+        Err(refusal) => {
+            *why = refused_by(refusal);
+            REFUSED
+        }
+    }
+}
