@@ -54,6 +54,10 @@ class AlternativeParts(ctypes.Structure):
     _fields_ = _numbers('power references')
 
 
+class ErrorParts(ctypes.Structure):
+    _fields_ = _sizes('data_at data_length') + _numbers('reason has_number number')
+
+
 class Part(ctypes.Structure):
     _fields_ = _sizes('at length')
 
@@ -88,6 +92,7 @@ write_alternative = _call('ndef_write_alternative', _u32, _octets, _size, _to, _
 write_action = _call('ndef_write_action', _u32, *_room)
 write_size = _call('ndef_write_size', _u32, *_room)
 write_collision = _call('ndef_write_collision', _u32, *_room)
+error = _call('ndef_error', _octets, _size, _to, _to)
 write_error = _call('ndef_write_error', _u32, _octets, _size, *_room)
 write_error_number = _call('ndef_write_error_number', _u32, _u32, *_room)
 write_handover = _call('ndef_write_handover', _u32, _u32, _u32, _octets, _size, *_room)

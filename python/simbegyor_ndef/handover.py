@@ -64,6 +64,14 @@ def _error(error):
     return Record(_ERROR, '', octets)
 
 
+def _error_of(octets):
+    """The error for which a payload stands."""
+    parts, why = library.ErrorParts(), library.Checked()
+    if library.error(octets, len(octets), byref(parts), byref(why)) != library.OK:
+        raise library.refused(why)
+    return HandoverError(parts.reason, parts.number if parts.has_number else octets[parts.data_at:parts.data_at + parts.data_length])
+
+
 def _version_of(version):
     """The version that a str such as '1.3' spells, or a number with the major version in its high four bits."""
     if isinstance(version, int):
@@ -109,8 +117,12 @@ class _Handover(GlobalRecord):
         """The alternative carriers, each with its power state and the names of the records that it refers to."""
         if self._data is None:
             return list(self._carriers)
+        return [_alternative_of(octets) for octets in self._payloads_within(_ALTERNATIVE)]
+
+    def _payloads_within(self, spelled):
+        """The payloads of the records of a type within a handover that was decoded."""
         records = records_of(self._data, len(self._data), {}, self._before)
-        return [_alternative_of(bytes(record.data)) for record in records if record._kind() == parts_of(_ALTERNATIVE)]
+        return [bytes(record.data) for record in records if record._kind() == parts_of(spelled)]
 
     def add_alternative_carrier(self, carrier_power_state, carrier_data_reference, *auxiliary_data_reference):
         """Adds a carrier: its power state, the name of the record that it refers to, and those of others."""
@@ -175,8 +187,11 @@ class HandoverSelectRecord(_Handover):
 
     @property
     def error(self):
-        self._of_values('the error')
-        return self._told
+        """The error, of several the first, or None."""
+        if self._data is None:
+            return self._told
+        errors = self._payloads_within(_ERROR)
+        return _error_of(errors[0]) if errors else None
 
     def set_error(self, error_reason, error_data):
         """Sets the error: a reason, and its data, a number for the reasons 1 to 3 and octets for others."""

@@ -146,6 +146,8 @@ class Suite(unittest.TestCase):
                     made = ndef.HandoverSelectRecord('1.2', (reason, data))
                     self.assertEqual((made.error.error_reason, made.error.error_data), (reason, data))
                     self.assertEqual(made.data, b'\x12' + octets(ndef.Record('urn:nfc:wkt:err', '', written)))
+                    (back,) = ndef.message_decoder(octets(made))
+                    self.assertEqual(back.error, (reason, (numbers + [told])[0]))
 
     def test_requests(self):
         for line, _, value, written in values('request'):
@@ -224,7 +226,7 @@ class Records(unittest.TestCase):
     def test_handovers(self):
         given = bytes.fromhex('91 02 0A 48 73 12 D1 02 04 61 63 01 01 30 00 5A 03 01 01 61 2F 62 30 01')
         select, carrier = ndef.message_decoder(given)
-        self.assertEqual(select.alternative_carriers, [('active', '0', [])])
+        self.assertEqual((select.alternative_carriers, select.error), ([('active', '0', [])], None))
         self.assertEqual((select.type, carrier.type, carrier.name), ('urn:nfc:wkt:Hs', 'a/b', '0'))
         self.assertEqual(octets(select, carrier), given)
         carrier = ndef.HandoverCarrierRecord('application/vnd.bluetooth.ep.oob', b'data', 'name')
@@ -244,7 +246,7 @@ class Records(unittest.TestCase):
         select = ndef.HandoverSelectRecord('1.2', (2, 1000), ('activating', 'é'))
         self.assertEqual(octets(select).hex(), 'd102154873' '12' '9102046163' '0201e900' '510305657272' '02000003e8')
         (back,) = ndef.message_decoder(octets(select))
-        self.assertEqual((back, back.alternative_carriers), (select, [('activating', 'é', [])]))
+        self.assertEqual((back, back.alternative_carriers, back.error), (select, [('activating', 'é', [])], select.error))
         select.set_error(7, b'any')
         self.assertEqual((select.error.error_reason, select.error.error_data), (7, b'any'))
         self.assertEqual(octets(ndef.HandoverSelectRecord()).hex(), 'd10201487313')
@@ -365,7 +367,7 @@ class Refusals(unittest.TestCase):
     def test_what_is_left_out_of_handovers_that_were_decoded(self):
         request, select = ndef.message_decoder(octets(ndef.HandoverRequestRecord('1.3', 1), ndef.HandoverSelectRecord()))
         for call in (lambda: request.collision_resolution_number, lambda: setattr(request, 'collision_resolution_number', 1),
-                     lambda: select.error, lambda: select.set_error(1, 1)):
+                     lambda: select.set_error(1, 1)):
             self.assertRaises(NotImplementedError, call)
         for handover in (request, select):
             for hidden in ('version_info', 'version_string', 'hexversion'):
