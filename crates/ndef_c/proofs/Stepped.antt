@@ -3,15 +3,11 @@ use Rattle.std.proofs.Common.{◌≡◌, ℕ, ◌+◌, ◌-◌, ◌≤◌, List,
 use Rattle.std.specs.Prelude.{◌↔◌}
 use Rattle.std.proofs.lemmas.Bool.{cases_lt}
 use Rattle.std.proofs.lemmas.List.{take-append-drop, take_all}
-use Rattle.ndef_lang.specs.Language.{Follows, PassesBetween, StepsAll}
+use Rattle.ndef_lang.specs.Language.{Follows, StepsAll}
 
 -- what may follow the octet is what makes a payload with it
 pub behind_octet : (set start next : List ℕ → Type 0) (octet : ℕ) (r : List ℕ) → Follows set start [] → Follows start next (octet ∷ []) → next r ↔ set (octet ∷ r)
 behind_octet set start next octet r f g = (λ h. (f (octet ∷ r)).0 ((g r).0 h), λ h. (g r).1 ((f (octet ∷ r)).1 h))
-
--- bytes that may follow are as long as some that may
-pub itself_passes : (future : List ℕ → Type 0) (bytes : List ℕ) → future bytes → PassesBetween future (length bytes) (length bytes)
-itself_passes future bytes h = record { rest = bytes; passed = h; least = omega arith; most = omega arith }
 
 no_octets : (r : List ℕ) → length r ≤ 0 → r ≡ []
 no_octets [] h = refl
