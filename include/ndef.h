@@ -1,17 +1,19 @@
 /* ndef.h: messages of the NFC Data Exchange Format (NFC Forum, NDEF 1.0), checked, walked and written.
  *
- * No call takes memory, blocks, keeps anything between calls, or reads or writes anything but its arguments; so any
- * thread may make any call, an interrupt handler too. Each call ends, whatever bytes it is given.
+ * No call takes memory, blocks, keeps anything between calls but in the ndef_checker that it is given, or reads or writes
+ * anything but its arguments; so any thread may make any call, an interrupt handler too. Each call ends, whatever bytes it
+ * is given.
  *
  * Of the caller it is asked alone that
  *   - a pointer with a length points to so many bytes, and any other pointer to a value of its type;
  *     no pointer is NULL (where a length is 0, any other pointer serves);
- *   - what a call writes (`out`, `count`, a room) overlaps nothing else that the call is given;
+ *   - what a call writes (`out`, `count`, a room, a checker) overlaps nothing else that the call is given;
+ *   - an ndef_checker that is fed holds what ndef_begin and ndef_feed left in it, or in one of which it is a copy;
  *   - no array has more than PTRDIFF_MAX bytes.
  * Whatever else the numbers, bytes and structs hold, the answer is defined.
  *
- * A call answers a status. Where it is NDEF_BAD_ARGUMENT or NDEF_END nothing is written; where it is NDEF_NO_ROOM
- * *count alone. A room of 0 bytes asks for the length. */
+ * A call answers a status. Where it is NDEF_BAD_ARGUMENT or NDEF_END nothing is written, but for the checker of ndef_begin;
+ * where it is NDEF_NO_ROOM *count alone. A room of 0 bytes asks for the length. */
 #ifndef NDEF_H
 #define NDEF_H
 
@@ -27,7 +29,8 @@ enum ndef_status {
     NDEF_REFUSED = 1,      /* no message, or no such payload: the answer has the place and the reason */
     NDEF_NO_ROOM = 2,      /* the room is too small: *count has what is needed, and the room is as it was */
     NDEF_BAD_ARGUMENT = 3, /* as each call says */
-    NDEF_END = 4           /* no record, reference or link is left */
+    NDEF_END = 4,          /* no record, reference or link is left */
+    NDEF_MORE = 5          /* the bytes so far begin a message, and don't end it */
 };
 
 /* Why the byte at a place cannot stand there. The names are those that ndef_reason_name gives. */
@@ -92,9 +95,28 @@ typedef struct ndef_checked {
 /* Checks the message with which the bytes begin; other bytes may follow it.
  * NDEF_OK: out->place bytes are a message. NDEF_REFUSED: out tells where and why no message goes on.
  * NDEF_BAD_ARGUMENT: a limit is out of its range, or an unknown flag is set.
- * NDEF_REFUSED at `length` with NDEF_END_OF_INPUT says that the bytes begin a message and more are wanted, so bytes that
- * come in parts are kept and checked again as more of them are there. */
+ * NDEF_REFUSED at `length` with NDEF_END_OF_INPUT says that the bytes begin a message and more are wanted; where bytes come
+ * in parts ndef_feed looks at each part once. */
 uint32_t ndef_check(const uint8_t *bytes, size_t length, const ndef_limits *limits, ndef_checked *out);
+
+/* What is known of a message whose bytes come in parts, in memory of the caller's, which has to be aligned to 8 bytes. No
+ * byte of the message is kept in it. Its words mean nothing but to these two calls. */
+typedef struct ndef_checker {
+    uint64_t words[29];
+} ndef_checker;
+
+/* Begins a checker; what stood in its memory doesn't matter, and is lost. A checker that has begun is fed, or left as it is.
+ * NDEF_OK. NDEF_BAD_ARGUMENT: a limit is out of its range, or an unknown flag is set; then each feed answers that too. */
+uint32_t ndef_begin(const ndef_limits *limits, ndef_checker *checker);
+
+/* Feeds the next bytes to a checker, of any number. What is answered is what ndef_check answers of all the bytes that the
+ * checker was fed since it was begun, one behind another; but that more are wanted has a status of its own.
+ * NDEF_OK: the first out->place of them all are a message. NDEF_REFUSED: out tells where, counted from the first of them
+ * all, and why no message goes on. From then on each feed answers the same.
+ * NDEF_MORE: they begin a message and don't end it; out has what ndef_check tells where they end so: the number of them all
+ * and NDEF_END_OF_INPUT. 0 bytes more ask again.
+ * NDEF_BAD_ARGUMENT: ndef_begin answered so; `out` is as it was. */
+uint32_t ndef_feed(ndef_checker *checker, const uint8_t *bytes, size_t length, ndef_checked *out);
 
 /* Writes the name of a reason to the front of the room, in ASCII and with no NUL behind it, and its length, at most
  * 16, to *count. NDEF_OK, NDEF_NO_ROOM; NDEF_BAD_ARGUMENT: no such reason. */

@@ -6,6 +6,7 @@ pub mod Characters
 pub mod Copied
 pub mod Counted
 pub mod Errors
+pub mod Feeds
 pub mod Followed
 pub mod Handovers
 pub mod Messages

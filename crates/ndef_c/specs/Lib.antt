@@ -7,6 +7,7 @@ pub mod Errors
 pub mod HandoverWrites
 pub mod Handovers
 pub mod Links
+pub mod Feeding
 pub mod Nested
 pub mod Numbers
 pub mod Payloads

@@ -1,5 +1,5 @@
-//! The library as C calls it: no memory is taken, and nothing is kept between calls. `include/ndef.h`
-//! says what each call demands, answers and leaves.
+//! The library as C calls it: no memory is taken, and nothing is kept between calls but in a checker, in the
+//! memory of its caller. `include/ndef.h` says what each call demands, answers and leaves.
 #![tactic(auto)]
 
 mod alternative;
@@ -8,6 +8,7 @@ mod carrier;
 mod checking;
 mod error;
 mod error_writing;
+mod feeding;
 mod handover;
 mod handover_writing;
 mod laws;
@@ -38,6 +39,7 @@ pub use carrier::{NdefCarrier, ndef_carrier, ndef_write_carrier};
 pub use checking::{NdefChecked, ndef_check};
 pub use error::{NdefError, ndef_error};
 pub use error_writing::{ndef_write_error, ndef_write_error_number};
+pub use feeding::{NdefChecker, ndef_begin, ndef_feed};
 pub use handover_writing::{REQUEST, SELECT, ndef_write_handover};
 pub use laws::{checks_are_walked, one_record_is_there, records_make_a_message};
 pub use limits::{NdefLimits, ndef_usual_limits};
@@ -50,7 +52,9 @@ pub use reasons::ndef_reason_name;
 pub use record::{NdefRecord, ndef_record_at};
 pub use request::{NdefRequest, ndef_request};
 pub use select::{NdefSelect, ndef_select};
-pub use status::{BAD_ARGUMENT, END, NO_ROOM, OK, REFUSED};
+pub use status::{
+    BAD_ARGUMENT, BAD_ARGUMENT, END, END, MORE, NO_ROOM, NO_ROOM, OK, OK, REFUSED, REFUSED,
+};
 pub use text::{NdefText, ndef_text, ndef_text_in_utf8, ndef_write_text};
 pub use uri::{ndef_uri, ndef_write_uri};
 pub use writing::{NdefWriting, ndef_write_record};

@@ -10,3 +10,5 @@ pub const NO_ROOM: u32 = 2;
 pub const BAD_ARGUMENT: u32 = 3;
 /// There are no more records, references or links.
 pub const END: u32 = 4;
+/// More bytes are wanted.
+pub const MORE: u32 = 5;

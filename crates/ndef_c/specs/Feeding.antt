@@ -1,0 +1,71 @@
+-- What is answered of a message whose bytes come in parts.
+use Rattle.std.specs.Prelude.{◌≡◌, ◌≢◌, ℕ, ◌<◌, ◌≤◌, ◌==◌, ◌⊎◌, ◌↔◌, if◌then◌else◌, List, length, take}
+use Rattle.ndef_value.specs.Wire.{AreOctets, LimitValues}
+use Rattle.ndef_lang.specs.Language.{Sets, Conditions, NoReason}
+use Rattle.ndef_lang.specs.declared.language.Language.{Ghosts}
+use Rattle.ndef_nest.specs.Typed.{IsTypedPayload, TypedReason}
+use Rattle.ndef_message.specs.Deep.{IsDeep, IsViable}
+use Rattle.ndef_message.specs.Feed.{Fronts, Leads}
+use Rattle.ndef_message.specs.Machine.Checkers.{CheckerReached, checker_limits}
+use Rattle.ndef_message.specs.declared.checker.Checker.{Checker}
+use Rattle.ndef_c.specs.Checks.{limits_of, MayBeSet, ChecksTo}
+use Rattle.ndef_c.specs.declared.status.TheConstants.{OK, REFUSED, BAD_ARGUMENT, MORE}
+use Rattle.ndef_c.specs.declared.limits.NdefLimits.{NdefLimits}
+use Rattle.ndef_c.specs.declared.checking.NdefChecked.{NdefChecked}
+use Rattle.ndef_c.specs.declared.feeding.NdefChecker.{NdefChecker}
+use Rattle.ndef_c.specs.declared.feeding.Looking.{Looking}
+use Rattle.ndef_c.specs.declared.feeding.Looking.TheVariants as looking
+
+-- the limits by which a checker was begun, and all the bytes that it was fed since
+pub record SoFar : Type 0 where
+  pub limits : NdefLimits
+  pub bytes : List ℕ
+
+-- So many of the bytes led there: all of them, or the first that are a message, or the first that can't be completed to one.
+pub record HaveCome {Point : Type 0} (set : Sets) (limits : LimitValues) (reached : Fronts Point) (bytes : List ℕ) : Type 0 where
+  pub count : ℕ
+  pub within : count ≤ length bytes
+  pub led : Leads reached (take count bytes)
+  pub settled : (count ≡ length bytes) ⊎ IsDeep set limits (take count bytes) ⊎ (¬ IsViable set limits (take count bytes))
+
+-- a checker with these limits was fed these bytes
+abbrev pub HasTaken : {L : Type 0} {language : Ghosts L} → Checker L language → LimitValues → List ℕ → Type 0
+HasTaken {language = language} c limits bytes = (checker_limits c ≡ limits) × HaveCome language.set limits (CheckerReached c) bytes
+
+-- it was, where the limits are any; 2 asks for a look into no payload
+abbrev pub HasLooked : Looking → NdefLimits → List ℕ → Type 0
+HasLooked looking.Nothing limits bytes = ¬ MayBeSet limits
+HasLooked (looking.Typed c) limits bytes = MayBeSet limits × (limits.flags < 2) × HasTaken c (limits_of limits) bytes
+HasLooked (looking.Opaque c) limits bytes = MayBeSet limits × (2 ≤ limits.flags) × HasTaken c (limits_of limits) bytes
+
+-- it was begun by these limits, and fed these bytes since
+abbrev pub IsFed : NdefChecker → SoFar → Type 0
+IsFed checker so_far = HasLooked checker.looking so_far.limits so_far.bytes
+
+-- what a checker answers that is begun by these limits
+abbrev pub BeginsTo : NdefLimits → (status : ℕ) → Type 0
+BeginsTo limits status = (MayBeSet limits × (status ≡ OK)) ⊎ ((¬ MayBeSet limits) × (status ≡ BAD_ARGUMENT))
+
+-- what a check answers where a checker answers so: it tells no difference between bytes that end too early and others
+abbrev pub checked_status : ℕ → ℕ
+checked_status status = if status == MORE then REFUSED else status
+
+-- NDEF 1.0, messages: what is answered of all the bytes so far is what a check of them answers, and that more are wanted where they
+-- are refused only because they end.
+pub record FeedsTo (set : Sets) (holds : Conditions) (limits : LimitValues) (bytes : List ℕ) (status : ℕ) (out : NdefChecked) : Type 0 where
+  pub checks : ChecksTo set holds limits bytes (checked_status status) out
+  pub more : (status ≡ MORE) ↔ ((status ≢ OK) × (out.place ≡ length bytes))
+
+-- where no payload is looked into, each is one of its kind, and none is refused for its octets
+abbrev pub AnyPayload : Sets
+AnyPayload kind records profile s = AreOctets s
+
+abbrev pub NoCondition : Conditions
+NoCondition kind records profile s b = NoReason
+
+-- what is answered of all the bytes so far, where 2 asks for a look into no payload
+pub record Answers (limits : NdefLimits) (bytes : List ℕ) (status : ℕ) (before after : NdefChecked) : Type 0 where
+  pub bad : (status ≡ BAD_ARGUMENT) ↔ (¬ MayBeSet limits)
+  pub kept : status ≡ BAD_ARGUMENT → after ≡ before
+  pub typed : MayBeSet limits → limits.flags < 2 → FeedsTo IsTypedPayload TypedReason (limits_of limits) bytes status after
+  pub opaque : MayBeSet limits → 2 ≤ limits.flags → FeedsTo AnyPayload NoCondition (limits_of limits) bytes status after

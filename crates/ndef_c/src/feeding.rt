@@ -1,0 +1,145 @@
+//! Checks a message whose bytes come in parts.
+ghost use Rattle.std.specs.Prelude.{◌≡◌, ◌<◌, ◌≤◌, ◌↔◌, ◌++◌, [], ℕ, List};
+ghost use Rattle.std.specs.Borrow.{full_share, sem};
+ghost use Rattle.std.specs.Ptr.{lies_at, room_at};
+ghost use Rattle.ndef_value.specs.Wire.{LimitValues};
+ghost use Rattle.ndef_c.specs.Checks.{limits_of, MayBeSet};
+ghost use Rattle.ndef_c.specs.Feeding.{Answers, BeginsTo, FeedsTo, HasTaken, IsFed, SoFar};
+ghost use Rattle.ndef_c.specs.contracts.feeding.NdefChecker as NdefCheckers;
+
+use crate::checking::NdefChecked;
+use crate::limits::{NdefLimits, limits_of};
+use crate::refusal::refused_by;
+use crate::status::{BAD_ARGUMENT, MORE, OK, REFUSED};
+use ndef_lang::{Language, Opaque, OuterLanguage};
+use ndef_message::{Checker, Fed, answers_are_told, checkers_are_told, places_are_told};
+use ndef_nest::Typed;
+use ndef_value::{Reason, Refusal};
+use std::mem::{align_of, size_of};
+
+/// A checker, and what it looks into.
+#[derive(Drop)]
+pub(crate) enum Looking {
+    /// There is none, since its limits aren't any.
+    Nothing,
+    /// The payloads that the standards define.
+    Typed(Checker<Typed>),
+    /// No payload.
+    Opaque(Checker<Opaque>),
+}
+
+/// A checker in the caller's memory, which keeps no bytes.
+#[derive(Drop)]
+pub struct NdefChecker {
+    looking: Looking,
+}
+
+// What `include/ndef.h` says of its bytes.
+const _: () = prove!(size_of::<NdefChecker>() == 232);
+
+const _: () = prove!(align_of::<NdefChecker>() == 8);
+
+/// Feeds a checker, and tells what is known of all the bytes that it was fed.
+fn feed<L: OuterLanguage>(checker: &mut Checker<L>, bytes: &[u8], out: &mut NdefChecked) -> u32
+    ensures { (limits : LimitValues) (front : List ℕ) → HasTaken checker.old limits front
+        → HasTaken checker.new limits (front ++ bytes.now)
+        × FeedsTo L.set L.holds limits (front ++ bytes.now) result out.new }
+{
+    places_are_told::<L>();
+    answers_are_told::<L>();
+    let fed = checker.feed(bytes);
+    checkers_are_told(checker);
+    match fed {
+        Fed::More => {
+            *out = refused_by(Refusal {
+                at: checker.place(),
+                reason: Reason::EndOfInput,
+            });
+            MORE
+        }
+        Fed::Done { .. } => {
+            *out = NdefChecked {
+                place: checker.place(),
+                records: checker.records(),
+                reason: 0,
+            };
+            OK
+        }
+        Fed::Refused(refusal) => {
+            *out = refused_by(refusal);
+            REFUSED
+        }
+    }
+}
+
+/// A checker that is begun by these limits.
+fn begun(limits: &NdefLimits) -> NdefChecker
+    ensures { IsFed result (record { limits = limits.now; bytes = [] }) }
+{
+    let looking = match limits_of(limits) {
+        None => Looking::Nothing,
+        Some((limits, true)) => Looking::Typed(Checker::new(limits)),
+        Some((limits, false)) => Looking::Opaque(Checker::new(limits)),
+    };
+    NdefChecker { looking }
+}
+
+/// Whether these are limits.
+fn begins_to(limits: &NdefLimits) -> u32
+    ensures { BeginsTo limits.now result }
+{
+    match limits_of(limits) {
+        Some(_) => OK,
+        None => BAD_ARGUMENT,
+    }
+}
+
+/// Feeds the checker that there is, if any.
+fn feed_checker(checker: &mut NdefChecker, bytes: &[u8], out: &mut NdefChecked) -> u32
+    ensures { (limits : NdefLimits) (front : List ℕ)
+        → IsFed checker.old (record { limits = limits; bytes = front })
+        → IsFed checker.new (record { limits = limits; bytes = front ++ bytes.now })
+        × Answers limits (front ++ bytes.now) result out.old out.new }
+{
+    match &mut checker.looking {
+        Looking::Nothing => BAD_ARGUMENT,
+        Looking::Typed(checker) => feed(checker, bytes, out),
+        Looking::Opaque(checker) => feed(checker, bytes, out),
+    }
+}
+
+/// Begins a checker in the caller's memory.
+#[unsafe(no_mangle)]
+pub unsafe extern "C" fn ndef_begin(limits: &NdefLimits, checker: *mut NdefChecker) -> u32
+    requires* room { sem 𝓛 (room_at NdefCheckers.the_row checker) }
+    ensures* begun { ∃ₛ (λ (c : NdefChecker). sem 𝓛 (lies_at NdefCheckers.the_row full_share checker c)
+        ∗ ⌜ IsFed c (record { limits = limits.now; bytes = [] }) ⌝) }
+    ensures status { BeginsTo limits.now result }
+{
+    checker.write(begun(limits));
+    begins_to(limits)
+}
+
+/// Feeds the next bytes to a checker, and tells what is known of all the bytes that it was fed.
+#[unsafe(no_mangle)]
+pub unsafe extern "C" fn ndef_feed(
+    checker: *mut NdefChecker,
+    bytes: &[u8],
+    out: &mut NdefChecked,
+) -> u32
+    ghost so_far: { SoFar }
+    requires* begun { ∃ₛ (λ (c : NdefChecker). sem 𝓛 (lies_at NdefCheckers.the_row full_share checker c)
+        ∗ ⌜ IsFed c so_far ⌝) }
+    ensures bad { result ≡ BAD_ARGUMENT ↔ ¬ MayBeSet so_far.limits }
+    ensures kept { result ≡ BAD_ARGUMENT → out.new ≡ out.old }
+    ensures typed { MayBeSet so_far.limits → so_far.limits.flags < 2
+        → FeedsTo ⟦<Typed as Language>⟧.set ⟦<Typed as Language>⟧.holds (limits_of so_far.limits)
+        (so_far.bytes ++ bytes.now) result out.new }
+    ensures opaque { MayBeSet so_far.limits → 2 ≤ so_far.limits.flags
+        → FeedsTo ⟦<Opaque as Language>⟧.set ⟦<Opaque as Language>⟧.holds (limits_of so_far.limits)
+        (so_far.bytes ++ bytes.now) result out.new }
+    ensures* fed { ∃ₛ (λ (c : NdefChecker). sem 𝓛 (lies_at NdefCheckers.the_row full_share checker c)
+        ∗ ⌜ IsFed c (record so_far { bytes = so_far.bytes ++ bytes.now }) ⌝) }
+{
+    feed_checker(&mut *checker, bytes, out)
+}
