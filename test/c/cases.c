@@ -1,5 +1,5 @@
 /* Runs the cases that are given as lines: name | languages | profile | limits | bytes | answer | records.
- * Each goes through check, walk, payload and write; a line that fails is printed. */
+ * Each goes through check, walk, payload and write, and in parts through feed; a line that fails is printed. */
 #include "ndef.h"
 
 #include <stdio.h>
@@ -9,6 +9,7 @@
 /* The structs lie as the library's do. */
 typedef char limits_lie[sizeof(ndef_limits) == 16 && offsetof(ndef_limits, flags) == 12 ? 1 : -1];
 typedef char checked_lies[sizeof(ndef_checked) == 16 && offsetof(ndef_checked, records) == 8 ? 1 : -1];
+typedef char checker_lies[sizeof(ndef_checker) == 232 ? 1 : -1];
 typedef char record_lies[sizeof(ndef_record) == 88 && offsetof(ndef_record, tnf) == 80 ? 1 : -1];
 typedef char text_lies[sizeof(ndef_text_parts) == 40 && offsetof(ndef_text_parts, utf16) == 32 ? 1 : -1];
 typedef char carrier_lies[sizeof(ndef_carrier_parts) == 40 && offsetof(ndef_carrier_parts, format) == 32 ? 1 : -1];
@@ -90,6 +91,31 @@ static int are_records(char *text, const ndef_limits *limits, const ndef_checked
         && again.place == end && again.records == records;
 }
 
+/* Whether a feed answers what a check of all the bytes so far does. */
+static int is_as_checked(const ndef_limits *limits, size_t length, uint32_t status, const ndef_checked *out) {
+    ndef_checked checked;
+    uint32_t of_all = ndef_check(bytes, length, limits, &checked);
+    int wants_more = of_all == NDEF_REFUSED && checked.place == length;
+    return status == (wants_more ? (uint32_t)NDEF_MORE : of_all) && memcmp(&checked, out, sizeof checked) == 0;
+}
+
+/* Whether the bytes are answered so byte by byte, and cut into two parts at each place, or at some of many. */
+static int is_fed(const ndef_limits *limits, size_t length) {
+    static ndef_checker whole, part;
+    ndef_checked out;
+    size_t step = 1 + length / 256, at = 0;
+    if (ndef_begin(limits, &whole) != NDEF_OK || !is_as_checked(limits, 0, ndef_feed(&whole, bytes, 0, &out), &out)) return 0;
+    for (; at < length; at++) {
+        if (at % step == 0) {
+            part = whole;
+            if (!is_as_checked(limits, length, ndef_feed(&part, bytes + at, length - at, &out), &out)) return 0;
+        }
+        uint32_t status = ndef_feed(&whole, bytes + at, 1, &out);
+        if ((at % step == 0 || at + 1 == length) && !is_as_checked(limits, at + 1, status, &out)) return 0;
+    }
+    return 1;
+}
+
 static int is_answered(char *limit_words, const char *profile, int opaque, size_t length, const char *answer, char *records) {
     ndef_limits limits;
     ndef_checked checked;
@@ -103,6 +129,7 @@ static int is_answered(char *limit_words, const char *profile, int opaque, size_
     }
     limits.flags = (strcmp(profile, "standard") ? 0u : NDEF_STANDARD) | (opaque ? NDEF_OPAQUE : 0u);
     uint32_t status = ndef_check(bytes, length, &limits, &checked);
+    if (!is_fed(&limits, length)) return 0;
     if (sscanf(answer, "accepted %llu", &place) == 1)
         return status == NDEF_OK && checked.place == place && checked.reason == 0 && are_records(records, &limits, &checked);
     if (sscanf(answer, "refused %llu %u", &place, &reason) != 2 && sscanf(answer, "more %llu", &place) == 1)

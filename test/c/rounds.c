@@ -94,6 +94,31 @@ static void walk_any(const uint8_t *bytes, size_t length, size_t at) {
     }
 }
 
+/* Feeds bytes in random parts, each of which is answered as a check of all the bytes so far is. */
+static void feed_any(const uint8_t *bytes, size_t length, const ndef_limits *limits) {
+    struct { uint8_t before[8]; ndef_checker checker; uint8_t behind[8]; } memory;
+    ndef_checked out, checked;
+    memset(&memory, 0xa5, sizeof memory);
+    uint32_t begun = ndef_begin(limits, &memory.checker);
+    for (size_t at = 0, most = 1 + below(60);;) {
+        size_t count = below(8) ? 1 + below((uint32_t)most) : 0;
+        if (count > length - at) count = length - at;
+        memset(&out, 0x5a, sizeof out);
+        memset(&checked, 0x5a, sizeof checked);
+        uint8_t *exact = malloc(count + 1);
+        memcpy(exact, bytes + at, count);
+        uint32_t fed = ndef_feed(&memory.checker, exact, count, &out);
+        free(exact);
+        at += count;
+        uint32_t status = ndef_check(bytes, at, limits, &checked);
+        if ((status == NDEF_BAD_ARGUMENT) != (begun == NDEF_BAD_ARGUMENT)) fail("a checker begins otherwise");
+        if (status == NDEF_REFUSED && checked.place == at) status = NDEF_MORE;
+        if (fed != status || memcmp(&out, &checked, sizeof out)) fail("a part is answered otherwise");
+        if (at == length) break;
+    }
+    for (int i = 0; i < 8; i++) if (memory.before[i] != 0xa5 || memory.behind[i] != 0xa5) fail("a checker is written too far");
+}
+
 static void check_any(const uint8_t *bytes, size_t length, const ndef_limits *limits, int front) {
     uint8_t *exact = malloc(length + 1);
     ndef_checked checked;
@@ -104,6 +129,7 @@ static void check_any(const uint8_t *bytes, size_t length, const ndef_limits *li
     if (status != NDEF_BAD_ARGUMENT && (checked.place > length || (status == NDEF_OK) != (checked.reason == 0)))
         fail("a place is outside");
     walk_any(exact, length, 0);
+    feed_any(exact, length, limits);
     free(exact);
 }
 
