@@ -5,7 +5,7 @@ use Rattle.std.specs.Prelude.{Result, Ok, Err}
 use Rattle.std.proofs.lemmas.Bool.{cases_lt}
 use Rattle.std.proofs.lemmas.List.{append-nil, length-map, length-take-le, take_all, take_at, take-append-drop, take-append-le, take-take}
 use Rattle.std.proofs.Math.Seq.{take-append-add}
-use Rattle.ndef_value.specs.Wire.{Item, FlatBy, LimitValues, joined}
+use Rattle.ndef_value.specs.Wire.{Item, FlatBy, LimitValues, run_record}
 use Rattle.ndef_value.specs.Reason.{number_of}
 use Rattle.ndef_value.specs.declared.reason.Reason.TheVariants.{EndOfInput}
 use Rattle.ndef_value.specs.declared.refusal.Refusal.{Refusal}
@@ -138,12 +138,12 @@ module _ {Point : Type 0} {set : Sets} (holds : Conditions) {limits : LimitValue
       let place : out.place ≡ t.0 =
       all_accepted set limits there out.place (deep_viable set limits there d) (accepted there given l.1 l.2) ∙ ap length (sym t.2) ∙ length-take-le t.0 all t.1 in
       let deep : Deep set limits given there = whole there given l.1 l.2 d in
-      let same : given ≡ map joined deep.runs = sym deep.flat.message.items in
+      let same : given ≡ map run_record deep.runs = sym deep.flat.message.items in
       let count : out.records ≡ length deep.runs =
-      records there given l.1 l.2 ∙ ap length same ∙ length-map deep.runs joined in
-      let seen : Deep set limits (map joined deep.runs) (take t.0 all) = record {
+      records there given l.1 l.2 ∙ ap length same ∙ length-map deep.runs run_record in
+      let seen : Deep set limits (map run_record deep.runs) (take t.0 all) = record {
         runs = deep.runs;
-        flat = subst (λ x. FlatBy limits.profile deep.runs (map joined deep.runs) x) (sym t.2) (subst (λ m. FlatBy limits.profile deep.runs m there) same deep.flat);
+        flat = subst (λ x. FlatBy limits.profile deep.runs (map run_record deep.runs) x) (sym t.2) (subst (λ m. FlatBy limits.profile deep.runs m there) same deep.flat);
         within = deep.within;
         members = subst (AllByRecursion (IsMember set limits)) same deep.members;
       } in
