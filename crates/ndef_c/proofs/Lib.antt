@@ -10,6 +10,7 @@ pub mod Feeds
 pub mod Followed
 pub mod Handovers
 pub mod Messages
+pub mod OneCheck
 pub mod Places
 pub mod Posters
 pub mod Prefixed

@@ -69,3 +69,10 @@ pub record Answers (limits : NdefLimits) (bytes : List ℕ) (status : ℕ) (befo
   pub kept : status ≡ BAD_ARGUMENT → after ≡ before
   pub typed : MayBeSet limits → limits.flags < 2 → FeedsTo IsTypedPayload TypedReason (limits_of limits) bytes status after
   pub opaque : MayBeSet limits → 2 ≤ limits.flags → FeedsTo AnyPayload NoCondition (limits_of limits) bytes status after
+
+-- ---- law
+
+-- A check of all the bytes so far answers the same, but that it has no status for more that are wanted.
+abbrev pub FeedsAreChecks : Sets → Conditions → Type 0
+FeedsAreChecks set holds = (limits : LimitValues) (bytes : List ℕ) (fed checked : ℕ) (out other : NdefChecked)
+    → FeedsTo set holds limits bytes fed out → ChecksTo set holds limits bytes checked other → (checked ≡ checked_status fed) × (other ≡ out)

@@ -1,8 +1,10 @@
 //! What holds of the calls together.
+ghost use Rattle.ndef_c.specs.Feeding.{FeedsAreChecks};
 ghost use Rattle.ndef_c.specs.Walks.{ChecksAreWalked, OneRecordIsThere};
 ghost use Rattle.ndef_c.specs.Writes.{RecordsMakeAMessage};
 
 use ndef_lang::OuterLanguage;
+use ndef_message::{answers_are_told, views_are_exact};
 use ndef_piece::heads_are_apart;
 
 /// What a check takes is walked from place 0 on: its records lie one after another, each where the one
@@ -10,6 +12,14 @@ use ndef_piece::heads_are_apart;
 pub fn checks_are_walked<L: OuterLanguage>()
     ensures { ChecksAreWalked L.set L.holds }
 {}
+
+/// A checker that was fed the bytes in any parts tells what a check of them all tells.
+pub fn feeds_are_checks<L: OuterLanguage>()
+    ensures { FeedsAreChecks L.set L.holds }
+{
+    views_are_exact::<L>();
+    answers_are_told::<L>();
+}
 
 /// At a place begins one record, if any, and it ends at one place.
 pub fn one_record_is_there()

@@ -1,4 +1,4 @@
-use Rattle.std.proofs.Common.{◌≡◌, ◌∙◌, refl, subst, length, take}
+use Rattle.std.proofs.Common.{◌≡◌, ◌∙◌, refl, subst, take}
 use Rattle.ndef_message.specs.Deep.{Deep, IsDeep}
 use Rattle.ndef_message.specs.Feed.{Feeds, IsAccepted, WhateverLed}
 use Rattle.ndef_message.specs.Machine.Checkers.{CheckerReached, checker_limits}

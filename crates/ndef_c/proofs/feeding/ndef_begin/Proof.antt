@@ -1,12 +1,12 @@
 -- The new checker is written to the room, which holds it from then on.
-use Rattle.std.proofs.Common.{◌≡◌, ℕ, List, [], ◌∷◌, refl, w32, Bor}
+use Rattle.std.proofs.Common.{ℕ, [], ◌∷◌, refl, w32}
 use Rattle.std.proofs.raw_atomic.Walks.{proved}
 use base.Fraction.{full_share}
 use base.Logic.{id⊢, sep}
 use base.Fml.{ftrue, flft}
 use borrow.Table.OneValue.{part_in}
 use mir.Syntax.{named}
-use mir.Val.{Val, vint, vptr}
+use mir.Val.{vptr}
 use prog.Wp.{WpFn}
 use types.Logic.{sem}
 use types.Kit.{‵, raw, ◌⊛◌, some, later, prop, ◌$◌, ◌∵◌, !, qed, done, move, keep, drop, use1, use2, split, join, pick, await, regoal, suffices, frame, group, show}
@@ -28,7 +28,7 @@ use denote.Triple.Clauses.{lasts}
 use denote.Triple.Spec.{triple_of}
 use denote.Triple.Table.{framed}
 use denote.Triple.Walked.{Stays, walk_of, says, stay_dropped, Goes-dropped, ends_at}
-use Rattle.ndef_c.specs.Feeding.{BeginsTo, IsFed, SoFar}
+use Rattle.ndef_c.specs.Feeding.{BeginsTo, IsFed}
 use Rattle.ndef_c.specs.declared.feeding.NdefChecker.{NdefChecker}
 use Rattle.ndef_c.specs.contracts.feeding.NdefChecker as checker
 use Rattle.ndef_c.proofs.feeding.NdefChecker.TheLaws as checker_laws

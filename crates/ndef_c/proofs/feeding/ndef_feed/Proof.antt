@@ -1,12 +1,12 @@
 -- The checker's memory is lent for the call of `feed_checker`, and comes back as that leaves it.
-use Rattle.std.proofs.Common.{◌≡◌, ℕ, ◌^◌, ◌<◌, ◌++◌, List, [], ◌∷◌, length, refl, w32, w64, MutBor, Bor}
+use Rattle.std.proofs.Common.{ℕ, ◌^◌, ◌<◌, ◌++◌, List, [], ◌∷◌, length, refl, w32, MutBor}
 use seplogic.Ra.Ura.{Ura}
 use Rattle.std.proofs.raw_atomic.Walks.{proved}
 use base.Fraction.{full_share}
 use base.Logic.{SProp, ent, sep, emp, emp∗, id⊢, mono_l, via}
 use base.Fml.{ftrue, flft, flent}
 use mir.Syntax.{named}
-use mir.Val.{Val, vint, vptr}
+use mir.Val.{vptr}
 use prog.Wp.{WpFn}
 use types.Logic.{sem}
 use types.SemTy.{Body}
@@ -32,7 +32,7 @@ use denote.Triple.Clauses.{lasts}
 use denote.Triple.Spec.{triple_of}
 use denote.Triple.Table.{framed}
 use denote.Triple.Walked.{Stays, walk_of, says, stay_dropped, Goes-dropped, stay_ref, Goes-ref, ends_at}
-use Rattle.ndef_c.specs.Feeding.{Answers, IsFed, SoFar}
+use Rattle.ndef_c.specs.Feeding.{Answers, IsFed}
 use Rattle.ndef_c.specs.declared.feeding.NdefChecker.{NdefChecker}
 use Rattle.ndef_c.specs.declared.checking.NdefChecked.{NdefChecked}
 use Rattle.ndef_c.specs.declared.limits.NdefLimits.{NdefLimits}
