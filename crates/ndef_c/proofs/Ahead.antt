@@ -92,7 +92,7 @@ reached apart {items} {done} {rest} k p short behind i =
 
 -- ---- the first with a property
 
-none_left : (left : List Run) → SpellAll (all_pieces left) [] → left ≡ []
+pub none_left : (left : List Run) → SpellAll (all_pieces left) [] → left ≡ []
 none_left [] w = refl
 none_left (r ∷ left) w =
     let n = split_size r.initial w.0 w.2 [] (record { front = w.1; spells = w.4; joined = w.3 }) in

@@ -9,6 +9,7 @@ pub mod Errors
 pub mod Feeds
 pub mod Followed
 pub mod Handovers
+pub mod Linked
 pub mod Messages
 pub mod OneCheck
 pub mod Places

@@ -10,7 +10,7 @@ use Rattle.ndef_lang.specs.Language.{Sets, Conditions}
 use Rattle.ndef_c.specs.Walks.{AreWalked, ChecksAreWalked, ends_message}
 
 -- what one reader takes for a run, each does that reads reserved values
-read_standard : (profile : Profile) (r : Run) → IsRun profile r → IsRun Standard r
+pub read_standard : (profile : Profile) (r : Run) → IsRun profile r → IsRun Standard r
 read_standard Strict r i = record { initial = record { read = read_by_all Standard r.initial.tnf i.initial.read; changed = i.initial.changed; not_empty = i.initial.not_empty }; follow = i.follow }
 read_standard Standard r i = i
 

@@ -1,10 +1,15 @@
 -- What is told of the links of a message.
-use Rattle.std.specs.Prelude.{◌≡◌, ◌≢◌, ℕ, ◌^◌, ◌<◌, ◌≤◌, List, [], ◌∷◌, length, map, take, drop, slice_get, Option, Some, None}
-use Rattle.ndef_value.specs.Wire.{Item, Run, run_record}
+use Rattle.std.specs.Prelude.{◌≡◌, ◌≢◌, ℕ, ◌^◌, ◌<◌, ◌≤◌, List, [], ◌∷◌, length, map, take, drop, slice_get, Option, Some, None, Ok}
+use Rattle.ndef_value.specs.Wire.{Item, LimitValues, Run, run_record}
 use Rattle.ndef_value.specs.declared.profile.Profile.TheVariants.{Standard}
-use Rattle.ndef_types.specs.Links.{IsIndexOf, alternatives}
+use Rattle.ndef_lang.specs.Alternative.{IsAlternative}
+use Rattle.ndef_lang.specs.Language.{Sets, Conditions}
+use Rattle.ndef_message.specs.Views.{Viewed, Views}
+use Rattle.ndef_types.specs.Links.{IsHandover as IsHandoverRecord, IsIndexOf, LinksOf, alternatives}
 use Rattle.ndef_types.specs.Values.{AcValue, StandsForAc}
+use Rattle.ndef_types.specs.declared.link.Link.{Link}
 use Rattle.ndef_c.specs.Handovers.{IsHandover, HasMessage}
+use Rattle.ndef_c.specs.Nested.{Tells}
 use Rattle.ndef_c.specs.Walks.{BeginsWith, AreWalked, Lies}
 use Rattle.ndef_c.specs.declared.link.NdefLink.{NdefLink}
 use Rattle.ndef_c.specs.declared.message.Place.{Place}
@@ -67,6 +72,7 @@ pub record IsLinkAt (bytes payload : List ℕ) (index : ℕ) (out : NdefLink) : 
   pub records : HasMessage Standard items payload
   pub carrier : Item
   pub is_carrier : slice_get (alternatives items) index ≡ Some carrier
+  pub in_set : IsAlternative carrier.payload
   pub lies : Lies payload out.carrier_at out.carrier_length carrier.payload
   pub alternative : AcValue
   pub stands : StandsForAc carrier.payload alternative
@@ -80,3 +86,24 @@ pub record HasNoLink (bytes payload : List ℕ) (index : ℕ) : Type 0 where
   pub items : List Item
   pub records : HasMessage Standard items payload
   pub beyond : length (alternatives items) ≤ index
+
+-- ---- law
+
+-- what is told is this link: its alternative carrier lies there, and its record has that index
+pub record IsLink (payload : List ℕ) (link : Link) (out : NdefLink) : Type 0 where
+  pub carrier : List ℕ
+  pub lies : Lies payload out.carrier_at out.carrier_length carrier
+  pub stands : StandsForAc carrier link.ac
+  pub index : Tells link.index out.has_record out.record_index
+
+-- the links that are told are these
+pub record AreTold (bytes payload : List ℕ) (links : List Link) : Type 0 where
+  pub may : MayHaveLinks bytes payload
+  pub each : (index : ℕ) (out : NdefLink) → IsLinkAt bytes payload index out → (link : Link) × (slice_get links index ≡ Some link) × IsLink payload link out
+  pub end : (index : ℕ) → HasNoLink bytes payload index → length links ≤ index
+
+-- Of a message that a check takes and its handover the links are told that it has.
+abbrev pub LinksAreTold : Sets → Conditions → Type 0
+LinksAreTold set holds = (limits : LimitValues) (bytes : List ℕ) (v : Viewed) (handover : Item) (links : List Link) → Views set holds limits bytes (Ok v)
+    → IsHandoverRecord handover → length handover.payload < 2 ^ 32 → LinksOf limits.profile (map run_record v.runs) (Some handover) (Ok links)
+    → AreTold bytes handover.payload links

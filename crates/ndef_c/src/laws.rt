@@ -1,11 +1,15 @@
 //! What holds of the calls together.
 ghost use Rattle.ndef_c.specs.Feeding.{FeedsAreChecks};
+ghost use Rattle.ndef_c.specs.Links.{LinksAreTold};
 ghost use Rattle.ndef_c.specs.Walks.{ChecksAreWalked, OneRecordIsThere};
 ghost use Rattle.ndef_c.specs.Writes.{RecordsMakeAMessage};
 
 use ndef_lang::OuterLanguage;
 use ndef_message::{answers_are_told, views_are_exact};
+use ndef_nest::strict_contents_are_read;
 use ndef_piece::heads_are_apart;
+use ndef_types::alternatives_are_exact;
+use ndef_value::one_meaning;
 
 /// What a check takes is walked from place 0 on: its records lie one after another, each where the one
 /// before it ends, and the last of them alone is told as the last.
@@ -33,3 +37,14 @@ pub fn one_record_is_there()
 pub fn records_make_a_message()
     ensures { RecordsMakeAMessage }
 {}
+
+/// Of a message that a check takes and its handover `ndef_link_at` tells the links that the message has,
+/// in their order, and no more.
+pub fn links_are_told<L: OuterLanguage>()
+    ensures { LinksAreTold L.set L.holds }
+{
+    heads_are_apart();
+    one_meaning();
+    strict_contents_are_read();
+    alternatives_are_exact();
+}

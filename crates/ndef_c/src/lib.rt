@@ -41,7 +41,10 @@ pub use error::{NdefError, ndef_error};
 pub use error_writing::{ndef_write_error, ndef_write_error_number};
 pub use feeding::{NdefChecker, ndef_begin, ndef_feed};
 pub use handover_writing::{REQUEST, SELECT, ndef_write_handover};
-pub use laws::{checks_are_walked, feeds_are_checks, one_record_is_there, records_make_a_message};
+pub use laws::{
+    checks_are_walked, feeds_are_checks, links_are_told, one_record_is_there,
+    records_make_a_message,
+};
 pub use limits::{NdefLimits, ndef_usual_limits};
 pub use link::{NdefLink, ndef_link_at};
 pub use numbers::{ndef_write_action, ndef_write_collision, ndef_write_size};

@@ -49,6 +49,7 @@ returns-in-Some-clause-link c = λ _.
       records = h.records;
       carrier = f.0;
       is_carrier = f.1;
+      in_set = a;
       lies = rw (c.link_of.ensures.at, c.link_of.ensures.length) part;
       alternative = v.0;
       stands = v.1.1;
