@@ -58,6 +58,14 @@ class ErrorParts(ctypes.Structure):
     _fields_ = _sizes('data_at data_length') + _numbers('reason has_number number')
 
 
+class RequestParts(ctypes.Structure):
+    _fields_ = _sizes('carriers') + _numbers('major minor collision')
+
+
+class SelectParts(ctypes.Structure):
+    _fields_ = _sizes('carriers detail_at detail_length') + _numbers('major minor has_error error')
+
+
 class Part(ctypes.Structure):
     _fields_ = _sizes('at length')
 
@@ -88,6 +96,8 @@ carrier = _call('ndef_carrier', _octets, _size, _to, _to)
 write_carrier = _call('ndef_write_carrier', _u32, _octets, _size, _octets, _size, *_room)
 alternative = _call('ndef_alternative', _octets, _size, _to, _to)
 reference = _call('ndef_reference', _octets, _size, _size, _to)
+request = _call('ndef_request', _octets, _size, _u32, _to, _to)
+select = _call('ndef_select', _octets, _size, _u32, _to, _to)
 write_alternative = _call('ndef_write_alternative', _u32, _octets, _size, _to, _size, *_room)
 write_action = _call('ndef_write_action', _u32, *_room)
 write_size = _call('ndef_write_size', _u32, *_room)

@@ -3,8 +3,7 @@ from collections import namedtuple
 from ctypes import byref
 
 from . import _library as library
-from .errors import left_out
-from .message import check_payload, message_encoder, records_of
+from .message import message_encoder, records_of
 from .record import GlobalRecord, Record, number_of, parts_of, spelled_of, text_of
 
 _POWERS = ('inactive', 'active', 'activating', 'unknown')
@@ -37,16 +36,15 @@ def _alternative_of(octets):
     return AlternativeCarrier(_POWERS[parts.power], reference, auxiliary)
 
 
-def _alternative(carrier):
+def _alternative(power_state, references):
     """The record of an alternative carrier."""
-    names = [name.encode('latin-1') for name in (carrier.carrier_data_reference, *carrier.auxiliary_data_reference)]
+    names = [text_of(name, 'a reference').encode('latin-1') for name in references]
     octets, at, parts = b''.join(names), 0, (library.Part * len(names))()
     for part, name in zip(parts, names):
         part.at, part.length = at, len(name)
         at += len(name)
-    power = _POWERS.index(carrier.carrier_power_state)
     return Record(_ALTERNATIVE, '', library.written('no alternative carrier has these parts', library.write_alternative, len(octets) + 32,
-                                                    power, octets, len(octets), parts, len(parts)))
+                                                    _POWERS.index(power_state), octets, len(octets), parts, len(parts)))
 
 
 def _collision(number):
@@ -54,9 +52,8 @@ def _collision(number):
     return Record(_COLLISION, '', library.written('no collision is resolved by this number', library.write_collision, 2, number))
 
 
-def _error(error):
+def _error(reason, told):
     """The record of an error."""
-    reason, told = error
     if isinstance(told, int):
         octets = library.written('no error has this number', library.write_error_number, 8, reason, told)
     else:
@@ -81,71 +78,60 @@ def _version_of(version):
 
 
 class _Handover(GlobalRecord):
-    """A handover. One that was decoded is kept as it is and written again."""
+    """A handover: its version, and the records within it. Those of other types are kept."""
 
     # The message of the payload stands behind a version byte (ndef.h).
     _before = 1
-    _data = None
 
     def __init__(self, version, alternative_carriers):
         self._version = _version_of(version)
-        self._carriers = []
+        self._records = []
         for carrier in alternative_carriers:
             self.add_alternative_carrier(*carrier)
 
-    def _of_values(self, what):
-        """Refuses to tell of a handover that was decoded what the library has no call for."""
-        if self._data is not None:
-            raise left_out(what + ' of a handover that was decoded')
-
     @property
     def version_info(self):
-        self._of_values('the version')
         return self._version
 
     @property
     def version_string(self):
-        return '%d.%d' % self.version_info
+        return '%d.%d' % self._version
 
     @property
     def hexversion(self):
-        major, minor = self.version_info
-        return 16 * major + minor
+        return 16 * self._version.major + self._version.minor
 
     @property
     def alternative_carriers(self):
         """The alternative carriers, each with its power state and the names of the records that it refers to."""
-        if self._data is None:
-            return list(self._carriers)
-        return [_alternative_of(octets) for octets in self._payloads_within(_ALTERNATIVE)]
+        return [_alternative_of(bytes(record.data)) for record in self._records if record._kind() == parts_of(_ALTERNATIVE)]
 
-    def _payloads_within(self, spelled):
-        """The payloads of the records of a type within a handover that was decoded."""
-        records = records_of(self._data, len(self._data), {}, self._before)
-        return [bytes(record.data) for record in records if record._kind() == parts_of(spelled)]
+    def _place_of_error(self):
+        """Where the first error record stands among the records, or behind them."""
+        return next((at for at, record in enumerate(self._records) if record._kind() == parts_of(_ERROR)), len(self._records))
 
     def add_alternative_carrier(self, carrier_power_state, carrier_data_reference, *auxiliary_data_reference):
         """Adds a carrier: its power state, the name of the record that it refers to, and those of others."""
-        self._of_values('another carrier')
-        names = [text_of(name, 'a reference') for name in (carrier_data_reference, *auxiliary_data_reference)]
-        self._carriers.append(AlternativeCarrier(_POWERS[_POWERS.index(carrier_power_state)], names[0], names[1:]))
+        self._records.insert(self._place_of_error(), _alternative(carrier_power_state, (carrier_data_reference, *auxiliary_data_reference)))
 
     def _encode_payload(self):
-        if self._data is not None:
-            return self._data
-        message = b''.join(message_encoder(self._records()))
+        message = b''.join(message_encoder(self._message()))
         return library.written('no handover has these parts', library.write_handover, len(message) + 1, self._number, *self._version,
                                message, len(message))
 
     @classmethod
     def _decode_payload(cls, octets, errors):
-        check_payload(cls._type, octets)
+        parts, why = cls._parts(), library.Checked()
+        if cls._read(octets, len(octets), 0, byref(parts), byref(why)) != library.OK:
+            raise library.refused(why)
         made = cls.__new__(cls)
-        made._data = octets
+        made._version = Version(parts.major, parts.minor)
+        made._records = list(records_of(octets, len(octets), {}, cls._before))
+        made._take(parts)
         return made
 
-    def __repr__(self):
-        return '<%s of %d octets>' % (self.__class__.__name__, len(self.data))
+    def _take(self, parts):
+        """Takes what the library tells beside the version."""
 
 
 class HandoverRequestRecord(_Handover):
@@ -153,6 +139,7 @@ class HandoverRequestRecord(_Handover):
     the name of the record that it refers to, and those of others. A request without a number is refused when it is encoded."""
 
     _type, _number = 'urn:nfc:wkt:Hr', library.REQUEST
+    _parts, _read = library.RequestParts, staticmethod(library.request)
 
     def __init__(self, version='1.3', crn=None, *alternative_carriers):
         super().__init__(version, alternative_carriers)
@@ -160,17 +147,22 @@ class HandoverRequestRecord(_Handover):
 
     @property
     def collision_resolution_number(self):
-        self._of_values('the collision resolution number')
         return self._crn
 
     @collision_resolution_number.setter
     def collision_resolution_number(self, value):
-        self._of_values('another collision resolution number')
         self._crn = value if value is None else number_of(value, 'a collision resolution number')
 
-    def _records(self):
-        first = [] if self._crn is None else [_collision(self._crn)]
-        return first + [_alternative(carrier) for carrier in self._carriers]
+    def _take(self, parts):
+        # The first record has the number (ndef.h).
+        self._crn = parts.collision
+        del self._records[0]
+
+    def _message(self):
+        return ([] if self._crn is None else [_collision(self._crn)]) + self._records
+
+    def _shown(self):
+        return [self.version_string, self._crn, *map(tuple, self.alternative_carriers)]
 
 
 class HandoverSelectRecord(_Handover):
@@ -178,29 +170,29 @@ class HandoverSelectRecord(_Handover):
     that it refers to, and those of others."""
 
     _type, _number = 'urn:nfc:wkt:Hs', library.SELECT
+    _parts, _read = library.SelectParts, staticmethod(library.select)
 
     def __init__(self, version='1.3', error=None, *alternative_carriers):
         super().__init__(version, alternative_carriers)
-        self._told = None
         if error is not None:
             self.set_error(*error)
 
     @property
     def error(self):
         """The error, of several the first, or None."""
-        if self._data is None:
-            return self._told
-        errors = self._payloads_within(_ERROR)
-        return _error_of(errors[0]) if errors else None
+        at = self._place_of_error()
+        return _error_of(bytes(self._records[at].data)) if at < len(self._records) else None
 
     def set_error(self, error_reason, error_data):
         """Sets the error: a reason, and its data, a number for the reasons 1 to 3 and octets for others."""
-        self._of_values('another error')
-        self._told = HandoverError(number_of(error_reason, 'the reason of an error'), error_data)
+        at = self._place_of_error()
+        self._records[at:at + 1] = [_error(number_of(error_reason, 'the reason of an error'), error_data)]
 
-    def _records(self):
-        last = [] if self._told is None else [_error(self._told)]
-        return [_alternative(carrier) for carrier in self._carriers] + last
+    def _message(self):
+        return self._records
+
+    def _shown(self):
+        return [self.version_string, self.error, *map(tuple, self.alternative_carriers)]
 
 
 class HandoverCarrierRecord(GlobalRecord):

@@ -39,15 +39,6 @@ def _message_end(octets, limits):
     return checked.place
 
 
-def check_payload(spelled, octets):
-    """Refuses octets that are no payload of a record of this type."""
-    record = Record(spelled, '', octets)._written(library.FIRST | library.LAST, 0)
-    try:
-        _message_end(record, _typed)
-    except DecodeError as error:
-        raise DecodeError(max(0, error.place - len(record) + len(octets)), error.reason) from None
-
-
 def _ahead(stream, size):
     """About so many octets that the stream gives next, which aren't taken; none where it can't show them."""
     if hasattr(stream, 'peek'):
