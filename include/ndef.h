@@ -8,7 +8,8 @@
  *   - a pointer with a length points to so many bytes, and any other pointer to a value of its type;
  *     no pointer is NULL (where a length is 0, any other pointer serves);
  *   - what a call writes (`out`, `count`, a room, a checker) overlaps nothing else that the call is given;
- *   - an ndef_checker that is fed holds what ndef_begin and ndef_feed left in it, or in one of which it is a copy;
+ *   - an ndef_checker that is fed holds what ndef_begin and ndef_feed left in it, or in one of which it is a copy, and is
+ *     given to one call at a time;
  *   - no array has more than PTRDIFF_MAX bytes.
  * Whatever else the numbers, bytes and structs hold, the answer is defined.
  *

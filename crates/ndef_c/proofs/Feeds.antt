@@ -207,8 +207,8 @@ module _ {Point : Type 0} {set : Sets} (holds : Conditions) {limits : LimitValue
 never_bad : {set : Sets} {holds : Conditions} {limits : LimitValues} {bytes : List ℕ} {status : ℕ} {out : NdefChecked} → FeedsTo set holds limits bytes status out → ¬ (status ≡ BAD_ARGUMENT)
 never_bad {set} {holds} {limits} {bytes} {status} {out} f e =
     elim (subst (λ s. ChecksTo set holds limits bytes (checked_status s) out) e f.checks) as (λ _. ⊥) [
-      | inl a ↦ let z : 3 ≡ 0 = a.0 in absurd (omega arith)
-      | inr b ↦ let z : 3 ≡ 1 = b.0 in absurd (omega arith)
+      | inl a ↦ let z : ◌≡◌ {A = ℕ} 3 0 = a.0 in absurd (omega arith)
+      | inr b ↦ let z : ◌≡◌ {A = ℕ} 3 1 = b.0 in absurd (omega arith)
     ]
 
 pub answers_typed : (limits : NdefLimits) (bytes : List ℕ) (status : ℕ) (before after : NdefChecked) → MayBeSet limits → limits.flags < 2
