@@ -55,9 +55,7 @@ pub use reasons::ndef_reason_name;
 pub use record::{NdefRecord, ndef_record_at};
 pub use request::{NdefRequest, ndef_request};
 pub use select::{NdefSelect, ndef_select};
-pub use status::{
-    BAD_ARGUMENT, BAD_ARGUMENT, END, END, MORE, NO_ROOM, NO_ROOM, OK, OK, REFUSED, REFUSED,
-};
+pub use status::{BAD_ARGUMENT, END, MORE, NO_ROOM, OK, REFUSED};
 pub use text::{NdefText, ndef_text, ndef_text_in_utf8, ndef_write_text};
 pub use uri::{ndef_uri, ndef_write_uri};
 pub use writing::{NdefWriting, ndef_write_record};
