@@ -1,5 +1,5 @@
 -- The message of all parts, or why there is none.
-use Rattle.std.proofs.Common.{◌≡◌, ◌∙◌, ◌<◌, ◌≤◌, ℕ, List, [], length, map, take, get_or, Option, Some, Err, sym, ap, arith, Bool, Result, Ok, refl, subst, inl, inr, None}
+use Rattle.std.proofs.Common.{◌≡◌, ◌∙◌, ◌<◌, ◌≤◌, ℕ, List, [], length, map, take, get_or, Option, Some, Err, sym, ap, arith, Bool, Result, Ok, subst, inr}
 use Rattle.std.specs.Prelude.{codes, drop}
 use Rattle.std.specs.Str.{bytes_eq}
 use Rattle.std.proofs.lemmas.List.{length-map, take_all}

@@ -1,5 +1,5 @@
 -- What single words say of a poster.
-use Rattle.std.proofs.Common.{◌≡◌, ◌∙◌, ◌<◌, ◌≤◌, ◌+◌, ◌++◌, ◌∷◌, get_or, take, append-nil, append_assoc, ℕ, Bool, true, false, List, [], map, length, Option, Some, None, Ok, Err, refl, sym, ap, ap₂, arith, cond, lit<}
+use Rattle.std.proofs.Common.{◌≡◌, ◌∙◌, ◌<◌, ◌≤◌, ◌+◌, ◌++◌, ◌∷◌, get_or, take, append-nil, append_assoc, ℕ, Bool, true, false, List, [], map, length, Option, Some, None, Ok, Err, sym, ap, ap₂, arith, cond, lit<}
 use Rattle.std.specs.Prelude.{option_map, nat_lt, unwrap_or}
 use Rattle.std.specs.Borrow.{Bor}
 use Rattle.std.specs.List.{after_first, before_first, position_or_len}

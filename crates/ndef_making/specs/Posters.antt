@@ -16,7 +16,7 @@ use Rattle.ndef_types.specs.Contents.{IsFirstWrong}
 use Rattle.ndef_types.specs.Posters.{LacksUri}
 use Rattle.ndef_types.specs.Values.{TextValue}
 use Rattle.ndef_types.specs.declared.encoding.Encoding.TheVariants.{Utf8}
-use Rattle.ndef_making.specs.Records.{Answer, AreAnsweredBy, AreMadeBy, Asks, FailsBy, MakesItem, MakesText, MakesUri, well_known}
+use Rattle.ndef_making.specs.Records.{Answer, AreMadeBy, Asks, FailsBy, MakesItem, MakesText, MakesUri, well_known}
 use Rattle.ndef_making.specs.declared.fault.Fault.{Fault}
 use Rattle.ndef_making.specs.declared.fault.Fault.TheVariants.{Refused, Memory}
 use Rattle.ndef_making.specs.declared.fault.Refused.TheVariants.{NoPoster, PayloadTooLong, TooManyRecords}

@@ -1,4 +1,4 @@
-use Rattle.std.proofs.Common.{refl, ◌≡◌, ◌∙◌, ap, sym, subst, true, false, []}
+use Rattle.std.proofs.Common.{refl, ◌∙◌, ap, sym, subst, []}
 use Rattle.std.specs.Prelude.{if◌then◌else◌}
 use Rattle.ndef_piece.specs.Heads.{IsOpen}
 use Rattle.ndef_piece.specs.declared.head_reader.Step.TheVariants as steps
