@@ -162,8 +162,8 @@ impl SmartPoster {
     /// a message of at most 65535 records, each in one piece. Any other payload is `Refused` at the first
     /// byte after which no payload of its length is one. Else `NoMemory`.
     pub fn decode(alloc: Global, payload: &[u8]) -> Result<SmartPoster, DecodeError>
-        ensures { Decodes (IsNest tables.SmartPoster MOST_RECORDS Strict) (NestReason tables.SmartPoster MOST_RECORDS Strict)
-            (StandsForPoster Strict) payload.now result }
+        ensures { Decodes (IsNest tables.SmartPoster MOST_RECORDS Strict)
+            (NestReason tables.SmartPoster MOST_RECORDS Strict) (StandsForPoster Strict) payload.now result }
     {
         SmartPoster::decode_as(alloc, payload, Profile::Strict)
     }
@@ -175,8 +175,8 @@ impl SmartPoster {
         payload: &[u8],
         profile: Profile,
     ) -> Result<SmartPoster, DecodeError>
-        ensures { Decodes (IsNest tables.SmartPoster MOST_RECORDS profile) (NestReason tables.SmartPoster MOST_RECORDS profile)
-            (StandsForPoster profile) payload.now result }
+        ensures { Decodes (IsNest tables.SmartPoster MOST_RECORDS profile)
+            (NestReason tables.SmartPoster MOST_RECORDS profile) (StandsForPoster profile) payload.now result }
     {
         accept::<Nest>(Kind::SmartPoster, profile, payload)?;
         Ok(read_poster(alloc, payload, profile)?)
