@@ -1,10 +1,11 @@
 """The calls of the library, as ndef.h declares them: structs, numbers and one way to fill a room."""
 import ctypes
+import functools
 import os
 
 from .errors import DecodeError, EncodeError
 
-OK, REFUSED, NO_ROOM, BAD_ARGUMENT, END = range(5)
+OK, REFUSED, NO_ROOM, BAD_ARGUMENT, END, MORE = range(6)
 STANDARD, OPAQUE = 1, 2
 FIRST, LAST = 1, 2
 UTF16 = 1
@@ -28,6 +29,10 @@ class Limits(ctypes.Structure):
 
 class Checked(ctypes.Structure):
     _fields_ = [('place', ctypes.c_uint64)] + _numbers('records reason')
+
+
+class Checker(ctypes.Structure):
+    _fields_ = [('words', ctypes.c_uint64 * 29)]
 
 
 class RecordParts(ctypes.Structure):
@@ -83,6 +88,8 @@ _room = (_to, _size, _to)
 _usual_limits = _call('ndef_usual_limits', _to, result=None)
 _reason_name = _call('ndef_reason_name', _u32, *_room)
 check = _call('ndef_check', _octets, _size, _to, _to)
+_begin = _call('ndef_begin', _to, _to)
+_feed = _call('ndef_feed', _to, _octets, _size, _to)
 record_at = _call('ndef_record_at', _octets, _size, _size, _to)
 payload = _call('ndef_payload', _octets, _size, _size, *_room)
 write_record = _call('ndef_write_record', _octets, _size, _octets, _size, _octets, _size, _to, *_room)
@@ -114,6 +121,13 @@ def limits(flags):
     _usual_limits(ctypes.byref(out))
     out.flags = flags
     return out
+
+
+def begun(limits):
+    """A call that feeds the next octets to a checker that is begun by these limits."""
+    checker = Checker()
+    _begin(ctypes.byref(limits), ctypes.byref(checker))
+    return functools.partial(_feed, ctypes.byref(checker))
 
 
 def put(call, guess, *arguments, behind=()):

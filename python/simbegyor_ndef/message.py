@@ -52,16 +52,16 @@ def _ahead(stream, size):
 
 
 def _from_stream(stream, limits):
-    """The octets of the message that the stream gives next, and where it ends. What lies behind it isn't taken."""
-    octets, checked = b'', library.Checked()
+    """The octets of the message that the stream gives next, and where it ends. What lies behind it isn't taken, and each
+    octet is looked at once."""
+    octets, checked, feed = b'', library.Checked(), library.begun(limits)
     while True:
         seen = _ahead(stream, max(_LOOK, len(octets)))
         taken = b'' if seen else stream.read(1)
         if not seen and not taken:
             return (octets, _message_end(octets, limits)) if octets else (b'', 0)
-        there = octets + seen + taken
-        status = library.check(there, len(there), byref(limits), byref(checked))
-        if status != library.OK and checked.reason != library.END_OF_INPUT:
+        status = feed(seen + taken, len(seen) + len(taken), byref(checked))
+        if status not in (library.OK, library.MORE):
             raise library.refused(checked)
         wanted = checked.place - len(octets) - len(taken)
         octets += taken + (stream.read(wanted) if wanted else b'')
