@@ -293,7 +293,7 @@ typedef struct ndef_link {
 /* Tells the link with an index, counted from 0: the alternative carrier with that index, and the first record of the
  * message whose id is its carrier data reference; none where the reference is empty, or no record has that id. The bytes
  * begin with the message, and others may follow it; the payload is that of its Handover Request or Handover Select
- * record, its pieces joined, as ndef_payload writes it.
+ * record, its pieces joined, as ndef_payload writes it. Each call looks at the whole payload, and walks the message anew.
  * NDEF_OK; NDEF_END: the handover has no such alternative carrier. NDEF_BAD_ARGUMENT: the payload is that of no request
  * and no select, as the standard reads them; or the bytes don't begin with records up to one that is the last, all of
  * them whole. */
