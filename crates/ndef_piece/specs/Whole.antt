@@ -1,7 +1,10 @@
 -- A whole piece at the front of some bytes.
-use Rattle.std.specs.Prelude.{◌≡◌, ℕ, Bool, List, ◌++◌, Some, None, if◌then◌else◌}
-use Rattle.ndef_value.specs.Wire.{Piece, Spells}
+use Rattle.std.specs.Prelude.{◌≡◌, ℕ, ◌<◌, ◌≤◌, Bool, List, ◌++◌, length, take, Some, None, if◌then◌else◌}
+use Rattle.ndef_value.specs.Wire.{Fields, Piece, Spells}
 use Rattle.ndef_piece.specs.Header.{is_set, tnf_number}
+use Rattle.ndef_piece.specs.Heads.{IsWhole}
+use Rattle.ndef_piece.specs.declared.head.Head.{Head}
+use Rattle.ndef_piece.specs.declared.spot.Spot.{Spot}
 use Rattle.ndef_piece.specs.declared.whole.WholePiece.{WholePiece}
 
 -- NDEF 1.0, record layout: the piece that a header octet and these parts make
@@ -32,3 +35,22 @@ pub record BeginWithPiece (bytes : List ℕ) : Type 0 where
   pub short : Bool
   pub rest : List ℕ
   pub split : IsSplit piece short rest bytes
+
+-- NDEF 1.0, record layout: the fields that a header octet and these lengths tell
+abbrev pub fields_of : ℕ → (kind id payload : ℕ) → Fields
+fields_of header kind id payload = record {
+  first = is_set 7 header;
+  last = is_set 6 header;
+  chunked = is_set 5 header;
+  short = is_set 4 header;
+  tnf = tnf_number header;
+  kind_length = kind;
+  payload_length = payload;
+  id_length = if is_set 3 header then Some id else None;
+}
+
+-- NDEF 1.0, record layout: the bytes begin with a head that may stand at the spot, of so many octets, read as h
+pub record BeginWithHead (spot : Spot) (bytes : List ℕ) (h : Head) (count : ℕ) : Type 0 where
+  pub some : 0 < count
+  pub within : count ≤ length bytes
+  pub whole : IsWhole spot (take count bytes) h

@@ -5,12 +5,14 @@ ghost use Rattle.ndef_piece.specs.Header.{size};
 ghost use Rattle.ndef_piece.specs.Heads.{head, CanBeSpelled, IsOpen, IsViable, IsRange};
 ghost use Rattle.ndef_piece.specs.Bounds.{AreBounds};
 ghost use Rattle.ndef_piece.specs.Reading.{IsAnswer, IsSound, IfHead, IfRefused};
+ghost use Rattle.ndef_piece.specs.Whole.{BeginWithHead};
 ghost use Rattle.ndef_piece.specs.declared.head_reader.Step.TheVariants as steps;
 
 use crate::bounds::{bounds_at, front_bounds, range};
 use crate::conditions::reason;
 use crate::head::head_of;
 use crate::header::size;
+use crate::whole::head_at;
 use crate::{Bounds, Head, Spot};
 use ndef_value::Reason;
 use std::marker::Model;
@@ -104,6 +106,18 @@ impl HeadReader {
         ensures { IsTrue result → self.now.octets ≡ [] }
     {
         self.count == 0
+    }
+
+    /// The head at the front of the bytes, and how many octets it has, where no octet has come and it is
+    /// seen at once that it is whole and may stand at the spot.
+    pub fn whole_head(&self, bytes: &[u8]) -> Option<(Head, usize)>
+        ensures fresh { IfSome result (λ r. self.now.octets ≡ []) }
+        ensures begins { IfSome result (λ r. BeginWithHead self.now.spot bytes.now r.0 r.1) }
+    {
+        if self.count > 0 {
+            return None;
+        }
+        head_at(&self.spot, bytes)
     }
 
     /// Takes the next octet. A refused octet isn't part of the head; after a head or a refusal `step`

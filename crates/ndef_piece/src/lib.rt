@@ -10,6 +10,7 @@ mod header;
 mod laws;
 mod payload_length;
 mod spot;
+mod standing;
 mod whole;
 mod write;
 

@@ -1,13 +1,14 @@
 //! A whole piece at the front of a slice, its parts left where they are.
-ghost use Rattle.std.specs.Prelude.{◌≡◌, ◌≢◌, ◌+◌, ◌^◌, ◌<◌, ◌≤◌, ◌++◌, false, true, length, IfNone, IfSome, IsTrue, Some, None, [], if◌then◌else◌};
-ghost use Rattle.ndef_value.specs.Wire.{FitsForm, HasShape, IsRead, id_length_octets, payload_length_octets, tnf_of};
+ghost use Rattle.std.specs.Prelude.{◌≡◌, ◌^◌, ◌<◌, ◌++◌, false, true, length, IfNone, IfSome, IsTrue, Some, None, [], if◌then◌else◌};
+ghost use Rattle.ndef_value.specs.Wire.{FitsForm, id_length_octets, payload_length_octets, tnf_of};
 ghost use Rattle.ndef_piece.specs.Header.{is_set, tnf_number, width};
 ghost use Rattle.ndef_piece.specs.Pieces.{Stands};
-ghost use Rattle.ndef_piece.specs.Whole.{BeginWithPiece, IsSplit, shown};
+ghost use Rattle.ndef_piece.specs.Whole.{BeginWithHead, BeginWithPiece, IsSplit, shown};
 
-use crate::Spot;
 use crate::header::{BEGIN, CHUNK, END, ID_THERE, SHORT, header_tnf, is_set, tnf_number};
-use ndef_value::{Profile, Tnf};
+use crate::standing::{may_stand, opens, suits};
+use crate::{Head, Spot};
+use ndef_value::Tnf;
 
 /// A whole piece (NDEF 1.0, record layout), its parts being slices of the bytes that spell it, and
 /// what follows it there.
@@ -61,6 +62,38 @@ fn id_length_at(header: u8, bytes: &[u8]) -> Option<(u8, &[u8])>
     Some((*length, rest))
 }
 
+/// The head at the front of the bytes, and how many octets it has, where it is whole and may stand at the
+/// spot.
+pub(crate) fn head_at(spot: &Spot, bytes: &[u8]) -> Option<(Head, usize)>
+    ensures { IfSome result (λ r. BeginWithHead spot.now bytes.now r.0 r.1) }
+{
+    let [header, kind_length, rest @ ..] = bytes else {
+        return None;
+    };
+    let (payload_length, rest) = payload_length_at(*header, rest)?;
+    let (id_length, rest) = id_length_at(*header, rest)?;
+    if !may_stand(
+        spot,
+        *header,
+        usize::from(*kind_length),
+        usize::from(id_length),
+        payload_length as usize,
+    ) {
+        return None;
+    }
+    let head = Head {
+        first: is_set(BEGIN, *header),
+        last: is_set(END, *header),
+        chunked: is_set(CHUNK, *header),
+        short: is_set(SHORT, *header),
+        tnf: header_tnf(*header),
+        kind_length: *kind_length,
+        payload_length,
+        id_length: is_set(ID_THERE, *header).then_some(id_length),
+    };
+    Some((head, bytes.len() - rest.len()))
+}
+
 /// So many bytes at the front, and what follows them.
 fn cut(bytes: &[u8], count: usize) -> Option<(&[u8], &[u8])>
     ensures length { IfSome result (λ r. length r.0.now ≡ count) }
@@ -97,21 +130,6 @@ pub fn whole_piece(bytes: &[u8]) -> Option<WholePiece<'_>>
     })
 }
 
-/// Whether a record in one piece may have this type name format and these lengths.
-fn has_shape(profile: Profile, tnf: u8, kind: usize, id: usize, payload: usize) -> bool
-    ensures { IsTrue result → IsRead profile tnf × (tnf ≢ 6) × HasShape (tnf_of tnf) kind id payload }
-{
-    if 1 <= tnf && tnf <= 4 {
-        return kind > 0;
-    }
-    match tnf {
-        0 => kind == 0 && id == 0 && payload == 0,
-        5 => kind == 0,
-        7 => matches!(profile, Profile::Standard) && kind == 0,
-        _ => false,
-    }
-}
-
 impl WholePiece<'_> {
     /// The type name format (NDEF 1.0, TNF), the reserved 7 being read as Unknown.
     pub fn tnf(&self) -> Tnf
@@ -133,25 +151,6 @@ impl WholePiece<'_> {
         is_set(END, self.header)
     }
 
-    /// Whether its flags may stand at the spot, and its payload has room there.
-    fn suits(&self, spot: &Spot) -> bool
-        ensures begins { IsTrue result → is_set 7 self.now.header ≡ spot.now.first }
-        ensures chunked { IsTrue result → is_set 5 self.now.header ≡ true
-            → (is_set 6 self.now.header ≡ false) × (spot.now.last_piece ≡ false) }
-        ensures followed { IsTrue result → is_set 5 self.now.header ≡ false → is_set 6 self.now.header ≡ false
-            → spot.now.last_record ≡ false }
-        ensures room { IsTrue result → length self.now.payload.now ≤ spot.now.room }
-    {
-        let followed = if self.is_chunked() {
-            !self.is_last() && !spot.last_piece
-        } else {
-            self.is_last() || !spot.last_record
-        };
-        followed
-            && is_set(BEGIN, self.header) == spot.first
-            && self.payload.len() <= spot.room as usize
-    }
-
     /// Whether it is seen at once that it may stand at the spot and goes on the run there (NDEF 1.0,
     /// chunked payloads).
     pub fn goes_on_at(&self, spot: &Spot) -> bool
@@ -161,7 +160,7 @@ impl WholePiece<'_> {
         tnf_number(self.header) == 6
             && self.kind.is_empty()
             && !is_set(ID_THERE, self.header)
-            && self.suits(spot)
+            && suits(spot, self.header, self.payload.len())
     }
 
     /// Whether it is seen at once that it may stand at the spot and begins a record there.
@@ -169,17 +168,13 @@ impl WholePiece<'_> {
         ensures stands { IsTrue result → Stands spot.now (shown self.now) }
         ensures outside { IsTrue result → spot.now.inside ≡ false }
     {
-        let tnf = tnf_number(self.header);
-        !spot.inside
-            && self.suits(spot)
-            && (tnf > 0 || !self.is_chunked())
-            && has_shape(
-                spot.profile,
-                tnf,
-                self.kind.len(),
-                self.id.len(),
-                self.payload.len(),
-            )
+        opens(
+            spot,
+            self.header,
+            self.kind.len(),
+            self.id.len(),
+            self.payload.len(),
+        )
     }
 
     /// Whether it is seen at once that it may stand at the spot and is a record in one piece.
