@@ -1,6 +1,7 @@
 -- What the laws of a payload language say.
 use Rattle.std.specs.Prelude.{◌≡◌, ℕ, ◌+◌, ◌-◌, ◌<◌, ◌≤◌, List, ◌++◌, length, take, slice_index, ◌↔◌, ◌⊎◌}
 use Rattle.ndef_value.specs.Reason.{rank_of}
+use Rattle.ndef_value.specs.Wire.{AreOctets}
 use Rattle.ndef_value.specs.declared.profile.Profile.{Profile}
 use Rattle.ndef_value.specs.declared.reason.Reason.{Reason}
 use Rattle.ndef_value.specs.declared.reason.Reason.TheVariants.{DoesNotFit}
@@ -54,6 +55,14 @@ pub record StepsFront (old new : List ℕ → Type 0) (bytes : List ℕ) (count 
 -- The octets lead on, whatever the kind, the number of records and the profile.
 abbrev pub ReachesEach : (old new : Sets) → List ℕ → Type 0
 ReachesEach old new octets = (kind : Kind) (records : ℕ) (profile : Profile) → Reaches (old kind records profile) (new kind records profile) octets
+
+-- any octets pass
+abbrev pub AllPass : (List ℕ → Type 0) → Type 0
+AllPass future = (r : List ℕ) → AreOctets r → future r
+
+-- Any octets lead back to what was reached, whatever the kind, the number of records and the profile.
+abbrev pub AllReach : Sets → Type 0
+AllReach reached = (octets : List ℕ) → AreOctets octets → ReachesEach reached reached octets
 
 -- of the reasons that hold the one that is tried first
 pub record IsLowest (holds : Reason → Type 0) (reason : Reason) : Type 0 where
