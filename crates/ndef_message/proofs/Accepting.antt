@@ -57,10 +57,10 @@ front_and bytes front rest n k e is small =
     let m : n ≡ length front = omega arith in
     (omega arith, ap (λ n. take (n + k) bytes) m ∙ ap (take (length front + k)) e ∙ take-append-add front rest k)
 
-spelled_one : (p : Piece) (short : Bool) (front : List ℕ) → Spells p short front → SpellAll (p ∷ []) front
+pub spelled_one : (p : Piece) (short : Bool) (front : List ℕ) → Spells p short front → SpellAll (p ∷ []) front
 spelled_one p short front s = (short, front, [], sym (append-nil front), s, refl)
 
-walked_append : (limits : LimitValues) (ps qs : List Piece) (b c d : Before) (given items : List Item) → Walked limits b ps given c → Walked limits c qs items d → Walked limits b (ps ++ qs) (given ++ items) d
+pub walked_append : (limits : LimitValues) (ps qs : List Piece) (b c d : Before) (given items : List Item) → Walked limits b ps given c → Walked limits c qs items d → Walked limits b (ps ++ qs) (given ++ items) d
 walked_append limits [] qs b c d given items w x =
     subst (λ g. Walked limits b qs (g ++ items) d) (sym w.0) (subst (λ y. Walked limits y qs items d) w.1 x)
 walked_append limits (p ∷ ps) qs b c d given items w x =

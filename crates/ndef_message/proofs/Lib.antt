@@ -19,6 +19,7 @@ pub mod Led
 pub mod Lists
 pub mod Moved
 pub mod Octets
+pub mod OpenRuns
 pub mod Opening
 pub mod Parts
 pub mod Placed

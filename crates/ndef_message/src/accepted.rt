@@ -1,10 +1,11 @@
-//! Whole records at the front of a slice, seen at once to be right. What isn't seen may be right too.
-ghost use Rattle.std.specs.Prelude.{◌≡◌, ◌≤◌, length, take, true, false, IfSome, IsTrue};
+//! Whole records at the front of a slice, or pieces of an open run, seen at once to be right. What isn't
+//! seen may be right too.
+ghost use Rattle.std.specs.Prelude.{◌≡◌, ◌<◌, ◌≤◌, length, take, true, false, IfSome, IsTrue};
 ghost use Rattle.ndef_piece.specs.Header.{is_set};
 ghost use Rattle.ndef_piece.specs.Pieces as pieces;
-ghost use Rattle.ndef_piece.specs.Whole.{shown};
+ghost use Rattle.ndef_piece.specs.Whole.{IsSplit, shown};
 ghost use Rattle.ndef_message.specs.Deep.{IsMember};
-ghost use Rattle.ndef_message.specs.Machine.Accepted.{AreRecords, BeginsWith, IsRecord, IsRunEnd, record_of};
+ghost use Rattle.ndef_message.specs.Machine.Accepted.{AreChunks, AreRecords, BeginsWith, IsRecord, IsRunEnd, record_of};
 ghost use Rattle.ndef_message.specs.Machine.State.{spot_of};
 
 use crate::phase::Place;
@@ -35,6 +36,38 @@ fn accepted_run(limits: &Limits, place: Place, bytes: &[u8]) -> Option<(usize, b
         at = at.behind_chunk(piece.payload.len() as u32);
     }
     None
+}
+
+/// The piece at the front of the bytes, where it is seen at once that it goes on the run at the place and
+/// another follows it.
+fn whole_chunk<'a>(limits: &Limits, place: &Place, bytes: &'a [u8]) -> Option<WholePiece<'a>>
+    requires { place.now.inside ≡ true }
+    ensures split { IfSome result (λ w. IsSplit (shown w) (is_set 4 w.header) w.rest.now bytes.now) }
+    ensures stands { IfSome result (λ w. pieces.Stands (spot_of limits.now.profile place.now) (shown w)) }
+    ensures chunked { IfSome result (λ w. is_set 5 w.header ≡ true) }
+{
+    let piece = whole_piece(bytes)?;
+    if !piece.is_chunked() || !piece.goes_on_at(&place.spot(limits.profile())) {
+        return None;
+    }
+    Some(piece)
+}
+
+/// As many whole pieces at the front of the bytes as go on the run at the place, each with another behind
+/// it: their bytes, and the place behind them. Their payload isn't looked into.
+pub(crate) fn accepted_chunks(limits: &Limits, place: Place, bytes: &[u8]) -> (usize, Place)
+    requires { place.inside ≡ true }
+    ensures within { result.0 ≤ length bytes.now }
+    ensures later { 0 < result.0 → result.1.first ≡ false }
+    ensures chunks { AreChunks limits.now place (take result.0 bytes.now) result.1 }
+{
+    let mut found = place;
+    let mut rest = bytes;
+    while let Some(piece) = whole_chunk(limits, &found, rest) {
+        found = found.behind_chunk(piece.payload.len() as u32);
+        rest = piece.rest;
+    }
+    (bytes.len() - rest.len(), found)
 }
 
 /// Whether the piece is a record, which may stand at the place, with a payload of its kind.

@@ -1,4 +1,4 @@
-//! The checker of a message: whole records, and else bytes of one field, one after another.
+//! The checker of a message: whole records and pieces, and else bytes of one field, one after another.
 ghost use Rattle.std.specs.Prelude.{◌≡◌, ◌+◌, ◌-◌, ◌<◌, ◌≤◌, ◌++◌, ◌∷◌, [], ℕ, List, length, take, None, IfSome, if◌then◌else◌};
 ghost use Rattle.ndef_value.specs.Wire.{greatest_length};
 ghost use Rattle.ndef_piece.specs.Header.{is_set};
@@ -124,8 +124,8 @@ impl<L: OuterLanguage> Checker<L> {
         }
     }
 
-    /// Takes whole records where that can be done at once, and else the next bytes, as far as they are of
-    /// one field, up to the first that is refused; answers how many, a refused one too.
+    /// Takes whole records or pieces where that can be done at once, and else the next bytes, as far as
+    /// they are of one field, up to the first that is refused; answers how many, a refused one too.
     fn advance(&mut self, bytes: &[u8]) -> usize
         requires going { answer_of self.old.state.phase 0 ≡ None }
         requires some { 0 < length bytes.now }
@@ -135,16 +135,16 @@ impl<L: OuterLanguage> Checker<L> {
         ensures onward { WhateverLed (CheckerReached self.old) (λ front given point.
             Leads (CheckerReached self.new) (front ++ take result bytes.now)) }
     {
-        let taken = self.take_records(bytes);
+        let taken = self.take_pieces(bytes);
         if taken > 0 {
             return taken;
         }
         self.step(bytes)
     }
 
-    /// Takes as many whole records at the front of the bytes as are seen at once to be right, where one
-    /// may begin; answers how many bytes they have.
-    fn take_records(&mut self, bytes: &[u8]) -> usize
+    /// Takes whole records at the front of the bytes where one may begin, and pieces of an open run where
+    /// one of them may, as many as are seen at once to be right; answers how many bytes they have.
+    fn take_pieces(&mut self, bytes: &[u8]) -> usize
         requires going { answer_of self.old.state.phase 0 ≡ None }
         ensures limits { self.new.limits ≡ self.old.limits }
         ensures none { result ≡ 0 → answer_of self.new.state.phase 0 ≡ None }
@@ -153,7 +153,7 @@ impl<L: OuterLanguage> Checker<L> {
             Leads (CheckerReached self.new) (front ++ take result bytes.now)) }
     {
         format_laws(&self.limits);
-        let taken = self.state.take_records(&self.limits, bytes);
+        let taken = self.state.take_pieces(&self.limits, bytes);
         self.taken += taken as u64;
         taken
     }

@@ -4,7 +4,7 @@ ghost use Rattle.ndef_value.specs.Wire.{Item, Fields};
 ghost use Rattle.ndef_piece.specs.Header.{is_set};
 ghost use Rattle.ndef_piece.specs.Walk.{Before};
 
-use crate::accepted::{accepted_records, whole_record};
+use crate::accepted::{accepted_chunks, accepted_records, whole_record};
 use crate::format::format_laws;
 use crate::phase::{Phase, Place, greatest, phase_after};
 use ndef_lang::{Kind, KindReader, Language, OuterLanguage};
@@ -25,7 +25,7 @@ impl<L: OuterLanguage> State<L> {
     ghost use Rattle.ndef_message.specs.Machine.Points.{Point};
     ghost use Rattle.ndef_message.specs.Machine.State.{Stands, StandsBehind, Stopped, Came, Onward};
     ghost use Rattle.ndef_message.specs.Machine.State.{InBody, SomeBody, WholeHead, SomeWhole, IsWithinHead, CanGoOn, behind_record};
-    ghost use Rattle.ndef_message.specs.Machine.Accepted.{BeginsWith, IsBehind, IsFresh};
+    ghost use Rattle.ndef_message.specs.Machine.Accepted.{BeginsWith, IsAtChunk, IsBehind, IsBehindChunks, IsFresh};
     ghost use Rattle.ndef_message.specs.Deep.{IsViable};
 
     /// Whether a record may begin here, and no octet of it has come.
@@ -51,7 +51,7 @@ impl<L: OuterLanguage> State<L> {
 
     /// Takes as many whole records at the front of the bytes as are seen at once to be right, where one
     /// may begin; answers how many bytes they have.
-    pub(crate) fn take_records(&mut self, limits: &Limits, bytes: &[u8]) -> usize
+    fn take_records(&mut self, limits: &Limits, bytes: &[u8]) -> usize
         ensures within { result ≤ length bytes.now }
         ensures none { result ≡ 0 → self.new.phase ≡ self.old.phase }
         ensures onward { WhateverLed (Stands L.Language limits.now self.old) (λ front given point.
@@ -66,6 +66,60 @@ impl<L: OuterLanguage> State<L> {
             self.go_behind(limits, place, last);
         }
         taken
+    }
+
+    /// Whether a piece of an open run may begin here, no octet of it has come, and any octets complete
+    /// the payload.
+    fn is_at_chunk(&self) -> bool
+        ensures { IsTrue result → IsAtChunk L.Language self.now }
+    {
+        matches!(self.phase, Phase::Head)
+            && self.place.inside
+            && self.reader.is_fresh()
+            && self.payload.is_open()
+    }
+
+    /// Goes on behind pieces of an open run, where another begins.
+    fn go_behind_chunks(&mut self, limits: &Limits, place: Place)
+        requires { place.first ≡ false }
+        ensures { IsBehindChunks limits.now self.old self.new place }
+    {
+        self.place = place;
+        self.reader = HeadReader::new(place.spot(limits.profile()));
+    }
+
+    /// Takes as many whole pieces at the front of the bytes as go on an open run, each with another behind
+    /// it, where any octets complete its payload; answers how many bytes they have.
+    #[inline(never)]
+    fn take_chunks(&mut self, limits: &Limits, bytes: &[u8]) -> usize
+        ensures within { result ≤ length bytes.now }
+        ensures phase { self.new.phase ≡ self.old.phase }
+        ensures onward { WhateverLed (Stands L.Language limits.now self.old) (λ front given point.
+            Leads (Stands L.Language limits.now self.new) (front ++ take result bytes.now)) }
+    {
+        format_laws(limits);
+        if !self.is_at_chunk() {
+            return 0;
+        }
+        let (taken, place) = accepted_chunks(limits, self.place, bytes);
+        if taken > 0 {
+            self.go_behind_chunks(limits, place);
+        }
+        taken
+    }
+
+    /// Takes whole records at the front of the bytes where one may begin, and pieces of an open run where
+    /// one of them may, as many as are seen at once to be right; answers how many bytes they have.
+    pub(crate) fn take_pieces(&mut self, limits: &Limits, bytes: &[u8]) -> usize
+        ensures within { result ≤ length bytes.now }
+        ensures none { result ≡ 0 → self.new.phase ≡ self.old.phase }
+        ensures onward { WhateverLed (Stands L.Language limits.now self.old) (λ front given point.
+            Leads (Stands L.Language limits.now self.new) (front ++ take result bytes.now)) }
+    {
+        if self.place.inside {
+            return self.take_chunks(limits, bytes);
+        }
+        self.take_records(limits, bytes)
     }
 
     /// The record in one piece at the front of the bytes, where one may begin and it is seen at once to

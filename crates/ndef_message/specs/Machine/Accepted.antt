@@ -1,8 +1,9 @@
 -- Whole records at the front of some bytes, seen at once.
-use Rattle.std.specs.Prelude.{◌≡◌, ◌-◌, ◌<◌, ◌≤◌, ℕ, Bool, false, List, [], ◌∷◌, ◌++◌, length, take, None, if◌then◌else◌}
+use Rattle.std.specs.Prelude.{◌≡◌, ◌-◌, ◌<◌, ◌≤◌, ℕ, Bool, true, false, List, [], ◌∷◌, ◌++◌, length, take, None, if◌then◌else◌}
 use Rattle.std.specs.List.{AllByRecursion}
 use Rattle.ndef_value.specs.Wire.{Piece, Item, LimitValues, AreOctets, SpellAll, tnf_of}
-use Rattle.ndef_lang.specs.Language.{Sets}
+use Rattle.ndef_lang.specs.Language.{Sets, AllPass, AllReach}
+use Rattle.ndef_lang.specs.declared.language.Language.{Ghosts}
 use Rattle.ndef_piece.specs.Header.{is_set, tnf_number}
 use Rattle.ndef_piece.specs.Heads.{IsOpen}
 use Rattle.ndef_piece.specs.Pieces as pieces
@@ -100,6 +101,10 @@ pub record GoesOn (limits : LimitValues) (records pieces room : ℕ) (m : Item) 
   pub spelled : SpellAll later front
   pub walked : Walked limits (inside records pieces room m) later [] (inside records pieces_left room_left (with_payload m payload))
 
+-- NDEF 1.0, chunked payloads: the bytes are pieces that the run open at the place goes on by, up to this place
+abbrev pub AreChunks : LimitValues → Place → List ℕ → Place → Type 0
+AreChunks limits place bytes place' = (records pieces room : ℕ) (m : Item) → place ≡ numbers (inside records pieces room m) → GoesOn limits records pieces room m place' bytes []
+
 -- ---- a checker between records
 
 -- a record may begin, and no octet of it has come
@@ -114,6 +119,26 @@ pub record IsBehind {L : Type 0} (limits : LimitValues) (state : State L) (place
   pub reader_is : last ≡ false → state.reader ≡ record { spot = spot_of limits.profile place; octets = []; answer = steps.More }
   pub opens : last ≡ false → IsOpen (spot_of limits.profile place) []
   pub phase_is : state.phase ≡ (if last then phases.Done else phases.Head)
+
+-- ---- a checker within a run
+
+-- a piece of an open run may begin, no octet of it has come, and any octets complete the payload
+pub record IsAtChunk {L : Type 0} (language : Ghosts L) (state : State L) : Type 0 where
+  pub phase_is : state.phase ≡ phases.Head
+  pub empty : state.reader.octets ≡ []
+  pub inner : state.place.inside ≡ true
+  pub future : AllPass (language.future state.payload)
+  pub reached : AllReach (language.reached state.payload)
+
+-- pieces of the run have led to this place, where another begins
+pub record IsBehindChunks {L : Type 0} (limits : LimitValues) (old new : State L) (place : Place) : Type 0 where
+  pub place_is : new.place ≡ place
+  pub reader_is : new.reader ≡ record { spot = spot_of limits.profile place; octets = []; answer = steps.More }
+  pub opens : IsOpen (spot_of limits.profile place) []
+  pub payload_is : new.payload ≡ old.payload
+  pub phase_is : new.phase ≡ old.phase
+
+-- ---- records given
 
 -- the bytes end these records, and no record is begun
 abbrev pub LeadsBetween : Fronts Point → List ℕ → List Item → Type 0
