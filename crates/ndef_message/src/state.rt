@@ -1,5 +1,6 @@
 //! Whole records of a message, and bytes of one field of it.
-ghost use Rattle.std.specs.Prelude.{◌≡◌, ◌≢◌, ◌++◌, ◌∷◌, [], ◌-◌, ◌<◌, ◌≤◌, ◌^◌, ◌⊎◌, ◌↔◌, ℕ, List, length, take, IfSome, IsTrue, true, false};
+ghost use Rattle.std.specs.Prelude.{◌≡◌, ◌≢◌, ◌++◌, ◌∷◌, [], ◌-◌, ◌<◌, ◌≤◌, ◌^◌, ◌⊎◌, ◌↔◌, ℕ, List, length, take, IfNone, IfSome, IsTrue, true, false};
+ghost use Rattle.std.specs.List.{AllByRecursion};
 ghost use Rattle.ndef_value.specs.Wire.{Item, Fields};
 ghost use Rattle.ndef_piece.specs.Header.{is_set};
 ghost use Rattle.ndef_piece.specs.Walk.{Before};
@@ -26,7 +27,7 @@ impl<L: OuterLanguage> State<L> {
     ghost use Rattle.ndef_message.specs.Machine.State.{Stands, StandsBehind, Stopped, Came, Onward};
     ghost use Rattle.ndef_message.specs.Machine.State.{InBody, SomeBody, WholeHead, SomeWhole, IsWithinHead, CanGoOn, behind_record};
     ghost use Rattle.ndef_message.specs.Machine.Accepted.{BeginsWith, IsAtChunk, IsBehind, IsBehindChunks, IsFresh};
-    ghost use Rattle.ndef_message.specs.Deep.{IsViable};
+    ghost use Rattle.ndef_message.specs.Deep.{IsMember, IsViable};
 
     /// Whether a record may begin here, and no octet of it has come.
     fn is_fresh(&self) -> bool
@@ -161,10 +162,13 @@ impl<L: OuterLanguage> State<L> {
             → Onward L.Language limits.now self.new front given point (take result bytes.now)) }
     {
         match self.phase {
-            Phase::Head => {
-                self.in_head(limits, at, bytes[0]);
-                1
-            }
+            Phase::Head => match self.take_head(limits, bytes) {
+                Some(count) => count,
+                None => {
+                    self.in_head(limits, at, bytes[0]);
+                    1
+                }
+            },
             Phase::Type { head, left, kind } => {
                 self.in_type(limits, at, head, left, kind, bytes[0]);
                 1
@@ -179,6 +183,35 @@ impl<L: OuterLanguage> State<L> {
             }
             Phase::Done | Phase::Refused { .. } => 1,
         }
+    }
+
+    /// Takes the head of a piece at once, where none of it has come, it is seen to be whole and to stand
+    /// here, and the payload can be completed behind it; answers how many octets it has. Else nothing
+    /// changes.
+    fn take_head(&mut self, limits: &Limits, bytes: &[u8]) -> Option<usize>
+        requires phase { self.old.phase ≡ Phase.Head }
+        requires led { ∥ SomeLed (Stands L.Language limits.now self.old) ∥₁ }
+        ensures none { IfNone result (self.new ≡ self.old) }
+        ensures some { IfSome result (λ count. 0 < count) }
+        ensures most { IfSome result (λ count. count ≤ length bytes.now) }
+        ensures few { IfSome result (λ count. count < 2 ^ 32) }
+        ensures onward { IfSome result (λ count.
+            WhateverLed (Stands L.Language limits.now self.old) (λ front given point.
+            Onward L.Language limits.now self.new front given point (take count bytes.now))) }
+    {
+        format_laws(limits);
+        let (head, count) = self.reader.whole_head(bytes)?;
+        if !self.place.inside {
+            self.begin_record(limits, head);
+            return Some(count);
+        }
+        let left = head.payload_length;
+        let most = self.place.most_left(&head, left);
+        if !self.payload.fits(u64::from(left), most) {
+            return None;
+        }
+        self.settle(limits, head, 0, left);
+        Some(count)
     }
 
     /// Takes an octet of the head of a piece.
@@ -235,8 +268,20 @@ impl<L: OuterLanguage> State<L> {
         format_laws(limits);
         if self.place.inside {
             self.enter(limits, at, head, 0, head.payload_length, Reason::DoesNotFit);
-            return;
+        } else {
+            self.begin_record(limits, head);
         }
+    }
+
+    /// Goes on behind the whole head of a record's first piece, behind which any payload can be completed.
+    fn begin_record(&mut self, limits: &Limits, head: Head)
+        requires outside { self.old.place.inside ≡ false }
+        ensures stands { (bytes : List ℕ) (given : List Item) (c : Before) (f : Fields)
+            → WholeHead L.Language limits.now self.old head bytes given c f
+            → AllByRecursion (IsMember L.set limits.now) given
+            → StandsBehind L.Language limits.now self.new bytes given c f [] [] [] }
+    {
+        format_laws(limits);
         if head.kind_length > 0 {
             self.phase = Phase::Type {
                 head,
@@ -247,14 +292,7 @@ impl<L: OuterLanguage> State<L> {
         }
         self.payload = L::start(Kind::Other, limits.records(), limits.profile());
         let id_left = head.id_length.unwrap_or(0);
-        self.enter(
-            limits,
-            at,
-            head,
-            id_left,
-            head.payload_length,
-            Reason::DoesNotFit,
-        );
+        self.settle(limits, head, id_left, head.payload_length);
     }
 
     /// Takes octets of PAYLOAD, no more than the piece still has, up to the first that is refused;

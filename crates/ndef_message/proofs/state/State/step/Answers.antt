@@ -1,6 +1,7 @@
 use Rattle.std.proofs.Common.{◌≡◌, ◌≤◌, ◌∙◌, ap, subst, sym, arith, take, length-take}
 use Rattle.std.proofs.lemmas.List.{take-take, length-take-le}
-use Rattle.ndef_message.specs.Machine.State.{Onward}
+use Rattle.ndef_message.specs.Feed.{SomeLed}
+use Rattle.ndef_message.specs.Machine.State.{Onward, Stands}
 use Rattle.ndef_message.proofs.Feeding.{take_one}
 use Rattle.ndef_message.proofs.Octets as octets
 use Rattle.ndef_message.proofs.Somewhere.{number_of_some}
@@ -13,10 +14,17 @@ in_payload-requires-clause-some g c =
     let most = c.min-most-in-Payload.ensures in
     omega (arith, length-take c.min-most-in-Payload.result c.args.bytes.now)
 
-pub returns-in-Head-clause-onward : goal.returns-in-Head-clause-onward
-returns-in-Head-clause-onward g c front given point stands at going =
+pub returns-in-Some-clause-onward : goal.returns-in-Some-clause-onward
+returns-in-Some-clause-onward g c front given point stands at going = c.in-Some.ensures.onward front given point stands
+
+pub in_head-requires-clause-led : goal.in_head-requires-clause-led
+in_head-requires-clause-led g c = subst (λ state. ∥ SomeLed (Stands g.L.Language c.args.limits.now state) ∥₁) (sym c.in-None.ensures.none) c.requires.led
+
+pub returns-in-None-clause-onward : goal.returns-in-None-clause-onward
+returns-in-None-clause-onward g c front given point stands at going =
     let n = c.in_head.new.self in
-    subst (Onward g.L.Language c.args.limits.now n front given point) (sym (take_one c.args.bytes.now c.requires.some)) (c.in_head.ensures.onward front given point stands at)
+    let same = subst (λ state. Stands g.L.Language c.args.limits.now state front given point) (sym c.in-None.ensures.none) stands in
+    subst (Onward g.L.Language c.args.limits.now n front given point) (sym (take_one c.args.bytes.now c.requires.some)) (c.in_head.ensures.onward front given point same at)
 
 pub returns-in-Type-clause-onward : goal.returns-in-Type-clause-onward
 returns-in-Type-clause-onward g c front given point stands at going =
