@@ -170,8 +170,8 @@ impl<L: OuterLanguage> State<L> {
                 }
             },
             Phase::Type { head, left, kind } => {
-                self.in_type(limits, at, head, left, kind, bytes[0]);
-                1
+                let most = bytes.len().min(usize::from(left));
+                self.in_type(limits, at, head, left, kind, &bytes[..most])
             }
             Phase::Id { head, left } => {
                 let most = bytes.len().min(usize::from(left));
@@ -339,7 +339,7 @@ impl<L: OuterLanguage> State<L> {
         count
     }
 
-    /// Takes an octet of TYPE.
+    /// Takes octets of TYPE, no more than the piece still has: all of them, the last of which may be refused.
     fn in_type(
         &mut self,
         limits: &Limits,
@@ -347,35 +347,42 @@ impl<L: OuterLanguage> State<L> {
         head: Head,
         left: u8,
         kind: KindReader,
-        byte: u8,
-    )
+        bytes: &[u8],
+    ) -> usize
         requires phase { self.old.phase ≡ Phase.Type head left kind }
         requires led { ∥ SomeLed (Stands L.Language limits.now self.old) ∥₁ }
+        requires far { at ≤ 2 ^ 60 }
+        requires some { 0 < length bytes.now }
+        requires enough { length bytes.now ≤ left }
+        ensures all { result ≡ length bytes.now }
         ensures onward { WhateverLed (Stands L.Language limits.now self.old) (λ front given point.
             at ≡ length front
-            → Onward L.Language limits.now self.new front given point (byte ∷ [])) }
+            → Onward L.Language limits.now self.new front given point bytes.now) }
     {
         format_laws(limits);
+        let count = bytes.len();
         let mut kind = kind;
-        kind.step(byte);
-        if left > 1 {
+        kind.step_all(bytes);
+        if count < usize::from(left) {
             self.phase = Phase::Type {
                 head,
-                left: left - 1,
+                left: left - count as u8,
                 kind,
             };
-            return;
+            return count;
         }
         self.payload = L::start(kind.kind(), limits.records(), limits.profile());
+        let last = at + (count - 1) as u64;
         let id_left = head.id_length.unwrap_or(0);
         self.enter(
             limits,
-            at,
+            last,
             head,
             id_left,
             head.payload_length,
             Reason::DoesNotFit,
         );
+        count
     }
 
     /// Goes on behind so much of the id and the payload of a piece, if what is left can complete the

@@ -26,26 +26,45 @@ returns-in-None-clause-onward g c front given point stands at going =
     let same = subst (λ state. Stands g.L.Language c.args.limits.now state front given point) (sym c.in-None.ensures.none) stands in
     subst (Onward g.L.Language c.args.limits.now n front given point) (sym (take_one c.args.bytes.now c.requires.some)) (c.in_head.ensures.onward front given point same at)
 
+pub in_type-requires-clause-some : goal.in_type-requires-clause-some
+in_type-requires-clause-some g c =
+    let n : 1 ≤ c.in-Type.left = number_of_some _ _ _ c.requires.led (λ led. (octets.type_left (octets.at_type led.2 c.in-Type.is led.3)).0) in
+    let some = c.requires.some in
+    let most = c.min-most.ensures in
+    omega (arith, length-take c.min-most.result c.args.bytes.now)
+
+pub returns-in-Type-clause-some : goal.returns-in-Type-clause-some
+returns-in-Type-clause-some g c =
+    let n : 1 ≤ c.in-Type.left = number_of_some _ _ _ c.requires.led (λ led. (octets.type_left (octets.at_type led.2 c.in-Type.is led.3)).0) in
+    let some = c.requires.some in
+    let most = c.min-most.ensures in
+    let from = c.from.ensures in
+    let all = c.in_type.ensures.all in
+    omega (arith, length-take c.min-most.result c.args.bytes.now)
+
 pub returns-in-Type-clause-onward : goal.returns-in-Type-clause-onward
 returns-in-Type-clause-onward g c front given point stands at going =
     let n = c.in_type.new.self in
-    subst (Onward g.L.Language c.args.limits.now n front given point) (sym (take_one c.args.bytes.now c.requires.some)) (c.in_type.ensures.onward front given point stands at)
+    let bytes = c.args.bytes.now in
+    let most = c.min-most.ensures in
+    let same : take c.min-most.result bytes ≡ take c.in_type.result bytes = ap (λ k. take k bytes) (sym (c.in_type.ensures.all ∙ length-take-le c.min-most.result bytes (omega arith))) in
+    subst (Onward g.L.Language c.args.limits.now n front given point) same (c.in_type.ensures.onward front given point stands at)
 
 pub returns-in-Id-clause-some : goal.returns-in-Id-clause-some
 returns-in-Id-clause-some g c =
     let n : 1 ≤ c.in-Id.left = number_of_some _ _ _ c.requires.led (λ led. octets.id_left (octets.at_id led.2 c.in-Id.is led.3)) in
     let some = c.requires.some in
-    let most = c.min-most.ensures in
-    let from = c.from.ensures in
+    let most = c.min-most-in-Id.ensures in
+    let from = c.from-in-Id.ensures in
     let all = c.in_id.ensures.all in
-    omega (arith, length-take c.min-most.result c.args.bytes.now)
+    omega (arith, length-take c.min-most-in-Id.result c.args.bytes.now)
 
 pub returns-in-Id-clause-onward : goal.returns-in-Id-clause-onward
 returns-in-Id-clause-onward g c front given point stands at going =
     let n = c.in_id.new.self in
     let bytes = c.args.bytes.now in
-    let most = c.min-most.ensures in
-    let same : take c.min-most.result bytes ≡ take c.in_id.result bytes = ap (λ k. take k bytes) (sym (c.in_id.ensures.all ∙ length-take-le c.min-most.result bytes (omega arith))) in
+    let most = c.min-most-in-Id.ensures in
+    let same : take c.min-most-in-Id.result bytes ≡ take c.in_id.result bytes = ap (λ k. take k bytes) (sym (c.in_id.ensures.all ∙ length-take-le c.min-most-in-Id.result bytes (omega arith))) in
     subst (Onward g.L.Language c.args.limits.now n front given point) same (c.in_id.ensures.onward front given point stands)
 
 pub returns-in-Payload-clause-onward : goal.returns-in-Payload-clause-onward
