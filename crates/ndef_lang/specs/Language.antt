@@ -60,7 +60,7 @@ ReachesEach old new octets = (kind : Kind) (records : ℕ) (profile : Profile) �
 abbrev pub AllPass : (List ℕ → Type 0) → Type 0
 AllPass future = (r : List ℕ) → AreOctets r → future r
 
--- Any octets lead back to what was reached, whatever the kind, the number of records and the profile.
+-- What was reached is reached again behind any octets, whatever the kind, the number of records and the profile.
 abbrev pub AllReach : Sets → Type 0
 AllReach reached = (octets : List ℕ) → AreOctets octets → ReachesEach reached reached octets
 
