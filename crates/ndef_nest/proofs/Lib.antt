@@ -7,3 +7,4 @@ pub mod Reasons
 pub mod Slices
 pub mod Steps
 pub mod TypedReasons
+pub mod WholeHeads

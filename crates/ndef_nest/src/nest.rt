@@ -1,5 +1,6 @@
 //! A nested message, read octet by octet, its payloads in slices.
-ghost use Rattle.std.specs.Prelude.{◌≡◌, ◌≤◌, ◌<◌, ◌+◌, ◌-◌, ◌^◌, ◌↔◌, ℕ, Bool, true, List, [], ◌∷◌, length, take};
+ghost use Rattle.std.specs.Prelude.{◌≡◌, ◌≤◌, ◌<◌, ◌+◌, ◌-◌, ◌^◌, ◌↔◌, ◌||◌, ℕ, nat_lt, Bool, true, List, [], ◌∷◌, length, take, IfSome};
+ghost use Rattle.ndef_piece.specs.Whole.{BeginWithHead};
 ghost use Rattle.ndef_piece.specs.declared.head_reader.Step.TheVariants as steps;
 ghost use Rattle.ndef_value.specs.declared.reason.Reason.TheVariants as reasons;
 ghost use Rattle.ndef_lang.specs.Language.{Follows, Reaches, ReachesEach, PassesBetween, StepsAll};
@@ -9,9 +10,10 @@ ghost use Rattle.ndef_lang.specs.declared.kind.Kind.{Kind};
 ghost use Rattle.ndef_nest.specs.Nested.{IsNest, IsVersion, table_of};
 ghost use Rattle.ndef_nest.specs.Machine.Demands.{suits, spot};
 ghost use Rattle.ndef_nest.specs.Machine.Spans.{least, most};
-ghost use Rattle.ndef_nest.specs.Machine.Phases.{Completes, CompletesVersion, is_sound, start_fits};
+ghost use Rattle.ndef_nest.specs.Machine.Phases.{Completes, CompletesHeaded, CompletesVersion, IsBetween, Suits};
+ghost use Rattle.ndef_nest.specs.Machine.Phases.{fewer, is_sound, start_fits};
 ghost use Rattle.ndef_nest.specs.Conditions.{MessageReason, NestReason};
-ghost use Rattle.ndef_nest.specs.Machine.Reached.{IsNew, HasCome};
+ghost use Rattle.ndef_nest.specs.Machine.Reached.{IsHeaded, IsNew, HasCome};
 ghost use Rattle.ndef_nest.specs.Machine.Told.{may_have, head_told};
 ghost use Rattle.ndef_nest.specs.Machine.Fronts.{FrontAt};
 ghost use Rattle.ndef_nest.specs.Machine.FrontLaws.{front_at_prop};
@@ -23,7 +25,7 @@ use crate::phase::{Phase, headed};
 use crate::span::{Open, least, meets, most};
 use ndef_lang::{Kind, Language};
 use ndef_piece::{
-    Bounds, HeadReader, Step, conditions_are_exact, fields_are_told, heads_are_apart,
+    Bounds, Head, HeadReader, Step, conditions_are_exact, fields_are_told, heads_are_apart,
     lengths_are_independent,
 };
 use ndef_value::{Profile, Reason, Tnf};
@@ -100,7 +102,7 @@ fn start_fits(context: &Context, lo: u64, hi: u64) -> bool
 }
 
 impl Nest {
-    ghost use Rattle.ndef_nest.specs.Machine.Nests.{come, future, nest_head_span, nest_span, nest_told, reached};
+    ghost use Rattle.ndef_nest.specs.Machine.Nests.{come, future, nest_head_span, nest_span, nest_spot, nest_told, reached};
 
     /// Before the first octet of the payload; its message has at most `records` records, 1 to 65535.
     pub fn new(table: Table, records: u32, profile: Profile) -> Self
@@ -150,8 +152,69 @@ impl Nest {
         }
     }
 
-    /// Takes the next octet, or more where they are of one nested payload, up to the first that is
-    /// refused: answers how many were looked at, and how many come before it.
+    /// Behind the head of a record that began in this context.
+    fn behind(context: Context, head: &Head) -> Nest
+        requires suited { Suits context }
+        requires some { 0 < context.records }
+        requires followed { head.now.last || nat_lt 0 (fewer context).records ≡ true }
+        ensures future { Follows (CompletesHeaded (fewer context) head.now) (future result) [] }
+        ensures come { (records : ℕ) (m : List ℕ) → IsHeaded (fewer context) head.now records m
+            → come result records m }
+        ensures kept { (result.context.table ≡ context.table) × (result.context.profile ≡ context.profile) }
+    {
+        let mut context = Context {
+            records: context.records - 1,
+            ..context
+        };
+        let (demand, phase) = headed(&context, head);
+        context.demand = demand;
+        Nest {
+            context,
+            reader: HeadReader::new(context.spot(false)),
+            phase,
+            told: Reason::DoesNotFit,
+        }
+    }
+
+    /// The head at the front of the bytes, and how many octets it has, where a record may begin and it
+    /// is seen at once that this one does.
+    fn whole_head(&self, bytes: &[u8]) -> Option<(Head, usize)>
+        ensures between { IfSome result (λ r. IsBetween self.now.phase self.now.reader.octets) }
+        ensures begins { IfSome result (λ r. BeginWithHead (nest_spot self.now) bytes.now r.0 r.1) }
+    {
+        match self.phase {
+            Phase::Start => HeadReader::new(self.context.spot(true)).whole_head(bytes),
+            Phase::Head => self.reader.whole_head(bytes),
+            _ => None,
+        }
+    }
+
+    /// Behind the whole head at the front of the bytes, and how many octets that has, where it is seen
+    /// at once that it stands there, and some `lo` to `hi` octets go on so.
+    fn behind_whole(&self, bytes: &[u8], lo: u64, hi: u64) -> Option<(Nest, usize)>
+        requires enough { length bytes.now ≤ lo }
+        requires ordered { lo ≤ hi }
+        requires small { hi < 2 ^ 32 }
+        ensures some { IfSome result (λ r. 0 < r.1) }
+        ensures most { IfSome result (λ r. r.1 ≤ length bytes.now) }
+        ensures steps { IfSome result (λ r.
+            StepsAll (future self.now) (future r.0) (take r.1 bytes.now) lo hi r.1) }
+        ensures reached { IfSome result (λ r.
+            ReachesEach (reached self.now) (reached r.0) (take r.1 bytes.now)) }
+    {
+        heads_are_apart();
+        let (head, count) = self.whole_head(bytes)?;
+        let next = Nest::behind(self.context, &head);
+        let taken = count as u64;
+        if next.fits(lo - taken, hi - taken) {
+            Some((next, count))
+        } else {
+            None
+        }
+    }
+
+    /// Takes the next octet, or more where they are a whole head or of one nested payload, up to the
+    /// first that is refused: answers how many were looked at, and how many come before it.
     fn step_some(&mut self, bytes: &[u8], lo: u64, hi: u64) -> (usize, usize)
         requires some { 0 < length bytes.now }
         requires enough { length bytes.now ≤ lo }
@@ -177,6 +240,10 @@ impl Nest {
                 self.told = told;
                 return (most, count);
             }
+        }
+        if let Some((next, count)) = self.behind_whole(bytes, lo, hi) {
+            *self = next;
+            return (count, count);
         }
         self.step(bytes[0]);
         if self.fits(lo - 1, hi - 1) {
