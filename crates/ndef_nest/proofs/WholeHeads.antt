@@ -1,19 +1,29 @@
 -- A whole head at the front of some octets of a nested message.
-use Rattle.std.proofs.Common.{◌≡◌, ◌≢◌, ℕ, ◌-◌, ◌<◌, ◌≤◌, ◌↔◌, inl, inr, Bool, true, List, [], ◌∷◌, ◌++◌, length, take, refl, sym, subst, arith}
+use Rattle.std.proofs.Common.{◌≡◌, ◌≢◌, ℕ, ◌+◌, ◌-◌, ◌<◌, ◌≤◌, ◌↔◌, inl, inr, Bool, true, false, List, [], ◌∷◌, ◌++◌, length, take, drop, refl, sym, ◌∙◌, ap, subst, arith}
+use Rattle.std.specs.Prelude.{◌==◌, ◌||◌, nat_lt, unwrap_or}
+use Rattle.std.proofs.lemmas.Bool.Decides.{eqb_tells, nat_tests}
 use Rattle.std.proofs.lemmas.List.{length-take-le}
+use Rattle.ndef_value.specs.Wire.{AreOctets}
+use Rattle.ndef_value.specs.declared.profile.Profile.{Profile}
 use Rattle.ndef_piece.specs.declared.head.Head.{Head}
-use Rattle.ndef_piece.specs.Heads.{HeadsAreApart}
+use Rattle.ndef_piece.specs.Heads.{HeadsAreApart, IsWhole}
 use Rattle.ndef_piece.specs.Whole.{BeginWithHead}
 use Rattle.ndef_lang.specs.Language.{Follows, PassesBetween, Reaches, StepsAll}
-use Rattle.ndef_lang.specs.StepLaws.{steps_whole}
+use Rattle.ndef_lang.specs.StepLaws.{follows_more, reaches_more, steps_whole, take_parts}
+use Rattle.ndef_lang.specs.Leaf.{IsPayload}
+use Rattle.ndef_lang.specs.declared.kind.Kind.{Kind}
 use Rattle.ndef_nest.specs.declared.context.Context.{Context}
+use Rattle.ndef_nest.specs.declared.demand.Demand.{Demand}
+use Rattle.ndef_nest.specs.declared.phase.Name.{Name}
 use Rattle.ndef_nest.specs.declared.phase.Phase.{Phase}
 use Rattle.ndef_nest.specs.declared.phase.Phase.TheVariants as phases
-use Rattle.ndef_nest.specs.Machine.Demands.{Rest, spot}
-use Rattle.ndef_nest.specs.Machine.Phases.{Completes, CompletesHeaded, IsBetween, fewer, is_first, is_sound}
-use Rattle.ndef_nest.specs.Machine.Reached.{HasCome, IsHeaded, IsInHead}
+use Rattle.ndef_nest.specs.Nested.{kind_in}
+use Rattle.ndef_nest.specs.Machine.Demands.{Allows, IsBody, IsTyped, Later, Rest, Tail, after, spot}
+use Rattle.ndef_nest.specs.Machine.Phases.{Completes, CompletesHeaded, CompletesNamed, IsBetween, fewer, is_first, is_sound}
+use Rattle.ndef_nest.specs.Machine.Reached.{HasCome, IsHeaded, IsInHead, IsNamed}
 use Rattle.ndef_nest.specs.Machine.SpanLaws.{some_records}
-use Rattle.ndef_nest.proofs.Reaching.{head_first, whole_head}
+use Rattle.ndef_nest.specs.Machine.BodyLaws.{typed_end, typed_step}
+use Rattle.ndef_nest.proofs.Reaching.{head_first, past_more, whole_head}
 use Rattle.ndef_nest.proofs.Steps.{chain, head_whole}
 
 -- where a record may begin, what completes the message with some octets is records
@@ -41,6 +51,21 @@ pub not_version : (phase : Phase) (xs : List ℕ) → IsBetween phase xs → pha
 not_version phases.Version xs h e = h
 not_version _ xs h e = cc
 
+-- behind a head that isn't the last, another record may begin
+pub head_followed : (profile : Profile) (first : Bool) (records : ℕ) (xs : List ℕ) (h : Head) → 0 < records → IsWhole (spot profile first records) xs h → h.last || nat_lt 0 (records - 1) ≡ true
+head_followed profile first records xs h some at = by_last h.last refl
+  where
+    one_piece : (chunked : Bool) → at.fields.chunked ≡ chunked → at.fields.chunked ≡ false
+    one_piece true e = absurd (let x = (at.stands.chunked e).1 in cc)
+    one_piece false e = e
+
+    by_last : (last : Bool) → h.last ≡ last → h.last || nat_lt 0 (records - 1) ≡ true
+    by_last true e = rw e refl
+    by_last false e =
+        let n : (records == 1) ≡ false = at.stands.followed (one_piece at.fields.chunked refl) (ap (λ g. g.last) at.read ∙ e) in
+        let l : nat_lt 0 (records - 1) ≡ true = grind (arith, nat_tests, eqb_tells) in
+        rw (e, l) refl
+
 -- what completes the message behind a whole head is what goes on after it
 pub head_completes : (apart : HeadsAreApart) (c : Context) (first : Bool) (xs : List ℕ) (phase : Phase) (bytes : List ℕ) (h : Head) (count : ℕ) → IsBetween phase xs → 0 < c.records
     → BeginWithHead (spot c.profile (is_first phase first) c.records) bytes h count → Follows (Completes c first xs phase) (CompletesHeaded (fewer c) h) (take count bytes)
@@ -55,11 +80,49 @@ pub head_comes : (c : Context) (first : Bool) (xs : List ℕ) (phase : Phase) (b
 head_comes c first xs phase bytes h count records between some at m x =
     whole_head c (fewer c) (is_first phase first) [] records m (spot c.profile (is_first phase first) c.records) (take count bytes) h some refl refl at.whole (between_come c first xs phase records m between x)
 
+-- a whole type
+typed_whole : (profile : Profile) (more : Demand → List ℕ → Type 0) (last : Bool) (demand : Demand) (of : List ℕ → Kind) (id payload : ℕ) (t r : List ℕ) → AreOctets t
+    → (Allows demand (of t) × IsBody (IsPayload (of t) profile) id payload (Tail more last (after demand (of t))) r) ↔ IsTyped profile of more last demand (length t) id payload (t ++ r)
+typed_whole profile more last demand of id payload [] r are = let w = typed_end profile more last demand of id payload r in (w.1, w.0)
+typed_whole profile more last demand of id payload (b ∷ t) r are =
+    chain (typed_whole profile more last demand (λ z. of (b ∷ z)) id payload t r are.1) (typed_step profile more last demand of (length t) id payload b (t ++ r) are.0)
+
+module _ (c : Context) (h : Head) (n : Name) (kind : Kind) (t : List ℕ) (are : AreOctets t) (whole : length t ≡ h.kind_length) (is : kind_in c.table h.tnf t ≡ kind) (last : n.last ≡ h.last) (id : n.id ≡ unwrap_or h.id_length 0) (payload : n.payload ≡ h.payload_length) where
+  -- what completes the message behind a head and its type
+  pub type_completes : Follows (CompletesHeaded c h) (CompletesNamed c kind n) t
+  type_completes r =
+      rw (sym is, last, id, payload, sym whole) (typed_whole c.profile (Later c.profile c.table c.records) h.last c.demand (kind_in c.table h.tnf) (unwrap_or h.id_length 0) h.payload_length t r are)
+
+  -- what has come of it with them
+  pub type_comes : (records : ℕ) → Reaches (IsHeaded c h records) (IsNamed c kind n records) t
+  type_comes records m x = record {
+    done = x.done;
+    fields = x.fields;
+    name = t;
+    past = past_more c c.demand records x.done x.fields [] t m t refl x.past;
+    are_octets = are;
+    name_is = whole ∙ sym (ap (λ g. g.kind_length) x.read);
+    last_is = ap (λ g. g.last) x.read ∙ sym last;
+    id_is = ap (λ g. unwrap_or g.id_length 0) x.read ∙ sym id;
+    payload_is = ap (λ g. g.payload_length) x.read ∙ sym payload;
+    kind_is = ap (λ g. kind_in c.table g.tnf t) x.read ∙ is;
+  }
+
 -- octets that are taken at once, where some list passes behind them
-pub front_taken : (old mid new : List ℕ → Type 0) (bytes : List ℕ) (lo hi count : ℕ) → count ≤ length bytes → Follows old mid (take count bytes) → Follows mid new [] → PassesBetween new (lo - count) (hi - count)
-    → StepsAll old new (take count bytes) lo hi count
-front_taken old mid new bytes lo hi count within f g p =
+pub front_taken : (old new : List ℕ → Type 0) (bytes : List ℕ) (lo hi count : ℕ) → count ≤ length bytes → Follows old new (take count bytes) → PassesBetween new (lo - count) (hi - count) → StepsAll old new (take count bytes) lo hi count
+front_taken old new bytes lo hi count within f p =
     let t = take count bytes in
     let e : length t ≡ count = length-take-le count bytes within in
-    subst (λ k. StepsAll old new t lo hi k) e
-    (steps_whole old new t lo hi (λ r. chain (g r) (f r)) (subst (λ k. PassesBetween new (lo - k) (hi - k)) (sym e) p))
+    subst (λ k. StepsAll old new t lo hi k) e (steps_whole old new t lo hi f (subst (λ k. PassesBetween new (lo - k) (hi - k)) (sym e) p))
+
+-- ---- octets in two parts
+
+pub both_follow : (old mid new : List ℕ → Type 0) (bytes : List ℕ) (n m : ℕ) → Follows old mid (take n bytes) → Follows mid new (take (n + m - n) (drop n bytes)) → Follows old new (take (n + m) bytes)
+both_follow old mid new bytes n m f g =
+    let e : n + m - n ≡ m = omega arith in
+    subst (Follows old new) (sym (take_parts bytes n m)) (follows_more old mid new (take n bytes) (take m (drop n bytes)) f (subst (λ k. Follows mid new (take k (drop n bytes))) e g))
+
+pub both_reach : (old mid new : List ℕ → Type 0) (bytes : List ℕ) (n m : ℕ) → Reaches old mid (take n bytes) → Reaches mid new (take (n + m - n) (drop n bytes)) → Reaches old new (take (n + m) bytes)
+both_reach old mid new bytes n m f g =
+    let e : n + m - n ≡ m = omega arith in
+    subst (Reaches old new) (sym (take_parts bytes n m)) (reaches_more old mid new (take n bytes) (take m (drop n bytes)) f (subst (λ k. Reaches mid new (take k (drop n bytes))) e g))

@@ -10,10 +10,10 @@ ghost use Rattle.ndef_lang.specs.declared.kind.Kind.{Kind};
 ghost use Rattle.ndef_nest.specs.Nested.{IsNest, IsVersion, table_of};
 ghost use Rattle.ndef_nest.specs.Machine.Demands.{suits, spot};
 ghost use Rattle.ndef_nest.specs.Machine.Spans.{least, most};
-ghost use Rattle.ndef_nest.specs.Machine.Phases.{Completes, CompletesHeaded, CompletesVersion, IsBetween, Suits};
-ghost use Rattle.ndef_nest.specs.Machine.Phases.{fewer, is_sound, start_fits};
+ghost use Rattle.ndef_nest.specs.Machine.Phases.{Completes, CompletesBehind, CompletesHeaded, CompletesVersion};
+ghost use Rattle.ndef_nest.specs.Machine.Phases.{IsBetween, IsSoundBehind, Suits, is_sound, start_fits};
 ghost use Rattle.ndef_nest.specs.Conditions.{MessageReason, NestReason};
-ghost use Rattle.ndef_nest.specs.Machine.Reached.{IsHeaded, IsNew, HasCome};
+ghost use Rattle.ndef_nest.specs.Machine.Reached.{HasCome, HasComeBehind, IsHeaded, IsNew};
 ghost use Rattle.ndef_nest.specs.Machine.Told.{may_have, head_told};
 ghost use Rattle.ndef_nest.specs.Machine.Fronts.{FrontAt};
 ghost use Rattle.ndef_nest.specs.Machine.FrontLaws.{front_at_prop};
@@ -21,7 +21,7 @@ ghost use Rattle.ndef_nest.specs.Machine.FrontLaws.{front_at_prop};
 use crate::Table;
 use crate::context::Context;
 use crate::demand::Demand;
-use crate::phase::{Phase, headed};
+use crate::phase::{Phase, headed, typed};
 use crate::span::{Open, least, meets, most};
 use ndef_lang::{Kind, Language};
 use ndef_piece::{
@@ -152,28 +152,47 @@ impl Nest {
         }
     }
 
-    /// Behind the head of a record that began in this context.
-    fn behind(context: Context, head: &Head) -> Nest
+    /// Where no octet of a head has come.
+    fn at(context: Context, phase: Phase) -> Nest
         requires suited { Suits context }
-        requires some { 0 < context.records }
-        requires followed { head.now.last || nat_lt 0 (fewer context).records ≡ true }
-        ensures future { Follows (CompletesHeaded (fewer context) head.now) (future result) [] }
-        ensures come { (records : ℕ) (m : List ℕ) → IsHeaded (fewer context) head.now records m
+        requires sound { IsSoundBehind context phase }
+        ensures future { Follows (CompletesBehind context phase) (future result) [] }
+        ensures come { (records : ℕ) (m : List ℕ) → HasComeBehind context phase records m
             → come result records m }
-        ensures kept { (result.context.table ≡ context.table) × (result.context.profile ≡ context.profile) }
+        ensures kept { result.context ≡ context }
     {
-        let mut context = Context {
-            records: context.records - 1,
-            ..context
-        };
-        let (demand, phase) = headed(&context, head);
-        context.demand = demand;
         Nest {
             context,
             reader: HeadReader::new(context.spot(false)),
             phase,
             told: Reason::DoesNotFit,
         }
+    }
+
+    /// Behind the head of a record.
+    fn behind_head(context: Context, head: &Head) -> Nest
+        requires suited { Suits context }
+        requires followed { head.now.last || nat_lt 0 context.records ≡ true }
+        ensures future { Follows (CompletesHeaded context head.now) (future result) [] }
+        ensures come { (records : ℕ) (m : List ℕ) → IsHeaded context head.now records m
+            → come result records m }
+        ensures kept { (result.context.table ≡ context.table) × (result.context.profile ≡ context.profile) }
+    {
+        let (demand, phase) = headed(&context, head);
+        Nest::at(Context { demand, ..context }, phase)
+    }
+
+    /// Behind the head of a record and its type.
+    fn behind_type(context: Context, head: &Head, name: &[u8]) -> Nest
+        requires suited { Suits context }
+        requires followed { head.now.last || nat_lt 0 context.records ≡ true }
+        requires whole { length name.now ≡ head.now.kind_length }
+        ensures future { Follows (CompletesHeaded context head.now) (future result) name.now }
+        ensures come { (records : ℕ) → Reaches (IsHeaded context head.now records) (come result records) name.now }
+        ensures kept { (result.context.table ≡ context.table) × (result.context.profile ≡ context.profile) }
+    {
+        let (demand, phase) = typed(&context, head, name);
+        Nest::at(Context { demand, ..context }, phase)
     }
 
     /// The head at the front of the bytes, and how many octets it has, where a record may begin and it
@@ -189,8 +208,9 @@ impl Nest {
         }
     }
 
-    /// Behind the whole head at the front of the bytes, and how many octets that has, where it is seen
-    /// at once that it stands there, and some `lo` to `hi` octets go on so.
+    /// Behind the whole head at the front of the bytes, and its type if all of that follows, and how
+    /// many octets they have, where it is seen at once that they stand there, and some `lo` to `hi`
+    /// octets go on so.
     fn behind_whole(&self, bytes: &[u8], lo: u64, hi: u64) -> Option<(Nest, usize)>
         requires enough { length bytes.now ≤ lo }
         requires ordered { lo ≤ hi }
@@ -204,16 +224,23 @@ impl Nest {
     {
         heads_are_apart();
         let (head, count) = self.whole_head(bytes)?;
-        let next = Nest::behind(self.context, &head);
-        let taken = count as u64;
-        if next.fits(lo - taken, hi - taken) {
+        let context = self.context.fewer();
+        let whole = count + usize::from(head.kind_length);
+        if whole <= bytes.len() {
+            let named = Nest::behind_type(context, &head, &bytes[count..whole]);
+            if named.fits(lo - whole as u64, hi - whole as u64) {
+                return Some((named, whole));
+            }
+        }
+        let next = Nest::behind_head(context, &head);
+        if next.fits(lo - count as u64, hi - count as u64) {
             Some((next, count))
         } else {
             None
         }
     }
 
-    /// Takes the next octet, or more where they are a whole head or of one nested payload, up to the
+    /// Takes the next octet, or more where they are a whole head, with its type, or of one nested payload, up to the
     /// first that is refused: answers how many were looked at, and how many come before it.
     fn step_some(&mut self, bytes: &[u8], lo: u64, hi: u64) -> (usize, usize)
         requires some { 0 < length bytes.now }
