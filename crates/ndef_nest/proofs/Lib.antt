@@ -1,5 +1,6 @@
 pub mod Contents
 pub mod HeadBounds
+pub mod Ids
 pub mod Members
 pub mod Ranges
 pub mod Reaching

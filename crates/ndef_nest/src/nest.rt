@@ -240,8 +240,9 @@ impl Nest {
         }
     }
 
-    /// Takes the next octet, or more where they are a whole head, with its type, or of one nested payload, up to the
-    /// first that is refused: answers how many were looked at, and how many come before it.
+    /// Takes the next octet, or more where they are a whole head, with its type, or of one nested id or
+    /// payload, up to the first that is refused: answers how many were looked at, and how many come
+    /// before it.
     fn step_some(&mut self, bytes: &[u8], lo: u64, hi: u64) -> (usize, usize)
         requires some { 0 < length bytes.now }
         requires enough { length bytes.now ≤ lo }
@@ -267,6 +268,9 @@ impl Nest {
                 self.told = told;
                 return (most, count);
             }
+            let few = bytes.len().min(body.id as usize);
+            self.phase = body.pass_id(&self.context, &bytes[..few]);
+            return (few, few);
         }
         if let Some((next, count)) = self.behind_whole(bytes, lo, hi) {
             *self = next;
