@@ -115,8 +115,7 @@ front_taken old new bytes lo hi count within f p =
     let e : length t ≡ count = length-take-le count bytes within in
     subst (λ k. StepsAll old new t lo hi k) e (steps_whole old new t lo hi f (subst (λ k. PassesBetween new (lo - k) (hi - k)) (sym e) p))
 
--- ---- octets in two parts
-
+-- what follows two parts of the octets, and what they lead to
 pub both_follow : (old mid new : List ℕ → Type 0) (bytes : List ℕ) (n m : ℕ) → Follows old mid (take n bytes) → Follows mid new (take (n + m - n) (drop n bytes)) → Follows old new (take (n + m) bytes)
 both_follow old mid new bytes n m f g =
     let e : n + m - n ≡ m = omega arith in

@@ -1,4 +1,4 @@
-//! A nested message, read octet by octet, its payloads in slices.
+//! A nested message: whole heads with their types, ids and payloads at once, else octet by octet.
 ghost use Rattle.std.specs.Prelude.{◌≡◌, ◌≤◌, ◌<◌, ◌+◌, ◌-◌, ◌^◌, ◌↔◌, ◌||◌, ℕ, nat_lt, Bool, true, List, [], ◌∷◌, length, take, IfSome};
 ghost use Rattle.ndef_piece.specs.Whole.{BeginWithHead};
 ghost use Rattle.ndef_piece.specs.declared.head_reader.Step.TheVariants as steps;
