@@ -1,6 +1,6 @@
 # Builds and installs the commands, the library for C and the Python module. Needs rt and a C compiler.
 #
-#   make             makes all of it; what has changed is proved and built first, which takes some minutes
+#   make             makes all of it; what has changed is proved and built first, which takes half an hour or so
 #   make python      makes the Python module alone, in out/python
 #   make install     puts it below PREFIX, and below DESTDIR where that is given
 #   make uninstall   takes away what make install puts
