@@ -12,3 +12,6 @@ returns-in_err-message c =
     let e : c.has_handover.result ≡ true = cc in
     let h = some_handover c.args.view.now.runs (sym c.has_handover.ensures ∙ e) in
     (Some h.0, h.1, search rules)
+
+pub returns : goal.returns
+returns c = search rules

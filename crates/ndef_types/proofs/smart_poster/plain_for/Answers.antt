@@ -1,4 +1,4 @@
-use Rattle.std.proofs.Common.{sym, subst}
+use Rattle.std.proofs.Common.{rules, sym, subst}
 use Rattle.ndef_nest.specs.Nested.{HasContents}
 use Rattle.ndef_nest.specs.declared.table.Table.TheVariants.{SmartPoster}
 use Rattle.ndef_types.proofs.PosterLemmas.{strict_is_plain}
@@ -6,3 +6,6 @@ use Rattle.ndef_types.proofs.smart_poster.plain_for.Goals as goal
 
 pub returns-in-Strict : goal.returns-in-Strict
 returns-in-Strict c = sym (strict_is_plain c.args.message (subst (λ p. HasContents SmartPoster p c.args.message) c.in-Strict.is c.requires))
+
+pub returns-in-Standard : goal.returns-in-Standard
+returns-in-Standard c = search rules
