@@ -1,4 +1,4 @@
-use Rattle.std.proofs.Common.{◌≡◌, ◌∷◌, sym, ◌∙◌, inr, subst, arith}
+use Rattle.std.proofs.Common.{rules, ◌≡◌, ◌∷◌, sym, ◌∙◌, inr, subst, arith}
 use Rattle.ndef_types.specs.Prefixes.{IsLongest}
 use Rattle.ndef_c.proofs.uri.ndef_write_uri.Goals as goal
 
@@ -9,3 +9,6 @@ returns-then-rest-clause-bad c = λ _.
     let rest = c.split-code.result.1.now in
     let long = c.if-rest.true in
     inr (code ∷ rest, (subst (λ u. IsLongest u code) same c.split-code.ensures.longest, sym same ∙ c.split-code.ensures.split), omega (arith, long))
+
+pub returns-clause-payload : goal.returns-clause-payload
+returns-clause-payload c = search rules

@@ -1,3 +1,4 @@
+use Rattle.std.proofs.Common.{rules}
 use Rattle.ndef_nest.specs.Machine.Payloads.{leaf_of}
 use Rattle.ndef_nest.proofs.typed.TypedOuterLanguage.is_open.Goals as goal
 
@@ -5,3 +6,9 @@ pub returns-in-Leaf-clause-reached : goal.returns-in-Leaf-clause-reached
 returns-in-Leaf-clause-reached c h octets are kind records profile s x =
     let y = rw c.in-Leaf.is at x in
     rw c.in-Leaf.is (y.0, c.is_open.ensures.reached h octets are (leaf_of kind) records profile s y.1)
+
+pub returns-in-Nest-clause-future : goal.returns-in-Nest-clause-future
+returns-in-Nest-clause-future c = search rules
+
+pub returns-in-Nest-clause-reached : goal.returns-in-Nest-clause-reached
+returns-in-Nest-clause-reached c = search rules

@@ -1,4 +1,4 @@
-use Rattle.std.proofs.Common.{◌++◌, ◌∷◌, [], arith, ◌∙◌, ap, subst, take, length, ◌<◌, ◌+◌}
+use Rattle.std.proofs.Common.{rules, ◌++◌, ◌∷◌, [], arith, ◌∙◌, ap, subst, take, length, ◌<◌, ◌+◌}
 use Rattle.std.proofs.lemmas.List.{length-take, take_more_set}
 use Rattle.ndef_piece.specs.Heads.{IsOpen}
 use Rattle.ndef_piece.specs.Inside.{reading}
@@ -33,3 +33,6 @@ returns-in-More-clause-taken c = λ e.
     same_reading _ _ _ _ _ (ap (λ v. v.spot) c.self.view_is)
     (ap (take (r.count + 1)) c.answer-self-inside.ensures.put ∙ take_more_set r.octets r.count c.args.octet below
     ∙ ap (λ v. v.octets ++ c.args.octet ∷ []) c.self.view_is)
+
+pub returns-in_default : goal.returns-in_default
+returns-in_default c = search rules

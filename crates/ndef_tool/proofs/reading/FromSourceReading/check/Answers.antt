@@ -1,4 +1,4 @@
-use Rattle.std.proofs.Common.{Ok, Err, refl}
+use Rattle.std.proofs.Common.{rules, Ok, Err, refl}
 use Rattle.ndef_message.specs.declared.message_checking.CheckError.TheVariants.{Refused}
 use Rattle.ndef_tool.proofs.Sessions.{checks_kept}
 use Rattle.ndef_tool.proofs.reading.FromSourceReading.check.Goals as goal
@@ -23,3 +23,6 @@ returns-in-Err-Refused-clause-next g c =
       ),
       refl,
     )
+
+pub returns-in-Err-ReadFault-clause-next : goal.returns-in-Err-ReadFault-clause-next
+returns-in-Err-ReadFault-clause-next g c = search rules
