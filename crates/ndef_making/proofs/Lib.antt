@@ -1,4 +1,5 @@
 pub mod Asks
+pub mod Commands
 pub mod Lists
 pub mod Made
 pub mod Messages
