@@ -1,5 +1,4 @@
 pub mod Asks
-pub mod Commands
 pub mod Lists
 pub mod Made
 pub mod Messages

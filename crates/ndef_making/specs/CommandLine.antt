@@ -1,7 +1,13 @@
 -- The command line of a part: which subcommands and options there are, in clap's words.
-use Rattle.std.specs.Prelude.{Some, true, codes}
-use Rattle.clap.specs.Words.{App, Rule, Text, new_app, new_rule, with_rule, with_subcommand}
+use Rattle.std.specs.Prelude.{◌≡◌, IfOk, Result, Some, codes, false, true}
+use Rattle.clap.specs.Words.{App, Rule, Text, app_of, new_app, new_rule, with_rule, with_subcommand}
 use Rattle.clap.specs.declared.builder.action.ArgAction.TheVariants.{Append, SetTrue}
+use Rattle.clap.specs.declared.builder.command.Command.{Command}
+use Rattle.clap.specs.declared.builder.command.Command.TheViews.{out-Command as fields_of}
+
+-- a command with these options and subcommands, each for its own level alone, where there was memory for it
+abbrev pub IsCommand : {E : Type 0} → App → Result Command E → Type 0
+IsCommand app made = IfOk made (λ command. (app_of command ≡ app) × ((fields_of command).has_globals ≡ false))
 
 -- a flag
 abbrev pub flag_rule : Text → Rule
@@ -54,10 +60,6 @@ abbrev pub empty_app : App
 empty_app = let a = new_app (codes "ndef-make") in
     record a { top = record a.top { no_binary_name = true; subcommand_required = true; disable_help_flag = true; disable_help_subcommand = true } }
 
--- texts and URIs
-abbrev pub plain_app : App
-plain_app = with_subcommand (with_subcommand empty_app text_app.top) uri_app.top
-
 -- all of it
 abbrev pub make_app : App
-make_app = with_subcommand (with_subcommand plain_app poster_app.top) record_app.top
+make_app = with_subcommand (with_subcommand (with_subcommand (with_subcommand empty_app text_app.top) uri_app.top) poster_app.top) record_app.top

@@ -1,8 +1,8 @@
 //! The command line of a part, as `clap` reads it.
-ghost use Rattle.std.specs.Prelude.{◌≡◌, false, IfOk};
-ghost use Rattle.clap.specs.Words.{app_of, rule_of};
+ghost use Rattle.std.specs.Prelude.{◌≡◌, false};
+ghost use Rattle.clap.specs.Words.{App, app_of, rule_of, with_rule, with_subcommand};
 ghost use Rattle.clap.specs.declared.builder.command.Command.TheViews.{out-Command as fields_of};
-ghost use Rattle.ndef_making.specs.CommandLine.{asked_rule, empty_app, flag_rule, given_rule, hex_app, make_app, plain_app, poster_app, record_app, repeated_rule, text_app, titled_app, uri_app, word_rule};
+ghost use Rattle.ndef_making.specs.CommandLine.{IsCommand, asked_rule, empty_app, flag_rule, given_rule, hex_app, make_app, poster_app, record_app, repeated_rule, text_app, titled_app, uri_app, word_rule};
 
 use clap::{Arg, ArgAction, Command};
 use std::alloc::{AllocError, Global};
@@ -39,33 +39,6 @@ fn given_word<'a>(alloc: Global, name: &'a str) -> Arg<'a>
     Arg::new(alloc, name).required(true)
 }
 
-/// A subcommand with the flag for hexadecimal text.
-fn hex_command<'a>(alloc: Global, name: &'a str) -> Result<Command<'a>, AllocError>
-    ensures app { IfOk result (λ c. app_of c ≡ hex_app name.entry.now) }
-    ensures local { IfOk result (λ c. (fields_of c).has_globals ≡ false) }
-{
-    Command::new(alloc, name).arg(flag(alloc, "hex"))
-}
-
-/// The subcommand `text`.
-fn text_command<'a>(alloc: Global) -> Result<Command<'a>, AllocError>
-    ensures app { IfOk result (λ c. app_of c ≡ text_app) }
-    ensures local { IfOk result (λ c. (fields_of c).has_globals ≡ false) }
-{
-    hex_command(alloc, "text")?
-        .arg(word_option(alloc, "language"))?
-        .arg(flag(alloc, "utf16"))?
-        .arg(given_word(alloc, "text"))
-}
-
-/// The subcommand `uri`.
-fn uri_command<'a>(alloc: Global) -> Result<Command<'a>, AllocError>
-    ensures app { IfOk result (λ c. app_of c ≡ uri_app) }
-    ensures local { IfOk result (λ c. (fields_of c).has_globals ≡ false) }
-{
-    hex_command(alloc, "uri")?.arg(given_word(alloc, "uri"))
-}
-
 /// An option for a word, which may be given again and again.
 fn repeated_option<'a>(alloc: Global, name: &'a str) -> Arg<'a>
     ensures rule { rule_of result ≡ repeated_rule name.entry.now }
@@ -74,36 +47,79 @@ fn repeated_option<'a>(alloc: Global, name: &'a str) -> Arg<'a>
     Arg::new(alloc, name).long(name).action(ArgAction::Append)
 }
 
+/// The command with one option more.
+fn with<'a>(
+    command: Result<Command<'a>, AllocError>,
+    option: Arg<'a>,
+) -> Result<Command<'a>, AllocError>
+    requires { option.global ≡ false }
+    ensures { (app : App) → IsCommand app command.entry → IsCommand (with_rule app (rule_of option.entry)) result }
+{
+    command?.arg(option)
+}
+
+/// The command with one subcommand more.
+fn over<'a>(
+    command: Result<Command<'a>, AllocError>,
+    subcommand: Result<Command<'a>, AllocError>,
+) -> Result<Command<'a>, AllocError>
+    ensures { (app inner : App) → IsCommand app command.entry → IsCommand inner subcommand.entry
+        → IsCommand (with_subcommand app inner.top) result }
+{
+    command?.subcommand(subcommand?)
+}
+
+/// A subcommand with the flag for hexadecimal text.
+fn hex_command<'a>(alloc: Global, name: &'a str) -> Result<Command<'a>, AllocError>
+    ensures { IsCommand (hex_app name.entry.now) result }
+{
+    Command::new(alloc, name).arg(flag(alloc, "hex"))
+}
+
+/// The subcommand `text`.
+fn text_command<'a>(alloc: Global) -> Result<Command<'a>, AllocError>
+    ensures { IsCommand text_app result }
+{
+    let command = hex_command(alloc, "text");
+    let command = with(command, word_option(alloc, "language"));
+    let command = with(command, flag(alloc, "utf16"));
+    with(command, given_word(alloc, "text"))
+}
+
+/// The subcommand `uri`.
+fn uri_command<'a>(alloc: Global) -> Result<Command<'a>, AllocError>
+    ensures { IsCommand uri_app result }
+{
+    with(hex_command(alloc, "uri"), given_word(alloc, "uri"))
+}
+
 /// The subcommand `poster`, with its URI and titles.
 fn titled_command<'a>(alloc: Global) -> Result<Command<'a>, AllocError>
-    ensures app { IfOk result (λ c. app_of c ≡ titled_app) }
-    ensures local { IfOk result (λ c. (fields_of c).has_globals ≡ false) }
+    ensures { IsCommand titled_app result }
 {
-    hex_command(alloc, "poster")?
-        .arg(given_word(alloc, "uri"))?
-        .arg(repeated_option(alloc, "title"))
+    let command = hex_command(alloc, "poster");
+    let command = with(command, given_word(alloc, "uri"));
+    with(command, repeated_option(alloc, "title"))
 }
 
 /// The subcommand `poster`.
 fn poster_command<'a>(alloc: Global) -> Result<Command<'a>, AllocError>
-    ensures app { IfOk result (λ c. app_of c ≡ poster_app) }
-    ensures local { IfOk result (λ c. (fields_of c).has_globals ≡ false) }
+    ensures { IsCommand poster_app result }
 {
-    titled_command(alloc)?
-        .arg(word_option(alloc, "action"))?
-        .arg(word_option(alloc, "size"))?
-        .arg(word_option(alloc, "media"))
+    let command = titled_command(alloc);
+    let command = with(command, word_option(alloc, "action"));
+    let command = with(command, word_option(alloc, "size"));
+    with(command, word_option(alloc, "media"))
 }
 
 /// The subcommand `record`.
 fn record_command<'a>(alloc: Global) -> Result<Command<'a>, AllocError>
-    ensures app { IfOk result (λ c. app_of c ≡ record_app) }
-    ensures local { IfOk result (λ c. (fields_of c).has_globals ≡ false) }
+    ensures { IsCommand record_app result }
 {
-    hex_command(alloc, "record")?
-        .arg(asked_option(alloc, "tnf"))?
-        .arg(word_option(alloc, "type"))?
-        .arg(word_option(alloc, "id"))
+    let command = hex_command(alloc, "record");
+    let command = with(command, asked_option(alloc, "tnf"));
+    let command = with(command, word_option(alloc, "type"));
+    with(command, word_option(alloc, "id"))
 }
 
 /// No flag and no subcommand for help: words that ask for it print the usage line.
@@ -118,21 +134,12 @@ fn empty_command<'a>(alloc: Global) -> Command<'a>
         .disable_help_subcommand(true)
 }
 
-/// The subcommands for texts and URIs.
-fn plain_command<'a>(alloc: Global) -> Result<Command<'a>, AllocError>
-    ensures app { IfOk result (λ c. app_of c ≡ plain_app) }
-    ensures local { IfOk result (λ c. (fields_of c).has_globals ≡ false) }
-{
-    empty_command(alloc)
-        .subcommand(text_command(alloc)?)?
-        .subcommand(uri_command(alloc)?)
-}
-
 /// The subcommands and their options.
 pub fn make_command<'a>(alloc: Global) -> Result<Command<'a>, AllocError>
-    ensures { IfOk result (λ c. app_of c ≡ make_app) }
+    ensures { IsCommand make_app result }
 {
-    plain_command(alloc)?
-        .subcommand(poster_command(alloc)?)?
-        .subcommand(record_command(alloc)?)
+    let command = over(Ok(empty_command(alloc)), text_command(alloc));
+    let command = over(command, uri_command(alloc));
+    let command = over(command, poster_command(alloc));
+    over(command, record_command(alloc))
 }

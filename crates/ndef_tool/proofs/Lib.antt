@@ -1,7 +1,6 @@
 pub mod Bounded
 pub mod Carriers
 pub mod Chooses
-pub mod Commands
 pub mod Handling
 pub mod Lines
 pub mod Members

@@ -1,8 +1,14 @@
 -- The command line: which subcommands and options there are, in clap's words.
-use Rattle.std.specs.Prelude.{ℕ, Some, true, codes, pos}
-use Rattle.clap.specs.Words.{App, Rule, Text, new_app, new_rule, with_rule, with_subcommand}
+use Rattle.std.specs.Prelude.{◌≡◌, ℕ, IfOk, Result, Some, codes, false, pos, true}
+use Rattle.clap.specs.Words.{App, Rule, Text, app_of, new_app, new_rule, with_rule, with_subcommand}
 use Rattle.clap.specs.declared.builder.action.ArgAction.TheVariants.{SetTrue}
+use Rattle.clap.specs.declared.builder.command.Command.{Command}
+use Rattle.clap.specs.declared.builder.command.Command.TheViews.{out-Command as fields_of}
 use Rattle.clap.specs.declared.builder.value_parser.ValueParser.TheVariants as vp
+
+-- a command with these options and subcommands, each for its own level alone, where there was memory for it
+abbrev pub IsCommand : {E : Type 0} → App → Result Command E → Type 0
+IsCommand app made = IfOk made (λ command. (app_of command ≡ app) × ((fields_of command).has_globals ≡ false))
 
 -- the flag for hexadecimal text
 abbrev pub hex_rule : Rule
@@ -16,9 +22,13 @@ number_rule most name = record (new_rule name) { long = Some name; parser = Some
 abbrev pub word_rule : Text → Rule
 word_rule name = record (new_rule name) { long = Some name }
 
--- hexadecimal text and the limits
+-- a subcommand, with the flag for hexadecimal text
+abbrev pub hex_app : Text → App
+hex_app name = with_rule (new_app name) hex_rule
+
+-- the limits too
 abbrev pub limits_app : Text → App
-limits_app name = with_rule (with_rule (with_rule (with_rule (new_app name) hex_rule) (number_rule 4294967295 (codes "payload")))
+limits_app name = with_rule (with_rule (with_rule (hex_app name) (number_rule 4294967295 (codes "payload")))
     (number_rule 65535 (codes "records"))) (number_rule 65535 (codes "pieces"))
 
 -- hexadecimal text, the limits and the profile

@@ -1,8 +1,8 @@
 //! The command line, as `clap` reads it.
-ghost use Rattle.std.specs.Prelude.{◌≡◌, ◌<◌, false, true, IfOk};
-ghost use Rattle.clap.specs.Words.{app_of, rule_of};
+ghost use Rattle.std.specs.Prelude.{◌≡◌, false};
+ghost use Rattle.clap.specs.Words.{App, app_of, rule_of, with_rule, with_subcommand};
 ghost use Rattle.clap.specs.declared.builder.command.Command.TheViews.{out-Command as fields_of};
-ghost use Rattle.ndef_tool.specs.CommandLine.{hex_rule, number_rule, word_rule, limits_app, reading_app, encode_app, empty_app, ndef_app};
+ghost use Rattle.ndef_tool.specs.CommandLine.{IsCommand, hex_app, hex_rule, number_rule, word_rule, limits_app, reading_app, encode_app, empty_app, ndef_app};
 
 use clap::{Arg, ArgAction, Command, value_parser};
 use std::alloc::{AllocError, Global};
@@ -45,34 +45,59 @@ fn word_option<'a>(alloc: Global, name: &'a str) -> Arg<'a>
     Arg::new(alloc, name).long(name)
 }
 
+/// The command with one option more.
+fn with<'a>(
+    command: Result<Command<'a>, AllocError>,
+    option: Arg<'a>,
+) -> Result<Command<'a>, AllocError>
+    requires { option.global ≡ false }
+    ensures { (app : App) → IsCommand app command.entry → IsCommand (with_rule app (rule_of option.entry)) result }
+{
+    command?.arg(option)
+}
+
+/// The command with one subcommand more.
+fn over<'a>(
+    command: Result<Command<'a>, AllocError>,
+    subcommand: Result<Command<'a>, AllocError>,
+) -> Result<Command<'a>, AllocError>
+    ensures { (app inner : App) → IsCommand app command.entry → IsCommand inner subcommand.entry
+        → IsCommand (with_subcommand app inner.top) result }
+{
+    command?.subcommand(subcommand?)
+}
+
+/// A subcommand with the flag for hexadecimal text.
+fn hex_command<'a>(alloc: Global, name: &'a str) -> Result<Command<'a>, AllocError>
+    ensures { IsCommand (hex_app name.entry.now) result }
+{
+    Command::new(alloc, name).arg(hex_flag(alloc))
+}
+
 /// A subcommand with the flag and the limits.
 fn limits_command<'a>(alloc: Global, name: &'a str) -> Result<Command<'a>, AllocError>
-    ensures app { IfOk result (λ c. app_of c ≡ limits_app name.entry.now) }
-    ensures local { IfOk result (λ c. (fields_of c).has_globals ≡ false) }
+    ensures { IsCommand (limits_app name.entry.now) result }
 {
-    Command::new(alloc, name)
-        .arg(hex_flag(alloc))?
-        .arg(wide_option(alloc, "payload"))?
-        .arg(small_option(alloc, "records"))?
-        .arg(small_option(alloc, "pieces"))
+    let command = hex_command(alloc, name);
+    let command = with(command, wide_option(alloc, "payload"));
+    let command = with(command, small_option(alloc, "records"));
+    with(command, small_option(alloc, "pieces"))
 }
 
 /// A subcommand with all that reading takes.
 fn reading_command<'a>(alloc: Global, name: &'a str) -> Result<Command<'a>, AllocError>
-    ensures app { IfOk result (λ c. app_of c ≡ reading_app name.entry.now) }
-    ensures local { IfOk result (λ c. (fields_of c).has_globals ≡ false) }
+    ensures { IsCommand (reading_app name.entry.now) result }
 {
-    limits_command(alloc, name)?.arg(word_option(alloc, "profile"))
+    with(limits_command(alloc, name), word_option(alloc, "profile"))
 }
 
 /// The subcommand `encode`.
 fn encode_command<'a>(alloc: Global) -> Result<Command<'a>, AllocError>
-    ensures app { IfOk result (λ c. app_of c ≡ encode_app) }
-    ensures local { IfOk result (λ c. (fields_of c).has_globals ≡ false) }
+    ensures { IsCommand encode_app result }
 {
-    reading_command(alloc, "encode")?
-        .arg(word_option(alloc, "form"))?
-        .arg(wide_option(alloc, "chunk"))
+    let command = reading_command(alloc, "encode");
+    let command = with(command, word_option(alloc, "form"));
+    with(command, wide_option(alloc, "chunk"))
 }
 
 /// No flag and no subcommand for help: words that ask for it print the usage line.
@@ -88,10 +113,9 @@ fn empty_command<'a>(alloc: Global) -> Command<'a>
 
 /// The subcommands and their options.
 pub fn ndef_command<'a>(alloc: Global) -> Result<Command<'a>, AllocError>
-    ensures { IfOk result (λ c. app_of c ≡ ndef_app) }
+    ensures { IsCommand ndef_app result }
 {
-    empty_command(alloc)
-        .subcommand(reading_command(alloc, "show")?)?
-        .subcommand(reading_command(alloc, "check")?)?
-        .subcommand(encode_command(alloc)?)
+    let command = over(Ok(empty_command(alloc)), reading_command(alloc, "show"));
+    let command = over(command, reading_command(alloc, "check"));
+    over(command, encode_command(alloc))
 }

@@ -1,7 +1,12 @@
-use Rattle.ndef_making.proofs.Commands.{with_command, with_last_command}
+use Rattle.clap.specs.Words.{with_subcommand}
+use Rattle.ndef_making.specs.CommandLine.{empty_app, poster_app, record_app, text_app, uri_app}
 use Rattle.ndef_making.proofs.command.make_command.Goals as goal
 
 pub returns : goal.returns
 returns c =
-    let poster = with_command c.in_ok-subcommand.ensures c.in_ok-plain_command.ensures.app c.in_ok-poster_command.ensures.app c.in_ok-poster_command.ensures.local in
-    with_last_command _ _ c.subcommand-2.result c.subcommand-2.ensures poster c.in_ok-record_command.ensures.app c.in_ok-record_command.ensures.local
+    let with_text = with_subcommand empty_app text_app.top in
+    let with_uri = with_subcommand with_text uri_app.top in
+    let text = c.over-command.ensures empty_app text_app (c.empty_command.ensures.app, c.empty_command.ensures.local) c.text_command.ensures in
+    let uri = c.over-command-2.ensures with_text uri_app text c.uri_command.ensures in
+    let poster = c.over-command-3.ensures with_uri poster_app uri c.poster_command.ensures in
+    c.over.ensures (with_subcommand with_uri poster_app.top) record_app poster c.record_command.ensures

@@ -7,5 +7,5 @@ use Rattle.ndef_making.proofs.parts.say.Goals as goal
 
 pub returns : goal.returns
 returns c =
-    failed _ make_app (map string_bytes c.args.part.now) (kind_of c.in-Err.error) OutOfMemory c.in-Ok.ensures make_is_free
+    failed _ make_app (map string_bytes c.args.part.now) (kind_of c.in-Err.error) OutOfMemory c.in-Ok.ensures.0 make_is_free
     (search rules) c.in-Err.ensures.kinds

@@ -8,16 +8,16 @@ use Rattle.ndef_tool.proofs.choice.choose.Goals as goal
 pub returns-in-Some-clause-chosen : goal.returns-in-Some-clause-chosen
 returns-in-Some-clause-chosen c =
     let parse = c.in-Ok-try_get_matches_from in
-    parsed _ ndef_app (map string_bytes c.args.words.now) parse.matches (Some c.in-Some.choice) c.in-Ok.ensures ndef_is_simple ndef_is_free
+    parsed _ ndef_app (map string_bytes c.args.words.now) parse.matches (Some c.in-Some.choice) c.in-Ok.ensures.0 ndef_is_simple ndef_is_free
     parse.ensures.matches parse.ensures.kinds (search rules)
 
 pub returns-in-Ok-try_get_matches_from-clause-chosen : goal.returns-in-Ok-try_get_matches_from-clause-chosen
 returns-in-Ok-try_get_matches_from-clause-chosen c =
     let parse = c.in-Ok-try_get_matches_from in
-    parsed _ ndef_app (map string_bytes c.args.words.now) parse.matches None c.in-Ok.ensures ndef_is_simple ndef_is_free
+    parsed _ ndef_app (map string_bytes c.args.words.now) parse.matches None c.in-Ok.ensures.0 ndef_is_simple ndef_is_free
     parse.ensures.matches parse.ensures.kinds (search rules)
 
 pub returns-clause-chosen : goal.returns-clause-chosen
 returns-clause-chosen c =
-    failed _ ndef_app (map string_bytes c.args.words.now) (kind_of c.in-Err.error) OutOfMemory c.in-Ok.ensures ndef_is_free
+    failed _ ndef_app (map string_bytes c.args.words.now) (kind_of c.in-Err.error) OutOfMemory c.in-Ok.ensures.0 ndef_is_free
     (search rules) c.in-Err.ensures.kinds
