@@ -49,12 +49,12 @@ fn record_told(alloc: Global, record: &Record) -> Result<String, Fail> {
 }
 
 /// What is told of an event.
-fn event_told(alloc: Global, event: Event) -> Result<String, Fail> {
+fn event_told(alloc: Global, event: &Event) -> Result<String, Fail> {
     match event {
         Event::More => Ok(String::from_str(alloc, "more")?),
         Event::Whole { item, last } => {
-            let record = record_told(alloc, &item)?;
-            let front = if last { "last" } else { "record" };
+            let record = record_told(alloc, item)?;
+            let front = if *last { "last" } else { "record" };
             Ok(format!(in alloc; "{front} {record}")?)
         }
         Event::Refused(refusal) => Ok(format!(in alloc; "{refusal}")?),
@@ -66,7 +66,7 @@ fn event_told(alloc: Global, event: Event) -> Result<String, Fail> {
 /// What a decoder tells that is fed one part more.
 fn fed(alloc: Global, decoder: &mut Decoder<Opaque>, part: &[u8]) -> Result<String, Fail> {
     let (count, event) = decoder.feed(part);
-    let event = event_told(alloc, event)?;
+    let event = event_told(alloc, &event)?;
     Ok(format!(in alloc; "{count} {event}")?)
 }
 
