@@ -10,6 +10,7 @@ mod encoding;
 mod faults;
 mod handovers;
 mod heads;
+mod lines;
 mod links;
 mod made;
 mod making;

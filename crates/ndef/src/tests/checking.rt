@@ -1,5 +1,5 @@
 //! What a checker shows of itself.
-use super::case::{bytes_of, field};
+use super::lines::{field, octets_of};
 use super::samples::{at, usual};
 use ndef_lang::Opaque;
 use ndef_message::Checker;
@@ -22,8 +22,7 @@ D0 00 00 07 | Done { taken: 3 } | Ok(()) | 1 | 3
 /// Whether a line tells what a checker shows that has taken one part more.
 fn is_shown(alloc: Global, checker: &mut Checker<Opaque>, line: &str) -> Result<bool, Fail> {
     let (octets, told) = field(line);
-    let part = bytes_of(alloc, octets).ok_or("no bytes")?;
-    let fed = checker.feed(part.as_slice());
+    let fed = checker.feed(octets_of(alloc, octets)?.as_slice());
     let end = checker.end();
     let (records, place) = (checker.records(), checker.place());
     let shown = format!(in alloc; "{fed:?} | {end:?} | {records} | {place}")?;

@@ -18,6 +18,20 @@ pub(super) fn words(alloc: Global, texts: &[&str]) -> Result<Vec<String>, Fail> 
     Ok(words)
 }
 
+/// A program's name, and the words of a line.
+pub(super) fn texts_of<'a>(
+    alloc: Global,
+    program: &'a str,
+    line: &'a str,
+) -> Result<Vec<&'a str>, Fail> {
+    let mut texts = Vec::new(alloc);
+    texts.push(program)?;
+    for text in line.split_whitespace() {
+        texts.push(text)?;
+    }
+    Ok(texts)
+}
+
 /// The most bytes of an input of which each read and each write fails in turn.
 const MOST_IN_TURN: usize = 64;
 
@@ -190,12 +204,7 @@ fn is_unparsed(alloc: Global, texts: &[&str]) -> Result<bool, Fail> {
 
 /// The same of the words of a line.
 fn is_line_unparsed(alloc: Global, line: &str) -> Result<bool, Fail> {
-    let mut texts = Vec::new(alloc);
-    texts.push("ndef")?;
-    for word in line.split_whitespace() {
-        texts.push(word)?;
-    }
-    is_unparsed(alloc, texts.as_slice())
+    is_unparsed(alloc, texts_of(alloc, "ndef", line)?.as_slice())
 }
 
 #[test]
@@ -207,70 +216,80 @@ fn prints_usage(rt: HostRuntime) -> Result<(), Fail> {
     Ok(())
 }
 
+/// Whether a run on this text ends with the status and has written the lines.
+fn tells(
+    alloc: Global,
+    texts: &[&str],
+    text: &[u8],
+    cut: usize,
+    answer: (u8, &str),
+) -> Result<bool, Fail> {
+    let (status, out) = ran(alloc, texts, text, cut)?;
+    Ok((status, out.as_slice()) == (answer.0, answer.1.as_bytes()))
+}
+
+/// Hexadecimal text, the status, and what `check` prints.
+const CHECKED: [(&str, u8, &str); 10] = [
+    (
+        "d00000 D00000\n",
+        0,
+        "message 1 at 0: records 1, bytes 3\nmessage 2 at 3: records 1, bytes 3\n",
+    ),
+    (
+        "\t d\r\n0 0000\n",
+        0,
+        "message 1 at 0: records 1, bytes 3\n",
+    ),
+    ("", 0, ""),
+    (" \n", 0, ""),
+    ("d000001", 1, "hex: odd number of digits\n"),
+    ("d0g", 1, "hex: odd number of digits\n"),
+    ("d0g0", 1, "hex: bad digit at 2\n"),
+    (" d 0\n0 g", 1, "hex: bad digit at 3\n"),
+    ("d00000\x0b\x0b", 1, "hex: bad digit at 6\n"),
+    (
+        "d0000051",
+        1,
+        "message 1 at 0: records 1, bytes 3\nrefused at 3: 2 BeginMissing\n",
+    ),
+];
+
 #[test]
 fn checks_hexadecimal_text(rt: HostRuntime) -> Result<(), Fail> {
-    let alloc = rt.alloc();
-    let table: [(&str, u8, &str); 10] = [
-        (
-            "d00000 D00000\n",
-            0,
-            "message 1 at 0: records 1, bytes 3\nmessage 2 at 3: records 1, bytes 3\n",
-        ),
-        (
-            "\t d\r\n0 0000\n",
-            0,
-            "message 1 at 0: records 1, bytes 3\n",
-        ),
-        ("", 0, ""),
-        (" \n", 0, ""),
-        ("d000001", 1, "hex: odd number of digits\n"),
-        ("d0g", 1, "hex: odd number of digits\n"),
-        ("d0g0", 1, "hex: bad digit at 2\n"),
-        (" d 0\n0 g", 1, "hex: bad digit at 3\n"),
-        ("d00000\x0b\x0b", 1, "hex: bad digit at 6\n"),
-        (
-            "d0000051",
-            1,
-            "message 1 at 0: records 1, bytes 3\nrefused at 3: 2 BeginMissing\n",
-        ),
-    ];
-    for (text, wanted, lines) in table {
-        let (status, out) = ran(alloc, &["ndef", "check", "--hex"], text.as_bytes(), 3)?;
-        assert!(rt; status == wanted && out.as_slice() == lines.as_bytes());
+    let texts = ["ndef", "check", "--hex"];
+    for (text, status, lines) in CHECKED {
+        assert!(rt;
+            tells(rt.alloc(), &texts, text.as_bytes(), 3, (status, lines))?,
+            "{text}"
+        );
     }
     Ok(())
 }
 
+/// Words, hexadecimal text, the status, and what `encode` writes.
+const ENCODED: [(&str, &str, u8, &str); 6] = [
+    ("encode --hex", "c50000000000", 0, "d50000\n"),
+    ("encode --hex", "d00000d50000", 0, "d00000\nd50000\n"),
+    ("encode --form long --hex", "d50000", 0, "c50000000000\n"),
+    (
+        "encode --chunk 3 --hex",
+        "D10108 5402656E 48656C6C6F",
+        0,
+        "b101035402656e36000348656c5600026c6f\n",
+    ),
+    ("encode --hex", "d0g0", 1, ""),
+    ("encode --hex", "d0000051", 1, "d00000\n"),
+];
+
 #[test]
 fn encodes_hexadecimal_text(rt: HostRuntime) -> Result<(), Fail> {
     let alloc = rt.alloc();
-    let hello = "D10108 5402656E 48656C6C6F";
-    let table: [(&[&str], &str, u8, &str); 6] = [
-        (&["ndef", "encode", "--hex"], "c50000000000", 0, "d50000\n"),
-        (
-            &["ndef", "encode", "--hex"],
-            "d00000d50000",
-            0,
-            "d00000\nd50000\n",
-        ),
-        (
-            &["ndef", "encode", "--form", "long", "--hex"],
-            "d50000",
-            0,
-            "c50000000000\n",
-        ),
-        (
-            &["ndef", "encode", "--chunk", "3", "--hex"],
-            hello,
-            0,
-            "b101035402656e36000348656c5600026c6f\n",
-        ),
-        (&["ndef", "encode", "--hex"], "d0g0", 1, ""),
-        (&["ndef", "encode", "--hex"], "d0000051", 1, "d00000\n"),
-    ];
-    for (texts, text, wanted, lines) in table {
-        let (status, out) = ran(alloc, texts, text.as_bytes(), 5)?;
-        assert!(rt; status == wanted && out.as_slice() == lines.as_bytes());
+    for (words, text, status, lines) in ENCODED {
+        let texts = texts_of(alloc, "ndef", words)?;
+        assert!(rt;
+            tells(alloc, texts.as_slice(), text.as_bytes(), 5, (status, lines))?,
+            "{text}"
+        );
     }
     Ok(())
 }
@@ -284,8 +303,15 @@ fn reads_16777216_bytes_of_text(rt: HostRuntime) -> Result<(), Fail> {
     ];
     for (count, wanted, lines) in table {
         let text = vec![in alloc; b'g'; count]?;
-        let (status, out) = ran(alloc, &["ndef", "check", "--hex"], text.as_slice(), 9)?;
-        assert!(rt; status == wanted && out.as_slice() == lines.as_bytes());
+        assert!(rt;
+            tells(
+                alloc,
+                &["ndef", "check", "--hex"],
+                text.as_slice(),
+                9,
+                (wanted, lines)
+            )?
+        );
     }
     Ok(())
 }

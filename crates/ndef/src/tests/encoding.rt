@@ -1,7 +1,7 @@
 //! Messages encoded, and written to a sink that fails.
 ghost use Rattle.std.specs.Prelude.{◌≤◌};
 
-use super::case::{bytes_of, field};
+use super::lines::{fields, octets_of};
 use super::samples::{HELLO, read};
 use super::streams::{FullWriter, IdleWriter};
 use ndef_message::{
@@ -52,26 +52,35 @@ fn writes_pieces(
     Ok(bytes.as_slice() == wanted && out.as_slice() == wanted && written == wanted.len() as u64)
 }
 
+/// The same for pieces of this size, if it is one.
+fn writes_so(
+    alloc: Global,
+    message: &Message,
+    form: Form,
+    size: &str,
+    wanted: &[u8],
+) -> Result<bool, Fail> {
+    match size {
+        "whole" => writes(alloc, message, form, wanted),
+        _ => writes_pieces(alloc, message, form, size.parse::<u32>()?.max(1), wanted),
+    }
+}
+
 /// Whether a line tells what is written for its message.
 fn is_written(alloc: Global, line: &str) -> Result<bool, Fail> {
-    let (bytes, line) = field(line);
-    let (form, line) = field(line);
-    let (size, line) = field(line);
-    let (wanted, _) = field(line);
-    let bytes = bytes_of(alloc, bytes).ok_or("no bytes")?;
-    let wanted = bytes_of(alloc, wanted).ok_or("no bytes")?;
-    let message = read(alloc, bytes.as_slice())?;
+    let [bytes, form, size, wanted, ..] = fields(line);
+    let message = read(alloc, octets_of(alloc, bytes)?.as_slice())?;
     let form = match form {
         "long" => Form::Long,
         _ => Form::Short,
     };
-    match size {
-        "whole" => writes(alloc, &message, form, wanted.as_slice()),
-        _ => {
-            let size = size.parse::<u32>()?.max(1);
-            writes_pieces(alloc, &message, form, size, wanted.as_slice())
-        }
-    }
+    writes_so(
+        alloc,
+        &message,
+        form,
+        size,
+        octets_of(alloc, wanted)?.as_slice(),
+    )
 }
 
 #[test]
@@ -110,16 +119,23 @@ fn written_into(
     Ok((written, out))
 }
 
+/// Whether of the text record just so many bytes go out where the writer has room for them.
+fn goes_out(alloc: Global, room: usize) -> Result<bool, Fail> {
+    let (answer, out) = written_into(alloc, &hello(alloc)?, room)?;
+    let written = room as u64;
+    let wanted = if room == HELLO.len() {
+        Ok(written)
+    } else {
+        Err(WriteFault { written })
+    };
+    Ok(answer == wanted && out.as_slice() == &HELLO[..room.min(HELLO.len())])
+}
+
 #[test]
 fn counts_what_went_out(rt: HostRuntime) -> Result<(), Fail> {
-    let hello = hello(rt.alloc())?;
-    for room in 0..HELLO.len() {
-        let (fault, out) = written_into(rt.alloc(), &hello, room)?;
-        let written = room as u64;
-        assert!(rt; fault == Err(WriteFault { written }) && out.as_slice() == &HELLO[..room]);
+    for room in 0..=HELLO.len() {
+        assert!(rt; goes_out(rt.alloc(), room)?, "{room}");
     }
-    let (written, out) = written_into(rt.alloc(), &hello, 12)?;
-    assert!(rt; written == Ok(12) && out.as_slice() == HELLO.as_slice());
     Ok(())
 }
 

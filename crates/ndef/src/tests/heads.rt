@@ -1,8 +1,10 @@
 //! Worked heads of pieces, read and written.
-use super::case::{bytes_of, field, profile_of};
+use super::case::profile_of;
+use super::lines::{bytes_of, fields};
 use ndef_piece::{Head, HeadReader, Spot, Step, write_head};
 use ndef_value::Tnf;
 use std::alloc::Global;
+use std::fmt::Debug;
 
 /// Fronts of heads: `PLACE | PROFILE | LAST | ROOM | OCTETS | ANSWER | LEAST MOST`. The place is `first`,
 /// the first piece of a message, `later`, one that begins another record, or `inside`, one within a
@@ -50,12 +52,9 @@ first | strict | piece | 4294967295 | C9 02 00 01 | Some(Bounds { last: true, ch
 first | strict | piece | 4294967295 | C9 02 00 01 00 00 09 | Some(Bounds { last: true, chunked: false, tnf: WellKnown, left: 0, kind: (2, 2), id: (9, 9), payload: (65536, 65536) })
 ";
 
-/// The reader at the spot with which a line begins, and what follows that in the line.
-fn reader_of(line: &str) -> Option<(HeadReader, &str)> {
-    let (place, line) = field(line);
-    let (profile, line) = field(line);
-    let (last, line) = field(line);
-    let (room, line) = field(line);
+/// The reader at the spot with which a line begins.
+fn reader_of(line: &str) -> Option<HeadReader> {
+    let [place, profile, last, room, ..] = fields(line);
     let spot = Spot {
         profile: profile_of(profile)?,
         first: place == "first",
@@ -67,7 +66,7 @@ fn reader_of(line: &str) -> Option<(HeadReader, &str)> {
     if spot.first && spot.inside {
         return None;
     }
-    Some((HeadReader::new(spot), line))
+    Some(HeadReader::new(spot))
 }
 
 /// The answer to the last octet, where the reader goes on behind each other, and answers the same from
@@ -86,26 +85,31 @@ fn last_answer(reader: &mut HeadReader, octets: &[u8]) -> Option<Step> {
     Some(answer)
 }
 
+/// Whether a value is printed so.
+fn is_printed<T: Debug>(alloc: Global, value: &T, text: &str) -> Option<bool> {
+    Some(format!(in alloc; "{value:?}").ok()?.as_str() == text)
+}
+
 /// Whether a line tells the answer and the lengths behind its octets.
 fn is_answered(alloc: Global, line: &str) -> Option<bool> {
-    let (mut reader, line) = reader_of(line)?;
-    let (octets, told) = field(line);
+    let [_, _, _, _, octets, told, lengths] = fields(line);
+    let mut reader = reader_of(line)?;
     let octets = bytes_of(alloc, octets)?;
     let answer = last_answer(&mut reader, octets.as_slice())?;
     let (least, most) = reader.lengths();
-    let answered = format!(in alloc; "{answer:?} | {least} {most}").ok()?;
-    Some(answered.as_str() == told.trim())
+    Some(
+        is_printed(alloc, &answer, told)?
+            && lengths == format!(in alloc; "{least} {most}").ok()?.as_str(),
+    )
 }
 
 /// Whether a line tells the bounds behind its octets.
 fn is_bounded(alloc: Global, line: &str) -> Option<bool> {
-    let (mut reader, line) = reader_of(line)?;
-    let (octets, told) = field(line);
+    let [_, _, _, _, octets, told, ..] = fields(line);
+    let mut reader = reader_of(line)?;
     let octets = bytes_of(alloc, octets)?;
     last_answer(&mut reader, octets.as_slice())?;
-    let bounds = reader.bounds();
-    let bounded = format!(in alloc; "{bounds:?}").ok()?;
-    Some(bounded.as_str() == told.trim())
+    is_printed(alloc, &reader.bounds(), told)
 }
 
 #[test]

@@ -1,6 +1,7 @@
 //! The carriers of a message: the alternative carriers of its handover, and the records that they refer
 //! to.
-use super::case::{answer_of, bytes_of, field, profile_of};
+use super::case::{answer_of, profile_of};
+use super::lines::{fields, octets_of};
 use super::samples::{HELLO, SELECT, read};
 use ndef_types::{LinkError, Links, Power, carriers, carriers_as};
 use ndef_value::Profile;
@@ -39,12 +40,9 @@ fn have_indices(links: &Links, indices: &str) -> Result<bool, Fail> {
 
 /// Whether a line tells the links of its message.
 fn is_linked(alloc: Global, line: &str) -> Result<bool, Fail> {
-    let (profile, rest) = field(line);
-    let (bytes, rest) = field(rest);
-    let (answer, _) = field(rest);
+    let [profile, bytes, answer, ..] = fields(line);
     let profile = profile_of(profile).ok_or("no such profile")?;
-    let bytes = bytes_of(alloc, bytes).ok_or("no bytes")?;
-    let message = read(alloc, bytes.as_slice())?;
+    let message = read(alloc, octets_of(alloc, bytes)?.as_slice())?;
     match carriers_as(alloc, &message, profile) {
         Ok(links) => have_indices(&links, answer),
         Err(LinkError::Refused(refusal)) => {

@@ -1,7 +1,8 @@
 //! Smart posters and handovers that are made of messages.
-use super::case::{bytes_of, field};
+use super::lines::{fields, octets_of};
 use super::samples::read;
 use ndef_types::{Request, Select, SmartPoster};
+use ndef_value::{Bytes, Message};
 use std::alloc::Global;
 use std::test::Fail;
 
@@ -44,44 +45,53 @@ fn handed_back(alloc: Global, kind: &str, bytes: &[u8]) -> Result<Option<(usize,
     Ok(back)
 }
 
+/// Whether a line tells what comes back.
+fn comes_back(alloc: Global, line: &str) -> Result<bool, Fail> {
+    let [kind, bytes, index, ..] = fields(line);
+    let index = index.parse::<usize>()?;
+    let bytes = octets_of(alloc, bytes)?;
+    let records = read(alloc, bytes.as_slice())?.len();
+    Ok(handed_back(alloc, kind, bytes.as_slice())? == Some((index, records)))
+}
+
 #[test]
 fn messages_come_back(rt: HostRuntime) -> Result<(), Fail> {
-    let alloc = rt.alloc();
     for line in NOT_MADE.trim().lines() {
-        let (kind, rest) = field(line);
-        let (bytes, rest) = field(rest);
-        let (index, _) = field(rest);
-        let bytes = bytes_of(alloc, bytes).ok_or("no bytes")?;
-        let records = read(alloc, bytes.as_slice())?.len();
-        let back = handed_back(alloc, kind, bytes.as_slice())?;
-        assert!(rt; back == Some((index.parse::<usize>()?, records)), "{line}");
+        assert!(rt; comes_back(rt.alloc(), line)?, "{line}");
     }
     Ok(())
 }
 
+fn poster(alloc: Global, message: Message) -> Result<Bytes, Fail> {
+    Ok(SmartPoster::new(message)?.encode(alloc)?)
+}
+
+fn request(alloc: Global, message: Message) -> Result<Bytes, Fail> {
+    Ok(Request::new(15, message)?.encode(alloc)?)
+}
+
+fn select(alloc: Global, message: Message) -> Result<Bytes, Fail> {
+    Ok(Select::new(0, Some(message))?.encode(alloc)?)
+}
+
 /// Whether a line tells what is written for the value that is made of its message.
 fn is_made(alloc: Global, line: &str) -> Result<bool, Fail> {
-    let (kind, rest) = field(line);
-    let (bytes, rest) = field(rest);
-    let (payload, _) = field(rest);
-    let bytes = bytes_of(alloc, bytes).ok_or("no bytes")?;
-    let payload = bytes_of(alloc, payload).ok_or("no bytes")?;
-    let message = read(alloc, bytes.as_slice())?;
+    let [kind, bytes, payload, ..] = fields(line);
+    let message = read(alloc, octets_of(alloc, bytes)?.as_slice())?;
     let written = match kind {
-        "poster" => SmartPoster::new(message)?.encode(alloc)?,
-        "request 15" => Request::new(15, message)?.encode(alloc)?,
-        _ => Select::new(0, Some(message))?.encode(alloc)?,
+        "poster" => poster(alloc, message),
+        "request 15" => request(alloc, message),
+        _ => select(alloc, message),
     };
-    Ok(written.as_slice() == payload.as_slice())
+    Ok(written?.as_slice() == octets_of(alloc, payload)?.as_slice())
 }
 
 #[test]
 fn values_are_made(rt: HostRuntime) -> Result<(), Fail> {
-    let alloc = rt.alloc();
     for line in MADE.trim().lines() {
-        assert!(rt; is_made(alloc, line)?, "{line}");
+        assert!(rt; is_made(rt.alloc(), line)?, "{line}");
     }
     let select = Select::new(3, None)?;
-    assert!(rt; select.encode(alloc)?.as_slice() == b"\x13".as_slice());
+    assert!(rt; select.encode(rt.alloc())?.as_slice() == b"\x13".as_slice());
     Ok(())
 }

@@ -1,5 +1,6 @@
 //! What the program `ndef-make` writes, and what `show` prints of it.
-use super::command::{ran, words};
+use super::command::{ran, texts_of, words};
+use super::lines::octets_of;
 use ndef_making::run;
 use ndef_message::{SliceSource, StdSink};
 use std::alloc::Global;
@@ -31,14 +32,16 @@ fn run_words(alloc: Global, texts: &[&str], input: &[u8]) -> Result<Outcome, Fai
     })
 }
 
-/// The words of a line, behind the program's name.
-fn texts_of<'a>(alloc: Global, line: &'a str) -> Result<Vec<&'a str>, Fail> {
-    let mut texts = Vec::new(alloc);
-    texts.push("ndef-make")?;
-    for text in line.split_whitespace() {
-        texts.push(text)?;
-    }
-    Ok(texts)
+/// The same of the words of a line.
+fn run_line(alloc: Global, line: &str, input: &[u8]) -> Result<Outcome, Fail> {
+    run_words(alloc, texts_of(alloc, "ndef-make", line)?.as_slice(), input)
+}
+
+/// Whether a run ends with the status, has written nothing and has told the text.
+fn tells(alloc: Global, line: &str, input: &[u8], status: u8, text: &str) -> Result<bool, Fail> {
+    let none = run_line(alloc, line, input)?;
+    let same = none.lines.as_slice() == text.as_bytes();
+    Ok(none.status == status && none.bytes.is_empty() && same)
 }
 
 /// The words, the input, the digits that are written with `--hex`, and what `show` prints of the bytes.
@@ -141,22 +144,25 @@ const WRITTEN: [(&str, &[u8], &str, &str); 16] = [
     ),
 ];
 
+/// Whether a run writes these bytes and tells nothing.
+fn writes(alloc: Global, line: &str, input: &[u8], bytes: &[u8]) -> Result<bool, Fail> {
+    let plain = run_line(alloc, line, input)?;
+    Ok(plain.status == 0 && plain.bytes.as_slice() == bytes && plain.lines.is_empty())
+}
+
+/// Whether `show` prints this of the bytes.
+fn shows(alloc: Global, bytes: &[u8], shown: &str) -> Result<bool, Fail> {
+    let (status, lines) = ran(alloc, &["ndef", "show"], bytes, 5)?;
+    Ok(status == 0 && lines.as_slice() == shown.as_bytes())
+}
+
 #[test]
 fn makes_what_is_shown(rt: HostRuntime) -> Result<(), Fail> {
     let alloc = rt.alloc();
     for (line, input, digits, shown) in WRITTEN {
-        let texts = texts_of(alloc, line)?;
-        let plain = run_words(alloc, texts.as_slice(), input)?;
-        let wanted = hex::decode(alloc, digits).or(Err("no digits"))?;
-        assert!(rt;
-            plain.status == 0 && plain.bytes == wanted && plain.lines.is_empty(),
-            "{line}"
-        );
-        let (status, lines) = ran(alloc, &["ndef", "show"], plain.bytes.as_slice(), 5)?;
-        assert!(rt;
-            status == 0 && lines.as_slice() == shown.as_bytes(),
-            "{line}"
-        );
+        let bytes = octets_of(alloc, digits)?;
+        assert!(rt; writes(alloc, line, input, bytes.as_slice())?, "{line}");
+        assert!(rt; shows(alloc, bytes.as_slice(), shown)?, "{line}");
     }
     Ok(())
 }
@@ -164,19 +170,13 @@ fn makes_what_is_shown(rt: HostRuntime) -> Result<(), Fail> {
 // The flag may stand in any of the parts.
 #[test]
 fn makes_hexadecimal_text(rt: HostRuntime) -> Result<(), Fail> {
-    let alloc = rt.alloc();
     for line in [
         "text --hex Hello --and uri a",
         "text Hello --and uri --hex a",
         "text Hello --hex --and uri a --hex",
     ] {
-        let texts = texts_of(alloc, line)?;
-        let text = run_words(alloc, texts.as_slice(), b"")?;
-        let wanted = b"9101085402656e48656c6c6f510102550061\n".as_slice();
-        assert!(rt;
-            text.status == 0 && text.bytes.as_slice() == wanted,
-            "{line}"
-        );
+        let text = b"9101085402656e48656c6c6f510102550061\n";
+        assert!(rt; writes(rt.alloc(), line, b"", text)?, "{line}");
     }
     Ok(())
 }
@@ -217,12 +217,8 @@ record --tnf 5 --and record --tnf 5
 
 #[test]
 fn tells_usage(rt: HostRuntime) -> Result<(), Fail> {
-    let alloc = rt.alloc();
     for line in NO_WORDS.lines() {
-        let texts = texts_of(alloc, line)?;
-        let none = run_words(alloc, texts.as_slice(), b"")?;
-        let same = none.lines.as_slice() == USAGE.as_bytes();
-        assert!(rt; none.status == 2 && none.bytes.is_empty() && same, "{line}");
+        assert!(rt; tells(rt.alloc(), line, b"", 2, USAGE)?, "{line}");
     }
     Ok(())
 }
@@ -263,12 +259,8 @@ const REFUSED: [(&str, &[u8], &str); 6] = [
 
 #[test]
 fn tells_what_is_refused(rt: HostRuntime) -> Result<(), Fail> {
-    let alloc = rt.alloc();
-    for (line, input, wanted) in REFUSED {
-        let texts = texts_of(alloc, line)?;
-        let none = run_words(alloc, texts.as_slice(), input)?;
-        let same = none.lines.as_slice() == wanted.as_bytes();
-        assert!(rt; none.status == 1 && none.bytes.is_empty() && same, "{line}");
+    for (line, input, text) in REFUSED {
+        assert!(rt; tells(rt.alloc(), line, input, 1, text)?, "{line}");
     }
     Ok(())
 }

@@ -4,7 +4,9 @@ use super::samples::{SELECT, read};
 use super::typed_memory::{decodes, encodes};
 use ndef_lang::Opaque;
 use ndef_message::view;
-use ndef_types::{LinkError, Links, Request, Select, SmartPoster, carriers, carriers_view};
+use ndef_types::{
+    DecodeError, LinkError, Links, Request, Select, SmartPoster, carriers, carriers_view,
+};
 use ndef_value::{Limits, Message, NoMemory, Profile};
 use std::alloc::Global;
 use std::test::Fail;
@@ -61,12 +63,18 @@ struct Values {
     message: Message,
 }
 
+fn made_selects(alloc: Global) -> Result<(Select, Select), DecodeError> {
+    let select = Select::decode(alloc, &SELECT[5..15])?;
+    Ok((select, Select::decode(alloc, b"\x12")?))
+}
+
 fn made_values(alloc: Global) -> Result<Values, Fail> {
+    let (select, version) = made_selects(alloc)?;
     Ok(Values {
         poster: SmartPoster::decode(alloc, POSTER)?,
         request: Request::decode(alloc, REQUEST)?,
-        select: Select::decode(alloc, &SELECT[5..15])?,
-        version: Select::decode(alloc, b"\x12")?,
+        select,
+        version,
         message: read(alloc, &SELECT)?,
     })
 }

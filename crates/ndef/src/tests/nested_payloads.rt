@@ -1,7 +1,8 @@
 //! Nested payloads, by themselves.
 ghost use Rattle.std.specs.Prelude.{◌≤◌, ◌<◌, ◌^◌};
 
-use super::case::{answer_of, bytes_of, field, profile_of};
+use super::case::{answer_of, profile_of};
+use super::lines::{bytes_of, fields};
 use ndef_lang::{Kind, Language, Leaf};
 use ndef_nest::{Nest, Typed};
 use ndef_value::{Profile, Reason};
@@ -133,12 +134,7 @@ fn answer_in(text: &str) -> Option<Answer> {
 
 /// What a line tells, and what is answered.
 fn answers(alloc: Global, line: &str) -> Option<(Answer, [Answer; 2])> {
-    let (kind, line) = field(line);
-    let (records, line) = field(line);
-    let (profile, line) = field(line);
-    let (length, line) = field(line);
-    let (octets, line) = field(line);
-    let (told, _) = field(line);
+    let [kind, records, profile, length, octets, told, ..] = fields(line);
     let records = u32::from(records.parse::<u16>().ok()?).max(1);
     let length = length.parse::<u32>().ok()?;
     let front = bytes_of(alloc, octets)?;

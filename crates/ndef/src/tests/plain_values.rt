@@ -1,11 +1,13 @@
 //! Names, byte strings, records, messages, limits, and the texts of reasons.
-use super::case::{field, reason};
+use super::case::reason;
 use super::comparing::are_told_apart;
+use super::lines::field;
 use ndef_value::{
     Bytes, Limits, Message, MessageError, Name, NameError, OutOfRange, Profile, Reason, Record,
     RecordError, Refusal, Tnf, TnfError,
 };
 use std::alloc::Global;
+use std::fmt::Display;
 use std::test::Fail;
 
 const LETTERS: [u8; 256] = [0x41; 256];
@@ -189,10 +191,15 @@ const FORMATS: &str = "
 6 Unchanged
 ";
 
+/// Whether a value is printed so.
+fn is_printed<T: Display>(alloc: Global, value: &T, text: &str) -> Result<bool, Fail> {
+    Ok(format!(in alloc; "{value}")?.as_str() == text)
+}
+
 /// Whether the type name format of this number is told so by a line.
 fn is_format(alloc: Global, number: u8, line: &str) -> Result<bool, Fail> {
     let tnf = Tnf::try_from(number)?;
-    Ok(tnf.code() == number && format!(in alloc; "{tnf}")?.as_str() == line)
+    Ok(tnf.code() == number && is_printed(alloc, &tnf, line)?)
 }
 
 #[test]
@@ -202,8 +209,8 @@ fn prints_type_name_formats(rt: HostRuntime) -> Result<(), Fail> {
     }
     assert!(rt; FORMATS.trim().lines().count() == 7);
     assert!(rt; Tnf::try_from(7u8) == Err(TnfError(7)));
-    let text = format!(in rt.alloc(); "{}", TnfError(7))?;
-    assert!(rt; text.as_str() == "no type name format has the number 7");
+    let text = "no type name format has the number 7";
+    assert!(rt; is_printed(rt.alloc(), &TnfError(7), text)?);
     Ok(())
 }
 
@@ -246,7 +253,7 @@ fn is_told(alloc: Global, number: u64, line: &str) -> Result<bool, Fail> {
         u64::from(reason.number()) == number
             && u64::from(reason.rank()) == rank.parse::<u64>()?
             && reason.name() == name.as_bytes()
-            && format!(in alloc; "{reason}")?.as_str() == text,
+            && is_printed(alloc, &reason, text)?,
     )
 }
 
@@ -260,8 +267,7 @@ fn prints_reasons(rt: HostRuntime) -> Result<(), Fail> {
         at: 11,
         reason: Reason::EndOfInput,
     };
-    let text = format!(in rt.alloc(); "{refusal}")?;
-    assert!(rt; text.as_str() == "refused at 11: 24 EndOfInput");
+    assert!(rt; is_printed(rt.alloc(), &refusal, "refused at 11: 24 EndOfInput")?);
     Ok(())
 }
 

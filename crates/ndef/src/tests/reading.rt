@@ -1,5 +1,5 @@
 //! Messages read, checked and decoded from sources.
-use super::case::{bytes_of, field};
+use super::lines::{field, octets_of};
 use super::records::are_told;
 use super::samples::{HELLO, SELECT, usual};
 use super::streams::SlowReader;
@@ -63,18 +63,20 @@ fn event_told(alloc: Global, event: &Event) -> Result<String, Fail> {
     }
 }
 
+fn answer_told(alloc: Global, answer: &(usize, Event)) -> Result<String, Fail> {
+    let (count, event) = (answer.0, event_told(alloc, &answer.1)?);
+    Ok(format!(in alloc; "{count} {event}")?)
+}
+
 /// What a decoder tells that is fed one part more.
 fn fed(alloc: Global, decoder: &mut Decoder<Opaque>, part: &[u8]) -> Result<String, Fail> {
-    let (count, event) = decoder.feed(part);
-    let event = event_told(alloc, &event)?;
-    Ok(format!(in alloc; "{count} {event}")?)
+    answer_told(alloc, &decoder.feed(part))
 }
 
 /// Whether a line tells what a decoder shows that is fed one part more.
 fn is_shown(alloc: Global, decoder: &mut Decoder<Opaque>, line: &str) -> Result<bool, Fail> {
     let (octets, told) = field(line);
-    let part = bytes_of(alloc, octets).ok_or("no bytes")?;
-    let fed = fed(alloc, decoder, part.as_slice())?;
+    let fed = fed(alloc, decoder, octets_of(alloc, octets)?.as_slice())?;
     let (place, held) = (decoder.place(), decoder.held());
     let end = decoder.end();
     let shown = format!(in alloc; "{fed} | {place} | {held} | {end:?}")?;

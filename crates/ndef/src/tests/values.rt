@@ -1,9 +1,10 @@
 //! Typed values as lines of text: `TYPE | PROFILE | PAYLOAD | refused PLACE REASON`, or
 //! `TYPE | PROFILE | PAYLOAD | VALUE | WRITTEN`. Octets are hexadecimal, `-` where there is none; a value
 //! is told as the function of its type writes it, and WRITTEN is the payload that is written for it.
-use super::case::{Answer, answer_of, bytes_of, field, profile_of};
+use super::case::{Answer, answer_of, profile_of};
+use super::lines::{fields, octets_of};
 use ndef_types::{
-    Ac, Carrier, DecodeError, HandoverError, Request, Select, SmartPoster, Text, Uri,
+    Ac, Carrier, DecodeError, EncodeError, HandoverError, Request, Select, SmartPoster, Text, Uri,
 };
 use ndef_value::{Bytes, Name, Profile};
 use std::alloc::Global;
@@ -26,7 +27,11 @@ pub(super) fn digits(alloc: Global, octets: &[u8]) -> Result<String, Fail> {
 }
 
 /// What is written for a value that was made of parts and for one that was decoded.
-fn alike(made: Bytes, decoded: Bytes) -> Result<Bytes, Fail> {
+fn alike(
+    made: Result<Bytes, EncodeError>,
+    decoded: Result<Bytes, EncodeError>,
+) -> Result<Bytes, Fail> {
+    let (made, decoded) = (made?, decoded?);
     if made == decoded {
         Ok(made)
     } else {
@@ -42,7 +47,7 @@ fn text(alloc: Global, text: &Text) -> Result<Value, Fail> {
     let made = Text::new(alloc, encoding, text.language(), text.text())?;
     Ok(Value {
         words: format!(in alloc; "{encoding:?} {language} {octets}")?,
-        written: alike(made.encode(alloc)?, text.encode(alloc)?)?,
+        written: alike(made.encode(alloc), text.encode(alloc))?,
     })
 }
 
@@ -51,7 +56,7 @@ fn uri(alloc: Global, uri: &Uri) -> Result<Value, Fail> {
     let made = Uri::new(alloc, uri.text())?;
     Ok(Value {
         words: String::from_str(alloc, uri.text())?,
-        written: alike(made.encode(alloc)?, uri.encode(alloc)?)?,
+        written: alike(made.encode(alloc), uri.encode(alloc))?,
     })
 }
 
@@ -76,7 +81,7 @@ fn error(alloc: Global, error: &HandoverError) -> Result<Value, Fail> {
     let made = HandoverError::new(alloc, reason, error.detail())?;
     Ok(Value {
         words: format!(in alloc; "{reason} {detail}")?,
-        written: alike(made.encode(alloc)?, error.encode(alloc)?)?,
+        written: alike(made.encode(alloc), error.encode(alloc))?,
     })
 }
 
@@ -103,6 +108,14 @@ fn titles(alloc: Global, poster: &SmartPoster) -> Result<String, Fail> {
     Ok(all)
 }
 
+/// The media type, or `-`.
+fn media(alloc: Global, poster: &SmartPoster) -> Result<String, Fail> {
+    match poster.media(alloc)? {
+        Some(media) => digits(alloc, media.as_slice()),
+        None => digits(alloc, b""),
+    }
+}
+
 /// The number of records, URI, titles, action, size and media type.
 fn poster(alloc: Global, poster: &SmartPoster) -> Result<Value, Fail> {
     let records = poster.message().len();
@@ -111,11 +124,7 @@ fn poster(alloc: Global, poster: &SmartPoster) -> Result<Value, Fail> {
     let titles = titles(alloc, poster)?;
     let action = poster.action();
     let size = poster.size();
-    let media = poster.media(alloc)?;
-    let media = digits(
-        alloc,
-        media.as_ref().map(Bytes::as_slice).unwrap_or_default(),
-    )?;
+    let media = media(alloc, poster)?;
     Ok(Value {
         words: format!(in alloc; "{records} {uri} [{titles}] {action:?} {size:?} {media}")?,
         written: poster.encode(alloc)?,
@@ -207,19 +216,15 @@ fn is_refused(
 
 /// Whether a line tells what its payload stands for.
 fn is_told(alloc: Global, line: &str) -> Result<bool, Fail> {
-    let (kind, line) = field(line);
-    let (profile, line) = field(line);
-    let (payload, line) = field(line);
-    let (value, line) = field(line);
-    let (written, _) = field(line);
+    let [kind, profile, payload, value, written, ..] = fields(line);
     let profile = profile_of(profile).ok_or("no such profile")?;
-    let payload = bytes_of(alloc, payload).ok_or("no bytes")?;
+    let payload = octets_of(alloc, payload)?;
     if value.starts_with("refused") {
         let answer = answer_of(value).map(|(answer, _)| answer);
         return Ok(is_refused(alloc, kind, profile, payload.as_slice(), answer));
     }
     let told = told(alloc, kind, profile, payload.as_slice())?;
-    let written = bytes_of(alloc, written).ok_or("no bytes")?;
+    let written = octets_of(alloc, written)?;
     Ok(told.words.as_str() == value && told.written.as_slice() == written.as_slice())
 }
 

@@ -1,5 +1,6 @@
 //! Messages viewed where they lie.
-use super::case::{answer_of, bytes_of, field, profile_of};
+use super::case::{answer_of, profile_of};
+use super::lines::{bytes_of, fields, octets_of};
 use super::records::{are_shown, are_told};
 use super::samples::{HELLO, SELECT, standard, usual};
 use super::values::digits;
@@ -45,17 +46,23 @@ fn view_told(alloc: Global, view: &View<'_>) -> Result<String, Fail> {
     Ok(format!(in alloc; "{taken} {records} {count} {profile:?}")?)
 }
 
+/// A space and the digits of octets, or `none`.
+fn push_octets(alloc: Global, text: &mut String, octets: Option<&[u8]>) -> Result<(), Fail> {
+    let digits = match octets {
+        Some(octets) => digits(alloc, octets)?,
+        None => String::from_str(alloc, "none")?,
+    };
+    text.push_str(" ")?;
+    Ok(text.push_str(digits.as_str())?)
+}
+
 /// How a payload is cut.
 fn cuts_of(alloc: Global, item: &Item<'_>) -> Result<String, Fail> {
     let length = item.length();
-    let mut cuts = format!(in alloc; "{length} ")?;
-    match item.whole() {
-        Some(octets) => cuts.push_str(digits(alloc, octets)?.as_str())?,
-        None => cuts.push_str("none")?,
-    }
+    let mut cuts = format!(in alloc; "{length}")?;
+    push_octets(alloc, &mut cuts, item.whole())?;
     for piece in item.pieces() {
-        cuts.push_str(" ")?;
-        cuts.push_str(digits(alloc, piece)?.as_str())?;
+        push_octets(alloc, &mut cuts, Some(piece))?;
     }
     Ok(cuts)
 }
@@ -72,21 +79,22 @@ fn are_cut(alloc: Global, view: &View<'_>, cuts: &str) -> Result<bool, Fail> {
     Ok(cuts.next().is_none())
 }
 
+/// Whether the records are those that the text tells, in the view and in the message that it gives.
+fn has_records(alloc: Global, view: &View<'_>, records: &str) -> Result<bool, Fail> {
+    let message = view.to_message(alloc)?;
+    let shown = are_shown(alloc, records, view) == Some(true);
+    Ok(shown && are_told(alloc, records, &message) == Some(true))
+}
+
 /// Whether a line tells what is viewed.
 fn is_viewed(alloc: Global, line: &str) -> Result<bool, Fail> {
-    let (profile, line) = field(line);
-    let (bytes, line) = field(line);
-    let (told, line) = field(line);
-    let (records, line) = field(line);
-    let (cuts, _) = field(line);
+    let [profile, bytes, told, records, cuts, ..] = fields(line);
     let profile = profile_of(profile).ok_or("no such profile")?;
-    let bytes = bytes_of(alloc, bytes).ok_or("no bytes")?;
+    let bytes = octets_of(alloc, bytes)?;
     let view = viewed(bytes.as_slice(), usual().with(profile))?;
-    let message = view.to_message(alloc)?;
     Ok(
         view_told(alloc, &view)?.as_str() == told
-            && are_shown(alloc, records, &view) == Some(true)
-            && are_told(alloc, records, &message) == Some(true)
+            && has_records(alloc, &view, records)?
             && are_cut(alloc, &view, cuts)?,
     )
 }
@@ -102,8 +110,7 @@ fn messages_are_viewed(rt: HostRuntime) -> Result<(), Fail> {
 /// Whether a line tells what is answered.
 fn is_refused(alloc: Global, line: &str) -> Option<bool> {
     views_are_exact::<Typed>();
-    let (bytes, line) = field(line);
-    let (answer, _) = field(line);
+    let [bytes, answer, ..] = fields(line);
     let bytes = bytes_of(alloc, bytes)?;
     let answered = view::<Typed>(bytes.as_slice(), usual()).map(|view| view.taken());
     Some(answered == answer_of(answer)?.0)
