@@ -52,7 +52,7 @@ fn writes_pieces(
     Ok(bytes.as_slice() == wanted && out.as_slice() == wanted && written == wanted.len() as u64)
 }
 
-/// The same for pieces of this size, if it is one.
+/// Whether the bytes are written for records in pieces of this size, or for whole ones.
 fn writes_so(
     alloc: Global,
     message: &Message,

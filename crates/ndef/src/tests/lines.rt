@@ -34,7 +34,7 @@ pub(super) fn bytes_of(alloc: Global, text: &str) -> Option<Vec<u8>> {
     Some(bytes)
 }
 
-/// The same of digits that have to be some.
+/// The same for a test, which fails where they are no such digits.
 pub(super) fn octets_of(alloc: Global, text: &str) -> Result<Vec<u8>, Fail> {
     Ok(bytes_of(alloc, text).ok_or("no bytes")?)
 }

@@ -63,6 +63,7 @@ struct Values {
     message: Message,
 }
 
+/// A select of one carrier, and one that is its version alone.
 fn made_selects(alloc: Global) -> Result<(Select, Select), DecodeError> {
     let select = Select::decode(alloc, &SELECT[5..15])?;
     Ok((select, Select::decode(alloc, b"\x12")?))

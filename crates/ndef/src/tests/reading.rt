@@ -63,6 +63,7 @@ fn event_told(alloc: Global, event: &Event) -> Result<String, Fail> {
     }
 }
 
+/// What is told of a decoder's answer: how many octets it takes, and the event.
 fn answer_told(alloc: Global, answer: &(usize, Event)) -> Result<String, Fail> {
     let (count, event) = (answer.0, event_told(alloc, &answer.1)?);
     Ok(format!(in alloc; "{count} {event}")?)
