@@ -1,4 +1,4 @@
-"""The lines of the suite: its cases, its values, and the names of the reasons."""
+"""The lines of the conformance cases and of the typed values, and the names of the reasons."""
 import pathlib
 import re
 
@@ -11,18 +11,16 @@ def reasons():
     return {int(number): ''.join(word.capitalize() for word in name.split('_')) for name, number in found}
 
 
-def lines(fields):
-    """The lines of the suite with at least so many fields."""
-    for path in [*sorted(TOP.glob('crates/ndef/src/tests/cases/*.rt')), TOP / 'test/c/cases.txt']:
-        for line in path.read_text().splitlines():
-            parts = [part.strip() for part in line.split('|')]
-            if len(parts) >= fields and '/' not in parts[0]:
-                yield line, parts
+def lines(name):
+    """The lines of a file of cases, each with its columns."""
+    for line in (TOP / 'conformance' / name).read_text().splitlines():
+        if line.strip() and not line.startswith('#'):
+            yield line, [part.strip() for part in line.split('|')]
 
 
 def cases():
     """Strict cases within the limits for usual tags: the line, whether payloads are looked into, octets, answer, records."""
-    for line, parts in lines(6):
+    for line, parts in lines('cases.txt'):
         if parts[2] != 'strict' or parts[3] != 'usual':
             continue
         for word in {'typed', 'opaque'} & set(parts[1].split()):
@@ -31,7 +29,7 @@ def cases():
 
 def values(kind):
     """Strict values of a kind: the line, the payload, the value or the refusal, and the payload that is written for a value."""
-    for line, parts in lines(4):
+    for line, parts in lines('typed.txt'):
         if parts[0] == kind and parts[1] == 'strict':
             yield line, bytes.fromhex(parts[2]), parts[3], bytes.fromhex(parts[4]) if len(parts) > 4 else None
 

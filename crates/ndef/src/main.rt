@@ -51,6 +51,3 @@ fn main(rt: HostRuntime) -> ExitCode {
     drop(sink);
     code_after(status, writer.flush())
 }
-
-#[cfg(test)]
-mod tests;

@@ -1,0 +1,11 @@
+//! What the tests of several crates share: lines of cases, sample messages, slow and failing streams, and memory that is
+//! used up. It serves tests alone, so that its functions have no contracts.
+#![tactic(auto)]
+
+pub mod case;
+pub mod comparing;
+pub mod lines;
+pub mod memory;
+pub mod records;
+pub mod samples;
+pub mod streams;

@@ -1,0 +1,221 @@
+//! What bytes are answered at every door of the library: checked, decoded, read and viewed, whole, in
+//! each two parts and byte by byte.
+ghost use Rattle.std.specs.Prelude.{◌<◌};
+
+use ndef_cases::case::Answer;
+use ndef_cases::streams::SlowReader;
+use ndef_lang::OuterLanguage;
+use ndef_message::{
+    CheckError, Checker, Decoder, Event, Fed, ReadError, SliceSource, Source, StdSource,
+    check_message, read_message, view,
+};
+use ndef_value::Limits;
+use std::alloc::Global;
+
+/// How bytes are handed over: so many of them, then the others in parts of at most this size.
+#[derive(Clone, Copy)]
+pub(super) struct Parts {
+    first: usize,
+    size: usize,
+    ghost some: { 0 < size },
+}
+
+/// All at once.
+pub(super) const WHOLE: Parts = Parts {
+    first: 0,
+    size: usize::MAX,
+};
+
+/// Byte by byte.
+pub(super) const BYTES: Parts = Parts { first: 0, size: 1 };
+
+fn two_parts(first: usize) -> Parts {
+    Parts {
+        first,
+        size: usize::MAX,
+    }
+}
+
+fn slowly(bytes: &[u8]) -> StdSource<SlowReader<'_>> {
+    StdSource::new(SlowReader {
+        bytes,
+        most: 1,
+        fails: false,
+    })
+}
+
+/// The bytes up to a place, and those behind it.
+fn cut_at(bytes: &[u8], place: usize) -> (&[u8], &[u8]) {
+    bytes.split_at(place.min(bytes.len()))
+}
+
+/// What a checker answers to one part more, if it answers.
+fn fed<L: OuterLanguage>(checker: &mut Checker<L>, part: &[u8]) -> Option<Answer> {
+    match checker.feed(part) {
+        Fed::More => None,
+        Fed::Done { .. } => Some(Ok(checker.place())),
+        Fed::Refused(refusal) => Some(Err(refusal)),
+    }
+}
+
+/// What a checker answers; nothing where it doesn't take what ends to have ended.
+pub(super) fn checked<L: OuterLanguage>(
+    limits: Limits,
+    bytes: &[u8],
+    parts: Parts,
+) -> Option<Answer> {
+    let mut checker = Checker::<L>::new(limits);
+    let (front, rest) = cut_at(bytes, parts.first);
+    if let Some(answer) = fed(&mut checker, front) {
+        return Some(answer);
+    }
+    for part in rest.chunks(parts.size) {
+        if let Some(answer) = fed(&mut checker, part) {
+            return Some(answer);
+        }
+    }
+    Some(Err(checker.end().err()?))
+}
+
+/// What comes of a part that a decoder is handed.
+#[derive(Clone, Copy)]
+enum Progress {
+    GoesOn,
+    Answered(Answer),
+    Failed,
+}
+
+fn hand<L: OuterLanguage>(decoder: &mut Decoder<L>, part: &[u8]) -> Progress {
+    let mut rest = part;
+    for _ in 0..=part.len() {
+        let (count, event) = decoder.feed(rest);
+        rest = &rest[count..];
+        match event {
+            Event::More => return Progress::GoesOn,
+            Event::Whole { last: false, .. } => {}
+            Event::Whole { last: true, .. } => return Progress::Answered(Ok(decoder.place())),
+            Event::Refused(refusal) => return Progress::Answered(Err(refusal)),
+            Event::Failed(_) | Event::Over => return Progress::Failed,
+        }
+    }
+    Progress::Failed
+}
+
+fn hand_parts<L: OuterLanguage>(decoder: &mut Decoder<L>, bytes: &[u8], parts: Parts) -> Progress {
+    let (front, rest) = cut_at(bytes, parts.first);
+    let mut progress = hand(decoder, front);
+    for part in rest.chunks(parts.size) {
+        if let Progress::GoesOn = progress {
+            progress = hand(decoder, part);
+        }
+    }
+    progress
+}
+
+/// What a decoder answers; nothing where memory is wanting, or where it doesn't take what ends to have
+/// ended.
+pub(super) fn decoded<L: OuterLanguage>(
+    alloc: Global,
+    limits: Limits,
+    bytes: &[u8],
+    parts: Parts,
+) -> Option<Answer> {
+    let mut decoder = Decoder::<L>::new(alloc, limits);
+    match hand_parts(&mut decoder, bytes, parts) {
+        Progress::GoesOn => Some(Err(decoder.end().err()?)),
+        Progress::Answered(answer) => Some(answer),
+        Progress::Failed => None,
+    }
+}
+
+fn read_from<L: OuterLanguage, S: Source>(
+    alloc: Global,
+    limits: Limits,
+    source: &mut S,
+) -> Option<Answer> {
+    match read_message::<L, S>(alloc, source, limits) {
+        Ok(read) => Some(Ok(read.taken)),
+        Err(ReadError::Refused(refusal)) => Some(Err(refusal)),
+        Err(_) => None,
+    }
+}
+
+fn check_from<L: OuterLanguage, S: Source>(limits: Limits, source: &mut S) -> Option<Answer> {
+    match check_message::<L, S>(source, limits) {
+        Ok(checked) => Some(Ok(checked.taken)),
+        Err(CheckError::Refused(refusal)) => Some(Err(refusal)),
+        Err(CheckError::ReadFault) => None,
+    }
+}
+
+/// What reading answers, from a source that shows the bytes whole.
+pub(super) fn read_whole<L: OuterLanguage>(
+    alloc: Global,
+    limits: Limits,
+    bytes: &[u8],
+) -> Option<Answer> {
+    read_from::<L, _>(alloc, limits, &mut SliceSource::whole(bytes))
+}
+
+/// What a view answers, which looks at the bytes whole.
+pub(super) fn viewed<L: OuterLanguage>(limits: Limits, bytes: &[u8]) -> Option<Answer> {
+    Some(view::<L>(bytes, limits).map(|view| view.taken()))
+}
+
+/// Whether the bytes, in two parts, are answered so.
+fn is_answered_in_two<L: OuterLanguage>(
+    alloc: Global,
+    limits: Limits,
+    bytes: &[u8],
+    cut: usize,
+    wanted: Option<Answer>,
+) -> bool {
+    let cuts = [cut.min(bytes.len())];
+    let parts = two_parts(cut);
+    checked::<L>(limits, bytes, parts) == wanted
+        && decoded::<L>(alloc, limits, bytes, parts) == wanted
+        && read_from::<L, _>(alloc, limits, &mut SliceSource::new(bytes, &cuts)) == wanted
+        && check_from::<L, _>(limits, &mut SliceSource::new(bytes, &cuts)) == wanted
+}
+
+/// Whether the bytes are answered so whole, in each two parts and byte by byte.
+pub(super) fn is_answered<L: OuterLanguage>(
+    alloc: Global,
+    limits: Limits,
+    bytes: &[u8],
+    answer: Answer,
+) -> bool {
+    let wanted = Some(answer);
+    for cut in 0..=bytes.len() {
+        if !is_answered_in_two::<L>(alloc, limits, bytes, cut, wanted) {
+            return false;
+        }
+    }
+    viewed::<L>(limits, bytes) == wanted
+        && checked::<L>(limits, bytes, BYTES) == wanted
+        && decoded::<L>(alloc, limits, bytes, BYTES) == wanted
+        && read_from::<L, _>(alloc, limits, &mut slowly(bytes)) == wanted
+        && check_from::<L, _>(limits, &mut slowly(bytes)) == wanted
+}
+
+/// Whether checking the bytes whole and byte by byte, reading and viewing them have one answer.
+pub(super) fn is_agreed<L: OuterLanguage>(alloc: Global, limits: Limits, bytes: &[u8]) -> bool {
+    let answer = checked::<L>(limits, bytes, WHOLE);
+    answer.is_some()
+        && checked::<L>(limits, bytes, BYTES) == answer
+        && read_whole::<L>(alloc, limits, bytes) == answer
+        && viewed::<L>(limits, bytes) == answer
+}
+
+/// Whether the bytes can go on, and a decoder holds so many of them.
+pub(super) fn is_held<L: OuterLanguage>(
+    alloc: Global,
+    limits: Limits,
+    bytes: &[u8],
+    held: u64,
+) -> bool {
+    let mut decoder = Decoder::<L>::new(alloc, limits);
+    matches!(hand(&mut decoder, bytes), Progress::GoesOn)
+        && decoder.place() == bytes.len() as u64
+        && decoder.held() == held
+}

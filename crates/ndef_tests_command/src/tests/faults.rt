@@ -1,0 +1,91 @@
+//! Runs whose source or sink fails at every place, and inputs without an end.
+use super::command::words;
+use ndef_cases::samples::SELECT;
+use ndef_message::{EndlessSource, FailingSink, FailingSource, SliceSource, Source, StdSink};
+use ndef_tool::run;
+use std::alloc::Global;
+use std::test::Fail;
+
+/// The status, and what is written, of a run whose input comes from this source.
+pub(super) fn run_from<S: Source>(
+    alloc: Global,
+    texts: &[&str],
+    source: &mut S,
+) -> Result<(u8, Vec<u8>), Fail> {
+    let words = words(alloc, texts)?;
+    let mut out = Vec::new(alloc);
+    let mut sink = StdSink::new(&mut out);
+    let status = run(alloc, words.as_slice(), source, &mut sink);
+    drop(sink);
+    Ok((status as u8, out))
+}
+
+#[test]
+fn tells_faults_behind_a_message(rt: HostRuntime) -> Result<(), Fail> {
+    let alloc = rt.alloc();
+    let mut source = FailingSource::new(&SELECT, &[], 24);
+    let (status, out) = run_from(alloc, &["ndef", "check"], &mut source)?;
+    assert!(rt; status == 3);
+    let lines = b"message 1 at 0: records 2, bytes 24\nfault: reading\n".as_slice();
+    assert!(rt; out.as_slice() == lines);
+    let mut digits = EndlessSource::new(&[], b"0");
+    let (status, out) = run_from(alloc, &["ndef", "check", "--hex"], &mut digits)?;
+    assert!(rt; status == 3);
+    assert!(rt; out.as_slice() == b"fault: hexadecimal input too long\n".as_slice());
+    Ok(())
+}
+
+/// Whether a run whose input fails at this place ends as the whole run, or with status 3 and a front
+/// of what it writes, the line of the fault behind it.
+fn reads_in_part(
+    alloc: Global,
+    texts: &[&str],
+    bytes: &[u8],
+    place: usize,
+    whole: (u8, &[u8]),
+) -> Result<bool, Fail> {
+    let mut source = FailingSource::new(bytes, &[], place.min(bytes.len()));
+    let (status, out) = run_from(alloc, texts, &mut source)?;
+    let front = out
+        .strip_suffix(b"fault: reading\n".as_slice())
+        .unwrap_or(out.as_slice());
+    Ok((status, out.as_slice()) == whole || status == 3 && whole.1.starts_with(front))
+}
+
+/// Whether a run whose sink stops at this place ends with status 3 and has written just so much of the
+/// output.
+fn writes_in_part(
+    alloc: Global,
+    texts: &[&str],
+    bytes: &[u8],
+    place: usize,
+    whole: (u8, &[u8]),
+) -> Result<bool, Fail> {
+    let words = words(alloc, texts)?;
+    let mut room = [0; 512];
+    let mut source = SliceSource::new(bytes, &[]);
+    let mut sink = FailingSink::new(&mut room, 7, Some(place as u64));
+    let status = run(alloc, words.as_slice(), &mut source, &mut sink);
+    Ok(status as u8 == 3 && whole.1.get(..place) == Some(sink.written()))
+}
+
+/// Whether each read and each write of a run, failing in turn, leaves a front of the output.
+pub(super) fn fails_in_turn(
+    alloc: Global,
+    texts: &[&str],
+    bytes: &[u8],
+    status: u8,
+    out: &[u8],
+) -> Result<bool, Fail> {
+    for place in 0..bytes.len() {
+        if !reads_in_part(alloc, texts, bytes, place, (status, out))? {
+            return Ok(false);
+        }
+    }
+    for place in 0..out.len() {
+        if !writes_in_part(alloc, texts, bytes, place, (status, out))? {
+            return Ok(false);
+        }
+    }
+    Ok(true)
+}

@@ -1,0 +1,266 @@
+//! What the program `ndef-make` writes, and what `show` prints of it.
+use super::command::{ran, texts_of, words};
+use ndef_cases::lines::octets_of;
+use ndef_making::run;
+use ndef_message::{SliceSource, StdSink};
+use std::alloc::Global;
+use std::test::Fail;
+
+/// What came of a run: its status, what was written, and what was told.
+#[derive(Drop)]
+struct Outcome {
+    status: u8,
+    bytes: Vec<u8>,
+    lines: Vec<u8>,
+}
+
+/// Runs the program on an input.
+fn run_words(alloc: Global, texts: &[&str], input: &[u8]) -> Result<Outcome, Fail> {
+    let words = words(alloc, texts)?;
+    let mut source = SliceSource::whole(input);
+    let mut bytes = Vec::new(alloc);
+    let mut lines = Vec::new(alloc);
+    let mut sink = StdSink::new(&mut bytes);
+    let mut told = StdSink::new(&mut lines);
+    let status = run(alloc, words.as_slice(), &mut source, &mut sink, &mut told);
+    drop(sink);
+    drop(told);
+    Ok(Outcome {
+        status: status as u8,
+        bytes,
+        lines,
+    })
+}
+
+/// The same of the words of a line.
+fn run_line(alloc: Global, line: &str, input: &[u8]) -> Result<Outcome, Fail> {
+    run_words(alloc, texts_of(alloc, "ndef-make", line)?.as_slice(), input)
+}
+
+/// Whether a run ends with the status, has written nothing and has told the text.
+fn tells(alloc: Global, line: &str, input: &[u8], status: u8, text: &str) -> Result<bool, Fail> {
+    let none = run_line(alloc, line, input)?;
+    let same = none.lines.as_slice() == text.as_bytes();
+    Ok(none.status == status && none.bytes.is_empty() && same)
+}
+
+/// The words, the input, the digits that are written with `--hex`, and what `show` prints of the bytes.
+const WRITTEN: [(&str, &[u8], &str, &str); 16] = [
+    (
+        "text Hello",
+        b"",
+        "d101085402656e48656c6c6f",
+        "message 1 at 0: records 1, bytes 12\n 1 tnf 1 type \"T\" id \"\" payload 8 text utf-8 \"en\" \"Hello\"\n",
+    ),
+    (
+        "text --language de-AT Servus",
+        b"",
+        "d1010c540564652d4154536572767573",
+        "message 1 at 0: records 1, bytes 16\n 1 tnf 1 type \"T\" id \"\" payload 12 text utf-8 \"de-AT\" \"Servus\"\n",
+    ),
+    (
+        "text --utf16 a",
+        b"",
+        "d101075482656efeff0061",
+        "message 1 at 0: records 1, bytes 11\n 1 tnf 1 type \"T\" id \"\" payload 7 text utf-16 \"en\" \"a\"\n",
+    ),
+    (
+        "text --language= -- --hex",
+        b"",
+        "d1010654002d2d686578",
+        "message 1 at 0: records 1, bytes 10\n 1 tnf 1 type \"T\" id \"\" payload 6 text utf-8 \"\" \"--hex\"\n",
+    ),
+    (
+        "uri http://www.example.com",
+        b"",
+        "d1010c55016578616d706c652e636f6d",
+        "message 1 at 0: records 1, bytes 16\n 1 tnf 1 type \"U\" id \"\" payload 12 uri \"http://www.example.com\"\n",
+    ),
+    (
+        "uri urn:epc:id:1",
+        b"",
+        "d10102551e31",
+        "message 1 at 0: records 1, bytes 6\n 1 tnf 1 type \"U\" id \"\" payload 2 uri \"urn:epc:id:1\"\n",
+    ),
+    (
+        "record --tnf 2 --type a/b --id x",
+        b"123",
+        "da030301612f6278313233",
+        "message 1 at 0: records 1, bytes 11\n 1 tnf 2 type \"a/b\" id \"x\" payload 3 other\n",
+    ),
+    (
+        "record --tnf 0",
+        b"",
+        "d00000",
+        "message 1 at 0: records 1, bytes 3\n 1 tnf 0 type \"\" id \"\" payload 0 other\n",
+    ),
+    (
+        "record --tnf 5",
+        b"1",
+        "d5000131",
+        "message 1 at 0: records 1, bytes 4\n 1 tnf 5 type \"\" id \"\" payload 1 other\n",
+    ),
+    (
+        "record --tnf 1 --type U",
+        b"\x02a",
+        "d10102550261",
+        "message 1 at 0: records 1, bytes 6\n 1 tnf 1 type \"U\" id \"\" payload 2 uri \"https://www.a\"\n",
+    ),
+    (
+        "uri a --and uri tel:1",
+        b"",
+        "910102550061510102550531",
+        "message 1 at 0: records 2, bytes 12\n 1 tnf 1 type \"U\" id \"\" payload 2 uri \"a\"\n 2 tnf 1 type \"U\" id \"\" payload 2 uri \"tel:1\"\n",
+    ),
+    (
+        "uri a --and record --tnf 4 --type x --and text b",
+        b"1",
+        "91010255006114010178315101045402656e62",
+        "message 1 at 0: records 3, bytes 19\n 1 tnf 1 type \"U\" id \"\" payload 2 uri \"a\"\n 2 tnf 4 type \"x\" id \"\" payload 1 other\n 3 tnf 1 type \"T\" id \"\" payload 4 text utf-8 \"en\" \"b\"\n",
+    ),
+    (
+        "poster http://www.a --media text/plain --size 258 --title en=A --action save --title de=B=C",
+        b"",
+        "d1023553709101025501611101045402656e4111010654026465423d4311030161637401110104730000010251010a74746578742f706c61696e",
+        "message 1 at 0: records 1, bytes 58\n 1 tnf 1 type \"Sp\" id \"\" payload 53 poster records 6 uri \"http://www.a\" titles 2 action save size 258 media \"text/plain\"\n",
+    ),
+    (
+        "poster a --action do --size 0",
+        b"",
+        "d102155370910102550061110301616374005101047300000000",
+        "message 1 at 0: records 1, bytes 26\n 1 tnf 1 type \"Sp\" id \"\" payload 21 poster records 3 uri \"a\" titles 0 action do size 0 media none\n",
+    ),
+    (
+        "poster a --action open --size 4294967295",
+        b"",
+        "d1021553709101025500611103016163740251010473ffffffff",
+        "message 1 at 0: records 1, bytes 26\n 1 tnf 1 type \"Sp\" id \"\" payload 21 poster records 3 uri \"a\" titles 0 action open size 4294967295 media none\n",
+    ),
+    (
+        "poster a",
+        b"",
+        "d102065370d10102550061",
+        "message 1 at 0: records 1, bytes 11\n 1 tnf 1 type \"Sp\" id \"\" payload 6 poster records 1 uri \"a\" titles 0 action none size none media none\n",
+    ),
+];
+
+/// Whether a run writes these bytes and tells nothing.
+fn writes(alloc: Global, line: &str, input: &[u8], bytes: &[u8]) -> Result<bool, Fail> {
+    let plain = run_line(alloc, line, input)?;
+    Ok(plain.status == 0 && plain.bytes.as_slice() == bytes && plain.lines.is_empty())
+}
+
+/// Whether `show` prints this of the bytes.
+fn shows(alloc: Global, bytes: &[u8], shown: &str) -> Result<bool, Fail> {
+    let (status, lines) = ran(alloc, &["ndef", "show"], bytes, 5)?;
+    Ok(status == 0 && lines.as_slice() == shown.as_bytes())
+}
+
+#[test]
+fn makes_what_is_shown(rt: HostRuntime) -> Result<(), Fail> {
+    let alloc = rt.alloc();
+    for (line, input, digits, shown) in WRITTEN {
+        let bytes = octets_of(alloc, digits)?;
+        assert!(rt; writes(alloc, line, input, bytes.as_slice())?, "{line}");
+        assert!(rt; shows(alloc, bytes.as_slice(), shown)?, "{line}");
+    }
+    Ok(())
+}
+
+// The flag may stand in any of the parts.
+#[test]
+fn makes_hexadecimal_text(rt: HostRuntime) -> Result<(), Fail> {
+    for line in [
+        "text --hex Hello --and uri a",
+        "text Hello --and uri --hex a",
+        "text Hello --hex --and uri a --hex",
+    ] {
+        let text = b"9101085402656e48656c6c6f510102550061\n";
+        assert!(rt; writes(rt.alloc(), line, b"", text)?, "{line}");
+    }
+    Ok(())
+}
+
+const USAGE: &str =
+    "usage: ndef-make text [--language L] [--utf16] TEXT | uri URI | poster URI [--title L=TEXT].. [--action do|save|open] [--size N] [--media TYPE] | record --tnf N [--type T] [--id I] < payload; [--hex]; more records: --and ..\n";
+
+/// Words that don't parse.
+const NO_WORDS: &str = "
+
+--hex
+help
+--help
+show
+text
+text a b
+text --utf16=1 a
+text --language
+uri
+uri --language de a
+poster
+poster a --title x
+poster a --action dance
+poster a --size x
+poster a --size 4294967296
+poster a --media x --media y
+record
+record --tnf 6
+record --tnf 7
+record --tnf x
+record --type x
+record --tnf 5 payload
+text a --and
+--and text a
+text a --and --and text b
+record --tnf 5 --and record --tnf 5
+";
+
+#[test]
+fn tells_usage(rt: HostRuntime) -> Result<(), Fail> {
+    for line in NO_WORDS.lines() {
+        assert!(rt; tells(rt.alloc(), line, b"", 2, USAGE)?, "{line}");
+    }
+    Ok(())
+}
+
+/// Words that ask for what can't be said, and the line that is told.
+const REFUSED: [(&str, &[u8], &str); 6] = [
+    (
+        "text --language \u{e9} a",
+        b"",
+        "refused: a language code that is not ASCII\n",
+    ),
+    (
+        "text --language 0123456789012345678901234567890123456789012345678901234567890123 a",
+        b"",
+        "refused: a language code of more than 63 bytes\n",
+    ),
+    (
+        "poster a --title \u{e9}=x",
+        b"",
+        "refused: a language code that is not ASCII\n",
+    ),
+    (
+        "uri a --and record --tnf 0",
+        b"1",
+        "refused: parts that do not go with the type name format\n",
+    ),
+    (
+        "record --tnf 5 --type x",
+        b"",
+        "refused: parts that do not go with the type name format\n",
+    ),
+    (
+        "record --tnf 1",
+        b"",
+        "refused: parts that do not go with the type name format\n",
+    ),
+];
+
+#[test]
+fn tells_what_is_refused(rt: HostRuntime) -> Result<(), Fail> {
+    for (line, input, text) in REFUSED {
+        assert!(rt; tells(rt.alloc(), line, input, 1, text)?, "{line}");
+    }
+    Ok(())
+}

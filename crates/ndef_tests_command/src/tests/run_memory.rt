@@ -1,0 +1,219 @@
+//! Runs of the command where memory is used up.
+use super::command::words;
+use ndef_cases::memory::use_up;
+use ndef_cases::samples::HELLO;
+use ndef_message::{FailingSink, SliceSource};
+use ndef_tool::{Status, run};
+use std::alloc::Global;
+use std::test::Fail;
+
+/// The bytes of a payload that is larger than what the words take.
+const LARGE: usize = 100000;
+
+/// What came of the runs for which memory was wanting, and of the one for which it wasn't.
+#[derive(Clone, Copy, Debug, Drop, PartialEq, Eq)]
+struct Seen {
+    /// Nothing was written by some.
+    nothing: bool,
+    /// Whole blocks and the line of the fault were written by some.
+    fault: bool,
+    /// All was written by the last.
+    whole: bool,
+}
+
+/// What is to be written: all of it, how much of it is whole blocks, and the line of the fault.
+#[derive(Clone, Copy)]
+struct Wanted<'a> {
+    all: &'a [u8],
+    blocks: [usize; 3],
+    fault: &'a [u8],
+}
+
+/// Whether whole blocks and the line of the fault were written.
+fn is_cut(written: &[u8], wanted: &Wanted<'_>) -> bool {
+    let Some(blocks) = written.strip_suffix(wanted.fault) else {
+        return false;
+    };
+    wanted.all.starts_with(blocks) && wanted.blocks.iter().any(|count| *count == blocks.len())
+}
+
+/// Whether all is written.
+fn is_all(written: &[u8], wanted: &Wanted<'_>) -> bool {
+    written == wanted.all
+}
+
+/// How one run ends where memory may be wanting.
+enum Ended {
+    /// With status 0, all written or not.
+    Clean(bool),
+    /// For want of memory, with nothing written.
+    Nothing,
+    /// For want of memory, with whole blocks and the line of the fault.
+    Fault,
+    /// Otherwise.
+    Otherwise,
+}
+
+/// Runs the command once.
+fn run_once(
+    alloc: Global,
+    words: &[String],
+    bytes: &[u8],
+    wanted: &Wanted<'_>,
+    room: &mut [u8],
+) -> Ended {
+    let mut source = SliceSource::whole(bytes);
+    let mut sink = FailingSink::new(room, 4096, None);
+    let status = run(alloc, words, &mut source, &mut sink);
+    let written = sink.written();
+    match status {
+        Status::Clean => Ended::Clean(is_all(written, wanted)),
+        Status::Fault if written.is_empty() => Ended::Nothing,
+        Status::Fault if is_cut(written, wanted) => Ended::Fault,
+        _ => Ended::Otherwise,
+    }
+}
+
+/// Runs the command again and again, letting a block go each time, until memory isn't wanting.
+fn runs_at_last(
+    alloc: Global,
+    words: &[String],
+    bytes: &[u8],
+    wanted: &Wanted<'_>,
+    room: &mut [u8],
+    spare: &mut Vec<Vec<u8>>,
+) -> Option<Seen> {
+    let mut seen = Seen {
+        nothing: false,
+        fault: false,
+        whole: false,
+    };
+    for _ in 0..=spare.len() {
+        match run_once(alloc, words, bytes, wanted, room) {
+            Ended::Clean(whole) => {
+                seen.whole = whole;
+                return Some(seen);
+            }
+            Ended::Nothing => seen.nothing = true,
+            Ended::Fault => seen.fault = true,
+            Ended::Otherwise => return None,
+        }
+        let _ = spare.pop();
+    }
+    None
+}
+
+/// Blocks that are let go one by one, the small ones first.
+fn spare_blocks(alloc: Global) -> Result<Vec<Vec<u8>>, Fail> {
+    let mut spare: Vec<Vec<u8>> = Vec::with_capacity(alloc, 2048)?;
+    for _ in 0..16u8 {
+        spare.push(Vec::with_capacity(alloc, 65536)?)?;
+    }
+    for _ in 0..1024u16 {
+        spare.push(Vec::with_capacity(alloc, 128)?)?;
+    }
+    Ok(spare)
+}
+
+/// What is seen of runs with these words, once memory is used up.
+fn seen_of(
+    alloc: Global,
+    texts: &[&str],
+    bytes: &[u8],
+    wanted: &Wanted<'_>,
+) -> Result<Option<Seen>, Fail> {
+    let words = words(alloc, texts)?;
+    let mut room = vec![in alloc; 0u8; 2 * LARGE + 4096]?;
+    let mut spare = spare_blocks(alloc)?;
+    let mut held = Vec::with_capacity(alloc, 65536)?;
+    let used_up = use_up(alloc, &mut held);
+    let seen = runs_at_last(
+        alloc,
+        words.as_slice(),
+        bytes,
+        wanted,
+        room.as_mut_slice(),
+        &mut spare,
+    );
+    drop(held);
+    if used_up {
+        Ok(seen)
+    } else {
+        Err("memory has no end here".into())
+    }
+}
+
+/// A text record, and behind it a message with a large payload.
+fn two_messages(alloc: Global) -> Result<Vec<u8>, Fail> {
+    let payload = vec![in alloc; 0x5Au8; LARGE]?;
+    let mut bytes = Vec::new(alloc);
+    bytes.extend_from_slice(&HELLO)?;
+    bytes.extend_from_slice(&[0xC5, 0x00, 0x00, 0x01, 0x86, 0xA0])?;
+    bytes.extend_from_slice(payload.as_slice())?;
+    Ok(bytes)
+}
+
+const ALL: Option<Seen> = Some(Seen {
+    nothing: true,
+    fault: true,
+    whole: true,
+});
+
+#[test]
+fn shows_whole_blocks(rt: HostRuntime) -> Result<(), Fail> {
+    let alloc = rt.alloc();
+    let bytes = two_messages(alloc)?;
+    let text =
+        "message 1 at 0: records 1, bytes 12\n 1 tnf 1 type \"T\" id \"\" payload 8 text utf-8 \"en\" \"Hello\"\nmessage 2 at 12: records 1, bytes 100006\n 1 tnf 5 type \"\" id \"\" payload 100000 other\n";
+    let wanted = Wanted {
+        all: text.as_bytes(),
+        blocks: [0, 94, text.len()],
+        fault: b"fault: memory\n",
+    };
+    let seen = seen_of(alloc, &["ndef", "show"], bytes.as_slice(), &wanted)?;
+    assert!(rt; seen == ALL, "{seen:?}");
+    Ok(())
+}
+
+#[test]
+fn encodes_whole_blocks(rt: HostRuntime) -> Result<(), Fail> {
+    let alloc = rt.alloc();
+    let bytes = two_messages(alloc)?;
+    let wanted = Wanted {
+        all: bytes.as_slice(),
+        blocks: [0, 12, bytes.len()],
+        fault: b"",
+    };
+    let seen = seen_of(alloc, &["ndef", "encode"], bytes.as_slice(), &wanted)?;
+    assert!(rt; seen == ALL, "{seen:?}");
+    Ok(())
+}
+
+// Once the words are read, nothing else takes memory but hexadecimal text.
+#[test]
+fn checks_without_memory(rt: HostRuntime) -> Result<(), Fail> {
+    let alloc = rt.alloc();
+    let bytes = two_messages(alloc)?;
+    let text = "message 1 at 0: records 1, bytes 12\nmessage 2 at 12: records 1, bytes 100006\n";
+    let wanted = Wanted {
+        all: text.as_bytes(),
+        blocks: [0, 0, 0],
+        fault: b"fault: memory\n",
+    };
+    let seen = seen_of(alloc, &["ndef", "check"], bytes.as_slice(), &wanted)?;
+    let without = Seen {
+        nothing: true,
+        fault: false,
+        whole: true,
+    };
+    assert!(rt; seen == Some(without), "{seen:?}");
+    let digits = hex::encode(alloc, bytes.as_slice())?;
+    let seen = seen_of(
+        alloc,
+        &["ndef", "check", "--hex"],
+        digits.as_bytes(),
+        &wanted,
+    )?;
+    assert!(rt; seen == ALL, "{seen:?}");
+    Ok(())
+}

@@ -1,0 +1,116 @@
+//! Sources and sinks that fail at every place, and inputs without an end.
+use ndef_cases::samples::{HELLO, SELECT, at, read, usual};
+use ndef_message::{
+    CheckError, EndlessSource, FailingSink, FailingSource, Form, ReadError, Source, WriteFault,
+    check_message, encode, read_message, write_message,
+};
+use ndef_nest::Typed;
+use ndef_value::{Reason, Refusal};
+use std::alloc::Global;
+use std::test::Fail;
+
+/// How many bytes the message has, or why there is none.
+fn read_from<S: Source>(alloc: Global, source: &mut S) -> Result<u64, ReadError> {
+    let read = read_message::<Typed, S>(alloc, source, usual())?;
+    Ok(read.taken)
+}
+
+/// What is read of a handover from a source that fails at this place.
+fn read_up_to(alloc: Global, place: usize) -> Result<u64, ReadError> {
+    let mut source = FailingSource::new(&SELECT, &[5, 11], place.min(24));
+    read_from(alloc, &mut source)
+}
+
+#[test]
+fn reading_fails_at_each_place(rt: HostRuntime) {
+    let alloc = rt.alloc();
+    let mut are_faults = true;
+    for place in 0..24usize {
+        are_faults = are_faults && read_up_to(alloc, place) == Err(ReadError::ReadFault);
+    }
+    assert!(rt; are_faults);
+    assert!(rt; read_up_to(alloc, 24) == Ok(24));
+}
+
+/// Whether a front, and behind it a pattern for ever, is refused so, read and checked.
+fn is_refused(
+    alloc: Global,
+    front: &[u8],
+    pattern: &[u8; 4],
+    size: usize,
+    refusal: Result<u64, Refusal>,
+) -> bool {
+    let pattern = &pattern[..size.clamp(1, 4)];
+    let read = read_from(alloc, &mut EndlessSource::new(front, pattern));
+    let checked = check_message::<Typed, _>(&mut EndlessSource::new(front, pattern), usual());
+    read == refusal.map_err(ReadError::Refused)
+        && checked.map(|checked| checked.taken) == refusal.map_err(CheckError::Refused)
+}
+
+#[test]
+fn readers_end_where_the_input_does_not(rt: HostRuntime) {
+    let alloc = rt.alloc();
+    let first = [0x91, 0x01, 0x00, 0x41];
+    let next = [0x11, 0x01, 0x00, 0x41];
+    assert!(rt; is_refused(alloc, &first, &next, 4, at(4092, Reason::TooManyRecords)));
+    let initial = [0xB5, 0x00, 0x00];
+    let middle = [0x36, 0x00, 0x00, 0x00];
+    assert!(rt;
+        is_refused(
+            alloc,
+            &initial,
+            &middle,
+            3,
+            at(12285, Reason::TooManyPieces)
+        )
+    );
+    let head = [0xC5, 0x00, 0x00, 0x10, 0x00, 0x00];
+    assert!(rt; is_refused(alloc, &head, &[0; 4], 1, Ok(1048582)));
+}
+
+/// A message of 1024 records.
+fn many_records(alloc: Global) -> Result<Vec<u8>, Fail> {
+    let mut bytes = Vec::new(alloc);
+    bytes.extend_from_slice(&[0x91, 0x01, 0x00, 0x41])?;
+    for _ in 0..1022u16 {
+        bytes.extend_from_slice(&[0x11, 0x01, 0x00, 0x41])?;
+    }
+    bytes.extend_from_slice(&[0x51, 0x01, 0x00, 0x41])?;
+    Ok(bytes)
+}
+
+#[test]
+fn reads_1024_records(rt: HostRuntime) -> Result<(), Fail> {
+    let alloc = rt.alloc();
+    let bytes = many_records(alloc)?;
+    let message = read(alloc, bytes.as_slice())?;
+    assert!(rt; message.len() == 1024 && bytes.len() == 4096);
+    let again = encode(alloc, &message, Form::Short)?;
+    assert!(rt; again.as_slice() == bytes.as_slice());
+    Ok(())
+}
+
+/// What is written of the text record into so much room, three bytes at a time.
+fn written_into(
+    alloc: Global,
+    room: &mut [u8],
+    stop: Option<u64>,
+) -> Result<Result<u64, WriteFault>, Fail> {
+    let hello = read(alloc, &HELLO)?;
+    let mut sink = FailingSink::new(room, 3, stop);
+    Ok(write_message(&hello, Form::Short, None, &mut sink))
+}
+
+#[test]
+fn tells_how_much_went_out(rt: HostRuntime) -> Result<(), Fail> {
+    let alloc = rt.alloc();
+    let mut room = [0; 12];
+    let stopped = written_into(alloc, &mut room, Some(4))?;
+    assert!(rt; stopped == Err(WriteFault { written: 4 }));
+    assert!(rt; room[..4] == HELLO[..4] && room[4..] == [0; 8]);
+    let full = written_into(alloc, &mut room[..5], None)?;
+    assert!(rt; full == Err(WriteFault { written: 5 }));
+    let whole = written_into(alloc, &mut room, None)?;
+    assert!(rt; whole == Ok(12) && room == HELLO);
+    Ok(())
+}
