@@ -11,6 +11,7 @@ pub mod Encoded
 pub mod Ended
 pub mod Entered
 pub mod Feeding
+pub mod Fronts
 pub mod Halted
 pub mod HeadOctets
 pub mod Holding
