@@ -31,11 +31,11 @@ RefusesPayload set holds payload refusal =
     ((2 ^ 32 ≤ length payload) × (refusal.at ≡ 0) × (refusal.reason ≡ DoesNotFit))
     ⊎ ((length payload < 2 ^ 32) × IsRefused set holds payload refusal.at refusal.reason)
 
--- the payload is in the set, and stands for the value; or it is refused; or memory is wanting
+-- the payload is in the set, and stands for the value, unless memory is wanting; or it is refused
 abbrev pub Decodes : {V : Type 0} → Payloads → Reasons → Meaning V → List ℕ → Result V DecodeError → Type 0
 Decodes set holds stands payload (Ok value) = (length payload < 2 ^ 32) × set payload × stands payload value
 Decodes set holds stands payload (Err (errors.Refused refusal)) = RefusesPayload set holds payload refusal
-Decodes set holds stands payload (Err errors.NoMemory) = ⊤
+Decodes set holds stands payload (Err errors.NoMemory) = (length payload < 2 ^ 32) × set payload
 
 -- NDEF 1.0, PAYLOAD_LENGTH: what is written for the value is longer than a payload
 abbrev pub IsTooLong : {V : Type 0} → Writing V → V → Type 0
