@@ -1,6 +1,6 @@
 -- The payloads of handovers, and the messages for which they stand.
-use Rattle.std.proofs.Common.{◌≡◌, ◌≢◌, ℕ, ◌<◌, ◌≤◌, ◌⊎◌, List, [], ◌∷◌, length, drop, get_or, subst, inr, Err, arith, refl, Option, Some, None}
-use Rattle.std.specs.Prelude.{IfSome}
+use Rattle.std.proofs.Common.{◌≡◌, ◌≢◌, ℕ, ◌^◌, ◌<◌, ◌≤◌, ◌⊎◌, List, [], ◌∷◌, length, drop, get_or, sym, subst, inr, Result, Ok, Err, arith, refl, Option, Some, None}
+use Rattle.std.specs.Prelude.{IfSome, IsErrAnd}
 use Rattle.std.specs.List.{AllByRecursion}
 use Rattle.ndef_value.specs.Wire.{Item}
 use Rattle.ndef_value.specs.declared.profile.Profile.{Profile}
@@ -19,6 +19,7 @@ use Rattle.ndef_types.specs.Contents.{StandsForMessage}
 use Rattle.ndef_types.specs.Decoding.{RefusesPayload}
 use Rattle.ndef_types.specs.Links.{AreLinks, LinksOf, StandsForLinks, alternatives, records_of}
 use Rattle.ndef_types.specs.declared.link.Link.{Link}
+use Rattle.ndef_types.specs.declared.link.LinkError.{LinkError}
 use Rattle.ndef_types.specs.declared.link.LinkError.TheVariants as errors
 
 -- ---- a version octet and a message
@@ -65,3 +66,9 @@ pub refused_links : (profile : Profile) (outer : List Item) (i : Item) (kind : K
 refused_links profile outer i kind payload refusal k p h =
     subst (λ x. RefusesPayload (IsNest (table_of x) 65535 profile) (NestReason (table_of x) 65535 profile) i.payload refusal) k
     (subst (λ s. RefusesPayload (IsNest (table_of kind) 65535 profile) (NestReason (table_of kind) 65535 profile) s refusal) p h)
+
+pub wanting_links : (profile : Profile) (outer : List Item) (i : Item) (kind : Kind) (result : Result (List Link) LinkError) → kind ≡ kind_of i.tnf i.kind
+    → (length i.payload < 2 ^ 32) × IsNest (table_of kind) 65535 profile i.payload → IsErrAnd result (λ e. e ≡ errors.NoMemory) → LinksOf profile outer (Some i) result
+wanting_links profile outer i kind (Ok links) k h e = absurd e
+wanting_links profile outer i kind (Err error) k h e =
+    subst (λ x. LinksOf profile outer (Some i) (Err x)) (sym e) (h.0, subst (λ x. IsNest (table_of x) 65535 profile i.payload) k h.1)

@@ -8,6 +8,7 @@ pub mod HandoverLemmas
 pub mod LinkLemmas
 pub mod MessageLaws
 pub mod NestedLemmas
+pub mod PieceLemmas
 pub mod PosterLemmas
 pub mod PrefixLemmas
 pub mod RoundTripLemmas

@@ -1,11 +1,12 @@
--- Whether the records of a view have a handover.
-use Rattle.std.proofs.Common.{◌≡◌, ◌⊎◌, ◌||◌, inl, inr, suc, true, false, List, [], ◌∷◌, map, refl, Some, Bool}
-use Rattle.std.specs.List.{list_any}
+-- The first handover of the records of a view.
+use Rattle.std.proofs.Common.{◌≡◌, ◌⊎◌, inl, inr, suc, true, false, List, [], ◌∷◌, map, refl, Option, None, Some, Bool}
+use Rattle.std.specs.Prelude.{if◌then◌else◌}
+use Rattle.std.specs.List.{find}
 use Rattle.ndef_value.specs.Wire.{Item, Run, run_record}
 use Rattle.ndef_lang.specs.Kind.{kind_of}
 use Rattle.ndef_lang.specs.declared.kind.Kind.{Kind}
 use Rattle.ndef_lang.specs.declared.kind.Kind.TheVariants as kinds
-use Rattle.ndef_types.specs.Contents.{IsFirst, Lack}
+use Rattle.ndef_types.specs.Contents.{IsFirst}
 use Rattle.ndef_types.specs.Links.{IsHandover, is_handover}
 
 -- the record of the run is a handover
@@ -22,24 +23,24 @@ kinds_untold kinds.Request e h = cc
 kinds_untold kinds.Select e h = cc
 kinds_untold _ e h = elim h [ inl p ↦ cc | inr p ↦ cc ]
 
+-- the record of the run that was found
+abbrev pub found_of : Option Run → Option Item
+found_of None = None
+found_of (Some r) = Some (run_record r)
+
 -- the first handover of some records
-abbrev Found : List Item → Type 0
-Found items = (i : Item) × IsFirst IsHandover items (Some i)
+abbrev IsFound : List Run → Option Run → Type 0
+IsFound runs found = IsFirst IsHandover (map run_record runs) (found_of found)
 
-found_here : (r : Run) (runs : List Run) (b : Bool) → is_one r ≡ b → (b || list_any is_one runs) ≡ true → (list_any is_one runs ≡ true → Found (map run_record runs)) → Found (map run_record (r ∷ runs))
-found_here r runs true b e f = (run_record r, (0, record { at = refl; has = kinds_told _ b; before = tt }))
-found_here r runs false b e f =
-    let h = f e in
-    (h.0, (suc h.1.0, record { at = h.1.1.at; has = h.1.1.has; before = (kinds_untold _ b, h.1.1.before) }))
+first_later : (r : Run) (runs : List Run) (found : Option Run) → ¬ IsHandover (run_record r) → IsFound runs found → IsFound (r ∷ runs) found
+first_later r runs None n f = (n, f)
+first_later r runs (Some q) n f = (suc f.0, record { at = f.1.at; has = f.1.has; before = (n, f.1.before) })
 
-pub some_handover : (runs : List Run) → list_any is_one runs ≡ true → Found (map run_record runs)
-some_handover [] e = cc
-some_handover (r ∷ runs) e = found_here r runs (is_one r) refl e (some_handover runs)
+first_here : (r : Run) (runs : List Run) (b : Bool) → is_one r ≡ b → IsFound runs (find is_one runs) → IsFound (r ∷ runs) (if b then Some r else find is_one runs)
+first_here r runs true e f = (0, record { at = refl; has = kinds_told _ e; before = tt })
+first_here r runs false e f = first_later r runs (find is_one runs) (kinds_untold _ e) f
 
-lack_here : (r : Run) (runs : List Run) (b : Bool) → is_one r ≡ b → (b || list_any is_one runs) ≡ false → (list_any is_one runs ≡ false → Lack IsHandover (map run_record runs)) → Lack IsHandover (map run_record (r ∷ runs))
-lack_here r runs true b e f = cc
-lack_here r runs false b e f = (kinds_untold _ b, f e)
-
-pub no_handover : (runs : List Run) → list_any is_one runs ≡ false → Lack IsHandover (map run_record runs)
-no_handover [] e = tt
-no_handover (r ∷ runs) e = lack_here r runs (is_one r) refl e (no_handover runs)
+-- what is found among the runs is the first handover
+pub first_found : (runs : List Run) → IsFirst IsHandover (map run_record runs) (found_of (find (λ r. is_handover (kind_of (run_record r).tnf (run_record r).kind)) runs))
+first_found [] = tt
+first_found (r ∷ runs) = first_here r runs (is_one r) refl (first_found runs)

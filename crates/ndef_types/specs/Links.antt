@@ -1,5 +1,5 @@
 -- The links of a message: the alternative carriers of its handover, and the records that they refer to (NFC Forum, Connection Handover 1.2).
-use Rattle.std.specs.Prelude.{◌≡◌, ◌≢◌, ℕ, Bool, true, false, List, [], ◌∷◌, filter, Option, Some, None, ⊤, ◌⊎◌, Result, Ok, Err}
+use Rattle.std.specs.Prelude.{◌≡◌, ◌≢◌, ◌^◌, ◌<◌, ℕ, Bool, true, false, List, [], ◌∷◌, length, filter, Option, Some, None, ⊤, ◌⊎◌, Result, Ok, Err}
 use Rattle.ndef_value.specs.Wire.{Item}
 use Rattle.ndef_value.specs.declared.profile.Profile.{Profile}
 use Rattle.ndef_value.specs.declared.limits.TheConstants.{MOST_RECORDS}
@@ -60,13 +60,13 @@ StandsForLinks profile outer [] links = ⊥
 StandsForLinks profile outer (version ∷ bytes) links =
     (message : Option (List Item)) × StandsForMessage profile bytes message × AreLinks outer (alternatives (records_of message)) links
 
--- the links of the handover, if there is one; or its payload is refused
+-- the links of the handover, if there is one, unless memory is wanting; or its payload is refused
 abbrev pub LinksOf : Profile → List Item → Option Item → Result (List Link) LinkError → Type 0
 LinksOf profile outer None result = result ≡ Ok []
 LinksOf profile outer (Some i) (Ok links) = IsNest (table_of (kind_of i.tnf i.kind)) MOST_RECORDS profile i.payload × StandsForLinks profile outer i.payload links
 LinksOf profile outer (Some i) (Err (errors.Refused refusal)) =
     RefusesPayload (IsNest (table_of (kind_of i.tnf i.kind)) MOST_RECORDS profile) (NestReason (table_of (kind_of i.tnf i.kind)) MOST_RECORDS profile) i.payload refusal
-LinksOf profile outer (Some i) (Err errors.NoMemory) = ⊤
+LinksOf profile outer (Some i) (Err errors.NoMemory) = (length i.payload < 2 ^ 32) × IsNest (table_of (kind_of i.tnf i.kind)) MOST_RECORDS profile i.payload
 
 -- Connection Handover 1.2: the links of a message are those of its first handover request or select
 abbrev pub FindsLinks : Profile → List Item → Result (List Link) LinkError → Type 0

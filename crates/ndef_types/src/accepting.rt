@@ -1,9 +1,11 @@
 //! Whether a payload is in the set of its type (NDEF 1.0, PAYLOAD_LENGTH; the sets are ndef_lang's).
 ghost use Rattle.std.specs.Prelude.{◌^◌, ◌<◌, length, OnOk, IfErr};
+ghost use Rattle.ndef_value.specs.Wire.{run_record};
 ghost use Rattle.ndef_value.specs.declared.limits.TheConstants.{MOST_RECORDS};
 ghost use Rattle.ndef_types.specs.Decoding.{RefusesPayload};
 
 use ndef_lang::{Kind, Language, refusal_of};
+use ndef_message::Item;
 use ndef_value::{MOST_PAYLOAD, MOST_RECORDS, Profile, Reason, Refusal};
 
 /// The greatest length of a payload, in bytes: what the four octets of PAYLOAD_LENGTH can tell.
@@ -26,4 +28,38 @@ pub fn accept<L: Language>(kind: Kind, profile: Profile, payload: &[u8]) -> Resu
         Some(refusal) => Err(refusal),
         None => Ok(()),
     }
+}
+
+/// What `accept` answers of the payload of a record that is viewed, whose pieces are judged where they lie.
+pub(crate) fn accept_item<L: Language>(
+    kind: Kind,
+    profile: Profile,
+    item: &Item<'_>,
+) -> Result<(), Refusal>
+    ensures ok { OnOk result (let payload = (run_record item.now).payload in
+        (length payload < 2 ^ 32) × L.set kind MOST_RECORDS profile payload) }
+    ensures err { IfErr result (RefusesPayload (L.set kind MOST_RECORDS profile)
+        (L.holds kind MOST_RECORDS profile) (run_record item.now).payload) }
+{
+    let mut state = L::start(kind, MOST_RECORDS, profile);
+    let mut left = u64::from(item.length());
+    if !state.fits(left, left) {
+        return Err(Refusal {
+            at: 0,
+            reason: Reason::DoesNotFit,
+        });
+    }
+    let mut at = 0;
+    for piece in item.pieces() {
+        let count = state.step_all(piece, left, left);
+        at += count as u64;
+        if count < piece.len() {
+            return Err(Refusal {
+                at,
+                reason: state.reason(),
+            });
+        }
+        left -= count as u64;
+    }
+    Ok(())
 }

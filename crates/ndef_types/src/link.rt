@@ -2,7 +2,7 @@
 ghost use Rattle.std.specs.Iterator.Adapters.{IterYieldsInOrder, IterYieldsInReverse};
 ghost use Rattle.std.specs.Prelude.{◌≡◌, ◌≢◌, ◌<◌, ◌^◌, ◌++◌, ◌∷◌, ◌↔◌, ◌⊎◌, [], Some, length, map, slice_get, option_map, IfOk, IsTrue, OnOk};
 ghost use Rattle.std.specs.Slice.Iter.{iter_rest};
-ghost use Rattle.std.specs.List.{AllByRecursion, list_any};
+ghost use Rattle.std.specs.List.{AllByRecursion, find};
 ghost use Rattle.ndef_value.specs.Wire.{run_record};
 ghost use Rattle.ndef_value.specs.declared.profile.Profile.TheVariants.{Strict};
 ghost use Rattle.ndef_value.specs.declared.limits.TheConstants.{MOST_RECORDS};
@@ -17,13 +17,13 @@ ghost use Rattle.ndef_types.specs.declared.link.LinkError.TheVariants as errors;
 ghost use Rattle.ndef_types.specs.Links.{AreLinks, FindsLinks, IsHandover, IsIndexOf, LinksOf, StandsForLinks, alternatives, is_handover};
 
 use crate::Ac;
-use crate::accepting::accept;
+use crate::accepting::{accept, accept_item};
 use crate::alternative::read_ac;
 use crate::contents::is_kind;
 use crate::fields::behind_first;
 use crate::nested::read_optional;
 use ndef_lang::Kind;
-use ndef_message::View;
+use ndef_message::{Item, View};
 use ndef_nest::Nest;
 use ndef_value::{Message, NoMemory, Profile, Record, Refusal};
 use std::alloc::Global;
@@ -261,25 +261,29 @@ fn is_handover_kind(kind: Kind) -> bool
     }
 }
 
-/// Whether a record that is viewed is a handover request or select.
-fn has_handover(view: &View<'_>) -> bool
-    ensures { result ≡ list_any (λ r. is_handover (kind_of (run_record r).tnf (run_record r).kind)) view.now.runs }
+/// The first handover request or select of a message that is viewed.
+fn viewed_handover<'a>(view: &View<'a>) -> Option<Item<'a>>
+    ensures { result ≡ find (λ r. is_handover (kind_of (run_record r).tnf (run_record r).kind)) view.now.runs }
 {
     for item in view.items() {
         if is_handover_kind(Kind::of(item.tnf(), item.kind())) {
-            return true;
+            return Some(item);
         }
     }
-    false
+    None
 }
 
 /// The links of a message that is viewed, for a reader of the view's profile. Without a handover there
-/// are none, and no memory is taken.
+/// are none, and no memory is taken. Refusals as for `carriers`: they come before `NoMemory`.
 pub fn carriers_view(alloc: Global, view: &View<'_>) -> Result<Links, LinkError>
     ensures { FindsLinks view.now.profile (map run_record view.now.runs) result }
 {
-    if !has_handover(view) {
+    let Some(handover) = viewed_handover(view) else {
         return Ok(Links::new(alloc));
+    };
+    let kind = Kind::of(handover.tnf(), handover.kind());
+    if let Err(refusal) = accept_item::<Nest>(kind, view.profile(), &handover) {
+        return Err(LinkError::Refused(refusal));
     }
     let message = view.to_message(alloc)?;
     carriers_as(alloc, &message, view.profile())
