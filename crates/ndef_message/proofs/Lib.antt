@@ -11,6 +11,7 @@ pub mod Encoded
 pub mod Ended
 pub mod Entered
 pub mod Feeding
+pub mod Fitting
 pub mod Fronts
 pub mod Halted
 pub mod HeadOctets
@@ -26,6 +27,7 @@ pub mod Parts
 pub mod Placed
 pub mod Places
 pub mod ReadBack
+pub mod Reaching
 pub mod Readers
 pub mod ReadingOn
 pub mod Rests

@@ -76,6 +76,13 @@ placed_reason {limits} {point = point} p holds b reason h =
     subst (λ m. IsReasonOf holds limits (spot_after limits p.runs p.begun) m (field_of point) b reason) p.record_is
     (subst (λ x. IsReasonOf holds limits x (before point).begun (field_of point) b reason) p.spot_is h)
 
+-- .. and back
+pub reason_at : {limits : LimitValues} {bytes : List ℕ} {given : List Item} {point : Point} (p : Placed limits bytes given point) (holds : Conditions) (b : ℕ) (reason : Reason)
+    → IsReason holds limits p.runs p.begun (field_of point) b reason → IsReasonAt holds limits point b reason
+reason_at {limits} {point = point} p holds b reason h =
+    subst (λ x. IsReasonOf holds limits x (before point).begun (field_of point) b reason) (sym p.spot_is)
+    (subst (λ m. IsReasonOf holds limits (spot_after limits p.runs p.begun) m (field_of point) b reason) (sym p.record_is) h)
+
 -- ---- whole runs
 
 pub runs_alone : {limits : LimitValues} {runs : List Run} {begun : List Piece} → AreBefore limits runs begun → AreBefore limits runs []
