@@ -18,6 +18,7 @@ pub mod HeadOctets
 pub mod Holding
 pub mod Judged
 pub mod Led
+pub mod Lent
 pub mod Lists
 pub mod Moved
 pub mod Octets

@@ -64,7 +64,8 @@ impl<'a> Source for EndlessSource<'a> {
     fn fill(&mut self) -> Result<&[u8], SourceFault>
         ensures shows { IfOk result (λ s. Shows None s.now) }
         ensures* after_borrow { sem 𝓛 (Rests (the_row (record { mir = named 1; lft = [] })) self.entry (λ new.
-            Filled (supply None self.old.taken) (supply None new.taken) false false new.shown result)) }
+            Filled (supply None self.old.taken) (supply None new.taken) false false new.shown result
+            × (new.rest ≡ shown_next self.old) × (new.pattern ≡ self.old.pattern))) }
         // What is left of the front, or of the pattern, which begins anew where nothing is.
         ensures next { IsOkAnd result (λ s. s.now ≡ shown_next self.old) }
         ensures some { IfOk result (λ s. s.now ≢ []) }

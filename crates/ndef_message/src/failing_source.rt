@@ -4,6 +4,7 @@ ghost use Rattle.std.specs.List.Sorted.{IsNonDecreasing};
 ghost use Rattle.std.specs.Borrow.{sem};
 ghost use Rattle.std.specs.Io.BufRead.{Rests};
 ghost use mir.Syntax.{named};
+ghost use Rattle.ndef_message.specs.Machine.Slices.{ShowsAlone};
 ghost use Rattle.ndef_message.specs.Sources.{Shows, Filled, Drops, Counts};
 
 use crate::slice_source::cut_after;
@@ -78,7 +79,8 @@ impl<'a> Source for FailingSource<'a> {
         ensures shows { IfOk result (λ s. Shows (slice_coming self.old.slice) s.now) }
         ensures* after_borrow { sem 𝓛 (Rests (the_row (record { mir = named 1; lft = [] })) self.entry (λ new.
             Filled (slice_supply self.old.slice) (slice_supply new.slice)
-            self.old.failed new.failed new.slice.shown result)) }
+            self.old.failed new.failed new.slice.shown result
+            × ShowsAlone self.old.slice new.slice)) }
         // It goes up to the next cut behind what was taken.
         ensures cut { IfOk result (λ s. s.now ≡ up_to_cut self.old.slice) }
         // It fails exactly where no bytes are to come.
