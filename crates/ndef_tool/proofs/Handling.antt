@@ -1,7 +1,8 @@
 -- The messages that were handled so far.
-use Rattle.std.proofs.Common.{◌≡◌, ◌+◌, ◌*◌, ◌<◌, ◌≤◌, ◌^◌, ℕ, Bool, true, false, List, [], ◌∷◌, ◌++◌, length, Option, Result, Ok, Err, refl, sym, ap, subst, ◌∙◌, arith, length-append}
-use Rattle.std.specs.Io.KnownBytes.{Appends}
-use Rattle.std.proofs.KnownBytes.{Appends-trans, Keeps-refl}
+use Rattle.std.proofs.Common.{◌≡◌, ◌+◌, ◌*◌, ◌<◌, ◌≤◌, ◌^◌, ◌⊎◌, inl, inr, ℕ, Bool, true, false, List, [], ◌∷◌, ◌++◌, length, Option, Result, Ok, Err, refl, sym, ap, subst, ◌∙◌, arith, length-append}
+use Rattle.std.specs.Io.KnownBytes.{Appends, Keeps}
+use Rattle.std.proofs.KnownBytes.{Appends-trans, Keeps-refl, Keeps-trans}
+use Rattle.std.proofs.lemmas.Bool.{false≢true}
 use Rattle.ndef_lang.specs.Language.{Sets, Conditions}
 use Rattle.std.specs.Prelude.{IsErrAnd}
 use Rattle.ndef_value.specs.Wire.{AreInRange, LimitValues, greatest_length}
@@ -13,18 +14,19 @@ use Rattle.ndef_tool.specs.Output.{AreBlocks, FitsPlace, IsBlock, IsBlockBy, IsO
 use Rattle.ndef_tool.specs.Quoting.{Text}
 use Rattle.ndef_tool.specs.Runs.{Ends, status_after}
 use Rattle.ndef_tool.specs.Blocks.{text_of}
-use Rattle.ndef_tool.specs.Sessions.{Follow, GoesOut, Handles, HasTaken, IsSession, MayEnd, PrintsNext, TakesNext}
+use Rattle.ndef_tool.specs.Sessions.{Follow, GoesOut, Handles, HasTaken, IsSession, MayEnd, PrintsNext, Silences, Stops, TakesNext}
 use Rattle.ndef_tool.specs.declared.choice.Action.{Action}
 use Rattle.ndef_tool.specs.declared.choice.Action.TheVariants.{Show, Check, Encode}
 use Rattle.ndef_tool.specs.declared.choice.Choice.{Choice}
 use Rattle.ndef_tool.specs.declared.ending.Ending.TheVariants.{Clean, Refused, Hex, Reading, Writing, Memory, TooMany, TooLong}
 use Rattle.ndef_tool.specs.declared.ending.Ending.{Ending}
 use Rattle.ndef_tool.specs.declared.ending.Status.{Status}
+use Rattle.ndef_tool.specs.declared.ending.Status.TheVariants as status
 use Rattle.ndef_tool.specs.declared.session.Printed.{Printed}
 use Rattle.ndef_tool.specs.declared.session.Session.{Session}
 use Rattle.ndef_tool.proofs.Bounded.{greatest_small}
 use Rattle.ndef_tool.proofs.Outputs.{blocks_more, bytes_more, ending_status, goes_behind, goes_to_end, stays_failed}
-use Rattle.ndef_tool.proofs.Sessions.{follow_more}
+use Rattle.ndef_tool.proofs.Sessions.{follow_more, stops_on}
 
 -- numbers of bytes that are taken add up
 pub counts_more : (a b c m n : ℕ) → Counts a b m → Counts b c n → Counts a c (m + n)
@@ -60,7 +62,7 @@ fits_behind limits count at a b TooMany range few room t = tt
 fits_behind limits count at a b TooLong range few room t = tt
 
 -- these were read, and their blocks are written
-pub record SoFar (set : Sets) (holds : Conditions) (choice : Choice) (a b : Option (List ℕ)) (v w : Option (List ℕ)) (count at : ℕ) : Type 0 where
+pub record SoFar (set : Sets) (holds : Conditions) (choice : Choice) (a b : Option (List ℕ)) (v w : Option (List ℕ)) (marked : Bool) (count at : ℕ) : Type 0 where
   pub reads : List Read
   pub number : count ≡ length reads
   pub place : at ≡ bytes_of reads
@@ -68,6 +70,7 @@ pub record SoFar (set : Sets) (holds : Conditions) (choice : Choice) (a b : Opti
   pub blocks : Text
   pub are_blocks : AreBlocks choice 1 0 reads blocks
   pub written : Appends v w blocks
+  pub quiet : marked ≡ true → (blocks ≡ []) × Keeps v w
 
 block_behind : (choice : Choice) (count at : ℕ) (reads : List Read) (read : Read) (done text : Text) → count ≡ length reads → at ≡ bytes_of reads
     → AreBlocks choice 1 0 reads done → IsBlock choice (count + 1) at read text → AreBlocks choice 1 0 (reads ++ read ∷ []) (done ++ text)
@@ -77,10 +80,10 @@ block_behind choice count at reads read done text n p are is =
     blocks_more choice 1 0 reads read done text are (rw (number, place) at is)
 
 -- one message more, and its block
-pub handled_more : (set : Sets) (holds : Conditions) (choice : Choice) (a b c : Option (List ℕ)) (v w x : Option (List ℕ)) (count at : ℕ) (failed : Bool) (printed : Printed)
-    → SoFar set holds choice a b v w count at → PrintsNext set holds choice count at b c failed (Ok printed) → Appends w x (text_of printed.block)
-    → SoFar set holds choice a c v x (count + 1) (at + printed.taken)
-handled_more set holds choice a b c v w x count at failed printed s (read, next, is, e) sent =
+pub handled_more : (set : Sets) (holds : Conditions) (choice : Choice) (a b c : Option (List ℕ)) (v w x : Option (List ℕ)) (marked : Bool) (count at : ℕ) (failed : Bool) (printed : Printed)
+    → SoFar set holds choice a b v w marked count at → PrintsNext set holds choice count at b c failed (Ok printed) → Appends w x (text_of printed.block)
+    → (marked ≡ true → (text_of printed.block ≡ []) × Keeps w x) → SoFar set holds choice a c v x marked (count + 1) (at + printed.taken)
+handled_more set holds choice a b c v w x marked count at failed printed s (read, next, is, e) sent still =
     let text = text_of printed.block in
     record {
       reads = s.reads ++ read ∷ [];
@@ -90,7 +93,44 @@ handled_more set holds choice a b c v w x count at failed printed s (read, next,
       blocks = s.blocks ++ text;
       are_blocks = block_behind choice count at s.reads read s.blocks text s.number s.place s.are_blocks is;
       written = Appends-trans v w x s.blocks text s.written sent;
+      quiet = λ m. (ap (λ t. s.blocks ++ t) (still m).0 ∙ ap (λ t. t ++ []) (s.quiet m).0, Keeps-trans v w x (s.quiet m).1 (still m).1);
     }
+
+-- a text of a sink that had failed before is none, or fails
+pub still_out : (old new : Bool) (text : Text) (n : ℕ) → MarksOf old new text (Ok n) → old ≡ true → text ≡ []
+still_out old new [] n m h = refl
+still_out old new (x ∷ text) n m h = absurd (false≢true (sym (m.1 (omega arith)) ∙ h))
+
+-- the messages end, and none has a block
+pub silent_end : (set : Sets) (holds : Conditions) (choice : Choice) (a b c : Option (List ℕ)) (v w : Option (List ℕ)) (count at : ℕ) (failed new : Bool) (ending : Ending)
+    → SoFar set holds choice a b v w true count at → count ≤ 10000 → Stops set holds choice.limits count b c failed false ending → MayEnd choice.action ending → new ≡ true
+    → Silences (IsSession choice.action set holds choice.limits a c failed new) choice v w new (record { at = at; ending = ending })
+silent_end set holds choice a b c v w count at failed new ending s few stops may mark = record {
+  keeps = (s.quiet refl).1;
+  mark = mark;
+  ends = inr (
+    s.reads,
+    record {
+      few = omega (arith, s.number);
+      between = b;
+      follow = s.follow;
+      stops = stops_on set holds choice.limits (length s.reads) b c failed false new ending (λ e. mark) (subst (λ n. Stops set holds choice.limits n b c failed false ending) s.number stops);
+      may = may;
+    },
+    s.place,
+    subst (AreBlocks choice 1 0 s.reads) (s.quiet refl).0 s.are_blocks,
+  );
+}
+
+-- the same of messages that are read otherwise
+pub silent_of : (Old New : List Read → Ending → Type 0) (choice : Choice) (v w : Option (List ℕ)) (failed : Bool) (session : Session)
+    → ((reads : List Read) → Old reads session.ending → New reads session.ending) → Silences Old choice v w failed session → Silences New choice v w failed session
+silent_of Old New choice v w failed session on s = record { keeps = s.keeps; mark = s.mark; ends = by_end s.ends }
+  where
+    by_end : (session.ending ≡ Writing) ⊎ ((reads : List Read) × Old reads session.ending × (session.at ≡ bytes_of reads) × AreBlocks choice 1 0 reads [])
+        → (session.ending ≡ Writing) ⊎ ((reads : List Read) × New reads session.ending × (session.at ≡ bytes_of reads) × AreBlocks choice 1 0 reads [])
+    by_end (inl e) = inl e
+    by_end (inr e) = inr (e.0, on e.0 e.1, e.2, e.3)
 
 may_write : (action : Action) → MayEnd action Writing
 may_write Show = tt
@@ -98,11 +138,11 @@ may_write Check = refl
 may_write (Encode form size) = tt
 
 -- one message more, and its block, of which a front went out
-pub handled_in_part : (set : Sets) (holds : Conditions) (choice : Choice) (a b c : Option (List ℕ)) (v w x : Option (List ℕ)) (count at : ℕ) (printed : Printed)
-    (source_failed failed old new : Bool) (f : WriteFault) → SoFar set holds choice a b v w count at → PrintsNext set holds choice count at b c failed (Ok printed)
+pub handled_in_part : (set : Sets) (holds : Conditions) (choice : Choice) (a b c : Option (List ℕ)) (v w x : Option (List ℕ)) (marked : Bool) (count at : ℕ) (printed : Printed)
+    (source_failed failed old new : Bool) (f : WriteFault) → SoFar set holds choice a b v w marked count at → PrintsNext set holds choice count at b c failed (Ok printed)
     → old ≡ false → Sent 0 w x (text_of printed.block) (Err f) → new ≡ true
     → Handles (IsSession choice.action set holds choice.limits a c source_failed new) choice v x new (record { at = at + printed.taken; ending = Writing })
-handled_in_part set holds choice a b c v w x count at printed source_failed failed old new f s (read, next, is, e) clear sent m =
+handled_in_part set holds choice a b c v w x marked count at printed source_failed failed old new f s (read, next, is, e) clear sent m =
     let text = text_of printed.block in
     record {
       reads = s.reads ++ read ∷ [];
@@ -134,3 +174,26 @@ session_ends Old New choice v w x middle new session line r result on h e sent m
       goes_to_end v w x middle new h.blocks choice.action (bytes_of h.reads) session.ending r h.mark h.written (rw same at sent) (rw same at marks),
       ending_status middle new line session.ending r result h.mark marks ends,
     )
+
+-- into a sink that had failed before a text of some bytes fails
+pub failed_status : (old new : Bool) (text : Text) (r : Result ℕ WriteFault) (st result : Status) → old ≡ true → MarksOf old new text r → Ends r st result
+    → ((text ≡ []) × (result ≡ st)) ⊎ (result ≡ status.Fault)
+failed_status old new text (Ok n) st result h m e = inl (still_out old new text n m h, e)
+failed_status old new text (Err f) st result h m e = inr e
+
+-- the line of the ending, which doesn't go out
+pub silent_ends : (Old New : List Read → Ending → Type 0) (choice : Choice) (v w x : Option (List ℕ)) (middle new : Bool) (session : Session) (line : Text) (r : Result ℕ WriteFault) (result : Status)
+    → ((reads : List Read) → (middle ≡ true → new ≡ true) → Old reads session.ending → New reads session.ending) → Silences Old choice v w middle session
+    → line ≡ ending_line choice.action session.at session.ending → Keeps w x → MarksOf middle new line r → Ends r (status_of session.ending) result
+    → Keeps v x × (new ≡ true)
+    × ((result ≡ status.Fault) ⊎ ((reads : List Read) × New reads session.ending × IsOutput choice reads session.ending [] × (result ≡ status_of session.ending)))
+silent_ends Old New choice v w x middle new session line r result on s e kept marks ends =
+    (Keeps-trans v w x s.keeps kept, stays_failed middle new line r marks s.mark, by_status s.ends (failed_status middle new line r (status_of session.ending) result s.mark marks ends))
+  where
+    by_status : (session.ending ≡ Writing) ⊎ ((reads : List Read) × Old reads session.ending × (session.at ≡ bytes_of reads) × AreBlocks choice 1 0 reads [])
+        → ((line ≡ []) × (result ≡ status_of session.ending)) ⊎ (result ≡ status.Fault)
+        → (result ≡ status.Fault) ⊎ ((reads : List Read) × New reads session.ending × IsOutput choice reads session.ending [] × (result ≡ status_of session.ending))
+    by_status h (inr f) = inl f
+    by_status (inl h) (inl f) = inl (f.1 ∙ ap status_of h)
+    by_status (inr h) (inl f) =
+        inr (h.0, on h.0 (stays_failed middle new line r marks) h.1, ([], h.3, sym f.0 ∙ e ∙ ap (λ at. ending_line choice.action at session.ending) h.2), f.1)

@@ -87,7 +87,7 @@ viewed_unread set holds limits count input rest v (Err e) h next few =
     subst (λ x. Stops set holds limits count (Some input) (Some rest) false false x) (sym h) (next.0, refl, (r.0, r.1, omega (arith, r.2)))
 
 -- messages end for the same reason where another sink failed
-stops_on : (set : Sets) (holds : Conditions) (limits : LimitValues) (count : ℕ) (a b : Option (List ℕ)) (failed old new : Bool) (ending : Ending) → (old ≡ true → new ≡ true)
+pub stops_on : (set : Sets) (holds : Conditions) (limits : LimitValues) (count : ℕ) (a b : Option (List ℕ)) (failed old new : Bool) (ending : Ending) → (old ≡ true → new ≡ true)
     → Stops set holds limits count a b failed old ending → Stops set holds limits count a b failed new ending
 stops_on set holds limits count a b failed old new Clean on h = h
 stops_on set holds limits count a b failed old new (Refused r) on h = h

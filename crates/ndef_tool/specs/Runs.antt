@@ -1,5 +1,6 @@
 -- The program: a function of what the words choose and what the input holds.
-use Rattle.std.specs.Prelude.{◌≡◌, ℕ, Bool, true, false, List, [], Option, Result, Ok, Err}
+use Rattle.std.specs.Prelude.{◌≡◌, ◌⊎◌, ℕ, Bool, true, false, List, [], Option, Result, Ok, Err}
+use Rattle.std.specs.Io.KnownBytes.{Keeps}
 use Rattle.ndef_lang.specs.Language.{Sets, Conditions}
 use Rattle.ndef_message.specs.Sources.{Supply}
 use Rattle.ndef_message.specs.declared.message_reading.Read.{Read}
@@ -34,6 +35,13 @@ Runs set holds words before after source_failed written_before written_after sin
     (chosen : Result Choice WordsError) × Chooses words chosen
     × ((text : Text) × (st : Status) × Prints set holds before after source_failed sink_failed chosen text st
     × GoesOut written_before written_after sink_failed text × (result ≡ status_after sink_failed st))
+
+-- Into a sink that has failed before nothing goes out: the status is Fault, or that of a text of no bytes.
+abbrev pub IsSilent : Sets → Conditions → List Text → (before after : Supply) → Bool → (written_before written_after : Option (List ℕ)) → Bool → Status → Type 0
+IsSilent set holds words before after source_failed written_before written_after sink_failed result =
+    Keeps written_before written_after × (sink_failed ≡ true)
+    × ((result ≡ status.Fault)
+    ⊎ ((chosen : Result Choice WordsError) × Chooses words chosen × Prints set holds before after source_failed sink_failed chosen [] result))
 
 -- the status, by what writing answered
 abbrev pub Ends : {E : Type 0} → Result ℕ E → Status → Status → Type 0

@@ -1,5 +1,5 @@
 -- The messages of a source, one after another, and how they end.
-use Rattle.std.specs.Prelude.{◌≡◌, ◌≢◌, ◌+◌, ◌<◌, ◌≤◌, ℕ, Bool, true, false, List, [], ◌∷◌, length, take, drop, Option, None, Some, Result, Ok, Err, ⊤}
+use Rattle.std.specs.Prelude.{◌≡◌, ◌≢◌, ◌+◌, ◌<◌, ◌≤◌, ◌⊎◌, ℕ, Bool, true, false, List, [], ◌∷◌, length, take, drop, Option, None, Some, Result, Ok, Err, ⊤}
 use Rattle.std.specs.Io.KnownBytes.{Appends, Keeps, IsAtEnd}
 use Rattle.ndef_value.specs.Wire.{LimitValues, greatest_length}
 use Rattle.ndef_lang.specs.Language.{Sets, Conditions}
@@ -96,6 +96,13 @@ pub record Handles (IsRead : List Read → Ending → Type 0) (choice : Choice) 
   pub are_blocks : AreBlocks choice 1 0 reads blocks
   pub written : GoesOut written_before written_after sink_failed blocks
   pub mark : sink_failed ≡ is_writing session.ending
+
+-- Into a sink that has failed before nothing goes out: the messages end with the first that has a block, or none has.
+pub record Silences (IsRead : List Read → Ending → Type 0) (choice : Choice) (written_before written_after : Option (List ℕ)) (sink_failed : Bool) (session : Session) : Type 0 where
+  pub keeps : Keeps written_before written_after
+  pub mark : sink_failed ≡ true
+  pub ends : (session.ending ≡ Writing)
+      ⊎ ((reads : List Read) × IsRead reads session.ending × (session.at ≡ bytes_of reads) × AreBlocks choice 1 0 reads [])
 
 -- ---- step by step
 

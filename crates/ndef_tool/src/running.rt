@@ -1,8 +1,8 @@
 //! The command, over any source and sink.
-ghost use Rattle.std.specs.Prelude.{◌≡◌, false, map, string_bytes};
+ghost use Rattle.std.specs.Prelude.{◌≡◌, false, true, map, string_bytes};
 ghost use Rattle.ndef_message.specs.Machine.Turns.{supply_of};
 ghost use Rattle.ndef_tool.specs.Output.{ending_line, status_of};
-ghost use Rattle.ndef_tool.specs.Runs.{Ends, Runs};
+ghost use Rattle.ndef_tool.specs.Runs.{Ends, IsSilent, Runs};
 
 use crate::choice::{WordsError, choose};
 use crate::ending::{Ending, Status};
@@ -45,15 +45,21 @@ fn end(written: Result<u64, WriteFault>, status: Status) -> Status
 /// The messages of the source, or with `--hex` those of the bytes that its text stands for, are
 /// handled one after another to their end, at most 10000 of them: all that is printed of one is made
 /// before its first byte is written. After a writing fault the status is `Fault`, and a front of the
-/// output is written.
+/// output is written; nothing of it where the sink had failed before, and the status is `Fault` then too,
+/// unless there was nothing to write.
 pub fn run<S: Source, K: Sink>(
     alloc: Global,
     words: &[String],
     source: &mut S,
     sink: &mut K,
 ) -> Status
-    ensures { K.has_failed sink.old ≡ false
+    ensures runs { K.has_failed sink.old ≡ false
         → Runs ⟦<Typed as Language>⟧.set ⟦<Typed as Language>⟧.holds (map string_bytes words.now)
+        (supply_of S.Source source.old) (supply_of S.Source source.new)
+        (S.has_failed source.new)
+        (K.written sink.old) (K.written sink.new) (K.has_failed sink.new) result }
+    ensures silent { K.has_failed sink.old ≡ true
+        → IsSilent ⟦<Typed as Language>⟧.set ⟦<Typed as Language>⟧.holds (map string_bytes words.now)
         (supply_of S.Source source.old) (supply_of S.Source source.new)
         (S.has_failed source.new)
         (K.written sink.old) (K.written sink.new) (K.has_failed sink.new) result }

@@ -1,4 +1,5 @@
 //! The messages of an input, handled one after another.
+ghost use Rattle.std.specs.Io.KnownBytes.{Keeps};
 ghost use Rattle.std.specs.Prelude.{◌≡◌, ◌≤◌, false, true};
 ghost use Rattle.ndef_message.specs.Sending.{MarksOf, Sent};
 ghost use Rattle.ndef_message.specs.Machine.Turns.{supply_of};
@@ -7,7 +8,7 @@ ghost use Rattle.ndef_tool.specs.Blocks.{text_of};
 ghost use Rattle.ndef_tool.specs.Chosen.{HasSize};
 ghost use Rattle.ndef_tool.specs.Inputs.{ReadsIn};
 ghost use Rattle.ndef_tool.specs.Output.{FitsPlace};
-ghost use Rattle.ndef_tool.specs.Sessions.{Handles, HasTaken, IsSession, PrintsNext, TakesNext};
+ghost use Rattle.ndef_tool.specs.Sessions.{Handles, HasTaken, IsSession, PrintsNext, Silences, TakesNext};
 
 use crate::block::{Block, check_block, encode_block, show_block};
 use crate::choice::{Action, Choice};
@@ -81,6 +82,7 @@ fn print_next<R: Reading<Typed, S>, S>(
 fn send_block<K: Sink>(block: Block, sink: &mut K) -> Result<u64, WriteFault>
     ensures sent { Sent 0 (K.written sink.old) (K.written sink.new) (text_of block) result }
     ensures mark { MarksOf (K.has_failed sink.old) (K.has_failed sink.new) (text_of block) result }
+    ensures silent { K.has_failed sink.old ≡ true → Keeps (K.written sink.old) (K.written sink.new) }
 {
     send(0, block.as_slice(), sink)
 }
@@ -95,6 +97,10 @@ fn handle_messages<R: Reading<Typed, S>, S, K: Sink>(
     requires { HasSize choice.now.action }
     ensures handled { K.has_failed sink.old ≡ false
         → Handles (IsSession choice.now.action IsTypedPayload TypedReason choice.now.limits
+        (R.coming from.old) (R.coming from.new) (R.has_failed from.new) (K.has_failed sink.new))
+        choice.now (K.written sink.old) (K.written sink.new) (K.has_failed sink.new) result }
+    ensures silent { K.has_failed sink.old ≡ true
+        → Silences (IsSession choice.now.action IsTypedPayload TypedReason choice.now.limits
         (R.coming from.old) (R.coming from.new) (R.has_failed from.new) (K.has_failed sink.new))
         choice.now (K.written sink.old) (K.written sink.new) (K.has_failed sink.new) result }
     ensures taken { HasTaken choice.now.limits result.at (R.taken from.old) (R.taken from.new) result.ending }
@@ -130,6 +136,11 @@ fn handle_text<S: Source, K: Sink>(
         (supply_of S.Source source.old) (supply_of S.Source source.new)
         (S.has_failed source.new) (K.has_failed sink.new))
         choice.now (K.written sink.old) (K.written sink.new) (K.has_failed sink.new) result }
+    ensures silent { K.has_failed sink.old ≡ true
+        → Silences (ReadsIn true choice.now.action IsTypedPayload TypedReason choice.now.limits
+        (supply_of S.Source source.old) (supply_of S.Source source.new)
+        (S.has_failed source.new) (K.has_failed sink.new))
+        choice.now (K.written sink.old) (K.written sink.new) (K.has_failed sink.new) result }
     ensures room { FitsPlace result.at result.ending }
 {
     match read_hexadecimal(alloc, source) {
@@ -151,6 +162,11 @@ pub fn handle<S: Source, K: Sink>(
     requires { HasSize choice.now.action }
     ensures handled { K.has_failed sink.old ≡ false
         → Handles (ReadsIn choice.now.hex choice.now.action IsTypedPayload TypedReason choice.now.limits
+        (supply_of S.Source source.old) (supply_of S.Source source.new)
+        (S.has_failed source.new) (K.has_failed sink.new))
+        choice.now (K.written sink.old) (K.written sink.new) (K.has_failed sink.new) result }
+    ensures silent { K.has_failed sink.old ≡ true
+        → Silences (ReadsIn choice.now.hex choice.now.action IsTypedPayload TypedReason choice.now.limits
         (supply_of S.Source source.old) (supply_of S.Source source.new)
         (S.has_failed source.new) (K.has_failed sink.new))
         choice.now (K.written sink.old) (K.written sink.new) (K.has_failed sink.new) result }

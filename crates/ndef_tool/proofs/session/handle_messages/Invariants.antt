@@ -11,7 +11,7 @@ invariant-loop-printed g l = record {
   taken : Counts (g.R.Reading.taken l.initial.from) (g.R.Reading.taken l.from) l.at;
   mark : g.K.Sink.has_failed l.sink ≡ g.K.Sink.has_failed l.initial.sink;
   so_far : SoFar IsTypedPayload TypedReason l.choice (g.R.Reading.coming l.initial.from) (g.R.Reading.coming l.from)
-      (g.K.Sink.written l.initial.sink) (g.K.Sink.written l.sink) l.count l.at;
+      (g.K.Sink.written l.initial.sink) (g.K.Sink.written l.sink) (g.K.Sink.has_failed l.initial.sink) l.count l.at;
 }
 
 abbrev pub decreases-loop-printed : goal.decreases-loop-printed
