@@ -48,7 +48,7 @@ ac_parts octet n s (k ∷ t) e l a =
       count_within = p.within;
       are = rw (p.is, at) a.1;
       power = λ v h. h.0;
-      reference = λ v h. record { are = h.1; count_is = sym (length-take-le n s l) ∙ ap length h.1 };
+      reference = λ v h. record { within = omega (arith, l); are = h.1; count_is = sym (length-take-le n s l) ∙ ap length h.1 };
       stand = λ v h. rw (p.is, at) (rw e at h.2);
     }
 
@@ -108,8 +108,15 @@ there payload count at i (suc m) (k ∷ s) h e d a f =
       within = p.within;
       bound = omega (arith, l, n, w, p.is, q.within);
       lies = λ v x.
-          let g = first_of v.auxiliary i m k s v.rest (f v x) in
-          (take k s, g.0, record { are = ap (λ j. take j (drop (at + 1) payload)) p.is ∙ ap (take k) p.behind; count_is = p.is ∙ sym (length-take-le k s q.within) });
+          let g = first_of v.auxiliary i m k s v.rest (f v x) in (
+            take k s,
+            g.0,
+            record {
+              within = omega (arith, l, n, w, p.is, q.within);
+              are = ap (λ j. take j (drop (at + 1) payload)) p.is ∙ ap (take k) p.behind;
+              count_is = p.is ∙ sym (length-take-le k s q.within);
+            },
+          );
       next = record {
         m = m;
         missing = omega (arith, e);

@@ -30,6 +30,10 @@ carrier_parts (format ∷ k ∷ s) n h e =
       carrier = record { format = format % 8; kind = take k s; carried = drop k s };
       stands = (refl, refl, refl);
       format = refl;
-      kind = record { are = refl; count_is = sym size };
-      carried = record { are = ap (take (length (format ∷ k ∷ s) - (2 + k))) (sym (drop-drop k 2 (format ∷ k ∷ s))) ∙ take_all (length (format ∷ k ∷ s) - (2 + k)) (drop k s) (omega (arith, l)); count_is = omega (arith, l) };
+      kind = record { within = omega (arith, p.within); are = refl; count_is = sym size };
+      carried = record {
+        within = omega (arith, p.within);
+        are = ap (take (length (format ∷ k ∷ s) - (2 + k))) (sym (drop-drop k 2 (format ∷ k ∷ s))) ∙ take_all (length (format ∷ k ∷ s) - (2 + k)) (drop k s) (omega (arith, l));
+        count_is = omega (arith, l);
+      };
     })

@@ -1,5 +1,5 @@
 -- Handover errors: where their data lie, and those whose data are a number.
-use Rattle.std.proofs.Common.{List, length, take, ◌∙◌, ap, sym, ◌≡◌, ℕ, ◌<◌, ◌^◌, ◌∷◌, [], ◌⊎◌, inl, inr, refl, rules, arith}
+use Rattle.std.proofs.Common.{List, length, length-drop, take, ◌∙◌, ap, sym, ◌≡◌, ℕ, ◌<◌, ◌≤◌, ◌^◌, ◌∷◌, [], ◌⊎◌, inl, inr, refl, rules, arith}
 use Rattle.std.specs.Int.{w32, to_be_bytes}
 use Rattle.std.proofs.lemmas.Nat.{from_be_bytes-to_be_bytes_4}
 use Rattle.ndef_value.specs.Wire.{AreOctets}
@@ -27,5 +27,9 @@ number_error number h = record {
 }
 
 -- what stands behind some octets lies there
-pub lies_behind : (n : ℕ) (s : List ℕ) → Lies s n (length (behind n s)) (behind n s)
-lies_behind n s = record { are = ap (take (length (behind n s))) (sym (behind_drop n s)) ∙ take_all (length (behind n s)) (behind n s) (omega arith); count_is = refl }
+pub lies_behind : (n : ℕ) (s : List ℕ) → n ≤ length s → Lies s n (length (behind n s)) (behind n s)
+lies_behind n s h = record {
+  within = omega (arith, h, ap length (behind_drop n s), length-drop n s);
+  are = ap (take (length (behind n s))) (sym (behind_drop n s)) ∙ take_all (length (behind n s)) (behind n s) (omega arith);
+  count_is = refl;
+}

@@ -15,7 +15,11 @@ lies bytes front part rest at count e n a =
     let whole = ap length e ∙ length-append front (part ++ rest) in
     let tail = length-append part rest in
     let place : length front ≡ at = omega (arith, whole, tail, n, a) in
-    record { are = ap (λ x. take count (drop at x)) e ∙ ap (take count) (drop_at front (part ++ rest) at place) ∙ take_at part rest count (sym n); count_is = n }
+    record {
+      within = omega (arith, a);
+      are = ap (λ x. take count (drop at x)) e ∙ ap (take count) (drop_at front (part ++ rest) at place) ∙ take_at part rest count (sym n);
+      count_is = n;
+    }
 
 -- a part that isn't empty begins within the bytes
 pub lies_within : (bytes part : List ℕ) (at count : ℕ) → Lies bytes at count part → 0 < length part → at < length bytes
@@ -26,8 +30,9 @@ lies_within bytes part at count l h =
     omega (arith, n, t, d, h)
 
 -- a part of what is behind the first octet
-pub lies_behind : (payload bytes part : List ℕ) (at count : ℕ) → bytes ≡ drop 1 payload → Lies bytes at count part → Lies payload (at + 1) count part
-lies_behind payload bytes part at count e l = record {
+pub lies_behind : (payload bytes part : List ℕ) (at count : ℕ) → bytes ≡ drop 1 payload → at < length bytes → Lies bytes at count part → Lies payload (at + 1) count part
+lies_behind payload bytes part at count e h l = record {
+  within = omega (arith, h, l.within, ap length e, length-drop 1 payload);
   are = ap (λ k. take count (drop k payload)) (omega arith) ∙ sym (ap (take count) (drop-drop at 1 payload)) ∙ ap (λ x. take count (drop at x)) (sym e) ∙ l.are;
   count_is = l.count_is;
 }
@@ -39,6 +44,7 @@ tail_of n x (y ∷ s) part e = ap (drop 1) e
 -- .. and of what is behind the first octet of a part
 pub lies_tail : (bytes part : List ℕ) (at count x : ℕ) → Lies bytes at count (x ∷ part) → Lies bytes (at + 1) (length part) part
 lies_tail bytes part at count x l = record {
+  within = omega (arith, l.within, l.count_is);
   are = sym (ap (take (length part)) (drop-drop 1 at bytes)) ∙ tail_of (length part) x (drop at bytes) part (ap (λ n. take n (drop at bytes)) (sym l.count_is) ∙ l.are);
   count_is = refl;
 }

@@ -32,8 +32,9 @@ parts_lie payload n e h =
     let l = length-drop (1 + n) payload in
     let r = ap length t in
     record {
-      language = record { are = ap (λ m. take m (drop 1 payload)) e; count_is = sym size ∙ ap (λ m. length (take m (drop 1 payload))) e };
+      language = record { within = h; are = ap (λ m. take m (drop 1 payload)) e; count_is = sym size ∙ ap (λ m. length (take m (drop 1 payload))) e };
       text = record {
+        within = omega (arith, h);
         are = take_all (length payload - (1 + n)) (drop (1 + n) payload) (omega (arith, l)) ∙ sym t ∙ ap (λ m. drop m (drop 1 payload)) e;
         count_is = sym l ∙ sym r ∙ ap (λ m. length (drop m (drop 1 payload))) e;
       };

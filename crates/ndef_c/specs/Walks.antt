@@ -1,5 +1,5 @@
 -- Where the records of some bytes lie.
-use Rattle.std.specs.Prelude.{◌≡◌, ℕ, ◌<◌, ◌≤◌, Bool, true, false, List, [], ◌∷◌, ◌++◌, length, take, drop, Ok}
+use Rattle.std.specs.Prelude.{◌≡◌, ℕ, ◌+◌, ◌<◌, ◌≤◌, Bool, true, false, List, [], ◌∷◌, ◌++◌, length, take, drop, Ok}
 use Rattle.ndef_value.specs.Wire.{Piece, Run, IsRun, SpellAll, pieces, run_record, code, bit, LimitValues}
 use Rattle.ndef_value.specs.declared.profile.Profile.TheVariants.{Standard}
 use Rattle.ndef_lang.specs.Language.{Sets, Conditions}
@@ -23,8 +23,9 @@ abbrev pub ends_message : Piece → List Piece → Bool
 ends_message p [] = p.last
 ends_message p (q ∷ qs) = ends_message q qs
 
--- so many bytes from a place on are the part
+-- so many bytes from a place on, all of them there, are the part
 pub record Lies (bytes : List ℕ) (at count : ℕ) (part : List ℕ) : Type 0 where
+  pub within : at + count ≤ length bytes
   pub are : take count (drop at bytes) ≡ part
   pub count_is : count ≡ length part
 

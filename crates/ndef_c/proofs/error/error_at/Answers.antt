@@ -12,6 +12,6 @@ returns c =
       error = record { reason = get_or payload 0 0; detail = behind 1 payload };
       stands = sym (cut_one payload c.in-len1-up.len_at_least);
       reason = c.from.ensures;
-      detail = lies_behind 1 payload;
+      detail = lies_behind 1 payload c.in-len1-up.len_at_least;
       number = rw c.number_of.ensures at c.told-has_number.ensures;
     }

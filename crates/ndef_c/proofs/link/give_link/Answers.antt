@@ -39,7 +39,9 @@ returns-in-Some-clause-link c = λ _.
     let a = is_alternative_at h.items c.args.index f.0 h.each f.1 in
     let v = c.alternatives_are_exact.ensures.each f.0.payload a in
     let m = c.requires.message in
-    let part = lies_behind c.args.payload.now c.behind_version.result.now f.0.payload c.in-Some.carrier.at (length c.in-Some.carrier.payload.now) c.behind_version.ensures f.2.lies in
+    let some = (ac_at f.0.payload (get_or f.0.payload 1 0) a refl).length_within in
+    let within = lies_within _ _ _ _ f.2.lies (omega (arith, some)) in
+    let part = lies_behind c.args.payload.now c.behind_version.result.now f.0.payload c.in-Some.carrier.at (length c.in-Some.carrier.payload.now) c.behind_version.ensures within f.2.lies in
     record {
       handover = c.requires.handover;
       short = c.requires.short;

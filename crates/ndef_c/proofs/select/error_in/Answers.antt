@@ -41,6 +41,7 @@ pub returns : goal.returns
 returns c = λ profile items h.
     let f = c.in-Some.ensures profile items (subst (MayBeInPieces profile items) (sym c.behind_version.ensures) h.pieces) in
     let error = first_has tables.Select profile items (drop 1 c.args.payload.now) kinds.Error f.0 h f.1 in
-    let l = lies_behind c.args.payload.now c.behind_version.result.now f.0.payload c.in-Some.found.at (length c.in-Some.found.payload.now) c.behind_version.ensures f.2.lies in
+    let within = lies_within _ _ _ _ f.2.lies (error_some f.0.payload error) in
+    let l = lies_behind c.args.payload.now c.behind_version.result.now f.0.payload c.in-Some.found.at (length c.in-Some.found.payload.now) c.behind_version.ensures within f.2.lies in
     let t = error_told c.args.payload.now f.0.payload c.in-Some.found.at error (subst (λ n. Lies c.args.payload.now (c.in-Some.found.at + 1) n f.0.payload) (ap length f.2.payload) l) in
     (Some f.0, f.1, (refl, t.0, t.1, c.from.ensures ∙ ap (λ s. get_or s 0 0) f.2.payload ∙ t.2, subst (λ n. Lies c.args.payload.now (c.in-Some.found.at + 2) (n - 1) t.0.detail) (sym (ap length f.2.payload)) t.3))
