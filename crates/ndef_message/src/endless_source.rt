@@ -11,7 +11,7 @@ use std::marker::Model;
 
 /// A front, and behind it a pattern for ever. It never fails, and tells no bytes to come: no list is
 /// all of them. So a test sees that a run ends though its input doesn't.
-#[derive(Drop)]
+#[derive(Debug, Drop)]
 pub struct EndlessSource<'a> {
     /// What is left of the front, or of the pattern.
     rest: &'a [u8],

@@ -9,7 +9,7 @@ use std::marker::Model;
 /// A sink into a slice. It takes at most so many bytes at a `write`, and none beyond the place where
 /// it stops: once it has those before that place it answers a fault. Where the slice is full it answers
 /// 0, and a fault after it. So a test lets each write of a run fail in turn.
-#[derive(Drop)]
+#[derive(Debug, Drop)]
 pub struct FailingSink<'a> {
     room: &'a mut [u8],
     per: usize,

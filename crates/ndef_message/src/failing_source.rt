@@ -14,7 +14,7 @@ use std::marker::Model;
 /// The bytes of a slice up to a place, each `fill` going up to the next cut behind what was taken.
 /// Only these are to come: once they are taken, each `fill` is a fault. So a test lets each read of a
 /// run fail in turn.
-#[derive(Drop)]
+#[derive(Debug, Drop)]
 pub struct FailingSource<'a> {
     /// Those before the place where it fails.
     bytes: &'a [u8],
