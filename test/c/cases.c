@@ -19,6 +19,7 @@ typedef char request_lies[sizeof(ndef_request_parts) == 24 && offsetof(ndef_requ
 typedef char select_lies[sizeof(ndef_select_parts) == 40 && offsetof(ndef_select_parts, error) == 36 ? 1 : -1];
 typedef char link_lies[sizeof(ndef_link) == 40 && offsetof(ndef_link, has_record) == 32 ? 1 : -1];
 typedef char poster_lies[sizeof(ndef_poster_parts) == 32 && offsetof(ndef_poster_parts, size) == 28 ? 1 : -1];
+typedef char error_lies[sizeof(ndef_error_parts) == 32 && offsetof(ndef_error_parts, number) == 24 ? 1 : -1];
 typedef char writing_lies[sizeof(ndef_writing) == 12 && offsetof(ndef_writing, chunk) == 8 ? 1 : -1];
 
 enum { FIELDS = 7, LINE = 1 << 22 };
