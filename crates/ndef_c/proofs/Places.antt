@@ -92,6 +92,8 @@ pub record LieIn (bytes kind id payload rest : List ℕ) : Type 0 where
   pub kind_lies : Lies bytes (length bytes - length rest - length payload - length id - length kind) (length kind) kind
   pub id_lies : Lies bytes (length bytes - length rest - length payload - length id) (length id) id
   pub payload_lies : Lies bytes (length bytes - length rest - length payload) (length payload) payload
+  pub id_behind : length bytes - length rest - length payload - length id ≡ length bytes - length rest - length payload - length id - length kind + length kind
+  pub payload_behind : length bytes - length rest - length payload ≡ length bytes - length rest - length payload - length id + length id
 
 pub lie_in : (header : ℕ) (kind id payload rest bytes : List ℕ) → Shown header kind id payload rest bytes → LieIn bytes kind id payload rest
 lie_in header kind id payload rest bytes s =
@@ -104,6 +106,8 @@ lie_in header kind id payload rest bytes s =
       kind_lies = lies bytes h kind (id ++ (payload ++ rest)) _ _ s.joined refl (omega (arith, n, a, b, d));
       id_lies = lies bytes (h ++ kind) id (payload ++ rest) _ _ (s.joined ∙ sym (append_assoc h kind _)) refl (omega (arith, n, a, b, d));
       payload_lies = lies bytes ((h ++ kind) ++ id) payload rest _ _ (s.joined ∙ sym (append_assoc h kind _) ∙ sym (append_assoc (h ++ kind) id _)) refl (omega (arith, n, a, b, d));
+      id_behind = omega (arith, n, a, b, d);
+      payload_behind = omega (arith, n, a, b, d);
     }
 
 -- behind the end of the bytes is no record

@@ -29,7 +29,7 @@ pub record Lies (bytes : List ℕ) (at count : ℕ) (part : List ℕ) : Type 0 w
   pub are : take count (drop at bytes) ≡ part
   pub count_is : count ≡ length part
 
--- NDEF 1.0, record layout and chunked payloads: this is the record at the place, and where its parts lie
+-- NDEF 1.0, record layout and chunked payloads: this is the record at the place, and where its parts lie, one behind another
 pub record IsRecordAt (bytes : List ℕ) (at : ℕ) (r : NdefRecord) : Type 0 where
   pub run : Run
   pub begins : BeginsWith run (drop r.end bytes) (drop at bytes)
@@ -40,6 +40,8 @@ pub record IsRecordAt (bytes : List ℕ) (at : ℕ) (r : NdefRecord) : Type 0 wh
   pub kind : Lies bytes r.type_at r.type_length (run_record run).kind
   pub id : Lies bytes r.id_at r.id_length (run_record run).id
   pub part : Lies bytes r.payload_at r.part_length run.initial.payload
+  pub id_behind : r.id_at ≡ r.type_at + r.type_length
+  pub part_behind : r.payload_at ≡ r.id_at + r.id_length
   pub payload : r.payload_length ≡ length (run_record run).payload
   pub pieces_are : r.pieces ≡ length (pieces run)
   pub last : r.last ≡ bit (ends_message run.initial run.later)
