@@ -27,7 +27,7 @@ use Rattle.ndef_message.specs.declared.checker.Checker.{Checker}
 use Rattle.ndef_message.specs.declared.phase.Phase.TheVariants as phases
 use Rattle.ndef_message.proofs.Accepting.{AtBetween, between, front_of, record_is}
 use Rattle.ndef_message.proofs.Feeding.{going}
-use Rattle.ndef_message.proofs.Parts.{id_count}
+use Rattle.ndef_message.specs.Machine.SeenLaws.{id_count}
 use Rattle.ndef_message.proofs.Placed.{placed, records_there}
 use Rattle.ndef_message.proofs.Rests.{viable_front}
 use Rattle.ndef_message.proofs.Taking.{ends_there}

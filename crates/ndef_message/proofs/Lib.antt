@@ -32,7 +32,6 @@ pub mod Reaching
 pub mod Readers
 pub mod ReadingOn
 pub mod Rests
-pub mod SeenBytes
 pub mod SeenMessages
 pub mod SeenRuns
 pub mod Sends

@@ -10,7 +10,7 @@ use Rattle.ndef_message.specs.Place.{NoPrefixIsDeep}
 use Rattle.ndef_message.specs.Machine.Seen.{AreRuns, AreChecked, IsRecord, pieces_of, runs_of, viewed_of}
 use Rattle.ndef_message.specs.Views.{Viewed, Views, OneView, NeverRefused}
 use Rattle.ndef_message.proofs.ReadBack.{one_front}
-use Rattle.ndef_message.proofs.SeenBytes.{pieces_told, runs_told, follow_of_read, flat_told}
+use Rattle.ndef_message.specs.Machine.SeenLaws.{pieces_told, runs_told, follow_of_read, flat_told}
 
 -- whole runs are told by their bytes
 pub whole_told : {bytes : List ℕ} (a : AreRuns bytes) → runs_of (pieces_of bytes) ≡ a.runs

@@ -6,7 +6,7 @@ use Rattle.ndef_value.specs.Wire.{Piece, SpellAll, Run, pieces, all_pieces, payl
 use Rattle.ndef_message.specs.Machine.Seen.{AreRun, AreRuns, IsRecord, pieces_of, runs_of, run_of}
 use Rattle.ndef_message.specs.Views.{payloads, only_payload}
 use Rattle.ndef_message.proofs.Rests.{spell_append}
-use Rattle.ndef_message.proofs.SeenBytes.{First, first_of, pieces_told, run_told, run_is}
+use Rattle.ndef_message.specs.Machine.SeenLaws.{First, first_of, pieces_told, run_told, run_is}
 
 -- these bytes and payload octets of a run were read, some of its pieces are left, and runs behind it
 pub record Going (bytes rest : List ℕ) (size : ℕ) : Type 0 where

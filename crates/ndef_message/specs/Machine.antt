@@ -11,6 +11,7 @@ pub mod Payload
 pub mod Points
 pub mod Readers
 pub mod Seen
+pub mod SeenLaws
 pub mod Slices
 pub mod State
 pub mod Streams

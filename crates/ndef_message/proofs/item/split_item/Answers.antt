@@ -1,6 +1,6 @@
 use Rattle.std.proofs.Common.{◌≡◌, ◌+◌, ◌∷◌, length, sym, ◌∙◌, ap, ap₂, subst, arith}
 use Rattle.ndef_message.specs.Machine.Seen.{AreRun, AreRuns, run_of, runs_of, pieces_of}
-use Rattle.ndef_message.proofs.SeenBytes.{begins, first_shown, shorter}
+use Rattle.ndef_message.specs.Machine.SeenLaws.{begins, first_shown, shorter}
 use Rattle.ndef_message.proofs.SeenRuns.{going_at, next_of, room_of, goes_on, is_over, within, cut_off, told}
 use Rattle.ndef_message.proofs.item.split_item.Goals as goal
 

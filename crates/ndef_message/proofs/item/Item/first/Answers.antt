@@ -1,5 +1,5 @@
 use Rattle.std.proofs.Common.{◌∙◌, ap}
-use Rattle.ndef_message.proofs.SeenBytes.{begins, first_shown}
+use Rattle.ndef_message.specs.Machine.SeenLaws.{begins, first_shown}
 use Rattle.ndef_message.proofs.SeenRuns.{initial_of, run_seen, read_seen, lengths_seen}
 use Rattle.ndef_message.proofs.item.Item.first.Goals as goal
 

@@ -2,7 +2,7 @@ use Rattle.std.proofs.Common.{rules, ◌<◌, ◌∷◌, length, sym, ◌∙◌,
 use Rattle.ndef_value.specs.Wire.{SpellAll}
 use Rattle.ndef_message.specs.Machine.Seen.{pieces_of}
 use Rattle.ndef_message.specs.Views.{payloads}
-use Rattle.ndef_message.proofs.SeenBytes.{begins, first_of_some, first_shown, told_behind}
+use Rattle.ndef_message.specs.Machine.SeenLaws.{begins, first_of_some, first_shown, told_behind}
 use Rattle.ndef_message.proofs.pieces.PiecesIterator.next.Goals as goal
 
 pub first_piece-piece-requires : goal.first_piece-piece-requires

@@ -13,7 +13,18 @@ use Rattle.ndef_piece.specs.Heads.{CanBeSpelled}
 use Rattle.ndef_piece.specs.Whole.{IsSplit, BeginWithPiece}
 use Rattle.ndef_message.specs.Machine.Points.{piece, id_of}
 use Rattle.ndef_message.specs.Machine.Seen.{payload_length_at, id_length_at, fields_with, piece_with, piece_at, body_size, size_at, pieces_from, pieces_of, begin_run, runs_of, run_of, IsRecord}
-use Rattle.ndef_message.proofs.Parts.{id_count, piece_head, body_length}
+
+-- ---- the parts of a piece
+pub id_count : (o : Option (List ℕ)) → unwrap_or (option_map length o) 0 ≡ length (unwrap_or o [])
+id_count None = refl
+id_count (Some xs) = refl
+
+-- the head of a piece
+pub piece_head : (p : Piece) (short : Bool) (bytes : List ℕ) → Spells p short bytes → CanBeSpelled (fields p short)
+piece_head p short bytes s = record { tnf = s.piece.tnf; kind = s.piece.kind_length; payload = s.piece.payload_length; form = s.form; id = rw (id_count p.id) s.piece.id_length }
+
+pub body_length : (p : Piece) → length (body p) ≡ length p.kind + length (unwrap_or p.id []) + length p.payload
+body_length p = omega (arith, length-append p.kind (unwrap_or p.id [] ++ p.payload), length-append (unwrap_or p.id []) p.payload)
 
 -- ---- heads
 payload_told : (short : Bool) (n : ℕ) (o : Option ℕ) (h k : ℕ) (z : List ℕ) → n < 2 ^ 32
@@ -104,7 +115,7 @@ size_told p short front rest s =
     ap size_at (head_first p short front rest s) ∙ a ∙ omega (arith, n, o, whole, m)
 
 -- the piece at the front of some bytes is told by them, and so is what follows it
-same_split : (p q : Piece) (s t : Bool) (x y bytes : List ℕ) → IsSplit p s x bytes → IsSplit q t y bytes → (p ≡ q) × (x ≡ y)
+pub same_split : (p q : Piece) (s t : Bool) (x y bytes : List ℕ) → IsSplit p s x bytes → IsSplit q t y bytes → (p ≡ q) × (x ≡ y)
 same_split p q s t x y bytes a b =
     let e : a.front ++ x ≡ b.front ++ y = sym a.joined ∙ b.joined in
     let n : length a.front ≡ length b.front = sym (size_told p s a.front x a.spells) ∙ ap size_at e ∙ size_told q t b.front y b.spells in
