@@ -1,7 +1,7 @@
 use Rattle.ndef_piece.specs.Header.{is_set}
 use Rattle.ndef_piece.specs.Whole.{shown}
 use Rattle.ndef_fields.proofs.Proper.{kept, over}
-use Rattle.ndef_fields.proofs.refused.behind_pieces.Goals as goal
+use Rattle.ndef_fields.proofs.heads.behind_pieces.Goals as goal
 
 pub loop-piece-init : goal.loop-piece-init
 loop-piece-init c = λ ps x tail s h e. (ps, x, s, e)

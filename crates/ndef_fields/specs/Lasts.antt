@@ -1,0 +1,59 @@
+-- The field of the last of some bytes, in payloads and nested messages too.
+use Rattle.std.specs.Prelude.{◌≡◌, ℕ, Bool, List, [], ◌∷◌, ◌++◌, if◌then◌else◌}
+use Rattle.ndef_value.specs.Wire.{tnf_of}
+use Rattle.ndef_lang.specs.Kind.{kind_of}
+use Rattle.ndef_lang.specs.declared.kind.Kind.{Kind}
+use Rattle.ndef_lang.specs.declared.kind.Kind.TheVariants as kinds
+use Rattle.ndef_nest.specs.Nested.{kind_in}
+use Rattle.ndef_nest.specs.declared.table.Table.{Table}
+use Rattle.ndef_nest.specs.declared.table.Table.TheVariants as tables
+use Rattle.ndef_piece.specs.Field.{Field, InPayload}
+use Rattle.ndef_fields.specs.declared.last.ByteField.{ByteField}
+use Rattle.ndef_fields.specs.declared.name.FieldName.{FieldName}
+use Rattle.ndef_fields.specs.declared.name.FieldName.TheVariants as names
+use Rattle.ndef_fields.specs.Befores.{StandsIn}
+use Rattle.ndef_fields.specs.Parts.{Part}
+use Rattle.ndef_fields.specs.Payloads.{leaf_parts, outer_leaf}
+use Rattle.ndef_fields.specs.Refusals.{IsNameOf}
+
+-- the last of some parts has this name
+abbrev pub EndsIn : List Part → FieldName → Type 0
+EndsIn [] name = ⊥
+EndsIn (part ∷ []) name = name ≡ part.name
+EndsIn (part ∷ next ∷ parts) name = EndsIn (next ∷ parts) name
+
+-- RTD Smart Poster 1.0 and Connection Handover 1.2: the name of the octet that stands in this field of a nested message
+abbrev pub IsInnerField : Table → Field → ℕ → FieldName → Type 0
+IsInnerField table (InPayload head kind id content) octet name =
+    EndsIn (leaf_parts 1 (kind_in table (tnf_of head.tnf) kind) (content ++ octet ∷ [])) name
+IsInnerField table field octet name = IsNameOf field name
+
+-- RTD Smart Poster 1.0 and Connection Handover 1.2: that of the last of these octets of a nested message
+abbrev pub IsLastInside : Table → List ℕ → FieldName → Type 0
+IsLastInside table bytes name = (field : Field) (octet : ℕ) → StandsIn bytes field octet → IsInnerField table field octet name
+
+-- Connection Handover 1.2: the field of the last of these octets of a handover's payload, which begins with its version
+abbrev pub IsHandoverLast : Table → List ℕ → ByteField → Type 0
+IsHandoverLast table (version ∷ octet ∷ s) byte = (byte.depth ≡ 1) × IsLastInside table (octet ∷ s) byte.name
+IsHandoverLast table _ byte = (byte.depth ≡ 0) × (byte.name ≡ names.Version)
+
+-- the field of the last of these octets of a payload of this kind
+abbrev pub IsPayloadLast : Kind → List ℕ → ByteField → Type 0
+IsPayloadLast kinds.SmartPoster s byte = (byte.depth ≡ 1) × IsLastInside tables.SmartPoster s byte.name
+IsPayloadLast kinds.Request s byte = IsHandoverLast tables.Request s byte
+IsPayloadLast kinds.Select s byte = IsHandoverLast tables.Select s byte
+IsPayloadLast kind s byte = (byte.depth ≡ 0) × EndsIn (leaf_parts 0 (outer_leaf kind) s) byte.name
+
+-- NDEF 1.0, chunked payloads: the kind of the payload of a piece; a payload in several pieces isn't looked into
+abbrev pub kind_there : Bool → Kind → Kind
+kind_there chunked kind = if chunked then kinds.Other else kind
+
+-- NDEF 1.0, record layout: the octet stands in this field
+abbrev pub IsFieldOf : Field → ℕ → ByteField → Type 0
+IsFieldOf (InPayload head kind id content) octet byte =
+    IsPayloadLast (kind_there head.chunked (kind_of (tnf_of head.tnf) kind)) (content ++ octet ∷ []) byte
+IsFieldOf field octet byte = (byte.depth ≡ 0) × IsNameOf field byte.name
+
+-- NDEF 1.0, messages: the last of these bytes stands in this field
+abbrev pub IsFieldOfLast : List ℕ → ByteField → Type 0
+IsFieldOfLast bytes byte = (field : Field) (octet : ℕ) → StandsIn bytes field octet → IsFieldOf field octet byte

@@ -1,0 +1,52 @@
+//! The head of a piece of which only a front has come.
+ghost use Rattle.std.specs.Prelude.{◌≡◌, ◌≤◌, length};
+ghost use Rattle.ndef_piece.specs.Header.{width};
+ghost use Rattle.ndef_fields.specs.Refusals.{id_given, IsBehindPieces, IsByLengths};
+
+use crate::FieldName;
+use crate::left::{id_width, width};
+use ndef_piece::whole_piece;
+
+/// The bytes behind the whole pieces at the front.
+pub(crate) fn behind_pieces(bytes: &[u8]) -> &[u8]
+    ensures { IsBehindPieces bytes.now result.now }
+{
+    let mut rest = bytes;
+    while let Some(piece) = whole_piece(rest) {
+        rest = piece.rest;
+    }
+    rest
+}
+
+/// ID_LENGTH behind PAYLOAD_LENGTH; 0 where there is none.
+pub(crate) fn id_length_in(header: u8, tail: &[u8]) -> u8
+    ensures { result ≡ id_given header tail.now }
+{
+    if id_width(header) == 0 {
+        return 0;
+    }
+    let at = width(header);
+    if at < tail.len() { tail[at] } else { 0 }
+}
+
+/// The field of the octet behind a header octet, TYPE_LENGTH and these octets of a piece.
+pub(crate) fn name_by(header: u8, kind_length: u8, tail: &[u8]) -> FieldName
+    ensures { IsByLengths header kind_length tail.now result }
+{
+    let length = tail.len();
+    let lengths = width(header);
+    if length < lengths {
+        return FieldName::PayloadLength;
+    }
+    let head = lengths + id_width(header);
+    if length < head {
+        return FieldName::IdLength;
+    }
+    if length < head + usize::from(kind_length) {
+        return FieldName::Kind;
+    }
+    if length < head + usize::from(kind_length) + usize::from(id_length_in(header, tail)) {
+        return FieldName::Id;
+    }
+    FieldName::Payload
+}
