@@ -1,5 +1,5 @@
 -- The field of the last of some bytes.
-use Rattle.std.proofs.Common.{◌≡◌, ◌≢◌, ℕ, zero, suc, ◌-◌, ◌<◌, ◌≤◌, Bool, true, false, refl, sym, ◌∙◌, ap, ap₂, subst, arith, List, [], ◌∷◌, ◌++◌, length, take, drop, drop_at, append_assoc, length-append}
+use Rattle.std.proofs.Common.{◌≡◌, ◌≢◌, ℕ, zero, suc, ◌-◌, ◌<◌, ◌≤◌, true, false, refl, sym, ◌∙◌, ap, ap₂, subst, arith, List, [], ◌∷◌, ◌++◌, length, take, drop, drop_at, append_assoc, length-append}
 use Rattle.std.proofs.lemmas.List.{append-nil, take_all, drop_all}
 use Rattle.std.proofs.Math.Seq.{take-nil, drop-nil}
 use Rattle.ndef_value.specs.Wire.{octets, tnf_of}
@@ -13,13 +13,12 @@ use Rattle.ndef_fields.specs.declared.before.Before.TheVariants.{Head, Payload}
 use Rattle.ndef_fields.specs.declared.before.PayloadBefore.{PayloadBefore}
 use Rattle.ndef_fields.specs.declared.last.ByteField.{ByteField}
 use Rattle.ndef_fields.specs.declared.name.FieldName.{FieldName}
-use Rattle.ndef_fields.specs.declared.name.FieldName.TheVariants as names
 use Rattle.ndef_fields.specs.declared.stage.Cut.{Cut}
 use Rattle.ndef_fields.specs.declared.stage.Stage.{Stage}
 use Rattle.ndef_fields.specs.declared.stage.Stage.TheVariants as stages
 use Rattle.ndef_fields.specs.Parts.{Part, told}
 use Rattle.ndef_fields.specs.Payloads.{leaf_parts, outer_stage, references_parts, stage_of}
-use Rattle.ndef_fields.specs.Stages.{IsCut, stage_parts, stage_rank}
+use Rattle.ndef_fields.specs.Stages.{IsCut, stage_parts}
 use Rattle.ndef_fields.specs.Befores.{IsFieldBefore, StandsIn}
 use Rattle.ndef_fields.specs.Lasts.{EndsIn, IsFieldOf, IsInnerField, IsPayloadLast, kind_there}
 use Rattle.ndef_fields.proofs.Contents.{leaf_staged}

@@ -1,9 +1,8 @@
 -- A front of a piece that is not the whole of it.
 use Rattle.std.proofs.Common.{◌≡◌, ℕ, ◌+◌, ◌<◌, ◌≤◌, Bool, true, false, refl, sym, ◌∙◌, ap, ap₂, subst, arith, Option, Some, None, List, [], ◌∷◌, ◌++◌, length, append_assoc, length-append}
 use Rattle.std.specs.Prelude.{slice_index, unwrap_or, is_some, if◌then◌else◌}
-use Rattle.std.specs.Option.{option_map}
 use Rattle.std.proofs.lemmas.List.{append-nil}
-use Rattle.ndef_value.specs.Wire.{Fields, Piece, SpellAll, Spells, fields, octets, body, payload_length_octets, id_length_octets}
+use Rattle.ndef_value.specs.Wire.{Fields, Piece, SpellAll, fields, octets, body, payload_length_octets, id_length_octets}
 use Rattle.ndef_piece.specs.declared.spot.Spot.{Spot}
 use Rattle.ndef_piece.specs.Field.{Field, InHead, InType, InId, InPayload, AtEnd, IsProper, octets_so_far}
 use Rattle.ndef_piece.specs.Header.{is_set, size, width}

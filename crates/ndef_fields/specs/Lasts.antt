@@ -1,13 +1,16 @@
 -- The field of the last of some bytes, in payloads and nested messages too.
-use Rattle.std.specs.Prelude.{◌≡◌, ℕ, Bool, List, [], ◌∷◌, ◌++◌, if◌then◌else◌}
-use Rattle.ndef_value.specs.Wire.{tnf_of}
+use Rattle.std.specs.Prelude.{◌≡◌, ℕ, ◌+◌, ◌<◌, Bool, List, [], ◌∷◌, ◌++◌, length, take, slice_index, if◌then◌else◌}
+use Rattle.ndef_value.specs.Wire.{LimitValues, Piece, Run, tnf_of}
+use Rattle.ndef_value.specs.declared.refusal.Refusal.{Refusal}
 use Rattle.ndef_lang.specs.Kind.{kind_of}
 use Rattle.ndef_lang.specs.declared.kind.Kind.{Kind}
 use Rattle.ndef_lang.specs.declared.kind.Kind.TheVariants as kinds
+use Rattle.ndef_message.specs.Place.{IsReason, Refuses}
 use Rattle.ndef_nest.specs.Nested.{kind_in}
+use Rattle.ndef_nest.specs.Typed.{IsTypedPayload, TypedReason}
 use Rattle.ndef_nest.specs.declared.table.Table.{Table}
 use Rattle.ndef_nest.specs.declared.table.Table.TheVariants as tables
-use Rattle.ndef_piece.specs.Field.{Field, InPayload}
+use Rattle.ndef_piece.specs.Field.{Field, InPayload, IsAt}
 use Rattle.ndef_fields.specs.declared.last.ByteField.{ByteField}
 use Rattle.ndef_fields.specs.declared.name.FieldName.{FieldName}
 use Rattle.ndef_fields.specs.declared.name.FieldName.TheVariants as names
@@ -30,7 +33,8 @@ IsInnerField table field octet name = IsNameOf field name
 
 -- RTD Smart Poster 1.0 and Connection Handover 1.2: that of the last of these octets of a nested message
 abbrev pub IsLastInside : Table → List ℕ → FieldName → Type 0
-IsLastInside table bytes name = (field : Field) (octet : ℕ) → StandsIn bytes field octet → IsInnerField table field octet name
+IsLastInside table bytes name = (field : Field) (octet : ℕ)
+    → StandsIn bytes field octet → IsInnerField table field octet name
 
 -- Connection Handover 1.2: the field of the last of these octets of a handover's payload, which begins with its version
 abbrev pub IsHandoverLast : Table → List ℕ → ByteField → Type 0
@@ -57,3 +61,20 @@ IsFieldOf field octet byte = (byte.depth ≡ 0) × IsNameOf field byte.name
 -- NDEF 1.0, messages: the last of these bytes stands in this field
 abbrev pub IsFieldOfLast : List ℕ → ByteField → Type 0
 IsFieldOfLast bytes byte = (field : Field) (octet : ℕ) → StandsIn bytes field octet → IsFieldOf field octet byte
+
+-- the reason of a refusal rests on a field of the byte, and the byte stands in it
+pub record RestsOn (limits : LimitValues) (input : List ℕ) (refusal : Refusal) (byte : ByteField) : Type 0 where
+  pub runs : List Run
+  pub begun : List Piece
+  pub field : Field
+  pub at : IsAt limits (take refusal.at input) runs begun field
+  pub why : IsReason TypedReason limits runs begun field (slice_index input refusal.at) refusal.reason
+  pub stands : IsFieldOf field (slice_index input refusal.at) byte
+
+-- ---- laws
+
+-- The field of a refused byte is the one on which its reason rests.
+abbrev pub RefusedInFields : Type 0
+RefusedInFields = (limits : LimitValues) (input : List ℕ) (refusal : Refusal) (byte : ByteField)
+    → Refuses IsTypedPayload TypedReason limits input refusal → refusal.at < length input
+    → IsFieldOfLast (take (refusal.at + 1) input) byte → RestsOn limits input refusal byte

@@ -1,4 +1,4 @@
-use Rattle.std.proofs.Common.{◌≡◌, ◌<◌, subst, length}
+use Rattle.std.proofs.Common.{◌<◌, subst, length}
 use Rattle.ndef_lang.specs.Kind.{kind_of}
 use Rattle.ndef_fields.specs.Befores.{IsFieldBefore}
 use Rattle.ndef_fields.specs.Lasts.{IsPayloadLast, kind_there}
