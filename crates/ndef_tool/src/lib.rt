@@ -23,6 +23,11 @@ mod showing;
 mod value_lines;
 
 pub use choice::{Action, Choice, WordsError, choose};
+pub use decimals::push_number;
 pub use ending::{Ending, HexFault, Status};
+pub use hexadecimal::read_hexadecimal;
+pub use line::Line;
+pub use printing::ending_line;
+pub use quoting::push_quoted;
 pub use running::run;
 pub use session::{Session, handle};
