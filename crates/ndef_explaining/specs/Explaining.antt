@@ -1,0 +1,100 @@
+-- What is printed of an input: the fields of its messages, one after another, and where it is refused.
+use Rattle.std.specs.Prelude.{◌≡◌, ◌≢◌, ℕ, ◌+◌, ◌^◌, ◌<◌, ⊤, List, [], ◌∷◌, ◌++◌, codes, decimal, drop, length, slice_index, take, Ok}
+use Rattle.std.specs.List.{flat_map}
+use Rattle.ndef_value.specs.Reason.{number_of, name_of}
+use Rattle.ndef_value.specs.Wire.{LimitValues}
+use Rattle.ndef_value.specs.declared.refusal.Refusal.{Refusal}
+use Rattle.ndef_message.specs.Place.{Refuses}
+use Rattle.ndef_nest.specs.Typed.{IsTypedPayload, TypedReason}
+use Rattle.ndef_fields.specs.Lasts.{IsFieldOfLast}
+use Rattle.ndef_fields.specs.Names.{text_of}
+use Rattle.ndef_fields.specs.Tellings.{Tells}
+use Rattle.ndef_fields.specs.declared.last.ByteField.{ByteField}
+use Rattle.ndef_fields.specs.declared.telling.Told.{Told}
+use Rattle.ndef_tool.specs.Quoting.{Text}
+use Rattle.ndef_explaining.specs.Cells.{cells, start_of}
+use Rattle.ndef_explaining.specs.FieldLines.{field_text}
+use Rattle.ndef_explaining.specs.Sentences.{sentence_of}
+use Rattle.ndef_explaining.specs.declared.explaining.Progress.{Progress}
+use Rattle.ndef_explaining.specs.declared.explaining.Stop.{Stop}
+use Rattle.ndef_explaining.specs.declared.explaining.Stop.TheVariants.{End, Refused}
+
+-- ---- the messages
+
+-- NDEF 1.0, messages: the messages of an input, one after another, and where they stop
+abbrev pub AreTold : LimitValues → List Told → (input : List ℕ) → Stop → Type 0
+AreTold limits [] input End = input ≡ []
+AreTold limits [] input (Refused refusal) = (input ≢ []) × Refuses IsTypedPayload TypedReason limits input refusal
+AreTold limits (told ∷ more) input stop = Tells limits input (Ok told) × AreTold limits more (drop told.taken input) stop
+
+-- the bytes of all these messages
+abbrev pub bytes_told : List Told → ℕ
+bytes_told [] = 0
+bytes_told (told ∷ more) = told.taken + bytes_told more
+
+-- the line of a message, with its number and its place
+abbrev pub message_line : (number at bytes : ℕ) → Text
+message_line number at bytes =
+    codes "message " ++ decimal number ++ codes " at " ++ decimal at ++ codes ": bytes " ++ decimal bytes ++ codes "\n"
+
+-- the lines of a message and of its fields
+abbrev pub message_text : (number at : ℕ) (input : List ℕ) → Told → Text
+message_text number at input told = message_line number at told.taken ++ flat_map (field_text at input) told.fields
+
+-- those of messages, of which the first has this number and this place
+abbrev pub messages_text : (number at : ℕ) (input : List ℕ) → List Told → Text
+messages_text number at input [] = []
+messages_text number at input (told ∷ more) =
+    message_text number at input told ++ messages_text (number + 1) (at + told.taken) (drop told.taken input) more
+
+-- ---- the end
+
+-- the line of a refused byte: its place, itself, and the field in which it stands
+abbrev pub byte_line : (place octet : ℕ) → ByteField → Text
+byte_line place octet byte =
+    start_of place byte.depth ++ cells (octet ∷ []) ++ codes "^ " ++ text_of byte.name ++ codes "\n"
+
+-- the line of a refusal, as `ndef check` prints it, and a sentence
+abbrev pub reason_lines : (at : ℕ) → Refusal → Text
+reason_lines at refusal =
+    codes "refused at " ++ decimal (at + refusal.at) ++ codes ": " ++ decimal (number_of refusal.reason) ++ codes " "
+    ++ name_of refusal.reason ++ codes "\n" ++ sentence_of refusal.reason ++ codes "\n"
+
+-- the lines of a refused byte, where there is one
+abbrev pub IsByteText : (at : ℕ) (input : List ℕ) → Refusal → Text → Type 0
+IsByteText at input refusal text =
+    (refusal.at < length input → (byte : ByteField) × IsFieldOfLast (take (refusal.at + 1) input) byte
+    × (text ≡ byte_line (at + refusal.at) (slice_index input refusal.at) byte))
+    × (refusal.at ≡ length input → text ≡ [])
+
+-- the line of a refused byte is appended, where there is one
+abbrev pub AddsByte : (at : ℕ) (input : List ℕ) → Refusal → (old new : Text) → Type 0
+AddsByte at input refusal old new = (text : Text) × IsByteText at input refusal text × (new ≡ old ++ text)
+
+-- what is printed where the messages stop, at this place, with this input left
+abbrev pub IsStopText : (at : ℕ) (input : List ℕ) → Stop → Text → Type 0
+IsStopText at input End text = text ≡ []
+IsStopText at input (Refused refusal) text =
+    (byte : Text) × IsByteText at input refusal byte × (text ≡ byte ++ reason_lines at refusal)
+
+-- the place of a refusal can be counted
+abbrev pub FitsStop : (at : ℕ) → Stop → Type 0
+FitsStop at End = ⊤
+FitsStop at (Refused refusal) = at + refusal.at < 2 ^ 64
+
+-- the lines of the messages are appended, and the rest of the input is left
+pub record Explains (limits : LimitValues) (input : List ℕ) (old new : Text) (progress : Progress) : Type 0 where
+  pub told : List Told
+  pub are_told : AreTold limits told input progress.stop
+  pub at_is : progress.at ≡ bytes_told told
+  pub rest_is : progress.rest.now ≡ drop progress.at input
+  pub text_is : new ≡ old ++ messages_text 1 0 input told
+  pub fits : FitsStop progress.at progress.stop
+
+-- all that is printed of an input
+pub record IsExplained (limits : LimitValues) (input : List ℕ) (stop : Stop) (text : Text) : Type 0 where
+  pub told : List Told
+  pub are_told : AreTold limits told input stop
+  pub last : Text
+  pub ends : IsStopText (bytes_told told) (drop (bytes_told told) input) stop last
+  pub text_is : text ≡ messages_text 1 0 input told ++ last
