@@ -1,5 +1,5 @@
 use Rattle.std.proofs.Common.{rules}
 use Rattle.ndef_nest.proofs.typed.TypedLanguage.start.Goals as goal
 
-pub returns-in_default : goal.returns-in_default
-returns-in_default c = search rules
+pub returns-in-Other : goal.returns-in-Other
+returns-in-Other c = search rules
