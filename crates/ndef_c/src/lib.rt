@@ -1,5 +1,20 @@
 //! The library as C calls it: no memory is taken, and nothing is kept between calls but in a checker, in the
 //! memory of its caller. `include/ndef.h` says what each call demands, answers and leaves.
+//!
+//! Where to look:
+//!
+//! - `checking.rt`: check. `feeding.rt`, `specs/Feeding.antt`: check of bytes that come in parts.
+//! - `run.rt`, `record.rt`, `specs/Walks.antt`: the record at a place. `payload.rt`: its joined payload.
+//! - `writing.rt`, `specs/Writes.antt`: a record written.
+//! - `uri.rt`, `text.rt`, `carrier.rt`, `alternative.rt`, `request.rt`, `select.rt`, `poster.rt`,
+//!   `error.rt`: payloads of each kind. `numbers.rt` and `alternative_writing.rt`, `error_writing.rt`,
+//!   `handover_writing.rt`: those of records within posters and handovers, written.
+//! - `utf16.rt`: texts from and to UTF-16.
+//! - `link.rt`: the links of a message. `message.rt`: its records. `handover.rt`: what requests and
+//!   selects share.
+//! - `nested.rt`: records of the messages in payloads.
+//! - `room.rt`, `specs/Rooms.antt`: bytes written to the caller's buffer.
+//! - `laws.rt`: what holds of the calls together.
 #![tactic(auto)]
 
 mod alternative;

@@ -1,5 +1,16 @@
-//! The heads of NDEF pieces: read octet by octet up to the first that no head goes on with, and
-//! written; and whole pieces at the front of a slice (NFC Forum, NDEF 1.0). Nothing here takes memory.
+//! The heads of NDEF pieces (NFC Forum, NDEF 1.0): read octet by octet, refused at the first octet that no
+//! valid head can contain there, and written; and whole pieces at the front of a slice. Nothing here takes memory.
+//!
+//! Where to look:
+//!
+//! - `head_reader.rt`: reads a head. `write.rt`: writes one.
+//! - `conditions.rt`, `specs/Conditions.antt`: the conditions of the reasons 1 to 14.
+//! - `specs/Heads.antt`: which heads may stand at a spot. `bounds.rt`: which lengths they have.
+//! - `whole.rt`: a whole piece, or a whole head, at the front of a slice. `standing.rt`: whether it may
+//!   stand at a spot.
+//! - `specs/Field.antt`: the field of the next octet of a message, and the spot of a piece.
+//! - `specs/Walk.antt`, `specs/Rest.antt`: the pieces of a message one after another, and what is known
+//!   before each.
 #![tactic(auto)]
 
 mod bounds;

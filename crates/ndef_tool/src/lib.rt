@@ -1,5 +1,15 @@
 //! What the command `ndef` does: the words say what, messages come from a source, and what is printed
 //! goes to a sink.
+//!
+//! Where to look:
+//!
+//! - `running.rt`, `specs/Runs.antt`: one run. `session.rt`: the messages of the input. `reading.rt`:
+//!   the next one.
+//! - `choice.rt`, `command.rt`: the words, by clap. `hexadecimal.rt`: hexadecimal input.
+//! - `block.rt`, `printing.rt`, `specs/Output.antt`: what is printed.
+//! - `showing.rt`: the lines of records. `value_lines.rt`, `poster_lines.rt`, `handover_lines.rt`: of
+//!   their payloads.
+//! - `linking.rt`: the lines of links. `quoting.rt`, `decimals.rt`, `line.rt`: parts of lines.
 #![tactic(auto)]
 
 mod block;

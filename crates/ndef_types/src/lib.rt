@@ -1,5 +1,19 @@
 //! Typed payloads: texts, URIs, smart posters and handovers (NFC Forum, RTD Text 1.0, RTD URI 1.0, RTD
 //! Smart Poster 1.0 and Connection Handover 1.2).
+//!
+//! Where to look:
+//!
+//! - `text.rt`, `uri.rt`, `smart_poster.rt`, `request.rt`, `select.rt`, `alternative.rt`, `carrier.rt`,
+//!   `handover_error.rt`: a value each.
+//! - `specs/Values.antt`, `specs/Posters.antt`, `specs/Handovers.antt`: which payload stands for which
+//!   value.
+//! - `specs/Decoding.antt`: what is answered, and the laws. `accepting.rt`: the check that each decoder
+//!   begins with.
+//! - `specs/Prefixes.antt`: the prefixes of URIs.
+//! - `contents.rt`, `specs/Contents.antt`: which record of a nested message is wrong. `nested.rt`:
+//!   messages in payloads.
+//! - `link.rt`, `specs/Links.antt`: the carriers of a message. `specs/Equality.antt`: when values are
+//!   equal.
 #![tactic(auto)]
 
 mod accepting;

@@ -1,5 +1,13 @@
 //! The values of an NDEF message (NFC Forum, NDEF 1.0): names, records, messages, limits, and the reasons
 //! for a refusal.
+//!
+//! Where to look:
+//!
+//! - `specs/Wire.antt`: what bytes mean: pieces, runs, messages, limits, and the laws. Start here.
+//! - `record.rt`, `message.rt`, `name.rt`, `bytes.rt`: records, messages, names and byte strings.
+//! - `limits.rt`, `profile.rt`: how large a message may be, and what a reader makes of reserved values.
+//! - `reason.rt`, `refusal.rt`, `specs/Reason.antt`: why and where bytes are refused.
+//! - `specs/Shown.antt`: the printed texts.
 #![tactic(auto)]
 
 mod bytes;
