@@ -1,17 +1,18 @@
 # Builds and installs the commands, the library for C and the Python module. Needs rt and a C compiler.
 #
-#   make             makes all of it; what has changed is proved and built first, which takes half an hour or so
+#   make             makes all of it; what has changed is proved and built first (README.md says what that takes)
 #   make python      makes the Python module alone, in out/python
 #   make install     puts it below PREFIX, and below DESTDIR where that is given
 #   make uninstall   takes away what make install puts
 #   make check       runs the gate
-#   make deb         makes a Debian package of it in out
+#   make deb         makes a Debian package of it in out; MAINTAINER names who distributes it
 
 PREFIX ?= /usr/local
 LIBDIR ?= $(PREFIX)/lib
 PYTHON ?= python3
 PYTHONDIR ?= $(shell packaging/python_folder $(PYTHON) $(PREFIX))
-VERSION := 0.1.0
+VERSION := $(shell cat VERSION)
+MAINTAINER ?= The Simbegyor authors <simbegyor@example.org>
 
 program := crates/ndef/out/ndef
 maker := crates/ndef_make/out/ndef_make
@@ -69,6 +70,6 @@ check:
 	.ci/run
 
 deb: all
-	packaging/make_deb $(VERSION)
+	packaging/make_deb $(VERSION) '$(MAINTAINER)'
 
 .PHONY: all python install uninstall check deb
