@@ -6,7 +6,7 @@
 #include <stdlib.h>
 #include <string.h>
 
-/* The structs lie as the library's do. */
+/* The sizes, offsets and alignments are those of the library, on machines of 32 bits too. */
 typedef char limits_lie[sizeof(ndef_limits) == 16 && offsetof(ndef_limits, flags) == 12 ? 1 : -1];
 typedef char checked_lies[sizeof(ndef_checked) == 16 && offsetof(ndef_checked, records) == 8 ? 1 : -1];
 typedef char checker_lies[sizeof(ndef_checker) == 232 ? 1 : -1];
@@ -21,6 +21,9 @@ typedef char link_lies[sizeof(ndef_link) == 40 && offsetof(ndef_link, has_record
 typedef char poster_lies[sizeof(ndef_poster_parts) == 32 && offsetof(ndef_poster_parts, size) == 28 ? 1 : -1];
 typedef char error_lies[sizeof(ndef_error_parts) == 32 && offsetof(ndef_error_parts, number) == 24 ? 1 : -1];
 typedef char writing_lies[sizeof(ndef_writing) == 12 && offsetof(ndef_writing, chunk) == 8 ? 1 : -1];
+typedef char error_lies[sizeof(ndef_error_parts) == 32 && offsetof(ndef_error_parts, number) == 24 ? 1 : -1];
+struct aligned { char first; ndef_size second; };
+typedef char size_lies[sizeof(ndef_size) == 8 && offsetof(struct aligned, second) == 8 ? 1 : -1];
 
 enum { FIELDS = 7, LINE = 1 << 22 };
 
@@ -37,30 +40,30 @@ static char *field(char **rest) {
     return at;
 }
 
-static size_t from_hex(const char *text, uint8_t *out) {
-    size_t count = 0;
+static ndef_size from_hex(const char *text, uint8_t *out) {
+    ndef_size count = 0;
     unsigned octet;
     for (; *text; text++)
         if (*text != ' ' && sscanf(text, "%2x", &octet) == 1) out[count++] = (uint8_t)octet, text++;
     return count;
 }
 
-static int is_part(const char *text, const uint8_t *part, size_t length) {
+static int is_part(const char *text, const uint8_t *part, ndef_size length) {
     if (strcmp(text, "-") == 0) text = "";
     return strlen(text) == length && memcmp(text, part, length) == 0;
 }
 
 /* Whether the record, which is written behind what was, is the one that the text tells. */
-static int is_record(const char *text, const ndef_record *record, const uint8_t *whole, size_t *end) {
+static int is_record(const char *text, const ndef_record *record, const uint8_t *whole, ndef_size *end) {
     static char hexadecimal[LINE];
     static uint8_t told[LINE];
     unsigned tnf;
     char type[512], id[512];
-    size_t count = 0;
+    ndef_size count = 0;
     if (sscanf(text, "%u %511s %511s %4194303s", &tnf, type, id, hexadecimal) != 4 || tnf != record->tnf) return 0;
     if (!is_part(type, bytes + record->type_at, record->type_length)) return 0;
     if (!is_part(id, bytes + record->id_at, record->id_length)) return 0;
-    size_t length = strcmp(hexadecimal, "-") ? from_hex(hexadecimal, told) : 0;
+    ndef_size length = strcmp(hexadecimal, "-") ? from_hex(hexadecimal, told) : 0;
     if (length != record->payload_length) return 0;
     if (ndef_payload(whole, record->end, record->at, payload, length ? length - 1 : 0, &count) != (length ? NDEF_NO_ROOM : NDEF_OK)) return 0;
     if (count != length || ndef_payload(whole, record->end, record->at, payload, length, &count) != NDEF_OK) return 0;
@@ -77,9 +80,9 @@ static int is_record(const char *text, const ndef_record *record, const uint8_t 
 static int are_records(char *text, const ndef_limits *limits, const ndef_checked *checked) {
     ndef_checked again;
     ndef_record record;
-    size_t end = 0, at = 0;
+    ndef_size end = 0, at = 0;
     uint32_t records = 0;
-    while (ndef_record_at(bytes, (size_t)checked->place, at, &record) == NDEF_OK) {
+    while (ndef_record_at(bytes, (ndef_size)checked->place, at, &record) == NDEF_OK) {
         char *next = strchr(text, ',');
         if (next) *next = 0;
         if (!is_record(text, &record, bytes, &end)) return 0;
@@ -93,7 +96,7 @@ static int are_records(char *text, const ndef_limits *limits, const ndef_checked
 }
 
 /* Whether a feed answers what a check of all the bytes so far does. */
-static int is_as_checked(const ndef_limits *limits, size_t length, uint32_t status, const ndef_checked *out) {
+static int is_as_checked(const ndef_limits *limits, ndef_size length, uint32_t status, const ndef_checked *out) {
     ndef_checked checked;
     uint32_t of_all = ndef_check(bytes, length, limits, &checked);
     int wants_more = of_all == NDEF_REFUSED && checked.place == length;
@@ -101,10 +104,10 @@ static int is_as_checked(const ndef_limits *limits, size_t length, uint32_t stat
 }
 
 /* Whether the bytes are answered so byte by byte, and cut into two parts at each place, or at some of many. */
-static int is_fed(const ndef_limits *limits, size_t length) {
+static int is_fed(const ndef_limits *limits, ndef_size length) {
     static ndef_checker whole, part;
     ndef_checked out;
-    size_t step = 1 + length / 256, at = 0;
+    ndef_size step = 1 + length / 256, at = 0;
     if (ndef_begin(limits, &whole) != NDEF_OK || !is_as_checked(limits, 0, ndef_feed(&whole, bytes, 0, &out), &out)) return 0;
     for (; at < length; at++) {
         if (at % step == 0) {
@@ -117,7 +120,7 @@ static int is_fed(const ndef_limits *limits, size_t length) {
     return 1;
 }
 
-static int is_answered(char *limit_words, const char *profile, int opaque, size_t length, const char *answer, char *records) {
+static int is_answered(char *limit_words, const char *profile, int opaque, ndef_size length, const char *answer, char *records) {
     ndef_limits limits;
     ndef_checked checked;
     unsigned long long place = 0;
@@ -139,13 +142,13 @@ static int is_answered(char *limit_words, const char *profile, int opaque, size_
 }
 
 int main(void) {
-    size_t run = 0, failed = 0;
+    ndef_size run = 0, failed = 0;
     while (fgets(line, sizeof line, stdin)) {
         static char copy[LINE];
         char *fields[FIELDS], *rest = copy;
         strcpy(copy, line);
         for (int i = 0; i < FIELDS; i++) fields[i] = field(&rest);
-        size_t length = from_hex(fields[4], bytes);
+        ndef_size length = from_hex(fields[4], bytes);
         for (int opaque = 0; opaque < 2; opaque++) {
             if (!strstr(fields[1], opaque ? "opaque" : "typed")) continue;
             char limits[128], records[1 << 16];
@@ -155,6 +158,6 @@ int main(void) {
             if (!is_answered(limits, fields[2], opaque, length, fields[5], records)) failed++, printf("%s", line);
         }
     }
-    printf("cases %zu, failed %zu\n", run, failed);
+    printf("cases %llu, failed %llu\n", (unsigned long long)run, (unsigned long long)failed);
     return failed || !run;
 }

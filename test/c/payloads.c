@@ -11,13 +11,13 @@ static void expect(int holds, const char *what) {
     if (!holds) failed++, printf("%s\n", what);
 }
 
-static int is(const uint8_t *room, size_t count, const char *text, size_t length) {
+static int is(const uint8_t *room, ndef_size count, const char *text, ndef_size length) {
     return count == length && memcmp(room, text, length) == 0;
 }
 
 static void uris(void) {
     uint8_t room[64], back[64];
-    size_t count = 0, length = 0;
+    ndef_size count = 0, length = 0;
     ndef_checked why = { 7, 7, 7 };
     const char *uri = "http://www.example.com";
     expect(ndef_write_uri((const uint8_t *)uri, strlen(uri), room, sizeof room, &count) == NDEF_OK, "a URI isn't written");
@@ -40,7 +40,7 @@ static void uris(void) {
 
 static void texts(void) {
     uint8_t room[64];
-    size_t count = 0;
+    ndef_size count = 0;
     ndef_text_parts parts;
     ndef_checked why = { 7, 7, 7 };
     const uint8_t *hello = (const uint8_t *)"Hello";
@@ -68,9 +68,9 @@ static const char little[] = "a\0\xe9\0\xac\x20\x3d\xd8\0\xde";
 static const char narrow[] = "a\xc3\xa9\xe2\x82\xac\xf0\x9f\x98\x80";
 
 /* The payload of a text with the language code "en", and what it is in UTF-8. */
-static void converted(uint8_t status, const char *mark, const char *text, size_t length, const char *what) {
+static void converted(uint8_t status, const char *mark, const char *text, ndef_size length, const char *what) {
     uint8_t payload[32] = { status, 'e', 'n' }, room[32];
-    size_t count = 0, front = 3 + strlen(mark);
+    ndef_size count = 0, front = 3 + strlen(mark);
     ndef_checked why = { 7, 7, 7 };
     memcpy(payload + 3, mark, front - 3);
     memcpy(payload + front, text, length);
@@ -81,7 +81,7 @@ static void converted(uint8_t status, const char *mark, const char *text, size_t
 
 static void conversions(void) {
     uint8_t room[32];
-    size_t count = 77;
+    ndef_size count = 77;
     ndef_checked why = { 7, 7, 7 };
     const uint8_t *language = (const uint8_t *)"en";
     converted(0x02, "", narrow, 10, "UTF-8 is read otherwise");
@@ -102,7 +102,7 @@ static void conversions(void) {
 
 static void carriers(void) {
     uint8_t room[64];
-    size_t count = 0;
+    ndef_size count = 0;
     ndef_carrier_parts parts;
     ndef_checked why = { 7, 7, 7 };
     const uint8_t *type = (const uint8_t *)"text/plain";
@@ -137,7 +137,7 @@ static void alternatives(void) {
     expect(ndef_reference(payload, 12, 2, &part) == NDEF_OK && part.at == 8 && part.length == 0, "an empty reference lies elsewhere");
     part.at = 77;
     expect(ndef_reference(payload, 12, 3, &part) == NDEF_END && part.at == 77, "a reference too many is there");
-    expect(ndef_reference(payload, 12, (size_t)-1, &part) == NDEF_END && part.at == 77, "the last reference of all is there");
+    expect(ndef_reference(payload, 12, (ndef_size)-1, &part) == NDEF_END && part.at == 77, "the last reference of all is there");
     expect(ndef_reference(payload, 7, 0, &part) == NDEF_BAD_ARGUMENT && part.at == 77, "a reference of no payload is there");
     expect(ndef_alternative((const uint8_t *)"\xff\x00\x00", 3, &parts, &why) == NDEF_OK && parts.power == 3 && parts.references == 1,
            "the least alternative carrier isn't read");
@@ -180,7 +180,7 @@ static void handovers(void) {
     expect(ndef_select(reserved, 4, 2, &parts, &why) == NDEF_BAD_ARGUMENT, "an unknown flag is taken");
 }
 
-static int is_link(const ndef_link *link, size_t at, size_t length, uint32_t has, size_t index, size_t record_at) {
+static int is_link(const ndef_link *link, ndef_size at, ndef_size length, uint32_t has, ndef_size index, ndef_size record_at) {
     return link->carrier_at == at && link->carrier_length == length && link->has_record == has && link->record_index == index
         && link->record_at == record_at;
 }
@@ -189,11 +189,11 @@ static void links(void) {
     /* The select, a record with the id "0", one in pieces with the id "b", and one more with the id "0" */
     uint8_t message[128] = { 0x91, 2, sizeof select_payload, 'H', 's' };
     static const uint8_t records[] = { 0x1c, 1, 1, 1, 'x', '0', 0x7f, 0x3c, 1, 1, 1, 'x', 'b', 0x41, 0x16, 0, 1, 0x42, 0x5c, 1, 0, 1, 'x', '0' };
-    const size_t whole = 5 + sizeof select_payload + sizeof records;
+    const ndef_size whole = 5 + sizeof select_payload + sizeof records;
     ndef_link link;
     memcpy(message + 5, select_payload, sizeof select_payload);
     memcpy(message + 5 + sizeof select_payload, records, sizeof records);
-    for (size_t length = whole; length < sizeof message; length += sizeof message - whole - 1) {
+    for (ndef_size length = whole; length < sizeof message; length += sizeof message - whole - 1) {
         expect(ndef_link_at(message, length, select_payload, sizeof select_payload, 0, &link) == NDEF_OK, "a link isn't told");
         expect(is_link(&link, 6, 4, 1, 1, 50), "a link leads elsewhere");
         expect(ndef_link_at(message, length, select_payload, sizeof select_payload, 1, &link) == NDEF_OK, "an empty link isn't told");
@@ -206,7 +206,7 @@ static void links(void) {
     link.has_record = 77;
     expect(ndef_link_at(message, whole, select_payload, sizeof select_payload, 4, &link) == NDEF_END && link.has_record == 77, "a link too many is there");
     expect(ndef_link_at(message, whole, select_payload, 1, 0, &link) == NDEF_END, "a select without a message has a link");
-    expect(ndef_link_at(message, whole, select_payload, sizeof select_payload, (size_t)-1, &link) == NDEF_END, "the last link of all is there");
+    expect(ndef_link_at(message, whole, select_payload, sizeof select_payload, (ndef_size)-1, &link) == NDEF_END, "the last link of all is there");
     expect(ndef_link_at(message, whole - 1, select_payload, sizeof select_payload, 0, &link) == NDEF_BAD_ARGUMENT, "half a record is there");
     expect(ndef_link_at(message, 50, select_payload, sizeof select_payload, 0, &link) == NDEF_BAD_ARGUMENT, "a message has no last record");
     expect(ndef_link_at(message, 0, select_payload, sizeof select_payload, 0, &link) == NDEF_BAD_ARGUMENT, "no message has links");
@@ -222,7 +222,7 @@ static void posters(void) {
     ndef_poster_parts parts;
     ndef_checked why = { 7, 7, 7 };
     uint8_t room[64];
-    size_t count = 0;
+    ndef_size count = 0;
     /* "T" en Hi, "act" 1, "U" http://www.a, "s" 65536, "act" 0 */
     static const uint8_t poster[] = { 0x91, 1, 5, 'T', 2, 'e', 'n', 'H', 'i', 0x11, 3, 1, 'a', 'c', 't', 1, 0x11, 1, 2, 'U', 1, 'a',
                                       0x11, 1, 4, 's', 0, 1, 0, 0, 0x51, 3, 1, 'a', 'c', 't', 0 };

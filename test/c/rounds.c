@@ -10,7 +10,7 @@ enum { RECORDS = 5, PART = 255, PAYLOAD = 400, MOST = 65536 };
 
 typedef struct item {
     uint32_t tnf;
-    size_t type_length, id_length, payload_length;
+    ndef_size type_length, id_length, payload_length;
     uint8_t type[PART], id[PART], payload[PAYLOAD];
 } item;
 
@@ -28,8 +28,8 @@ static void fail(const char *what) {
     exit(1);
 }
 
-static void fill(uint8_t *out, size_t length) {
-    for (size_t i = 0; i < length; i++) out[i] = (uint8_t)below(256);
+static void fill(uint8_t *out, ndef_size length) {
+    for (ndef_size i = 0; i < length; i++) out[i] = (uint8_t)below(256);
 }
 
 static void random_item(item *it) {
@@ -44,9 +44,9 @@ static void random_item(item *it) {
     fill(it->payload, it->payload_length);
 }
 
-static size_t write_item(const item *it, uint32_t flags, uint32_t chunk, uint8_t *room, size_t size) {
+static ndef_size write_item(const item *it, uint32_t flags, uint32_t chunk, uint8_t *room, ndef_size size) {
     ndef_writing how = { it->tnf, flags, chunk };
-    size_t needed = 0, count = 0;
+    ndef_size needed = 0, count = 0;
     uint32_t asked = ndef_write_record(it->type, it->type_length, it->id, it->id_length, it->payload, it->payload_length,
                                        &how, room, 0, &needed);
     if (asked != NDEF_NO_ROOM || needed > size) fail("the length needed is another");
@@ -62,8 +62,8 @@ static size_t write_item(const item *it, uint32_t flags, uint32_t chunk, uint8_t
     return needed;
 }
 
-static void read_items(const item *items, uint32_t count, const uint8_t *bytes, size_t length) {
-    size_t at = 0, size = 0;
+static void read_items(const item *items, uint32_t count, const uint8_t *bytes, ndef_size length) {
+    ndef_size at = 0, size = 0;
     ndef_record record;
     for (uint32_t i = 0; i < count; i++) {
         const item *it = &items[i];
@@ -82,9 +82,9 @@ static void read_items(const item *items, uint32_t count, const uint8_t *bytes, 
 }
 
 /* Walks what was checked, or bytes that weren't; the answers are only to be sound. */
-static void walk_any(const uint8_t *bytes, size_t length, size_t at) {
+static void walk_any(const uint8_t *bytes, ndef_size length, ndef_size at) {
     ndef_record record;
-    size_t count = 0;
+    ndef_size count = 0;
     for (int i = 0; i < 8 && ndef_record_at(bytes, length, at, &record) == NDEF_OK; i++) {
         if (record.end <= at || record.end > length) fail("a record goes too far");
         uint8_t *room = malloc(record.payload_length + 1);
@@ -95,13 +95,13 @@ static void walk_any(const uint8_t *bytes, size_t length, size_t at) {
 }
 
 /* Feeds bytes in random parts, each of which is answered as a check of all the bytes so far is. */
-static void feed_any(const uint8_t *bytes, size_t length, const ndef_limits *limits) {
+static void feed_any(const uint8_t *bytes, ndef_size length, const ndef_limits *limits) {
     struct { uint8_t before[8]; ndef_checker checker; uint8_t behind[8]; } memory;
     ndef_checked out, checked;
     memset(&memory, 0xa5, sizeof memory);
     uint32_t begun = ndef_begin(limits, &memory.checker);
-    for (size_t at = 0, most = 1 + below(60);;) {
-        size_t count = below(8) ? 1 + below((uint32_t)most) : 0;
+    for (ndef_size at = 0, most = 1 + below(60);;) {
+        ndef_size count = below(8) ? 1 + below((uint32_t)most) : 0;
         if (count > length - at) count = length - at;
         memset(&out, 0x5a, sizeof out);
         memset(&checked, 0x5a, sizeof checked);
@@ -119,7 +119,7 @@ static void feed_any(const uint8_t *bytes, size_t length, const ndef_limits *lim
     for (int i = 0; i < 8; i++) if (memory.before[i] != 0xa5 || memory.behind[i] != 0xa5) fail("a checker is written too far");
 }
 
-static void check_any(const uint8_t *bytes, size_t length, const ndef_limits *limits, int front) {
+static void check_any(const uint8_t *bytes, ndef_size length, const ndef_limits *limits, int front) {
     uint8_t *exact = malloc(length + 1);
     ndef_checked checked;
     memcpy(exact, bytes, length);
@@ -139,7 +139,7 @@ static void message_round(void) {
     ndef_limits limits = { 1048576, 1024, 4096, NDEF_OPAQUE };
     ndef_checked checked;
     uint32_t count = 1 + below(RECORDS), form = below(2) ? (uint32_t)NDEF_LONG : 0, chunk = below(2) ? 0 : 1 + below(100);
-    size_t length = 0;
+    ndef_size length = 0;
     for (uint32_t i = 0; i < count; i++) {
         random_item(&items[i]);
         uint32_t flags = form | (i == 0 ? (uint32_t)NDEF_FIRST : 0) | (i + 1 == count ? (uint32_t)NDEF_LAST : 0);
@@ -155,20 +155,20 @@ static void message_round(void) {
 }
 
 static void wild_round(void) {
-    size_t length = below(40), size = below(30), count = 0, third = length / 3;
+    ndef_size length = below(40), size = below(30), count = 0, third = length / 3;
     uint8_t *bytes = malloc(length + 1), *room = malloc(size + 1);
     ndef_limits limits = { below(50), below(5), below(5), below(5) };
     ndef_writing how = { below(8), below(9), below(4) };
-    for (size_t i = 0; i < length; i++) bytes[i] = (uint8_t)(below(3) ? below(8) : below(256));
+    for (ndef_size i = 0; i < length; i++) bytes[i] = (uint8_t)(below(3) ? below(8) : below(256));
     memset(room, 0xa5, size);
     check_any(bytes, length, &limits, 0);
-    size_t at = below(50) ? below((uint32_t)length + 3) : (size_t)-1 - below(3);
+    ndef_size at = below(50) ? below((uint32_t)length + 3) : (ndef_size)-1 - below(3);
     walk_any(bytes, length, at);
     uint32_t status = ndef_payload(bytes, length, at, room, size, &count);
-    for (size_t i = status == NDEF_OK ? count : 0; i < size; i++) if (room[i] != 0xa5) fail("a room is written too far");
+    for (ndef_size i = status == NDEF_OK ? count : 0; i < size; i++) if (room[i] != 0xa5) fail("a room is written too far");
     memset(room, 0xa5, size);
     status = ndef_write_record(bytes, third, bytes + third, third, bytes + 2 * third, length - 2 * third, &how, room, size, &count);
-    for (size_t i = status == NDEF_OK ? count : 0; i < size; i++) if (room[i] != 0xa5) fail("a room is written too far");
+    for (ndef_size i = status == NDEF_OK ? count : 0; i < size; i++) if (room[i] != 0xa5) fail("a room is written too far");
     ndef_reason_name(below(30), room, size, &count);
     free(bytes);
     free(room);
@@ -177,7 +177,7 @@ static void wild_round(void) {
 int main(int count, char **words) {
     long rounds = count > 1 ? strtol(words[1], NULL, 10) : 100000;
     uint8_t name[16];
-    size_t length = 0;
+    ndef_size length = 0;
     int named = 0;
     for (uint32_t reason = 0; reason < 1000; reason++) named += ndef_reason_name(reason, name, 16, &length) == NDEF_OK;
     if (named != 25) fail("other reasons have names");

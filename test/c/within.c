@@ -10,13 +10,13 @@ static void expect(int holds, const char *what) {
     if (!holds) failed++, printf("%s\n", what);
 }
 
-static int is(const uint8_t *room, size_t count, const char *text, size_t length) {
+static int is(const uint8_t *room, ndef_size count, const char *text, ndef_size length) {
     return count == length && memcmp(room, text, length) == 0;
 }
 
 /* Appends a record of a type of the NFC Forum to what the room holds, and answers how much it holds then. */
-static size_t record(uint8_t *room, size_t at, uint32_t flags, const char *type, const uint8_t *payload, size_t length) {
-    size_t count = 0;
+static ndef_size record(uint8_t *room, ndef_size at, uint32_t flags, const char *type, const uint8_t *payload, ndef_size length) {
+    ndef_size count = 0;
     const ndef_writing how = { NDEF_WELL_KNOWN, flags, 0 };
     expect(ndef_write_record((const uint8_t *)type, strlen(type), payload, 0, payload, length, &how, room + at, 512 - at, &count) == NDEF_OK,
            "a record isn't written");
@@ -25,7 +25,7 @@ static size_t record(uint8_t *room, size_t at, uint32_t flags, const char *type,
 
 static void numbers(void) {
     uint8_t room[8] = { 7, 7, 7, 7, 7, 7, 7, 7 };
-    size_t count = 77;
+    ndef_size count = 77;
     expect(ndef_write_action(256, room, sizeof room, &count) == NDEF_BAD_ARGUMENT && count == 77, "an action of two bytes is written");
     expect(ndef_write_action(2, room, 0, &count) == NDEF_NO_ROOM && count == 1 && room[0] == 7, "an action needs another length");
     expect(ndef_write_action(255, room, sizeof room, &count) == NDEF_OK && is(room, count, "\xff", 1), "an action has another payload");
@@ -57,7 +57,7 @@ static void errors_read(void) {
 
 static void errors(void) {
     uint8_t room[8];
-    size_t count = 77;
+    ndef_size count = 77;
     const uint8_t *data = (const uint8_t *)"abcdefg";
     expect(ndef_write_error(1, data, 1, room, sizeof room, &count) == NDEF_OK && is(room, count, "\1a", 2), "reason 1 isn't written");
     expect(ndef_write_error(2, data, 4, room, sizeof room, &count) == NDEF_OK && is(room, count, "\2abcd", 5), "reason 2 isn't written");
@@ -82,7 +82,7 @@ static void errors(void) {
 static void alternatives(void) {
     static uint8_t room[70000], long_one[300];
     static ndef_part many[257];
-    size_t count = 77;
+    ndef_size count = 77;
     const uint8_t *bytes = (const uint8_t *)"0xy";
     const ndef_part parts[3] = { { 0, 1 }, { 1, 2 }, { 3, 0 } };
     expect(ndef_write_alternative(1, bytes, 3, parts, 3, room, 7, &count) == NDEF_NO_ROOM && count == 8 && room[0] == 0, "another length is needed");
@@ -99,7 +99,7 @@ static void alternatives(void) {
     expect(ndef_write_alternative(4, bytes, 3, parts, 3, room, sizeof room, &count) == NDEF_BAD_ARGUMENT, "a power state of three bits is written");
     expect(ndef_write_alternative(0, bytes, 3, parts, 0, room, sizeof room, &count) == NDEF_BAD_ARGUMENT, "no reference is written");
     expect(ndef_write_alternative(0, bytes, 2, parts, 3, room, sizeof room, &count) == NDEF_BAD_ARGUMENT, "a reference lies beyond the bytes");
-    const ndef_part wild[2] = { { (size_t)-1, 2 }, { 4, 0 } };
+    const ndef_part wild[2] = { { (ndef_size)-1, 2 }, { 4, 0 } };
     expect(ndef_write_alternative(0, bytes, 3, wild, 1, room, sizeof room, &count) == NDEF_BAD_ARGUMENT, "a reference lies before the bytes");
     expect(ndef_write_alternative(0, bytes, 3, wild + 1, 1, room, sizeof room, &count) == NDEF_BAD_ARGUMENT, "an empty reference lies beyond the bytes");
     many[0].length = 256;
@@ -113,7 +113,7 @@ static void alternatives(void) {
 
 static void posters(void) {
     uint8_t room[512], payload[8];
-    size_t count = 0, at;
+    ndef_size count = 0, at;
     ndef_poster_parts parts;
     ndef_checked why = { 7, 7, 7 };
     at = record(room, 0, NDEF_FIRST, "U", (const uint8_t *)"\0a", 2);
@@ -126,9 +126,9 @@ static void posters(void) {
 }
 
 /* Whether the payload of a record of the type is what ndef_check takes. */
-static int is_taken(const char *type, const uint8_t *payload, size_t length) {
+static int is_taken(const char *type, const uint8_t *payload, ndef_size length) {
     uint8_t room[512];
-    size_t end = record(room, 0, NDEF_FIRST | NDEF_LAST, type, payload, length);
+    ndef_size end = record(room, 0, NDEF_FIRST | NDEF_LAST, type, payload, length);
     ndef_limits limits;
     ndef_checked checked;
     ndef_usual_limits(&limits);
@@ -137,7 +137,7 @@ static int is_taken(const char *type, const uint8_t *payload, size_t length) {
 
 static void requests(void) {
     uint8_t message[512] = { 0 }, room[512], payload[16];
-    size_t count = 77, end;
+    ndef_size count = 77, end;
     const uint8_t *bytes = (const uint8_t *)"0";
     const ndef_part part = { 0, 1 };
     expect(ndef_write_collision(0x1234, payload, sizeof payload, &count) == NDEF_OK, "a number isn't written");
@@ -162,7 +162,7 @@ static void requests(void) {
 
 static void selects(void) {
     uint8_t message[512] = { 0 }, room[512], payload[16];
-    size_t count = 77, end;
+    ndef_size count = 77, end;
     expect(ndef_write_handover(NDEF_SELECT, 1, 2, message, 0, room, sizeof room, &count) == NDEF_OK && is(room, count, "\x12", 1),
            "a select with no message isn't written");
     expect(is_taken("Hs", room, count), "a select with no message isn't taken");
