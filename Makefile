@@ -6,6 +6,10 @@
 #   make uninstall   takes away what make install puts
 #   make check       runs the gate
 #   make deb         makes a Debian package of it in out; MAINTAINER names who distributes it
+#   make web         makes the web page and the module for JavaScript in out/web
+#   make TARGET=aarch64-linux    makes the library for C for AArch64 Linux alone, in out/aarch64-linux
+#
+# The programs and libndef.a run on every x86-64. libndef-v2.a needs SSSE3 and SSE4.1, and is faster on long texts.
 
 PREFIX ?= /usr/local
 LIBDIR ?= $(PREFIX)/lib
@@ -17,14 +21,21 @@ MAINTAINER ?= The Simbegyor authors <simbegyor@example.org>
 program := crates/ndef/out/ndef
 maker := crates/ndef_make/out/ndef_make
 archive := crates/ndef_c/out/libndef_c.a
+faster := out/x86-64-v2/libndef.a
 below_c := ndef_value ndef_piece ndef_lang ndef_nest ndef_message ndef_types ndef_c
 sources = $(shell find $(foreach crate,$(1),$(wildcard $(addprefix crates/$(crate)/,src specs proofs))) -type f)
 modules := $(wildcard python/simbegyor_ndef/*.py)
 module := out/python/simbegyor_ndef
 pages := $(wildcard man/*.1)
 completions := $(wildcard share/completion/*)
+shared := -shared -Wl,--version-script=packaging/ndef.map -Wl,-z,defs -Wl,-z,relro -Wl,-z,now
+filled := s,@PREFIX@,$(PREFIX),; s,@LIBDIR@,$(LIBDIR),; s,@VERSION@,$(VERSION),
 
-all: $(program) $(maker) $(archive) python
+ifdef TARGET
+all: out/$(TARGET)/libndef.a out/$(TARGET)/libndef.so out/$(TARGET)/ndef.h
+else
+all: $(program) $(maker) $(archive) $(faster) python
+endif
 
 # The scripts prove and build their programs where those are older than the sources.
 $(program): crates.txt $(call sources,$(notdir $(wildcard crates/*)))
@@ -34,8 +45,22 @@ $(maker): crates.txt $(call sources,$(notdir $(wildcard crates/*)))
 	./ndef-make record --tnf 0 </dev/null >/dev/null
 
 $(archive): crates.txt $(call sources,$(below_c))
-	cd crates/ndef_c && rt lib
+	cd crates/ndef_c && rt lib --cpu x86-64
 	touch $@
+
+# The library for other machines, over the crates that the line above proved.
+out/%/libndef.a: $(archive) packaging/library
+	packaging/library $*
+
+out/%/ndef.h: include/ndef.h
+	install -D -m 644 $< $@
+
+CROSS_CC ?= aarch64-linux-gnu-gcc
+out/aarch64-linux/libndef.so: out/aarch64-linux/libndef.a packaging/ndef.map
+	$(CROSS_CC) $(shared) -o $@ -Wl,--whole-archive $< -Wl,--no-whole-archive
+
+web: $(archive)
+	web/build
 
 python: $(module)/libndef.so $(patsubst python/%,out/python/%,$(modules))
 
@@ -44,8 +69,7 @@ out/python/%.py: python/%.py
 
 $(module)/libndef.so: $(archive) packaging/ndef.map
 	mkdir -p $(@D)
-	$(CC) -shared -o $@ -Wl,--version-script=packaging/ndef.map -Wl,-z,defs -Wl,-z,relro -Wl,-z,now \
-	    -Wl,--whole-archive $(archive) -Wl,--no-whole-archive
+	$(CC) $(shared) -o $@ -Wl,--whole-archive $(archive) -Wl,--no-whole-archive
 
 install: all
 	install -d $(addprefix $(DESTDIR),$(PREFIX)/bin $(PREFIX)/include $(LIBDIR)/pkgconfig $(PYTHONDIR)/simbegyor_ndef \
@@ -54,14 +78,16 @@ install: all
 	install -m 755 $(maker) $(DESTDIR)$(PREFIX)/bin/ndef-make
 	install -m 644 include/ndef.h $(DESTDIR)$(PREFIX)/include
 	install -m 644 $(archive) $(DESTDIR)$(LIBDIR)/libndef.a
-	sed 's,@PREFIX@,$(PREFIX),; s,@LIBDIR@,$(LIBDIR),; s,@VERSION@,$(VERSION),' packaging/ndef.pc.in >$(DESTDIR)$(LIBDIR)/pkgconfig/ndef.pc
+	install -m 644 $(faster) $(DESTDIR)$(LIBDIR)/libndef-v2.a
+	sed '$(filled)' packaging/ndef.pc.in >$(DESTDIR)$(LIBDIR)/pkgconfig/ndef.pc
+	sed '$(filled); s,^Name: .*,& for x86-64-v2,; s,-lndef,&-v2,' packaging/ndef.pc.in >$(DESTDIR)$(LIBDIR)/pkgconfig/ndef-v2.pc
 	install -m 644 $(modules) $(module)/libndef.so $(DESTDIR)$(PYTHONDIR)/simbegyor_ndef
 	install -m 644 $(pages) $(DESTDIR)$(PREFIX)/share/man/man1
 	install -m 644 $(completions) $(DESTDIR)$(PREFIX)/share/bash-completion/completions
 
 uninstall:
 	rm -f $(DESTDIR)$(PREFIX)/bin/ndef $(DESTDIR)$(PREFIX)/bin/ndef-make $(DESTDIR)$(PREFIX)/include/ndef.h
-	rm -f $(DESTDIR)$(LIBDIR)/libndef.a $(DESTDIR)$(LIBDIR)/pkgconfig/ndef.pc
+	rm -f $(addprefix $(DESTDIR)$(LIBDIR)/,libndef.a libndef-v2.a pkgconfig/ndef.pc pkgconfig/ndef-v2.pc)
 	rm -rf $(DESTDIR)$(PYTHONDIR)/simbegyor_ndef
 	rm -f $(addprefix $(DESTDIR)$(PREFIX)/share/man/man1/,$(notdir $(pages)))
 	rm -f $(addprefix $(DESTDIR)$(PREFIX)/share/bash-completion/completions/,$(notdir $(completions)))
@@ -72,4 +98,4 @@ check:
 deb: all
 	packaging/make_deb $(VERSION) '$(MAINTAINER)'
 
-.PHONY: all python install uninstall check deb
+.PHONY: all python install uninstall check deb web

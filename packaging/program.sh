@@ -87,7 +87,7 @@ build() {
     say_cost
     log=$(mktemp)
     trap interrupted INT TERM
-    if ! (cd "$top/crates/${crates[-1]}" && rt run -- "$@" </dev/null 2>&1) | tee "$log" | progress; then
+    if ! (cd "$top/crates/${crates[-1]}" && rt run --cpu x86-64 -- "$@" </dev/null 2>&1) | tee "$log" | progress; then
         cat "$log" >&2
         exit 3
     fi

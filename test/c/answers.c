@@ -1,0 +1,311 @@
+/* Makes every call of the library over the cases of the suite and over random messages. Prints a line for each message: a
+ * hash of all that the calls answered and wrote. Two builds of the library that print the same lines answer alike.
+ * `cases.h` is made by test/c/case_table. Without a C library (-ffreestanding), the caller has `put` and calls `answers`. */
+#include "ndef.h"
+#include "cases.h"
+
+#ifndef ROUNDS
+#define ROUNDS 20000
+#endif
+
+enum { MOST = 1 << 17, MARKS = 8 };
+static uint8_t message[MOST], room[MOST], copy[MOST], payload[MOST];
+static uint64_t hash, calls;
+
+void put(const char *line, unsigned length);
+void answers(void);
+
+/* ---- what is hashed */
+
+static void mix_byte(uint8_t byte) { hash = (hash ^ byte) * 1099511628211u; }
+
+static void mix(uint64_t number) {
+    for (int i = 0; i < 8; i++) mix_byte((uint8_t)(number >> (8 * i)));
+}
+
+static void mix_bytes(const uint8_t *bytes, ndef_size length) {
+    for (ndef_size i = 0; i < length; i++) mix_byte(bytes[i]);
+}
+
+static uint32_t mix_status(uint32_t status) {
+    calls++;
+    mix(status);
+    return status;
+}
+
+static void mix_checked(const ndef_checked *checked) {
+    mix(checked->place);
+    mix(checked->records);
+    mix(checked->reason);
+}
+
+/* A room of `size` bytes, and marks behind it that no call may write. */
+static uint8_t *marked(ndef_size size) {
+    for (ndef_size i = 0; i < size + MARKS; i++) room[i] = 0xa5;
+    return room;
+}
+
+static void mix_room(uint32_t status, ndef_size size, ndef_size count) {
+    mix_status(status);
+    mix(count);
+    mix_bytes(room, size + MARKS);
+}
+
+static void copy_bytes(uint8_t *to, const uint8_t *from, ndef_size length) {
+    for (ndef_size i = 0; i < length; i++) to[i] = from[i];
+}
+
+/* ---- the calls */
+
+/* A call that writes to a room. */
+#define WRITTEN(size, call) do { ndef_size count = 77; uint8_t *to = marked(size); (void)to; \
+    uint32_t status = (call); mix_room(status, size, count); } while (0)
+
+static void read_with_flags(const uint8_t *bytes, ndef_size length, uint32_t flags, ndef_size size) {
+    ndef_checked why = { 77, 77, 77 };
+    ndef_request_parts request = { 7, 7, 7, 7 };
+    ndef_select_parts select = { 7, 7, 7, 7, 7, 7, 7 };
+    ndef_poster_parts poster = { 7, 7, 7, 7, 7, 7 };
+    WRITTEN(size, ndef_uri(bytes, length, flags, to, size, &count, &why));
+    mix_checked(&why);
+    mix_status(ndef_request(bytes, length, flags, &request, &why));
+    mix(request.carriers), mix(request.major), mix(request.minor), mix(request.collision), mix_checked(&why);
+    mix_status(ndef_select(bytes, length, flags, &select, &why));
+    mix(select.carriers), mix(select.detail_at), mix(select.detail_length), mix(select.major), mix(select.minor);
+    mix(select.has_error), mix(select.error), mix_checked(&why);
+    mix_status(ndef_poster(bytes, length, flags, &poster, &why));
+    mix(poster.uri_at), mix(poster.uri_length), mix(poster.has_action), mix(poster.action), mix(poster.has_size), mix(poster.size);
+    mix_checked(&why);
+}
+
+static void read_without_flags(const uint8_t *bytes, ndef_size length, ndef_size size) {
+    ndef_checked why = { 77, 77, 77 };
+    ndef_text_parts text = { 7, 7, 7, 7, 7 };
+    ndef_carrier_parts carrier = { 7, 7, 7, 7, 7 };
+    ndef_alternative_parts alternative = { 7, 7 };
+    ndef_error_parts error = { 7, 7, 7, 7, 7 };
+    mix_status(ndef_text(bytes, length, &text, &why));
+    mix(text.language_at), mix(text.language_length), mix(text.text_at), mix(text.text_length), mix(text.utf16), mix_checked(&why);
+    WRITTEN(size, ndef_text_in_utf8(bytes, length, to, size, &count, &why));
+    mix_status(ndef_carrier(bytes, length, &carrier, &why));
+    mix(carrier.type_at), mix(carrier.type_length), mix(carrier.data_at), mix(carrier.data_length), mix(carrier.format);
+    mix_status(ndef_alternative(bytes, length, &alternative, &why));
+    mix(alternative.power), mix(alternative.references);
+    for (ndef_size index = 0; index < 4; index++) {
+        ndef_part part = { 7, 7 };
+        mix_status(ndef_reference(bytes, length, index, &part));
+        mix(part.at), mix(part.length);
+    }
+    mix_status(ndef_error(bytes, length, &error, &why));
+    mix(error.data_at), mix(error.data_length), mix(error.reason), mix(error.has_number), mix(error.number), mix_checked(&why);
+}
+
+static void write_from(const uint8_t *bytes, ndef_size length, ndef_size size) {
+    ndef_size third = length / 3;
+    uint32_t number = (uint32_t)length;
+    const ndef_part parts[3] = { { 0, third }, { third, length - third }, { length, 0 } };
+    WRITTEN(size, ndef_write_uri(bytes, length, to, size, &count));
+    for (uint32_t flags = 0; flags < 3; flags++)
+        WRITTEN(size, ndef_write_text(bytes, length < 2 ? length : 2, bytes, length, flags, to, size, &count));
+    WRITTEN(size, ndef_write_text(bytes, third, bytes + third, length - third, 1, to, size, &count));
+    WRITTEN(size, ndef_write_carrier(number % 9, bytes, third, bytes + third, length - third, to, size, &count));
+    WRITTEN(size, ndef_write_alternative(number % 5, bytes, length, parts, length % 4, to, size, &count));
+    WRITTEN(size, ndef_write_error(number % 5, bytes, length, to, size, &count));
+    WRITTEN(size, ndef_write_error_number(number % 5, number * 2654435761u, to, size, &count));
+    for (uint32_t handover = 0; handover < 3; handover++)
+        WRITTEN(size, ndef_write_handover(handover, 1, number % 17, bytes, length, to, size, &count));
+    WRITTEN(size, ndef_write_action(number * 3, to, size, &count));
+    WRITTEN(size, ndef_write_size(number * 2654435761u, to, size, &count));
+    WRITTEN(size, ndef_write_collision(number * 40503u, to, size, &count));
+}
+
+static void look_at_payload(const uint8_t *bytes, ndef_size length, ndef_size size) {
+    for (uint32_t flags = 0; flags < 3; flags++) read_with_flags(bytes, length, flags, size);
+    read_without_flags(bytes, length, size);
+    write_from(bytes, length, size);
+}
+
+static void follow_links(const uint8_t *bytes, ndef_size length, const uint8_t *handover, ndef_size handover_length) {
+    for (ndef_size index = 0; index < 4; index++) {
+        ndef_link link = { 7, 7, 7, 7, 7 };
+        mix_status(ndef_link_at(bytes, length, handover, handover_length, index, &link));
+        mix(link.carrier_at), mix(link.carrier_length), mix(link.record_index), mix(link.record_at), mix(link.has_record);
+    }
+}
+
+static void mix_record(const ndef_record *record) {
+    mix(record->at), mix(record->end), mix(record->type_at), mix(record->type_length), mix(record->id_at), mix(record->id_length);
+    mix(record->payload_at), mix(record->part_length), mix(record->payload_length), mix(record->pieces);
+    mix(record->tnf), mix(record->last);
+}
+
+/* Writes the record again, in one piece and chunked; `copy` has its payload. */
+static void write_again(const uint8_t *bytes, const ndef_record *record) {
+    ndef_size size = 64 + 8 * record->payload_length + record->type_length + record->id_length;
+    if (size + MARKS > MOST) size = 1000;
+    for (uint32_t flags = 0; flags < 9; flags += 3) {
+        const ndef_writing how = { record->tnf, flags & 7, flags == 6 ? 3 : 0 };
+        WRITTEN(size, ndef_write_record(bytes + record->type_at, record->type_length, bytes + record->id_at, record->id_length,
+                                        copy, record->payload_length, &how, to, size, &count));
+    }
+}
+
+static void walk(const uint8_t *bytes, ndef_size length, int is_nested) {
+    ndef_size at = 0;
+    for (int i = 0; i < 12; i++) {
+        ndef_record record = { 7, 7, 7, 7, 7, 7, 7, 7, 7, 7, 7, 7 };
+        uint32_t status = mix_status(ndef_record_at(bytes, length, at, &record));
+        mix_record(&record);
+        if (status != NDEF_OK || record.payload_length + 2 * MARKS > MOST) break;
+        ndef_size size = record.payload_length;
+        WRITTEN(size, ndef_payload(bytes, length, at, to, size ? size - 1 : 0, &count));
+        WRITTEN(size, ndef_payload(bytes, length, at, to, size, &count));
+        copy_bytes(copy, room, size);
+        write_again(bytes, &record);
+        if (!is_nested && size <= 3000) {
+            copy_bytes(payload, copy, size);
+            look_at_payload(payload, size, 2 * size + 40);
+            look_at_payload(payload, size, size / 2);
+            follow_links(bytes, length, payload, size);
+            walk(payload, size, 1);
+            if (size > 1) walk(payload + 1, size - 1, 1);
+        }
+        at = record.end;
+    }
+}
+
+static void feed(const uint8_t *bytes, ndef_size length, const ndef_limits *limits) {
+    static ndef_checker checker;
+    ndef_checked out = { 77, 77, 77 };
+    mix_status(ndef_begin(limits, &checker));
+    for (ndef_size at = 0, step; at < length; at += step) {
+        step = at < 64 ? 1 : length - at;
+        mix_status(ndef_feed(&checker, bytes + at, step, &out)), mix_checked(&out);
+    }
+    mix_status(ndef_begin(limits, &checker));
+    mix_status(ndef_feed(&checker, bytes, length / 2, &out)), mix_checked(&out);
+    mix_status(ndef_feed(&checker, bytes + length / 2, length - length / 2, &out)), mix_checked(&out);
+    mix_status(ndef_feed(&checker, bytes, 0, &out)), mix_checked(&out);
+}
+
+static void look_at(const uint8_t *bytes, ndef_size length, ndef_limits limits) {
+    for (uint32_t flags = 0; flags < 5; flags++) {
+        ndef_checked out = { 77, 77, 77 };
+        const ndef_limits small = { 1 + (uint32_t)(length / 2), 2, 2, flags };
+        limits.flags = flags;
+        mix_status(ndef_check(bytes, length, &limits, &out)), mix_checked(&out);
+        mix_status(ndef_check(bytes, length, &small, &out)), mix_checked(&out);
+        feed(bytes, length, &limits);
+    }
+    walk(bytes, length, 0);
+}
+
+static void names(void) {
+    ndef_limits usual;
+    ndef_usual_limits(&usual);
+    mix(usual.payload), mix(usual.records), mix(usual.pieces), mix(usual.flags);
+    for (uint32_t reason = 0; reason < 40; reason++)
+        WRITTEN(24, ndef_reason_name(reason, to, reason % 20, &count));
+}
+
+/* ---- random messages: the cases with bytes changed, put in or left out, some of them as payloads */
+
+static uint32_t below(uint32_t bound) {
+    static uint64_t state = 88172645463325252u;
+    state ^= state << 13;
+    state ^= state >> 7;
+    state ^= state << 17;
+    return (uint32_t)((state >> 32) % bound);
+}
+
+static ndef_size some_case(uint8_t *to) {
+    const struct message_case *one;
+    do one = &cases[below(CASES)];
+    while (one->length > 4000);
+    copy_bytes(to, case_bytes + one->at, one->length);
+    return one->length;
+}
+
+static ndef_size changed(uint8_t *bytes, ndef_size length) {
+    uint32_t at = below((uint32_t)length), with = below(256), what = below(9);
+    if (what < 3) bytes[at] ^= (uint8_t)(1u << (with & 7));
+    else if (what < 5) bytes[at] = (uint8_t)with;
+    else if (what == 5) return at;
+    else if (what == 6) {
+        for (ndef_size i = length; i > at; i--) bytes[i] = bytes[i - 1];
+        return length + 1;
+    } else {
+        for (ndef_size i = at; i + 1 < length; i++) bytes[i] = bytes[i + 1];
+        return length - 1;
+    }
+    return length;
+}
+
+static ndef_size within_a_record(uint8_t *bytes, ndef_size length) {
+    static const char *const types[] = { "T", "U", "Sp", "Hr", "Hs", "Hc", "ac", "err" };
+    const char *type = types[below(8)];
+    const ndef_writing how = { NDEF_WELL_KNOWN, NDEF_FIRST | NDEF_LAST | (below(3) ? 0 : NDEF_LONG), below(4) ? 0 : 1 + below(9) };
+    ndef_size type_length = 1, count = 0;
+    while (type[type_length]) type_length++;
+    if (ndef_write_record((const uint8_t *)type, type_length, bytes, 0, bytes, length, &how, room, MOST, &count) != NDEF_OK) return length;
+    copy_bytes(bytes, room, count);
+    return count;
+}
+
+static ndef_size random_message(void) {
+    ndef_size length = some_case(message);
+    if (below(3) == 0) length += some_case(message + length);
+    for (uint32_t times = below(4); times && length; times--) length = changed(message, length);
+    if (below(3) == 0) length = within_a_record(message, length);
+    return length;
+}
+
+/* ---- lines */
+
+static unsigned digits(char *to, uint64_t number, unsigned base) {
+    char reversed[24];
+    unsigned count = 0, length = 0;
+    do reversed[count++] = "0123456789abcdef"[number % base], number /= base;
+    while (number);
+    while (count) to[length++] = reversed[--count];
+    return length;
+}
+
+static void put_line(uint64_t first, uint64_t second) {
+    char line[64];
+    unsigned length = digits(line, first, 10);
+    line[length++] = ' ';
+    length += digits(line + length, second, 16);
+    line[length++] = '\n';
+    put(line, length);
+}
+
+void answers(void) {
+    for (uint32_t i = 0; i < CASES + ROUNDS; i++) {
+        ndef_limits limits = { 1048576, 1024, 4096, 0 };
+        ndef_size length;
+        if (i < CASES) {
+            const struct message_case *one = &cases[i];
+            if (one->length > MOST / 2) continue;
+            copy_bytes(message, case_bytes + one->at, length = one->length);
+            limits.payload = one->payload, limits.records = one->records, limits.pieces = one->pieces;
+        } else length = random_message();
+        hash = 14695981039346656037u;
+        mix_bytes(message, length);
+        look_at(message, length, limits);
+        if (i == 0) names();
+        put_line(i, hash);
+    }
+    put_line(CASES + ROUNDS, calls);
+}
+
+#if __STDC_HOSTED__
+#include <stdio.h>
+
+void put(const char *line, unsigned length) { fwrite(line, 1, length, stdout); }
+
+int main(void) {
+    answers();
+    return 0;
+}
+#endif
