@@ -5,9 +5,8 @@
  * is given.
  *
  * The caller must keep these rules:
- *   - A pointer that comes with a length points to that many bytes (or elements). Any other pointer points to one
- *     value of its type. No pointer is NULL. Where a length is 0, the pointer is not read, and any other value
- *     serves.
+ *   - A pointer that comes with a length points to that many bytes (or elements). Where the length is 0, the pointer
+ *     may have any value, NULL too. Any other pointer points to one value of its type, and is not NULL.
  *   - What a call writes (`out`, `count`, `why`, a room, a checker) overlaps none of its other arguments.
  *   - The ndef_checker that ndef_feed is given holds what ndef_begin or ndef_feed left in it, or is a copy of one
  *     that does. Only one call at a time uses it.

@@ -1,0 +1,92 @@
+/* Where a length is 0 a pointer may be NULL: each call then answers as with another pointer. */
+#include "ndef.h"
+
+#include <stdio.h>
+#include <string.h>
+
+enum { CALLS = 64 };
+
+struct answer { uint32_t status, reason; uint64_t place, count; };
+static struct answer answers[2][CALLS];
+static int made;
+static ndef_checked why;
+static ndef_size count;
+
+static void answer(int way, uint32_t status) {
+    const struct answer one = { status, why.reason, why.place, count };
+    answers[way][made++] = one;
+}
+
+static void check_calls(int way, const uint8_t *none, uint8_t *room) {
+    ndef_limits limits;
+    ndef_checker checker;
+    ndef_record record;
+    ndef_link link;
+    ndef_usual_limits(&limits);
+    ndef_begin(&limits, &checker);
+    answer(way, ndef_check(none, 0, &limits, &why));
+    answer(way, ndef_feed(&checker, none, 0, &why));
+    answer(way, ndef_record_at(none, 0, 0, &record));
+    answer(way, ndef_payload(none, 0, 0, room, 0, &count));
+    answer(way, ndef_reason_name(22, room, 0, &count));
+    answer(way, ndef_link_at(none, 0, none, 0, 0, &link));
+}
+
+static void reading_calls(int way, const uint8_t *none, uint8_t *room) {
+    ndef_text_parts text;
+    ndef_carrier_parts carrier;
+    ndef_alternative_parts alternative;
+    ndef_part part;
+    ndef_request_parts request;
+    ndef_select_parts select;
+    ndef_poster_parts poster;
+    ndef_error_parts error;
+    answer(way, ndef_uri(none, 0, 0, room, 0, &count, &why));
+    answer(way, ndef_uri((const uint8_t *)"", 1, 0, room, 0, &count, &why));
+    answer(way, ndef_text(none, 0, &text, &why));
+    answer(way, ndef_text_in_utf8(none, 0, room, 0, &count, &why));
+    answer(way, ndef_text_in_utf8((const uint8_t *)"", 1, room, 0, &count, &why));
+    answer(way, ndef_carrier(none, 0, &carrier, &why));
+    answer(way, ndef_alternative(none, 0, &alternative, &why));
+    answer(way, ndef_reference(none, 0, 0, &part));
+    answer(way, ndef_request(none, 0, 0, &request, &why));
+    answer(way, ndef_select(none, 0, 0, &select, &why));
+    answer(way, ndef_poster(none, 0, 0, &poster, &why));
+    answer(way, ndef_error(none, 0, &error, &why));
+}
+
+static void writing_calls(int way, const uint8_t *none, const ndef_part *no_parts, uint8_t *room, ndef_size size) {
+    const ndef_writing how = { NDEF_UNKNOWN, NDEF_FIRST | NDEF_LAST, 0 };
+    const ndef_part empty = { 0, 0 };
+    answer(way, ndef_write_record(none, 0, none, 0, none, 0, &how, room, size, &count));
+    answer(way, ndef_write_uri(none, 0, room, size, &count));
+    answer(way, ndef_write_text(none, 0, none, 0, 0, room, size, &count));
+    answer(way, ndef_write_text(none, 0, none, 0, NDEF_AS_UTF16, room, size, &count));
+    answer(way, ndef_write_carrier(1, none, 0, none, 0, room, size, &count));
+    answer(way, ndef_write_alternative(0, none, 0, no_parts, 0, room, size, &count));
+    answer(way, ndef_write_alternative(0, none, 0, &empty, 1, room, size, &count));
+    answer(way, ndef_write_action(1, room, size, &count));
+    answer(way, ndef_write_size(1, room, size, &count));
+    answer(way, ndef_write_collision(1, room, size, &count));
+    answer(way, ndef_write_error(9, none, 0, room, size, &count));
+    answer(way, ndef_write_error_number(2, 1, room, size, &count));
+    answer(way, ndef_write_handover(NDEF_SELECT, 1, 2, none, 0, room, size, &count));
+}
+
+int main(void) {
+    static uint8_t byte[1], room[2][64];
+    static ndef_part part[1];
+    int calls = 0;
+    for (int way = 0; way < 2; way++) {
+        made = 0;
+        why.place = why.reason = 0;
+        count = 9;
+        check_calls(way, way ? byte : NULL, way ? byte : NULL);
+        reading_calls(way, way ? byte : NULL, way ? byte : NULL);
+        writing_calls(way, way ? byte : NULL, way ? part : NULL, way ? byte : NULL, 0);
+        writing_calls(way, way ? byte : NULL, way ? part : NULL, room[way], sizeof room[way]);
+        calls = made;
+    }
+    printf("calls %d\n", calls);
+    return memcmp(answers[0], answers[1], sizeof answers[0]) != 0 || memcmp(room[0], room[1], sizeof room[0]) != 0;
+}
