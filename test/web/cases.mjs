@@ -1,0 +1,77 @@
+// node test/web/cases.mjs: runs the cases of the suite, given as lines on standard input, through out/web/ndef.js. A line that
+// fails is printed. name | languages | profile | limits | bytes | answer | records
+import { readFileSync } from "node:fs";
+import { Ndef } from "../../out/web/ndef.js";
+
+const ndef = await Ndef.load(readFileSync(new URL("../../out/web/ndef.wasm", import.meta.url)));
+const fromHex = (text) => Uint8Array.from(Buffer.from(text.replaceAll(" ", ""), "hex"));
+const dash = (text) => (text === "-" ? "" : text);
+
+function isRecord(text, record) {
+    const [tnf, type, id, payload] = text.trim().split(" ");
+    return record.tnf === Number(tnf) && Buffer.from(record.type).toString("latin1") === dash(type)
+        && Buffer.from(record.id).toString("latin1") === dash(id)
+        && Buffer.from(record.payload).toString("hex").toUpperCase() === dash(payload);
+}
+
+function areRecords(text, bytes, count) {
+    const told = text.split(","), records = ndef.records(bytes);
+    return records.length === count && told.length === count && records.every((record, index) => isRecord(told[index], record));
+}
+
+function optionsOf(words, profile, opaque) {
+    const options = { flags: (profile === "standard" ? Ndef.STANDARD : 0) | (opaque ? Ndef.OPAQUE : 0) };
+    for (const name of ["payload", "records", "pieces"])
+        if (words.includes(name)) options[name] = Number(words[words.indexOf(name) + 1]);
+    return options;
+}
+
+function isAnswered([, , profile, limits, hex, answer, records], opaque) {
+    const bytes = fromHex(hex), checked = ndef.check(bytes, optionsOf(limits.split(" "), profile, opaque));
+    const [word, place, reason] = answer.split(" ");
+    if (checked.place !== Number(place)) return false;
+    if (word === "accepted") return checked.status === Ndef.OK && areRecords(records, bytes, checked.records);
+    const why = word === "more" ? "EndOfInput" : null;
+    return checked.status === Ndef.REFUSED && (why ? ndef.reasonName(checked.reason) === why : checked.reason === Number(reason));
+}
+
+// What the calls read of payloads that were worked by hand.
+function areTexts() {
+    const utf8 = ndef.text(fromHex("02656EE282AC")), utf16 = ndef.text(fromHex("82656EFFFEAC20"));
+    return utf8.text === "€" && utf8.language === "en" && !utf8.utf16 && utf8.textAt === 3 && utf16.text === "€" && utf16.utf16
+        && ndef.text(fromHex("02656EC3")).status === Ndef.REFUSED && ndef.uri(fromHex("01612E62")).text === "http://www.a.b"
+        && ndef.reasonName(ndef.uri(fromHex("FF61")).reason) === "UriCode" && ndef.uri(fromHex("FF61"), Ndef.STANDARD).text === "a";
+}
+
+function arePosters() {
+    const full = ndef.poster(fromHex("910102550061 11030161637401 51010473000003E8")), least = ndef.poster(fromHex("D10102550061"));
+    return full.uri === "a" && full.action === 1 && full.size === 1000 && least.uri === "a" && least.action === null && least.size === null
+        && ndef.poster(fromHex("D1010154")).status === Ndef.REFUSED;
+}
+
+function areHandovers() {
+    const message = fromHex("91021148721291020263721234510204616301013000 5A030401612F623001020304");
+    const [record] = ndef.records(message), request = ndef.request(record.payload), links = ndef.links(message, record.payload);
+    const select = ndef.select(fromHex("12")), error = ndef.error(fromHex("0200000010")), carrier = ndef.carrier(fromHex("0203612F6201"));
+    const alternative = ndef.alternative(fromHex("010130010131"));
+    return request.major === 1 && request.minor === 2 && request.collision === 0x1234 && request.carriers === 1
+        && links.length === 1 && links[0].recordIndex === 1 && links[0].recordAt === ndef.records(message)[1].at
+        && select.major === 1 && select.minor === 2 && select.error === null && select.carriers === 0
+        && error.errorReason === 2 && error.number === 16 && carrier.format === 2 && carrier.typeLength === 3 && carrier.dataLength === 1
+        && alternative.power === 1 && alternative.references.map(({ at, length }) => `${at} ${length}`).join() === "2 1,5 1";
+}
+
+let run = 0, failed = 0;
+for (const line of readFileSync(0, "utf8").split("\n").filter(Boolean)) {
+    const fields = line.split("|").map((field) => field.trim());
+    for (const [language, opaque] of [["typed", false], ["opaque", true]]) {
+        if (!fields[1].split(" ").includes(language)) continue;
+        run++;
+        if (!isAnswered(fields, opaque)) { failed++; console.log(line); }
+    }
+}
+for (const holds of [areTexts, arePosters, areHandovers]) {
+    if (!holds()) { failed++; console.log(`${holds.name}: no`); }
+}
+console.log(`cases ${run}, failed ${failed}`);
+process.exit(failed || !run ? 1 : 0);
