@@ -48,13 +48,13 @@ function element(name, options = {}, ...children) {
     return made;
 }
 
-// The name of a reason, as words: "DoesNotFit" is "does not fit".
+// The name of a reason, as words: "DoesNotFit" is "Does not fit".
 function inWords(ndef, reason) {
-    return ndef.reasonName(reason).replace(/([a-z0-9])([A-Z])/g, "$1 $2").toLowerCase();
+    return ndef.reasonName(reason).replace(/([a-z0-9])([A-Z])/g, (_, last, first) => `${last} ${first.toLowerCase()}`);
 }
 
 function refusal(ndef, answer, where) {
-    return `refused at byte ${answer.place}${where}: reason ${answer.reason}, ${inWords(ndef, answer.reason)}`;
+    return `refused at byte ${answer.place}${where}, reason ${answer.reason}: ${inWords(ndef, answer.reason)}`;
 }
 
 // ---- what the input holds
@@ -228,7 +228,7 @@ function byteSpan(bytes, fields, at, detail) {
 // The first bytes, and where the refused one isn't among them, those around it.
 function shownRanges(count, place) {
     const ranges = [[0, Math.min(count, MOST_SHOWN)]];
-    if (place >= MOST_SHOWN) ranges.push([Math.max(MOST_SHOWN, place - 64), Math.min(count, place + 64)]);
+    if (place < count && place >= MOST_SHOWN) ranges.push([Math.max(MOST_SHOWN, place - 64), Math.min(count, place + 64)]);
     return ranges;
 }
 
@@ -270,8 +270,12 @@ function recordRow({ name, record, told, depth }) {
         [element("code", { text: quoted(record.id) })], payloadCell(record), valueCell(told),
     ];
     const row = element("tr", { kind: depth ? "nested" : "" });
-    cells.forEach((content, index) => row.append(element("td", { "data-name": COLUMNS[index] }, ...content)));
-    if (depth) row.firstElementChild.style.paddingInlineStart = `${0.6 + depth}rem`;
+    row.style.setProperty("--depth", depth);
+    cells.forEach((content, index) => {
+        const cell = element("td", { "data-name": COLUMNS[index] }, ...content);
+        if (!cell.textContent) cell.className = "none";
+        row.append(cell);
+    });
     return row;
 }
 
