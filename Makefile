@@ -24,7 +24,7 @@ archive := crates/ndef_c/out/libndef_c.a
 faster := out/x86-64-v2/libndef.a
 below_c := ndef_value ndef_piece ndef_lang ndef_nest ndef_message ndef_types ndef_c
 sources = $(shell find $(foreach crate,$(1),$(wildcard $(addprefix crates/$(crate)/,src specs proofs))) -type f)
-modules := $(wildcard python/simbegyor_ndef/*.py)
+modules := $(wildcard python/simbegyor_ndef/*.py python/simbegyor_ndef/py.typed)
 module := out/python/simbegyor_ndef
 pages := $(wildcard man/*.1)
 completions := $(wildcard share/completion/*)
@@ -64,8 +64,9 @@ web: $(archive)
 
 python: $(module)/libndef.so $(patsubst python/%,out/python/%,$(modules))
 
-out/python/%.py: python/%.py
-	install -D -m 644 $< $@
+out/python/%: python/% VERSION
+	mkdir -p $(@D)
+	sed "s/@VERSION@/$$(cat VERSION)/" $< >$@
 
 $(module)/libndef.so: $(archive) packaging/ndef.map
 	mkdir -p $(@D)
@@ -81,7 +82,8 @@ install: all
 	install -m 644 $(faster) $(DESTDIR)$(LIBDIR)/libndef-v2.a
 	sed '$(filled)' packaging/ndef.pc.in >$(DESTDIR)$(LIBDIR)/pkgconfig/ndef.pc
 	sed '$(filled); s,^Name: .*,& for x86-64-v2,; s,-lndef,&-v2,' packaging/ndef.pc.in >$(DESTDIR)$(LIBDIR)/pkgconfig/ndef-v2.pc
-	install -m 644 $(modules) $(module)/libndef.so $(DESTDIR)$(PYTHONDIR)/simbegyor_ndef
+	install -m 644 $(addprefix out/,$(modules)) $(module)/libndef.so $(DESTDIR)$(PYTHONDIR)/simbegyor_ndef
+	@packaging/python_told $(PYTHON) $(PYTHONDIR)
 	install -m 644 $(pages) $(DESTDIR)$(PREFIX)/share/man/man1
 	install -m 644 $(completions) $(DESTDIR)$(PREFIX)/share/bash-completion/completions
 
