@@ -3,12 +3,16 @@
     records = list(message_decoder(octets))
     octets = b''.join(message_encoder(records))
 """
+from . import handover, message, record, smartposter, text, uri
 from .errors import DecodeError, EncodeError
 from .handover import HandoverCarrierRecord, HandoverRequestRecord, HandoverSelectRecord
 from .message import message_decoder, message_encoder
-from .record import GlobalRecord, Record
+from .record import GlobalRecord, LocalRecord, Record
 from .smartposter import SmartposterRecord
 from .text import TextRecord
 from .uri import UriRecord
 
-__version__ = '0.1.0'
+__version__ = '@VERSION@'
+
+__all__ = ['DecodeError', 'EncodeError', 'GlobalRecord', 'HandoverCarrierRecord', 'HandoverRequestRecord', 'HandoverSelectRecord',
+           'LocalRecord', 'Record', 'SmartposterRecord', 'TextRecord', 'UriRecord', 'message_decoder', 'message_encoder']

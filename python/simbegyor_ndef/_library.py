@@ -1,7 +1,15 @@
-"""The calls of the library, as ndef.h declares them: structs, numbers and one way to fill a room."""
+"""The calls of the library, as ndef.h declares them: structs, numbers and one way to fill a room.
+
+The calls have no `argtypes`, since their conversion takes longer than most calls. So an argument is octets, a reference,
+a struct's array, a length from SIZES, or a number of 32 bits as `u32(..)` makes it.
+"""
+from __future__ import annotations
+
 import ctypes
 import functools
 import os
+import struct
+from typing import Any, Callable, Dict, List, Tuple
 
 from .errors import DecodeError, EncodeError
 
@@ -10,17 +18,29 @@ STANDARD, OPAQUE = 1, 2
 FIRST, LAST = 1, 2
 UTF16 = 1
 REQUEST, SELECT = range(2)
-END_OF_INPUT = 24
+EMPTY, UNKNOWN = 0, 5
+PAYLOAD_TOO_LARGE = 14
+U32_END = 1 << 32
 
-_u32, _size, _octets, _to = ctypes.c_uint32, ctypes.c_size_t, ctypes.c_char_p, ctypes.c_void_p
-
-
-def _numbers(names):
-    return [(name, _u32) for name in names.split()]
+byref, u32, _size = ctypes.byref, ctypes.c_uint32, ctypes.c_size_t
 
 
-def _sizes(names):
+def _numbers(names: str) -> List[Tuple[str, Any]]:
+    return [(name, u32) for name in names.split()]
+
+
+def _sizes(names: str) -> List[Tuple[str, Any]]:
     return [(name, _size) for name in names.split()]
+
+
+class _Sizes(Dict[int, ctypes.c_size_t]):
+    """Lengths and places as a call takes them; the usual ones are made once, and are never changed."""
+
+    def __missing__(self, value: int) -> ctypes.c_size_t:
+        return _size(value)
+
+
+SIZES = _Sizes({value: _size(value) for value in range(4096)})
 
 
 class Limits(ctypes.Structure):
@@ -75,83 +95,133 @@ class Part(ctypes.Structure):
     _fields_ = _sizes('at length')
 
 
-_shared = ctypes.CDLL(os.path.join(os.path.dirname(os.path.abspath(__file__)), 'libndef.so'))
+# The fields of a RecordParts, all of them at once.
+record_fields = struct.Struct('@10N2I').unpack_from
+
+_path = os.path.join(os.path.dirname(os.path.abspath(__file__)), 'libndef.so')
+try:
+    # Other threads run while a call looks at a whole message; the other calls are too short for that.
+    _long, _short = ctypes.CDLL(_path), ctypes.PyDLL(_path)
+except OSError as error:
+    raise ImportError('simbegyor_ndef needs the library for C, for this machine, at %s' % _path) from error
 
 
-def _call(name, *arguments, result=_u32):
-    call = getattr(_shared, name)
-    call.restype, call.argtypes = result, arguments
+def _call(name: str, loaded: Any = _short, result: Any = u32) -> Callable[..., int]:
+    call = getattr(loaded, name)
+    call.restype = result
     return call
 
 
-_room = (_to, _size, _to)
-_usual_limits = _call('ndef_usual_limits', _to, result=None)
-_reason_name = _call('ndef_reason_name', _u32, *_room)
-check = _call('ndef_check', _octets, _size, _to, _to)
-_begin = _call('ndef_begin', _to, _to)
-_feed = _call('ndef_feed', _to, _octets, _size, _to)
-record_at = _call('ndef_record_at', _octets, _size, _size, _to)
-payload = _call('ndef_payload', _octets, _size, _size, *_room)
-write_record = _call('ndef_write_record', _octets, _size, _octets, _size, _octets, _size, _to, *_room)
-uri = _call('ndef_uri', _octets, _size, _u32, *_room, _to)
-write_uri = _call('ndef_write_uri', _octets, _size, *_room)
-text = _call('ndef_text', _octets, _size, _to, _to)
-text_in_utf8 = _call('ndef_text_in_utf8', _octets, _size, *_room, _to)
-write_text = _call('ndef_write_text', _octets, _size, _octets, _size, _u32, *_room)
-poster = _call('ndef_poster', _octets, _size, _u32, _to, _to)
-carrier = _call('ndef_carrier', _octets, _size, _to, _to)
-write_carrier = _call('ndef_write_carrier', _u32, _octets, _size, _octets, _size, *_room)
-alternative = _call('ndef_alternative', _octets, _size, _to, _to)
-reference = _call('ndef_reference', _octets, _size, _size, _to)
-request = _call('ndef_request', _octets, _size, _u32, _to, _to)
-select = _call('ndef_select', _octets, _size, _u32, _to, _to)
-write_alternative = _call('ndef_write_alternative', _u32, _octets, _size, _to, _size, *_room)
-write_action = _call('ndef_write_action', _u32, *_room)
-write_size = _call('ndef_write_size', _u32, *_room)
-write_collision = _call('ndef_write_collision', _u32, *_room)
-error = _call('ndef_error', _octets, _size, _to, _to)
-write_error = _call('ndef_write_error', _u32, _octets, _size, *_room)
-write_error_number = _call('ndef_write_error_number', _u32, _u32, *_room)
-write_handover = _call('ndef_write_handover', _u32, _u32, _u32, _octets, _size, *_room)
+_usual_limits = _call('ndef_usual_limits', result=None)
+_reason_name = _call('ndef_reason_name')
+check = _call('ndef_check', _long)
+begin = _call('ndef_begin')
+feed = _call('ndef_feed', _long)
+record_at = _call('ndef_record_at')
+payload = _call('ndef_payload', _long)
+write_record = _call('ndef_write_record')
+uri = _call('ndef_uri')
+write_uri = _call('ndef_write_uri')
+text = _call('ndef_text')
+text_in_utf8 = _call('ndef_text_in_utf8')
+write_text = _call('ndef_write_text')
+poster = _call('ndef_poster')
+carrier = _call('ndef_carrier')
+write_carrier = _call('ndef_write_carrier')
+alternative = _call('ndef_alternative')
+reference = _call('ndef_reference')
+request = _call('ndef_request')
+select = _call('ndef_select')
+write_alternative = _call('ndef_write_alternative')
+write_action = _call('ndef_write_action')
+write_size = _call('ndef_write_size')
+write_collision = _call('ndef_write_collision')
+error = _call('ndef_error')
+write_error = _call('ndef_write_error')
+write_error_number = _call('ndef_write_error_number')
+write_handover = _call('ndef_write_handover')
 
 
-def limits(flags):
-    """The limits for usual tags, with these flags."""
+@functools.lru_cache(maxsize=64)
+def limits(payload_size: int, flags: int) -> Any:
+    """A reference to the limits for usual tags, but with this limit of a payload, 1 to 4294967295, and these flags."""
+    if not isinstance(payload_size, int) or not 1 <= payload_size < U32_END:
+        raise ValueError('MAX_PAYLOAD_SIZE is 1 to %d, not %r' % (U32_END - 1, payload_size))
     out = Limits()
-    _usual_limits(ctypes.byref(out))
-    out.flags = flags
-    return out
+    _usual_limits(byref(out))
+    out.payload, out.flags = payload_size, flags
+    return byref(out)
 
 
-def begun(limits):
-    """A call that feeds the next octets to a checker that is begun by these limits."""
-    checker = Checker()
-    _begin(ctypes.byref(limits), ctypes.byref(checker))
-    return functools.partial(_feed, ctypes.byref(checker))
+@functools.lru_cache(maxsize=64)
+def writing(tnf: int, flags: int) -> Any:
+    """A reference to how a record is written: its type name format and these flags."""
+    return byref(Writing(tnf, flags, 0))
 
 
-def put(call, guess, *arguments, behind=()):
+class _Room:
+    """Room for what a call writes, and the number of octets that it wrote."""
+
+    def __init__(self, size: int) -> None:
+        self.octets, self.size, self.count = (ctypes.c_char * size)(), SIZES[size], _size()
+        self.told = byref(self.count)
+
+
+# Rooms that no call uses now. A call takes one out and puts it back, so that no two threads share one.
+_USUAL = 1024
+_rooms: List[_Room] = []
+
+
+def _room(size: int) -> _Room:
+    if size > _USUAL:
+        return _Room(size)
+    try:
+        return _rooms.pop()
+    except IndexError:
+        return _Room(_USUAL)
+
+
+def put(call: Callable[..., int], guess: int, *arguments: Any, behind: Tuple[Any, ...] = ()) -> Tuple[int, bytes]:
     """The status of the call, and what it writes to its room. A room of at least `guess` octets is tried first."""
-    count = _size()
     while True:
-        size = 1 << guess.bit_length()
-        room = (ctypes.c_char * size)()
-        status = call(*arguments, room, size, ctypes.byref(count), *behind)
+        room = _room(guess)
+        status = call(*arguments, room.octets, room.size, room.told, *behind)
+        count = room.count.value
+        octets = room.octets[:count] if status == OK else b''
+        if guess <= _USUAL:
+            _rooms.append(room)
         if status != NO_ROOM:
-            return status, room[:count.value]
-        guess = count.value
+            return status, octets
+        guess = max(count, _USUAL + 1)
 
 
-def written(what, call, guess, *arguments):
-    """What the call writes to its room; EncodeError says what it refused to write. Numbers of more than 32 bits are refused too."""
-    beyond = any(isinstance(value, int) and not 0 <= value < 1 << 32 for value in arguments)
-    status, octets = (BAD_ARGUMENT, b'') if beyond else put(call, guess, *arguments)
+def written(what: str, call: Callable[..., int], guess: int, *arguments: Any, raised: type = ValueError) -> bytes:
+    """What the call writes to its room; where it refuses, `raised` says what."""
+    status, octets = put(call, guess, *arguments)
     if status != OK:
-        raise EncodeError(what)
+        raise raised(what)
     return octets
 
 
-def refused(why, before=0):
+def number(value: int, what: str) -> ctypes.c_uint32:
+    """The number as a call takes it."""
+    if not 0 <= value < U32_END:
+        raise ValueError(what)
+    return u32(value)
+
+
+@functools.lru_cache(maxsize=64)
+def reason_name(reason: int) -> str:
+    """The name of a reason."""
+    return put(_reason_name, 16, u32(reason))[1].decode('ascii')
+
+
+def refused(why: Checked, before: int = 0) -> DecodeError:
     """The error for a refusal of octets that lie behind so many others."""
-    _, name = put(_reason_name, 16, why.reason)
-    return DecodeError(before + why.place, name.decode('ascii'))
+    return DecodeError(reason_name(why.reason), before + why.place, why.reason)
+
+
+def too_large(size: int, most: int) -> EncodeError:
+    """The error for a payload of more octets than are allowed."""
+    return EncodeError('a payload of %d octets is more than MAX_PAYLOAD_SIZE, %d' % (size, most), 0,
+                       reason_name(PAYLOAD_TOO_LARGE), PAYLOAD_TOO_LARGE)

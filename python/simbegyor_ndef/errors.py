@@ -1,30 +1,44 @@
-"""What is raised where octets are no message, and where values are none."""
+"""What is raised where octets are no message, and where a value can't be written."""
 
 
 class DecodeError(Exception):
     """Octets are refused.
 
-    `place` is the place of the first octet that no message goes on with, counted from 0, and `reason` the name of the
-    reason, as the library gives it.
+    reason: the name of the reason, as ndef.h gives it ('EndOfInput'), or the text of a record class of one's own.
+    place: the place of the first octet with which no message goes on, counted from 0.
+    number: the number of the reason in ndef.h, 1 to 25; 0 where a record class of one's own refuses.
     """
 
-    def __init__(self, place, reason):
-        super().__init__('refused at %d: %s' % (place, reason))
-        self.place, self.reason = place, reason
+    def __init__(self, reason: str = '', place: int = 0, number: int = 0) -> None:
+        super().__init__(reason, place, number)
+        self.reason, self.place, self.number = reason, place, number
+
+    def __str__(self) -> str:
+        return 'refused at %d: %s' % (self.place, _one_line(self.reason))
 
 
 class EncodeError(Exception):
-    """A value can't be written.
+    """A record can't be written.
 
-    `place` is the place in the message at which its octets would begin, counted from 0, and `reason` the name of the
-    answer of the library.
+    what: what is wrong with it.
+    place: the place in the message at which its octets would begin, counted from 0.
+    reason: 'PayloadTooLarge' where the payload is longer than MAX_PAYLOAD_SIZE, else 'BadArgument'.
+    number: the number of that reason in ndef.h; 0 for 'BadArgument'.
     """
 
-    def __init__(self, what, place=0, reason='BadArgument'):
-        super().__init__('%s, at %d: %s' % (what, place, reason))
-        self.what, self.place, self.reason = what, place, reason
+    def __init__(self, what: str = '', place: int = 0, reason: str = 'BadArgument', number: int = 0) -> None:
+        super().__init__(what, place, reason, number)
+        self.what, self.place, self.reason, self.number = what, place, reason, number
+
+    def __str__(self) -> str:
+        return '%s, at %d: %s' % (_one_line(self.what), self.place, self.reason)
 
 
-def left_out(what):
+def _one_line(text: object) -> str:
+    """The text with its line breaks as spaces."""
+    return ' '.join(str(text).splitlines())
+
+
+def left_out(what: str) -> NotImplementedError:
     """The error for what ndeflib has and this module hasn't."""
     return NotImplementedError('simbegyor_ndef leaves this out: ' + what)

@@ -1,113 +1,206 @@
 """Messages: their records in turn, and the octets of records in turn."""
-from ctypes import byref
+from __future__ import annotations
+
+import io
+from typing import Any, BinaryIO, Dict, Generator, Iterable, Iterator, Mapping, Optional, Tuple, Type, Union
 
 from . import _library as library
 from .errors import DecodeError, left_out
-from .record import Record, parts_of
+from .record import Parts, Record, parts_of
 
-_LOOK = 4096
-_typed, _opaque = library.limits(0), library.limits(library.OPAQUE)
+__all__ = ['message_decoder', 'message_encoder']
+
+_LOOK = 64
+_Known = Mapping[Parts, Type[Record]]
+_Told = Optional[Dict[Type[Record], Any]]
 
 
-def message_decoder(stream_or_bytes, errors='strict', known_types=None):
+def message_decoder(stream_or_bytes: Union[bytes, bytearray, memoryview, BinaryIO], errors: str = 'strict',
+                    known_types: Optional[Mapping[str, Type[Record]]] = None, *, whole: bool = False) -> Iterator[Record]:
     """A generator of the records of the message with which the octets begin; of none where there are no octets.
 
-    The message is checked to its end before the first record is given. A stream is left behind the message. `known_types`
-    are classes by the spelling of their type, in the place of those that are registered; {} has every payload be data.
+    The octets are bytes, or a stream, of which only those of the records that were given are taken. A fault is raised as
+    DecodeError where the next record would be given: a message is known to be right only behind its last record. With
+    `whole` no record is given before the message is known to be right.
+
+    `known_types` are classes by the spelling of their type, in place of those that are registered; with {} every payload is
+    data. `errors` is 'strict'.
     """
+    if errors in ('relax', 'ignore'):
+        raise left_out('errors=%r' % errors)
     if errors != 'strict':
-        raise left_out('errors=%r' % (errors,))
+        raise ValueError("errors is 'strict', not %r" % (errors,))
+    told: _Told = {}
     if known_types is None:
-        limits, known = _typed, Record.known_parts
+        flags, known = 0, Record._known_parts
     else:
-        limits, known = _opaque, {parts_of(spelled): known for spelled, known in known_types.items()}
+        told, flags, known = None, library.OPAQUE, {parts_of(spelled): record_class for spelled, record_class in known_types.items()}
+    limits = library.limits(Record.MAX_PAYLOAD_SIZE, flags)
     if isinstance(stream_or_bytes, (bytes, bytearray, memoryview)):
-        octets = bytes(stream_or_bytes)
-        end = _message_end(octets, limits) if octets else 0
-    elif hasattr(stream_or_bytes, 'read'):
-        octets, end = _from_stream(stream_or_bytes, limits)
+        if not stream_or_bytes:
+            return
+        octets, checked = bytes(stream_or_bytes), library.Checked()
+        status = library.check(octets, library.SIZES[len(octets)], limits, library.byref(checked))
+        if whole and status != library.OK:
+            raise library.refused(checked)
+        # A message goes on with each octet before the place; so each record that ends there is given.
+        records = records_of(octets, 0, checked.place, known, told)
+        yield from list(records) if whole else records
+        if status != library.OK:
+            raise library.refused(checked)
+    elif hasattr(stream_or_bytes, 'read') and not isinstance(stream_or_bytes, io.TextIOBase):
+        records = _from_stream(stream_or_bytes, limits, known, told)
+        yield from list(records) if whole else records
     else:
-        raise TypeError('octets or a stream of them is needed, not %s' % type(stream_or_bytes).__name__)
-    return records_of(octets, end, known)
+        raise TypeError('octets or a stream of octets is needed, not %s' % type(stream_or_bytes).__name__)
 
 
-def _message_end(octets, limits):
-    """Where the message ends with which the octets begin."""
-    checked = library.Checked()
-    if library.check(octets, len(octets), byref(limits), byref(checked)) != library.OK:
-        raise library.refused(checked)
-    return checked.place
+def _read(stream: BinaryIO, size: int) -> bytes:
+    """So many octets of the stream, or fewer where it ends."""
+    octets = stream.read(size) or b''
+    if not isinstance(octets, (bytes, bytearray)):
+        raise TypeError('a stream of octets is needed, not of %s' % type(octets).__name__)
+    while 0 < len(octets) < size:
+        more = stream.read(size - len(octets))
+        if not more:
+            break
+        octets += more
+    return bytes(octets)
 
 
-def _ahead(stream, size):
-    """About so many octets that the stream gives next, which aren't taken; none where it can't show them."""
+def _ahead(stream: Any, size: int) -> bytes:
+    """At most so many octets that the stream gives next, which aren't taken; none where it can't show them."""
     if hasattr(stream, 'peek'):
-        return stream.peek(size)
-    if not stream.seekable():
+        return bytes(stream.peek(size)[:size])
+    if not (hasattr(stream, 'seekable') and stream.seekable()):
         return b''
     at = stream.tell()
-    seen = stream.read(size)
+    seen = _read(stream, size)
     stream.seek(at)
     return seen
 
 
-def _from_stream(stream, limits):
-    """The octets of the message that the stream gives next, and where it ends. What lies behind it isn't taken, and each
-    octet is looked at once."""
-    octets, checked, feed = b'', library.Checked(), library.begun(limits)
-    while True:
-        seen = _ahead(stream, max(_LOOK, len(octets)))
-        taken = b'' if seen else stream.read(1)
-        if not seen and not taken:
-            return (octets, _message_end(octets, limits)) if octets else (b'', 0)
-        status = feed(seen + taken, len(seen) + len(taken), byref(checked))
-        if status not in (library.OK, library.MORE):
-            raise library.refused(checked)
-        wanted = checked.place - len(octets) - len(taken)
-        octets += taken + (stream.read(wanted) if wanted else b'')
-        if status == library.OK:
-            return octets, checked.place
+class _Incoming:
+    """The octets of a message that a stream gives, and what is known of those that were taken."""
+
+    def __init__(self, stream: BinaryIO, limits: Any) -> None:
+        self.stream, self.checker, self.checked = stream, library.Checker(), library.Checked()
+        self.before, self.taken, self.parts = 0, bytearray(), library.RecordParts()
+        library.begin(limits, library.byref(self.checker))
+
+    def _feed(self, checker: library.Checker, octets: bytes) -> int:
+        """Feeds a checker, and tells whether the message ends, goes on or is refused."""
+        return library.feed(library.byref(checker), octets, library.SIZES[len(octets)], library.byref(self.checked))
+
+    def _take(self, octets: bytes) -> int:
+        """Takes octets that belong to the record."""
+        self.taken += octets
+        return self._feed(self.checker, octets)
+
+    def _is_whole(self) -> bool:
+        """Whether a whole record is among the octets at hand, of those that are accepted."""
+        accepted = self.checked.place - self.before
+        first = library.byref(library.ctypes.c_char.from_buffer(self.taken)) if self.taken else b''
+        return library.record_at(first, library.SIZES[accepted], library.SIZES[0], library.byref(self.parts)) == library.OK
+
+    def _look(self, seen: bytes) -> int:
+        """Takes of the octets ahead those that belong to the record; none where they are refused."""
+        trial, count = library.Checker.from_buffer_copy(self.checker), len(self.taken)
+        self.taken += seen
+        status = self._feed(trial, seen)
+        mine = self.parts.end - count if self._is_whole() else len(seen)
+        if mine == len(seen) and status not in (library.OK, library.MORE):
+            return status
+        del self.taken[count:]
+        return self._take(_read(self.stream, mine))
+
+    def next_record(self) -> Tuple[bytes, int]:
+        """Takes the octets of the next record, and tells whether the message goes on behind it. Of a stream that has no octet
+        there is no record."""
+        self.taken = bytearray()
+        while True:
+            seen = _ahead(self.stream, max(_LOOK, len(self.taken)))
+            octet = b'' if seen else _read(self.stream, 1)
+            if not (seen or octet or self.before or self.taken):
+                return b'', library.OK
+            status = self._look(seen) if seen else self._take(octet)
+            if self._is_whole():
+                octets = bytes(self.taken[:self.parts.end])
+                self.before += len(octets)
+                return octets, status
+            if status not in (library.OK, library.MORE) or not (seen or octet):
+                raise library.refused(self.checked)
 
 
-def records_of(octets, end, known_parts, at=0):
-    """The records of a message that has been checked and that lies between two places."""
-    parts = library.RecordParts()
-    told = byref(parts)
-    while at < end and library.record_at(octets, end, at, told) == library.OK:
-        yield _record(octets, end, parts, known_parts)
-        at = parts.end
+def _from_stream(stream: BinaryIO, limits: Any, known: _Known, told: _Told) -> Iterator[Record]:
+    """The records of the message that the stream gives next. Each octet is taken with its record."""
+    incoming, status = _Incoming(stream, limits), library.MORE
+    while status == library.MORE:
+        before = incoming.before
+        octets, status = incoming.next_record()
+        if octets:
+            yield _record(octets, library.record_fields(incoming.parts), known, before, not before, told)
 
 
-def _record(octets, end, parts, known_parts):
-    """The record with these parts."""
-    at = parts.type_at
-    kind = parts.tnf, octets[at:at + parts.type_length]
-    at = parts.id_at
-    name = octets[at:at + parts.id_length]
-    at = parts.payload_at
-    if parts.pieces == 1:
-        data = octets[at:at + parts.part_length]
+def records_of(octets: bytes, start: int, end: int, known: _Known, told: _Told) -> Iterator[Record]:
+    """The records of a message that has been checked and that lies between two places. `told` is None where payloads weren't
+    looked into; else it has, for classes of which the library told the first record's value with the whole, what it told."""
+    parts, size, at = library.RecordParts(), library.SIZES[end], start
+    out, sizes, record_at, record_fields = library.byref(parts), library.SIZES, library.record_at, library.record_fields
+    while at < end and record_at(octets, size, sizes[at], out) == library.OK:
+        fields = record_fields(parts)
+        yield _record(octets, fields, known, 0, at == start, told)
+        at = fields[1]
+
+
+def _record(octets: bytes, fields: Tuple[int, ...], known: _Known, before: int, is_first: bool, told: _Told) -> Record:
+    """The record with these parts, of octets that lie behind so many others of their message."""
+    at, end, type_at, type_length, id_at, id_length, payload_at, part_length, length, pieces, tnf, _ = fields
+    kind = tnf, octets[type_at:type_at + type_length]
+    if pieces == 1:
+        data = octets[payload_at:payload_at + part_length]
     else:
-        _, data = library.put(library.payload, parts.payload_length, octets, end, parts.at)
-    known = known_parts.get(kind)
-    if known is None:
-        return Record._made(kind, name, data)
-    try:
-        made = known._decode_payload(data, 'strict')
-    except DecodeError as error:
-        raise DecodeError(at + error.place, error.reason) from None
-    made._name = name
+        _, data = library.put(library.payload, length, octets, library.SIZES[end], library.SIZES[at])
+    record_class = known.get(kind)
+    if record_class is None:
+        made = Record._made(kind, data)
+    elif told and record_class in told:
+        made = record_class._of(told.pop(record_class))  # type: ignore[attr-defined]
+    else:
+        try:
+            made = record_class._from_payload(data) if told is None else record_class._from_checked(data)
+        except DecodeError as error:
+            place = payload_at + error.place
+            if pieces > 1:
+                place = at + _place_in_pieces(octets[at:end], is_first, error, payload_at - at)
+            raise DecodeError(error.reason, before + place, error.number) from None
+    if id_length:
+        made._name = octets[id_at:id_at + id_length]
     return made
 
 
-def message_encoder(message=None, stream=None):
+def _place_in_pieces(octets: bytes, is_first: bool, error: DecodeError, payload_at: int) -> int:
+    """Where the octet lies for which a record in pieces is refused; the error has its place in the joined payload. The library
+    finds it where it checks the record, which is the first of its message or stands behind an empty one here."""
+    checker, checked = library.Checker(), library.Checked()
+    library.begin(library.limits(library.U32_END - 1, 0), library.byref(checker))
+    before = b'' if is_first else Record()._written(library.FIRST, 0)
+    status = library.REFUSED
+    for part in (before, octets):
+        status = library.feed(library.byref(checker), part, library.SIZES[len(part)], library.byref(checked))
+    if error.number and status == library.REFUSED and checked.reason == error.number:
+        return checked.place - len(before)
+    return payload_at
+
+
+def message_encoder(message: Optional[Iterable[Record]] = None, stream: Optional[BinaryIO] = None) -> Generator[Any, Any, None]:
     """A generator of the octets of each record of the message in turn, or, where a stream is given that they are written
     to, of their numbers. With no message, a generator to which the records are sent, and None behind the last: each
     gives the octets of the record before it."""
     return _sent(stream) if message is None else _encoded(message, stream)
 
 
-def _encoded(message, stream):
+def _encoded(message: Iterable[Record], stream: Optional[BinaryIO]) -> Generator[Any, Any, None]:
     encoder = _sent(stream)
     encoder.send(None)
     begun = False
@@ -120,7 +213,7 @@ def _encoded(message, stream):
         yield encoder.send(None)
 
 
-def _sent(stream):
+def _sent(stream: Optional[BinaryIO]) -> Generator[Any, Any, None]:
     place, flags, octets = 0, library.FIRST, None
     record = yield
     while record is not None:

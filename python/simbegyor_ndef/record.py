@@ -1,153 +1,315 @@
 """Records: any type, and the way in which records of known types are made."""
+from __future__ import annotations
+
 import functools
+import re
+import struct
+from typing import Any, Dict, Optional, Tuple, Type, Union
 
 from . import _library as library
-from .errors import EncodeError, left_out
+from ._structs import packed, unpacked
+from .errors import DecodeError, EncodeError, left_out
+
+__all__ = ['DecodeError', 'EncodeError', 'GlobalRecord', 'LocalRecord', 'Record']
+
+Octets = Union[bytes, bytearray]
+Parts = Tuple[int, bytes]
 
 _PREFIXES = {'urn:nfc:wkt:': 1, 'urn:nfc:ext:': 4}
-_WORDS = {'': 0, 'unknown': 5}
+_WORDS = {'': library.EMPTY, 'unknown': library.UNKNOWN}
 _SPELLED = ('', 'urn:nfc:wkt:', '', '', 'urn:nfc:ext:', 'unknown', 'unchanged', 'reserved')
+_NO_NAME = 'a record name has at most 255 octets'
 
 
-@functools.lru_cache(maxsize=256)
-def parts_of(spelled):
-    """The type name format and the octets of a type that is spelled so."""
+def _checked_parts(spelled: str) -> Parts:
+    """The type name format and the octets of a type that is spelled so; the library says whether a record has it."""
     if spelled in _WORDS:
         return _WORDS[spelled], b''
     if spelled == 'unchanged':
         raise left_out("records of the type 'unchanged', since the pieces of a record are joined")
     octets = spelled.encode('latin-1')
-    for prefix, tnf in _PREFIXES.items():
-        if spelled.startswith(prefix):
-            return tnf, octets[len(prefix):]
+    prefix = next((prefix for prefix in _PREFIXES if spelled.startswith(prefix)), '')
     head, slash, _ = spelled.partition('/')
-    if slash and ':' not in head:
-        return 2, octets
-    if ':' in spelled:
-        return 3, octets
-    raise ValueError('no record type is spelled %r' % spelled)
+    if prefix:
+        tnf, octets = _PREFIXES[prefix], octets[len(prefix):]
+    elif slash and ':' not in head:
+        tnf = 2
+    elif ':' in spelled:
+        tnf = 3
+    else:
+        raise ValueError('no record type is spelled %r' % spelled)
+    _write(tnf, octets, b'', b'', 0, 'a record type has 1 to 255 octets', ValueError)
+    return tnf, octets
+
+
+def _write(tnf: int, kind: bytes, name: bytes, data: bytes, flags: int, what: str, raised: type) -> bytes:
+    """The octets of a record."""
+    sizes, lengths = library.SIZES, (len(kind), len(name), len(data))
+    return library.written(what, library.write_record, sum(lengths) + 32, kind, sizes[lengths[0]], name, sizes[lengths[1]],
+                           data, sizes[lengths[2]], library.writing(tnf, flags), raised=raised)
+
+
+parts_of = functools.lru_cache(maxsize=256)(_checked_parts)
 
 
 @functools.lru_cache(maxsize=256)
-def spelled_of(tnf, octets):
+def spelled_of(tnf: int, octets: bytes) -> str:
     """How a type is spelled."""
     return _SPELLED[tnf] + octets.decode('latin-1')
 
 
-def octets_of(value):
-    """The octets of a str, in UTF-8; the library refuses those that are none."""
-    return value.encode('utf-8', 'surrogatepass')
-
-
-def text_of(value, what):
-    """The value, if it is a str."""
+def text_of(value: Any, what: str) -> str:
+    """The value, if it is a str of Unicode characters."""
     if not isinstance(value, str):
         raise TypeError('%s is a str, not %s' % (what, type(value).__name__))
+    if not value.isascii():
+        value.encode('utf-8')
     return value
 
 
-def number_of(value, what):
+def number_of(value: Any, what: str) -> int:
     """The value, if it is a whole number; the library refuses those that are too great."""
     if not isinstance(value, int):
         raise TypeError('%s is a number, not %s' % (what, type(value).__name__))
     return value
 
 
-class Record:
-    """A record.
+def octets_of(value: Any, what: str) -> bytearray:
+    """The octets, of a copy of their own; none for None."""
+    if isinstance(value, (int, str)):
+        raise TypeError('%s is octets, not %s' % (what, type(value).__name__))
+    return bytearray(value if value is not None else b'')
 
-    `type` is spelled 'urn:nfc:wkt:T' (a type of the NFC Forum), 'text/plain' (a media type), 'urn:nfc:ext:example.com:x'
-    (somebody else's), as the URI itself (an absolute URI), 'unknown' or '' (an empty record). `name` is the id, a str of
-    Latin-1. `data` is the payload: a bytearray, or for the records of known types what the library writes of the attributes.
+
+class Record:
+    """A record of any type.
+
+    type: 'urn:nfc:wkt:T' (a type of the NFC Forum), 'text/plain' (a media type), 'urn:nfc:ext:example.com:x' (somebody
+        else's), the URI itself (an absolute URI), 'unknown', or '' (an empty record). ValueError where no record has it.
+    name: the id, a str of up to 255 characters of Latin-1.
+    data: the payload, octets.
+
+    MAX_PAYLOAD_SIZE, 1048576, is the greatest payload that is decoded and encoded. Assign 1 to 4294967295 to change it.
     """
 
-    known_parts = {}
-    _name = b''
+    MAX_PAYLOAD_SIZE: int = 0x100000
+    # The classes of payloads, by the parts of their type.
+    _known_parts: Dict[Parts, Type['Record']] = {}
+    _decode_min_payload_length: int = 0
+    _decode_max_payload_length: int = 0xffffffff
+    _name: bytes = b''
+    _parts: Parts
+    _data: Octets
 
-    def __init__(self, type='', name='', data=b''):
+    def __init__(self, type: Union[str, Octets, None] = '', name: Union[str, Octets, None] = '', data: Any = b'') -> None:
         if isinstance(type, (bytes, bytearray)):
             type = type.decode('latin-1')
-        if isinstance(data, (int, str)):
-            raise TypeError('data is octets, not %s' % data.__class__.__name__)
-        self._parts = parts_of(text_of(type or '', 'a record type'))
-        self._data = bytearray(data or b'')
+        self._parts = parts_of(text_of('' if type is None else type, 'a record type'))
+        self._data = octets_of(data, 'data')
         self.name = name
 
-    @staticmethod
-    def register_type(record_class):
-        """Lets records of the class's `_type` be decoded by its `_decode_payload(octets, errors)`."""
-        Record.known_parts[parts_of(record_class._type)] = record_class
+    @classmethod
+    def register_type(cls, record_class: Type['Record']) -> None:
+        """Lets records of the class's `_type` be decoded by its `_decode_payload`. A poster's or a handover's class registers
+        for the records within it, any other for all messages."""
+        if not (isinstance(record_class, type) and issubclass(record_class, Record)):
+            raise TypeError('a record class is needed, not %r' % (record_class,))
+        cls._known_parts[parts_of(getattr(record_class, '_type'))] = record_class
 
     @classmethod
-    def _made(cls, parts, name, data):
+    def _made(cls, parts: Parts, data: bytes) -> 'Record':
         made = cls.__new__(cls)
-        made._parts, made._name, made._data = parts, name, data
+        made._parts, made._data = parts, data
         return made
 
+    @classmethod
+    def _from_payload(cls, octets: bytes) -> 'Record':
+        """The record for a payload, by `_decode_payload`."""
+        if not cls._decode_min_payload_length <= len(octets) <= cls._decode_max_payload_length:
+            raise cls._decode_error('payload length is {} to {}, not {}', cls._decode_min_payload_length,
+                                    cls._decode_max_payload_length, len(octets))
+        try:
+            return cls._decode_payload(octets, 'strict')
+        except struct.error as error:
+            raise cls._decode_error('{}', error) from None
+
+    @classmethod
+    def _from_checked(cls, octets: bytes) -> 'Record':
+        """The same for a payload that the library has checked."""
+        return cls._from_payload(octets)
+
+    @classmethod
+    def _decode_payload(cls, octets: bytes, errors: str) -> Any:
+        """The record for a payload. A class of one's own has this."""
+        raise NotImplementedError('%s has no _decode_payload' % cls.__name__)
+
     @property
-    def type(self):
+    def type(self) -> str:
+        """The type, as it is spelled. Read only."""
         return spelled_of(*self._kind())
 
-    def _kind(self):
+    def _kind(self) -> Parts:
         return self._parts
 
     @property
-    def name(self):
+    def name(self) -> str:
+        """The id: up to 255 characters of Latin-1; '' for none. ValueError for others."""
         return self._name.decode('latin-1')
 
     @name.setter
-    def name(self, value):
-        self._name = value.encode('latin-1') if isinstance(value, str) else bytes(value or b'')
+    def name(self, value: Union[str, Octets, None]) -> None:
+        if isinstance(value, str):
+            octets = value.encode('latin-1')
+        elif value is None or isinstance(value, (bytes, bytearray)):
+            octets = bytes(value or b'')
+        else:
+            raise self._type_error('name is a str, not {}', type(value).__name__)
+        if octets:
+            _write(library.UNKNOWN, b'', octets, b'', 0, _NO_NAME, ValueError)
+        self._name = octets
 
     @property
-    def data(self):
+    def data(self) -> Octets:
+        """The payload: a bytearray, which may be changed; of records of known types what is written of the attributes, as bytes."""
         if not isinstance(self._data, bytearray):
             self._data = bytearray(self._data)
         return self._data
 
-    def _written(self, flags, place):
-        tnf, kind = self._kind()
-        name, how = self._name, library.Writing(tnf, flags, 0)
+    def _payload(self) -> bytes:
+        """The payload that is written; EncodeError where there is none."""
         try:
-            data = bytes(self.data)
-            guess = len(kind) + len(name) + len(data) + 32
-            return library.written('no record has these parts', library.write_record, guess, kind, len(kind), name, len(name),
-                                   data, len(data), library.ctypes.byref(how))
+            return bytes(self.data)
+        except struct.error as error:
+            raise self._encode_error('{}', error) from None
+
+    def _written(self, flags: int, place: int) -> bytes:
+        """The octets of the record, which begin at a place of the message. An empty record is written without id and payload."""
+        tnf, kind = self._kind()
+        try:
+            name, data = (b'', b'') if tnf == library.EMPTY else (self._name, self._payload())
+            if len(data) > self.MAX_PAYLOAD_SIZE:
+                raise library.too_large(len(data), self.MAX_PAYLOAD_SIZE)
+            return _write(tnf, kind, name, data, flags, 'no record has these parts', EncodeError)
         except EncodeError as error:
-            raise EncodeError(error.what, place) from None
+            raise EncodeError(error.what, place, error.reason, error.number) from None
 
-    def __eq__(self, other):
-        return isinstance(other, Record) and (self._kind(), self.name, self.data) == (other._kind(), other.name, other.data)
+    def __eq__(self, other: object) -> bool:
+        """Whether type, name and payload are equal; of records of which one can't be written, whether all attributes are."""
+        if not isinstance(other, Record):
+            return NotImplemented
+        try:
+            return (self._kind(), self._name, self._payload()) == (other._kind(), other._name, other._payload())
+        except EncodeError:
+            return type(self) is type(other) and vars(self) == vars(other)
 
-    __hash__ = None
+    __hash__ = None  # type: ignore[assignment]
 
-    def _shown(self):
-        return [self.type, self.name, self.data]
+    def __format__(self, form: str) -> str:
+        """'args': what stands in the brackets of repr(). 'data': what str() tells of the payload. Others: str() so formatted."""
+        if form == 'args':
+            return '%r, %r, %r' % (self.type, self.name, self.data)
+        if form == 'data':
+            data = bytes(self.data)
+            more = '' if len(data) <= 10 else '... %d more' % (len(data) - 10)
+            return "PAYLOAD %d byte '%s%s'" % (len(data), data[:10].hex(), more)
+        return format(str(self), form)
 
-    def __repr__(self):
-        return '%s.%s(%s)' % (self.__class__.__module__, self.__class__.__name__, ', '.join(map(repr, self._shown())))
+    def __repr__(self) -> str:
+        return '%s.%s(%s)' % (type(self).__module__, type(self).__name__, format(self, 'args'))
 
-    def __str__(self):
-        data = bytes(self.data)
-        return "NDEF Record TYPE '%s' ID '%s' PAYLOAD %d byte '%s%s'" % (
-            self.type, self.name, len(data), data[:10].hex(), '' if len(data) <= 10 else '... %d more' % (len(data) - 10))
+    def __str__(self) -> str:
+        return "NDEF Record TYPE '%s' ID '%s' %s" % (self.type, self.name, format(self, 'data'))
+
+    @classmethod
+    def _error_text(cls, form: str, *arguments: Any, **named: Any) -> str:
+        return '%s.%s %s' % (cls.__module__, cls.__name__, form.format(*arguments, **named))
+
+    @classmethod
+    def _type_error(cls, form: str, *arguments: Any, **named: Any) -> TypeError:
+        """A TypeError whose text is the class and the format, as of str.format, with its arguments."""
+        return TypeError(cls._error_text(form, *arguments, **named))
+
+    @classmethod
+    def _value_error(cls, form: str, *arguments: Any, **named: Any) -> ValueError:
+        """A ValueError with such a text."""
+        return ValueError(cls._error_text(form, *arguments, **named))
+
+    @classmethod
+    def _decode_error(cls, form: str, *arguments: Any, **named: Any) -> DecodeError:
+        """A DecodeError with such a text."""
+        return DecodeError(cls._error_text(form, *arguments, **named))
+
+    @classmethod
+    def _encode_error(cls, form: str, *arguments: Any, **named: Any) -> EncodeError:
+        """An EncodeError with such a text."""
+        return EncodeError(cls._error_text(form, *arguments, **named))
+
+    @classmethod
+    def _decode_struct(cls, form: str, octets: Octets, offset: int = 0, always_tuple: bool = False) -> Any:
+        """The values that stand at the offset by a format, as of the module struct; one value alone where `always_tuple` is False.
+        '*' at the end stands for all octets left, 'B+' for a number and that many octets, 'B+(H)' for a number and that many
+        values. Where octets are wanting, the record is refused with DecodeError."""
+        values = unpacked(form, bytes(octets), offset)
+        return values[0] if len(values) == 1 and not always_tuple else values
+
+    @classmethod
+    def _encode_struct(cls, form: str, *values: Any) -> bytes:
+        """The octets of the values by such a format. Where they don't fit, the record is refused with EncodeError."""
+        return packed(form, *values)
 
 
-class GlobalRecord(Record):
-    """A record of the type `_type`, with attributes of its own for `data`.
+class _TypedRecord(Record):
+    """A record of the type `_type`, with attributes of its own for `data`."""
 
-    `_encode_payload()` gives the payload for the attributes, and `_decode_payload(octets, errors)` of the class a record
-    for a payload.
-    """
+    _type: str
+    # A checked payload that wasn't looked at yet. A class that has `_read` looks at it where an attribute is first asked for.
+    _unread: Optional[bytes] = None
 
-    _type = None
-
-    def __init__(self):
+    def __init__(self) -> None:
         pass
 
-    def _kind(self):
+    @classmethod
+    def _from_checked(cls, octets: bytes) -> Record:
+        if '_read' not in cls.__dict__:
+            return cls._from_payload(octets)
+        made = cls.__new__(cls)
+        made._unread = octets
+        return made
+
+    def _read(self, octets: bytes) -> None:
+        """Sets the attributes by a payload."""
+
+    def _look(self) -> None:
+        """Sets the attributes by the payload that wasn't looked at yet."""
+        if self._unread is not None:
+            self._read(self._unread)
+            self._unread = None
+
+    def _kind(self) -> Parts:
         return parts_of(self._type)
 
     @property
-    def data(self):
+    def data(self) -> bytes:
+        """The payload that is written of the attributes. Read only."""
         return self._encode_payload()
+
+    def _encode_payload(self) -> bytes:
+        """The payload for the attributes. A class of one's own has this."""
+        raise NotImplementedError('%s has no _encode_payload' % type(self).__name__)
+
+    def __str__(self) -> str:
+        words = re.sub('(?<=.)(?=[A-Z])', ' ', type(self).__name__)
+        return ("NDEF %s ID '%s' %s" % (words, self.name, format(self, 'data'))).rstrip(' ')
+
+
+class GlobalRecord(_TypedRecord):
+    """A record of the type `_type` anywhere in a message.
+
+    A class of one's own has `_type`; `_encode_payload()`, the payload for the attributes; `_decode_payload(octets, errors)` of
+    the class, a record for a payload; and where it wants, `_decode_min_payload_length`, `_decode_max_payload_length` and
+    `__format__`. `Record.register_type` has the decoder use it.
+    """
+
+
+class LocalRecord(_TypedRecord):
+    """A record of the type `_type` within a poster or a handover: the same, registered by the class of that."""

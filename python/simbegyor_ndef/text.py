@@ -1,75 +1,117 @@
 """Texts (Text Record Type Definition 1.0)."""
-from ctypes import byref
+from __future__ import annotations
+
+import functools
+from typing import Optional
 
 from . import _library as library
-from .record import GlobalRecord, Record, octets_of, text_of
+from .errors import EncodeError
+from .record import GlobalRecord, Record, text_of
+
+__all__ = ['TextRecord']
 
 _ENCODINGS = ('UTF-8', 'UTF-16')
 
 
+def _write(language: bytes, text: bytes, flags: int, raised: type) -> bytes:
+    """The payload of a text."""
+    return library.written('no text has these parts', library.write_text, len(language) + 2 * len(text) + 8, language,
+                           library.SIZES[len(language)], text, library.SIZES[len(text)], flags, raised=raised)
+
+
+@functools.lru_cache(maxsize=256)
+def _language_of(value: str) -> str:
+    """The language code, if a text has it."""
+    try:
+        _write(value.encode('utf-8'), b'', 0, ValueError)
+    except ValueError:
+        raise ValueError('a language is at most 63 characters of ASCII, not %r' % value) from None
+    return value
+
+
 class TextRecord(GlobalRecord):
-    """A text, its language code and its encoding, 'UTF-8' or 'UTF-16'."""
+    """A text with its language.
+
+    text: a str of Unicode characters. None stands for ''.
+    language: a language code such as 'en' or 'de-AT', up to 63 characters of ASCII. None stands for 'en'.
+    encoding: 'UTF-8' or 'UTF-16', in which the text is written. None stands for 'UTF-8'.
+    """
 
     _type = 'urn:nfc:wkt:T'
+    _text: str
+    _language: str
+    _encoding: str
 
-    def __init__(self, text='', language='en', encoding='UTF-8'):
+    def __init__(self, text: Optional[str] = None, language: Optional[str] = None, encoding: Optional[str] = None) -> None:
         self.text = '' if text is None else text
         self.language = 'en' if language is None else language
         self.encoding = 'UTF-8' if encoding is None else encoding
 
     @property
-    def text(self):
+    def text(self) -> str:
+        """The text, a str of Unicode characters."""
+        self._look()
         return self._text
 
     @text.setter
-    def text(self, value):
-        self._text = text_of(value, 'a text')
+    def text(self, value: str) -> None:
+        value = text_of(value, 'a text')
+        self._look()
+        self._text = value
 
     @property
-    def language(self):
+    def language(self) -> str:
+        """The language code, up to 63 characters of ASCII. ValueError for others."""
+        self._look()
         return self._language
 
     @language.setter
-    def language(self, value):
-        self._language = text_of(value, 'a language')
+    def language(self, value: str) -> None:
+        value = _language_of(text_of(value, 'a language'))
+        self._look()
+        self._language = value
 
     @property
-    def encoding(self):
+    def encoding(self) -> str:
+        """'UTF-8' or 'UTF-16'. ValueError for others."""
+        self._look()
         return self._encoding
 
     @encoding.setter
-    def encoding(self, value):
+    def encoding(self, value: str) -> None:
         if value not in _ENCODINGS:
             raise ValueError('the encoding is UTF-8 or UTF-16, not %r' % (value,))
+        self._look()
         self._encoding = value
 
-    def _encode_payload(self):
-        language, text = octets_of(self.language), octets_of(self.text)
+    def _encode_payload(self) -> bytes:
         flags = library.UTF16 if self.encoding == 'UTF-16' else 0
-        return library.written('no text has these parts', library.write_text, len(language) + len(text) + 32, language,
-                               len(language), text, len(text), flags)
+        return _write(self._language.encode('ascii'), self._text.encode('utf-8'), flags, EncodeError)
 
     @classmethod
-    def _decode_payload(cls, octets, errors):
-        parts, why = library.TextParts(), library.Checked()
-        if library.text(octets, len(octets), byref(parts), byref(why)) != library.OK:
-            raise library.refused(why)
+    def _decode_payload(cls, octets: bytes, errors: str) -> TextRecord:
         made = cls.__new__(cls)
-        at = parts.language_at
-        made._language = octets[at:at + parts.language_length].decode('ascii')
-        at = parts.text_at
-        text = octets[at:at + parts.text_length]
-        if parts.utf16:
-            _, text = library.put(library.text_in_utf8, 2 * len(text), octets, len(octets), behind=(byref(why),))
-        made._text, made._encoding = text.decode('utf-8'), _ENCODINGS[parts.utf16]
+        made._read(octets)
         return made
 
-    def _shown(self):
-        return [self.text, self.language, self.encoding]
+    def _read(self, octets: bytes) -> None:
+        parts, why, size = library.TextParts(), library.Checked(), library.SIZES[len(octets)]
+        if library.text(octets, size, library.byref(parts), library.byref(why)) != library.OK:
+            raise library.refused(why)
+        at = parts.language_at
+        self._language = octets[at:at + parts.language_length].decode('ascii')
+        at = parts.text_at
+        text, self._encoding = octets[at:at + parts.text_length], _ENCODINGS[parts.utf16]
+        if parts.utf16:
+            _, text = library.put(library.text_in_utf8, 2 * len(octets), octets, size, behind=(library.byref(why),))
+        self._text = text.decode('utf-8')
 
-    def __str__(self):
-        return "NDEF Text Record ID '%s' Text '%s' Language '%s' Encoding '%s'" % (
-            self.name, self.text, self.language, self.encoding)
+    def __format__(self, form: str) -> str:
+        if form == 'args':
+            return '%r, %r, %r' % (self.text, self.language, self.encoding)
+        if form == 'data':
+            return "Text '%s' Language '%s' Encoding '%s'" % (self.text, self.language, self.encoding)
+        return super().__format__(form)
 
 
 Record.register_type(TextRecord)

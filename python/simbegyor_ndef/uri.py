@@ -1,59 +1,92 @@
 """URIs (URI Record Type Definition 1.0)."""
-from ctypes import byref
-from urllib.parse import quote, urlsplit, urlunsplit
+from __future__ import annotations
+
+import re
+from typing import Optional
+from urllib.parse import quote
 
 from . import _library as library
-from .record import GlobalRecord, Record, octets_of, text_of
+from .errors import EncodeError
+from .record import GlobalRecord, Record, text_of
+
+__all__ = ['UriRecord']
 
 _KEPT = "!#$%&'()*+,/:;=?@[]~"
+# The scheme, the user before the host, the host, and the port and what follows (RFC 3986).
+_PARTS = re.compile(r'(?s)((?:[^:/?#]+:)?//)([^/?#]*@)?([^/?#]*?)((?::[0-9]*)?(?:[/?#].*)?)\Z')
+
+
+def _host_in_ascii(host: str) -> str:
+    """The host name by IDNA where it isn't ASCII, and percent-encoded where IDNA has none."""
+    if host.isascii():
+        return host
+    try:
+        return host.encode('idna').decode('ascii')
+    except UnicodeError:
+        return quote(host, _KEPT)
 
 
 class UriRecord(GlobalRecord):
-    """A URI: `iri` as the payload spells it, its prefix written out, and `uri` in ASCII alone."""
+    """A URI.
+
+    iri: the URI, a str of Unicode characters. None stands for ''. It is written by the longest of the prefixes.
+    """
 
     _type = 'urn:nfc:wkt:U'
+    _iri: str
 
-    def __init__(self, iri=''):
+    def __init__(self, iri: Optional[str] = None) -> None:
         self.iri = '' if iri is None else iri
 
     @property
-    def iri(self):
+    def iri(self) -> str:
+        """The URI as the payload spells it, its prefix written out: a str of Unicode characters."""
+        self._look()
         return self._iri
 
     @iri.setter
-    def iri(self, value):
-        self._iri = text_of(value, 'a URI')
+    def iri(self, value: str) -> None:
+        value = text_of(value, 'a URI')
+        self._look()
+        self._iri = value
 
     @property
-    def uri(self):
-        scheme, host, path, query, fragment = urlsplit(self.iri)
-        if not host.isascii():
-            host = host.encode('idna').decode('ascii')
-        return urlunsplit((scheme, host, quote(path, _KEPT), quote(query, _KEPT), quote(fragment, _KEPT)))
+    def uri(self) -> str:
+        """The same in ASCII: a host name by IDNA, other characters percent-encoded. What is assigned is the `iri`."""
+        found = _PARTS.match(self.iri)
+        if not found:
+            return quote(self.iri, _KEPT)
+        scheme, user, host, rest = found.groups('')
+        return quote(scheme + user, _KEPT) + quote(_host_in_ascii(host), _KEPT) + quote(rest, _KEPT)
 
     @uri.setter
-    def uri(self, value):
+    def uri(self, value: str) -> None:
         self.iri = value
 
-    def _encode_payload(self):
-        octets = octets_of(self.iri)
-        return library.written('no URI is spelled so', library.write_uri, len(octets) + 32, octets, len(octets))
+    def _encode_payload(self) -> bytes:
+        octets = self.iri.encode('utf-8')
+        return library.written('no URI is spelled so', library.write_uri, len(octets) + 8, octets, library.SIZES[len(octets)],
+                               raised=EncodeError)
 
     @classmethod
-    def _decode_payload(cls, octets, errors):
-        why = library.Checked()
-        status, spelled = library.put(library.uri, len(octets) + 32, octets, len(octets), 0, behind=(byref(why),))
-        if status != library.OK:
-            raise library.refused(why)
+    def _decode_payload(cls, octets: bytes, errors: str) -> UriRecord:
         made = cls.__new__(cls)
-        made._iri = spelled.decode('utf-8')
+        made._read(octets)
         return made
 
-    def _shown(self):
-        return [self.iri]
+    def _read(self, octets: bytes) -> None:
+        why = library.Checked()
+        status, spelled = library.put(library.uri, len(octets) + 32, octets, library.SIZES[len(octets)], 0, behind=(library.byref(why),))
+        if status != library.OK:
+            raise library.refused(why)
+        self._iri = spelled.decode('utf-8')
 
-    def __str__(self):
-        return "NDEF Uri Record ID '%s' Resource '%s'" % (self.name, self.iri)
+    def __format__(self, form: str) -> str:
+        if form == 'args':
+            return repr(self.iri)
+        if form == 'data':
+            return "Resource '%s'" % self.iri
+        return super().__format__(form)
 
 
 Record.register_type(UriRecord)
