@@ -48,7 +48,7 @@ say_cost() {
     mapfile -t left < <(crates_left)
     for crate in "${left[@]}"; do seconds=$((seconds + ${processor_seconds[$crate]:-60})); done
     minutes=$(((seconds + 59) / 60))
-    say "proving and building the program, once: ${#left[@]} of ${#crates[@]} crates are left"
+    say "proving and building the program, once (crates to prove: ${#left[@]} of ${#crates[@]})"
     if [ "$minutes" -gt 3 ]; then
         say "this takes some $minutes processor minutes ($(((minutes * 12 + 25) / 26)) minutes on 4 cores, at least $(((minutes + 1) / 2)) on 2)," \
             'up to 4 GB of memory, and 5 GB of disk'
