@@ -4,6 +4,9 @@
  * point to. So every call is safe in any thread and in an interrupt handler. Every call returns, whatever bytes it
  * is given.
  *
+ * On x86-64 the archive libndef.a runs on every processor. libndef-v2.a needs SSSE3 and SSE4.1 (x86-64-v2), and checks
+ * long texts that are not ASCII some twelve times as fast.
+ *
  * The caller must keep these rules:
  *   - A pointer that comes with a length points to that many bytes (or elements). Where the length is 0, the pointer
  *     may have any value, NULL too. Any other pointer points to one value of its type, and is not NULL.
