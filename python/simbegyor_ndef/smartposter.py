@@ -317,7 +317,7 @@ class SmartposterRecord(GlobalRecord):
                                                self.resource_type)
         if form == 'data':
             told = [('Resource', self.resource.iri), ('Title', self.title), ('Action', self.action),
-                    ('Icon', ', '.join(self.icons) or None), ('Size', self.resource_size), ('Type', self.resource_type)]
+                    ('Icon', ', '.join(self.icons) or None), ('Size', None if self.resource_size is None else '%d byte' % self.resource_size), ('Type', self.resource_type)]
             return ' '.join("%s '%s'" % (word, value) for word, value in told if value is not None)
         return super().__format__(form)
 

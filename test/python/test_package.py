@@ -1,0 +1,70 @@
+"""Tests of the module as a package: its annotations, its wheel, and what `make install` says of its folder."""
+import importlib
+import inspect
+import os
+import pathlib
+import subprocess
+import sys
+import tempfile
+import unittest
+
+import simbegyor_ndef as ndef
+from cases import TOP
+
+HERE = ('-c', 'import simbegyor_ndef as ndef; print(*ndef.message_decoder(bytes.fromhex("d101085402656e48656c6c6f")), ndef.__version__)')
+
+
+def maker():
+    """A Python that can make a wheel: this one, or else that of the system; or None."""
+    words = ('-c', 'import pip, setuptools\ntry: import setuptools.command.bdist_wheel\nexcept ImportError: import wheel.bdist_wheel')
+    able = (python for python in (sys.executable, '/usr/bin/python3') if os.path.exists(python)
+            and subprocess.run([python, *words], stderr=subprocess.DEVNULL).returncode == 0)
+    return next(able, None)
+
+
+MAKER = maker()
+
+
+class Package(unittest.TestCase):
+    def test_all_is_annotated(self):
+        for path in pathlib.Path(ndef.__path__[0]).glob('*.py'):
+            module = importlib.import_module('simbegyor_ndef.' + path.stem)
+            classes = [value for _, value in inspect.getmembers(module, inspect.isclass) if value.__module__ == module.__name__]
+            for owner in (module, *classes):
+                for name, value in vars(owner).items():
+                    value = getattr(value, 'fget', None) or getattr(value, '__func__', value)
+                    if inspect.isfunction(value) and value.__module__ == module.__name__ and value.__name__ != '<lambda>':
+                        wanted = set(inspect.signature(value).parameters) - {'self', 'cls', '_cls'} | {'return'}
+                        if not hasattr(owner, '_fields') or not name.startswith('_'):
+                            self.assertLessEqual(wanted, set(value.__annotations__), '%s.%s' % (path.stem, name))
+
+    def test_it_says_that_it_is_typed(self):
+        self.assertTrue(pathlib.Path(ndef.__path__[0], 'py.typed').exists())
+
+    @unittest.skipUnless(MAKER, 'no Python here has setuptools and wheel')
+    def test_the_wheel(self):
+        with tempfile.TemporaryDirectory() as folder:
+            pip = [MAKER, '-m', 'pip', '--disable-pip-version-check']
+            made = subprocess.run([*pip, 'wheel', str(TOP / 'python'), '--no-deps', '--no-build-isolation', '--no-index', '-w', folder],
+                                  stdout=subprocess.PIPE, stderr=subprocess.STDOUT)
+            self.assertEqual(made.returncode, 0, made.stdout.decode())
+            (wheel,) = pathlib.Path(folder).glob('simbegyor_ndef-%s-py3-none-linux_*.whl' % ndef.__version__)
+            target = str(pathlib.Path(folder, 'target'))
+            subprocess.run([*pip, 'install', '--no-index', '--no-deps', '--target', target, str(wheel)], check=True, stdout=subprocess.DEVNULL)
+            said = subprocess.run([sys.executable, *HERE], cwd=folder, env={**os.environ, 'PYTHONPATH': target}, stdout=subprocess.PIPE, check=True)
+            self.assertEqual(said.stdout.decode(), "NDEF Text Record ID '' Text 'Hello' Language 'en' Encoding 'UTF-8' %s\n" % ndef.__version__)
+
+    def test_where_it_goes_is_said(self):
+        environment = {name: value for name, value in os.environ.items() if name != 'PYTHONPATH'}
+        for folder, warned in (('/nowhere', True), (os.path.dirname(os.__file__), False)):
+            said = subprocess.run([str(TOP / 'packaging/python_told'), sys.executable, folder], env=environment, stdout=subprocess.PIPE,
+                                  stderr=subprocess.PIPE)
+            self.assertEqual((said.returncode, said.stdout.decode()), (0, 'The Python module is in %s/simbegyor_ndef.\n' % folder))
+            self.assertEqual(b'warning' in said.stderr, warned)
+
+
+if __name__ == '__main__':
+    result = unittest.main(exit=False, verbosity=2).result
+    broken = {getattr(test, 'test_case', test).id() for test, _ in result.failures + result.errors}
+    print('%d passed, %d failed' % (result.testsRun - len(broken), len(broken)), flush=True)
+    raise SystemExit(bool(broken))
