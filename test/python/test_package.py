@@ -16,7 +16,7 @@ HERE = ('-c', 'import simbegyor_ndef as ndef; print(*ndef.message_decoder(bytes.
 
 def maker():
     """A Python that can make a wheel: this one, or else that of the system; or None."""
-    words = ('-c', 'import pip, setuptools\ntry: import setuptools.command.bdist_wheel\nexcept ImportError: import wheel.bdist_wheel')
+    words = ('-c', 'import setuptools, pip\ntry: import setuptools.command.bdist_wheel\nexcept ImportError: import wheel.bdist_wheel')
     able = (python for python in (sys.executable, '/usr/bin/python3') if os.path.exists(python)
             and subprocess.run([python, *words], stderr=subprocess.DEVNULL).returncode == 0)
     return next(able, None)
