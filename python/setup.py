@@ -1,5 +1,6 @@
 """Puts the module that `make python` makes, with its shared object, into a wheel for this machine."""
 import pathlib
+import shutil
 import subprocess
 
 from setuptools import setup
@@ -29,6 +30,7 @@ class MachineDistribution(Distribution):
         return True
 
 
+shutil.rmtree(TOP / 'out/wheel', ignore_errors=True)
 subprocess.run(['make', '-C', str(TOP), 'python'], check=True)
 setup(
     version=(TOP / 'VERSION').read_text().strip(),

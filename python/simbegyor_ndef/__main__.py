@@ -111,6 +111,8 @@ def main(arguments: Optional[List[str]] = None) -> int:
     parser.add_argument('--version', action='version', version=__version__)
     parser.add_argument('files', metavar='FILE', nargs='*', default=['-'], help='a file, or - for standard input, which is the default')
     words = parser.parse_args(arguments)
+    if isinstance(sys.stdout, io.TextIOWrapper):
+        sys.stdout.reconfigure(errors='backslashreplace')
     try:
         many = len(words.files) > 1
         status = max(_told_of(name, words, name + ': ' if many else '') for name in words.files)

@@ -277,12 +277,13 @@ class _TypedRecord(Record):
         return made
 
     def _read(self, octets: bytes) -> None:
-        """Sets the attributes by a payload."""
+        """Sets the attributes by a payload; of the classes that have this."""
 
     def _look(self) -> None:
         """Sets the attributes by the payload that wasn't looked at yet."""
-        if self._unread is not None:
-            self._read(self._unread)
+        unread = self._unread
+        if unread is not None:
+            self._read(unread)
             self._unread = None
 
     def _kind(self) -> Parts:

@@ -316,8 +316,9 @@ class SmartposterRecord(GlobalRecord):
             return '%r, %r, %r, %r, %r, %r' % (self.resource.iri, self.titles, self.action, self.icons, self.resource_size,
                                                self.resource_type)
         if form == 'data':
+            size = None if self.resource_size is None else '%d byte' % self.resource_size
             told = [('Resource', self.resource.iri), ('Title', self.title), ('Action', self.action),
-                    ('Icon', ', '.join(self.icons) or None), ('Size', None if self.resource_size is None else '%d byte' % self.resource_size), ('Type', self.resource_type)]
+                    ('Icon', ', '.join(self.icons) or None), ('Size', size), ('Type', self.resource_type)]
             return ' '.join("%s '%s'" % (word, value) for word, value in told if value is not None)
         return super().__format__(form)
 

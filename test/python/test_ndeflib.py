@@ -310,6 +310,10 @@ class Processes(unittest.TestCase):
         message = [BROKEN if number % 10 == 0 else octets(ndef.TextRecord(str(number))) for number in range(10000)]
         with concurrent.futures.ThreadPoolExecutor(4) as pool:
             answers = list(pool.map(told, message))
+            for _ in range(500):
+                (text,) = ndef.message_decoder(HELLO)
+                self.assertEqual(list(pool.map(lambda name, text=text: getattr(text, name), ('text', 'language', 'encoding', 'text'))),
+                                 ['Hello', 'en', 'UTF-8', 'Hello'])
         self.assertEqual(answers, [16 if number % 10 == 0 else [str(number)] for number in range(10000)])
 
 

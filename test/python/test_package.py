@@ -50,7 +50,8 @@ class Package(unittest.TestCase):
             self.assertEqual(made.returncode, 0, made.stdout.decode())
             (wheel,) = pathlib.Path(folder).glob('simbegyor_ndef-%s-py3-none-linux_*.whl' % ndef.__version__)
             target = str(pathlib.Path(folder, 'target'))
-            subprocess.run([*pip, 'install', '--no-index', '--no-deps', '--target', target, str(wheel)], check=True, stdout=subprocess.DEVNULL)
+            subprocess.run([*pip, 'install', '--no-index', '--no-deps', '--target', target, str(wheel)], check=True,
+                           stdout=subprocess.DEVNULL, stderr=subprocess.DEVNULL)
             said = subprocess.run([sys.executable, *HERE], cwd=folder, env={**os.environ, 'PYTHONPATH': target}, stdout=subprocess.PIPE, check=True)
             self.assertEqual(said.stdout.decode(), "NDEF Text Record ID '' Text 'Hello' Language 'en' Encoding 'UTF-8' %s\n" % ndef.__version__)
 
