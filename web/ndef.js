@@ -63,27 +63,18 @@ export class Ndef {
     // The record at a place: its places and lengths, and its type, id and payload as bytes.
     recordAt(bytes, place) {
         const [at, room] = this.#lay([bytes, new Uint8Array(bytes.length)]);
-        const status = this.calls.ndef_record_at(at, this.#size(bytes), BigInt(place), this.base + OUT);
-        if (status !== Ndef.OK) return { status };
-        const names = ["at", "end", "typeAt", "typeLength", "idAt", "idLength", "payloadAt", "partLength", "payloadLength", "pieces"];
-        const record = { status, tnf: this.#u32(OUT + 80), last: this.#u32(OUT + 84) === 1 };
-        names.forEach((name, index) => { record[name] = this.#u64(OUT + 8 * index); });
-        this.calls.ndef_payload(at, this.#size(bytes), BigInt(place), room, this.#size(bytes), this.base + COUNT);
-        record.payload = this.#bytes(room, this.#u64(COUNT));
-        record.type = bytes.slice(record.typeAt, record.typeAt + record.typeLength);
-        record.id = bytes.slice(record.idAt, record.idAt + record.idLength);
-        return record;
+        return this.#record(bytes, at, room, place);
     }
 
     // The records of the message with which the bytes begin, up to the last one, or to where no record begins.
     records(bytes) {
-        const records = [];
-        for (let at = 0; ;) {
-            const record = this.recordAt(bytes, at);
+        const [at, room] = this.#lay([bytes, new Uint8Array(bytes.length)]), records = [];
+        for (let place = 0; ;) {
+            const record = this.#record(bytes, at, room, place);
             if (record.status !== Ndef.OK) return records;
             records.push(record);
             if (record.last) return records;
-            at = record.end;
+            place = record.end;
         }
     }
 
@@ -193,6 +184,20 @@ export class Ndef {
         return places;
     }
 
+    // The record at a place of bytes that lie at an address, with a room of as many bytes for its payload.
+    #record(bytes, at, room, place) {
+        const status = this.calls.ndef_record_at(at, this.#size(bytes), BigInt(place), this.base + OUT);
+        if (status !== Ndef.OK) return { status };
+        const names = ["at", "end", "typeAt", "typeLength", "idAt", "idLength", "payloadAt", "partLength", "payloadLength", "pieces"];
+        const record = { status, tnf: this.#u32(OUT + 80), last: this.#u32(OUT + 84) === 1 };
+        names.forEach((name, index) => { record[name] = this.#u64(OUT + 8 * index); });
+        this.calls.ndef_payload(at, this.#size(bytes), BigInt(place), room, this.#size(bytes), this.base + COUNT);
+        record.payload = this.#bytes(room, this.#u64(COUNT));
+        record.type = bytes.slice(record.typeAt, record.typeAt + record.typeLength);
+        record.id = bytes.slice(record.idAt, record.idAt + record.idLength);
+        return record;
+    }
+
     // What a call writes to a room, in UTF-8; asks for its size first.
     #spelled(payload, call) {
         const [at] = this.#lay([payload]);
@@ -212,7 +217,7 @@ export class Ndef {
     #u32(offset) { return this.#view().getUint32(this.base + offset, true); }
     #optional(offset) { return this.#u32(offset) === 1 ? this.#u32(offset + 4) : null; }
     #size(bytes) { return BigInt(bytes.length); }
-    #bytes(at, length) { return new Uint8Array(this.calls.memory.buffer).slice(at, at + length); }
+    #bytes(at, length) { return new Uint8Array(this.calls.memory.buffer, at, length).slice(); }
     #text(at, length) { return new TextDecoder("utf-8", { ignoreBOM: true }).decode(this.#bytes(at, length)); }
     #checked(offset) { return { place: this.#u64(offset), records: this.#u32(offset + 8), reason: this.#u32(offset + 12) }; }
 }
