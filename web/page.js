@@ -5,6 +5,7 @@ import { Ndef } from "./ndef.js";
 const MODULE = "NDEF.WASM IN BASE64";
 
 const MOST_SHOWN = 2048; // bytes that the page shows at once
+const MOST_ROWS = 500; // records of a message in the table
 const MOST_MESSAGES = 100;
 
 const TNF = ["empty", "well-known", "media type", "absolute URI", "external", "unknown"];
@@ -281,7 +282,8 @@ function recordRow({ name, record, told, depth }) {
 
 function recordTable(rows) {
     const head = element("thead", {}, element("tr", {}, ...COLUMNS.map((name) => element("th", { scope: "col", text: name }))));
-    return element("table", {}, head, element("tbody", {}, ...rows.map(recordRow)));
+    const table = element("table", {}, head, element("tbody", {}, ...rows.slice(0, MOST_ROWS).map(recordRow)));
+    return rows.length > MOST_ROWS ? [table, element("p", { text: `${plural(rows.length - MOST_ROWS, "record")} not shown` })] : [table];
 }
 
 function showMessages(ndef, bytes, options) {
@@ -290,7 +292,7 @@ function showMessages(ndef, bytes, options) {
     const fields = new Array(bytes.length + (place === bytes.length ? 1 : 0)).fill(null);
     const tables = messages.filter((message) => message.records.length).map((message, index) => {
         const rows = describe(ndef, message.bytes, message.records, message.at, options.flags, fields, 0, "");
-        return [element("h2", { text: messages.length > 1 ? `Message ${index + 1}, at byte ${message.at}` : "Records" }), recordTable(rows)];
+        return [element("h2", { text: messages.length > 1 ? `Message ${index + 1}, at byte ${message.at}` : "Records" }), ...recordTable(rows)];
     });
     if (refused) {
         for (let at = place + 1; at < fields.length; at++) fields[at] = null;
