@@ -9,9 +9,13 @@ use Rattle.ndef_tool.specs.Quoting.{Text}
 abbrev pub place_text : ℕ → Text
 place_text place = encode_lower (to_be_bytes w32 (place % 2 ^ 32))
 
+-- the indentation of a depth
+abbrev pub indentation : ℕ → Text
+indentation depth = if depth == 0 then codes " " else codes "   "
+
 -- a place, and the indentation of a depth
 abbrev pub start_of : (place depth : ℕ) → Text
-start_of place depth = place_text place ++ (if depth == 0 then codes " " else codes "   ")
+start_of place depth = place_text place ++ indentation depth
 
 -- an octet with a blank before it
 abbrev pub cell : ℕ → Text

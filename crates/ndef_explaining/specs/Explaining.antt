@@ -77,6 +77,10 @@ IsStopText at input End text = text ≡ []
 IsStopText at input (Refused refusal) text =
     (byte : Text) × IsByteText at input refusal byte × (text ≡ byte ++ reason_lines at refusal)
 
+-- what is printed where the messages stop is appended
+abbrev pub AddsStop : (at : ℕ) (input : List ℕ) → Stop → (old new : Text) → Type 0
+AddsStop at input stop old new = (text : Text) × IsStopText at input stop text × (new ≡ old ++ text)
+
 -- the place of a refusal can be counted
 abbrev pub FitsStop : (at : ℕ) → Stop → Type 0
 FitsStop at End = ⊤

@@ -1,8 +1,8 @@
 //! Octets in hexadecimal digits.
-ghost use Rattle.std.specs.Prelude.{◌≡◌, ◌++◌, ◌*◌, ◌-◌, ◌^◌, ◌≤◌, ◌<◌, ◌∷◌, [], OnOk, length, take};
+ghost use Rattle.std.specs.Prelude.{◌≡◌, ◌++◌, ◌+◌, ◌%◌, ◌^◌, ◌≤◌, ◌∷◌, [], OnOk, length};
 ghost use Rattle.std.specs.Int.{w32, to_be_bytes};
 ghost use Rattle.hex.specs.Hex.{encode_lower};
-ghost use Rattle.ndef_explaining.specs.Cells.{cell, cells, later_cells, place_text, start_of};
+ghost use Rattle.ndef_explaining.specs.Cells.{cell, cells, later_cells, start_of};
 
 use ndef_value::{Bytes, NoMemory};
 
@@ -34,11 +34,19 @@ fn wide_digits_of(number: u32) -> [u8; 8]
     digits
 }
 
-/// Appends a place in eight digits, and the indentation of a depth.
-pub(crate) fn push_start(line: &mut Bytes, place: u64, depth: u8) -> Result<(), NoMemory>
-    ensures { OnOk result (line.new ≡ line.old ++ start_of place depth) }
+/// The place of a byte with `offset` bytes between it and the place `at`, in 32 bits.
+fn place_at(at: u64, offset: u64) -> u32
+    ensures { result ≡ (at + offset) % 2 ^ 32 }
 {
-    line.extend(&wide_digits_of((place % 4294967296) as u32))?;
+    let place = (at % 4294967296 + offset % 4294967296) % 4294967296;
+    place as u32
+}
+
+/// Appends a place in eight digits, and the indentation of a depth; the place is `offset` bytes behind `at`.
+pub(crate) fn push_start(line: &mut Bytes, at: u64, offset: u64, depth: u8) -> Result<(), NoMemory>
+    ensures { OnOk result (line.new ≡ line.old ++ start_of (at + offset) depth) }
+{
+    line.extend(&wide_digits_of(place_at(at, offset)))?;
     if depth == 0 {
         line.extend(b" ")
     } else {

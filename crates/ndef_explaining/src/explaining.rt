@@ -3,7 +3,7 @@ ghost use Rattle.std.specs.Prelude.{◌≡◌, ◌++◌, ◌+◌, ◌<◌, ◌^�
 ghost use Rattle.ndef_explaining.specs.Explaining.{Explains, IsExplained, message_line, message_text};
 
 use crate::field_lines::push_fields;
-use crate::refusal_lines::{push_reason, push_refused_byte};
+use crate::refusal_lines::push_stop;
 use ndef_fields::{Told, fields};
 use ndef_tool::push_number;
 use ndef_value::{Bytes, Limits, NoMemory, Refusal};
@@ -56,7 +56,7 @@ fn push_message(
     bytes: &[u8],
     told: Told<'_>,
 ) -> Result<(), NoMemory>
-    ensures { OnOk result (line.new ≡ line.old ++ message_text number at bytes.now told) }
+    ensures { OnOk result (line.new ≡ line.old ++ message_text number at bytes.now told.entry) }
 {
     push_message_line(line, number, at, told.taken)?;
     push_fields(line, at, bytes, told.fields)
@@ -70,15 +70,16 @@ fn push_messages<'a>(
 ) -> Result<Progress<'a>, NoMemory>
     ensures { IfOk result (λ progress. Explains limits input.now line.old line.new progress) }
 {
+    let size = input.len() as u64;
     let mut rest = input;
     let mut at = 0;
     let mut number = 1;
-    while !rest.is_empty() {
+    while at < size {
         match fields(rest, limits) {
             Ok(told) => {
                 let taken = told.taken;
                 push_message(line, number, at, rest, told)?;
-                rest = &rest[taken as usize..];
+                (_, rest) = rest.split_at(taken as usize);
                 at += taken;
                 number += 1;
             }
@@ -98,10 +99,7 @@ pub(crate) fn explain(alloc: Global, limits: Limits, input: &[u8]) -> Result<Exp
 {
     let mut text = Bytes::new(alloc);
     let progress = push_messages(&mut text, limits, input)?;
-    if let Stop::Refused(refusal) = progress.stop {
-        push_refused_byte(&mut text, progress.at, progress.rest, refusal)?;
-        push_reason(&mut text, progress.at, refusal)?;
-    }
+    push_stop(&mut text, progress.at, progress.rest, progress.stop)?;
     Ok(Explained {
         text,
         stop: progress.stop,

@@ -135,11 +135,7 @@ fn push_status(line: &mut Bytes, status: u8) -> Result<(), NoMemory>
 }
 
 /// Appends what the octets of a field of this name say, behind a blank, or nothing.
-pub(crate) fn push_meaning(
-    line: &mut Bytes,
-    name: FieldName,
-    octets: &[u8],
-) -> Result<(), NoMemory>
+pub(crate) fn push_meaning(line: &mut Bytes, name: FieldName, octets: &[u8]) -> Result<(), NoMemory>
     ensures { OnOk result (line.new ≡ line.old ++ meaning_of (reading_of name) octets.now) }
 {
     match reading_of(name) {

@@ -1,9 +1,10 @@
 //! What is printed of a refusal.
 ghost use Rattle.std.specs.Prelude.{◌≡◌, ◌++◌, ◌+◌, ◌<◌, ◌^◌, ◌≤◌, OnOk, length};
-ghost use Rattle.ndef_explaining.specs.Explaining.{AddsByte, byte_line, reason_lines};
+ghost use Rattle.ndef_explaining.specs.Explaining.{AddsByte, AddsStop, FitsStop, byte_line, reason_lines};
 ghost use Rattle.ndef_explaining.specs.Sentences.{sentence_of};
 
 use crate::cells::{push_cells, push_start};
+use crate::explaining::Stop;
 use ndef_fields::{ByteField, field_of_last};
 use ndef_tool::push_number;
 use ndef_value::{Bytes, NoMemory, Reason, Refusal};
@@ -16,12 +17,15 @@ fn sentence_of(reason: Reason) -> &'static [u8]
         Reason::ReservedTnf => b"The type name format 7 is reserved.",
         Reason::BeginMissing => b"The first record of a message has to have MB set.",
         Reason::BeginAgain => b"MB is set again, though the message has begun.",
-        Reason::UnchangedOutside => b"The type name format 6 (unchanged) may only continue a chunked record.",
-        Reason::ChangedInside => b"A chunked record goes on with the type name format 6 (unchanged).",
+        Reason::UnchangedOutside =>
+            b"The type name format 6 (unchanged) may only continue a chunked record.",
+        Reason::ChangedInside =>
+            b"A chunked record goes on with the type name format 6 (unchanged).",
         Reason::IdInside => b"Only the first chunk of a record may have an id.",
         Reason::ChunkAtEnd => b"The last record of a message (ME) has to end: CF must be clear.",
         Reason::ChunkOfEmpty => b"An empty record cannot be chunked.",
-        Reason::TooManyPieces => b"The record has more chunks than the limit allows; a nested message allows none.",
+        Reason::TooManyPieces =>
+            b"The record has more chunks than the limit allows; a nested message allows none.",
         Reason::TooManyRecords => b"The message has more records than the limit allows.",
         Reason::TypeNotEmpty => b"This type name format has no type: TYPE_LENGTH has to be 0.",
         Reason::TypeEmpty => b"This type name format needs a type: TYPE_LENGTH must not be 0.",
@@ -35,17 +39,25 @@ fn sentence_of(reason: Reason) -> &'static [u8]
         Reason::UriMissing => b"A smart poster has to have a URI record.",
         Reason::UriAgain => b"A smart poster has only one URI record.",
         Reason::Version => b"The handover has another major version than 1.",
-        Reason::CollisionMissing => b"A handover request has to begin with a collision resolution record.",
-        Reason::DoesNotFit => b"Nothing that may stand here fits the lengths that were given before.",
+        Reason::CollisionMissing =>
+            b"A handover request has to begin with a collision resolution record.",
+        Reason::DoesNotFit =>
+            b"Nothing that may stand here fits the lengths that were given before.",
         Reason::EndOfInput => b"The input ends within a message.",
     }
 }
 
 /// Appends the line of a refused byte: its place, itself, and the field in which it stands.
-fn push_byte_line(line: &mut Bytes, place: u64, octet: u8, byte: ByteField) -> Result<(), NoMemory>
-    ensures { OnOk result (line.new ≡ line.old ++ byte_line place octet byte) }
+fn push_byte_line(
+    line: &mut Bytes,
+    at: u64,
+    offset: u64,
+    octet: u8,
+    byte: ByteField,
+) -> Result<(), NoMemory>
+    ensures { OnOk result (line.new ≡ line.old ++ byte_line (at + offset) octet byte) }
 {
-    push_start(line, place, byte.depth)?;
+    push_start(line, at, offset, byte.depth)?;
     push_cells(line, &[octet])?;
     line.extend(b"^ ")?;
     line.extend(byte.name.text())?;
@@ -54,13 +66,12 @@ fn push_byte_line(line: &mut Bytes, place: u64, octet: u8, byte: ByteField) -> R
 
 /// Appends the line of the refused byte of these bytes, before which so many bytes of the input come;
 /// nothing where the input has ended.
-pub(crate) fn push_refused_byte(
+fn push_refused_byte(
     line: &mut Bytes,
     at: u64,
     bytes: &[u8],
     refusal: Refusal,
 ) -> Result<(), NoMemory>
-    requires { at + refusal.at < 2 ^ 64 }
     ensures { OnOk result (AddsByte at bytes.now refusal line.old line.new) }
 {
     let place = refusal.at as usize;
@@ -68,11 +79,11 @@ pub(crate) fn push_refused_byte(
         return Ok(());
     }
     let byte = field_of_last(bytes.split_at(place + 1).0);
-    push_byte_line(line, at + refusal.at, bytes[place], byte)
+    push_byte_line(line, at, refusal.at, bytes[place], byte)
 }
 
 /// Appends the line of a refusal behind so many bytes, and what it means.
-pub(crate) fn push_reason(line: &mut Bytes, at: u64, refusal: Refusal) -> Result<(), NoMemory>
+fn push_reason(line: &mut Bytes, at: u64, refusal: Refusal) -> Result<(), NoMemory>
     requires { at + refusal.at < 2 ^ 64 }
     ensures { OnOk result (line.new ≡ line.old ++ reason_lines at refusal) }
 {
@@ -85,4 +96,18 @@ pub(crate) fn push_reason(line: &mut Bytes, at: u64, refusal: Refusal) -> Result
     line.extend(b"\n")?;
     line.extend(sentence_of(refusal.reason))?;
     line.extend(b"\n")
+}
+
+/// Appends what is printed where messages stop, behind so many bytes, with these bytes left.
+pub(crate) fn push_stop(line: &mut Bytes, at: u64, bytes: &[u8], stop: Stop) -> Result<(), NoMemory>
+    requires { FitsStop at stop }
+    ensures { OnOk result (AddsStop at bytes.now stop line.old line.new) }
+{
+    match stop {
+        Stop::End => Ok(()),
+        Stop::Refused(refusal) => {
+            push_refused_byte(line, at, bytes, refusal)?;
+            push_reason(line, at, refusal)
+        }
+    }
 }

@@ -4,7 +4,8 @@ ghost use Rattle.ndef_message.specs.Inputs.{bytes_of};
 ghost use Rattle.ndef_message.specs.Machine.Turns.{supply_of};
 ghost use Rattle.ndef_tool.specs.Output.{FitsPlace, ending_text, status_of};
 ghost use Rattle.ndef_tool.specs.Runs.{Ends};
-ghost use Rattle.ndef_explaining.specs.Running.{Answers, ReadsIn, Runs, TellsInput, stop_status};
+ghost use Rattle.ndef_tool.specs.declared.ending.Status.TheVariants.{Usage};
+ghost use Rattle.ndef_explaining.specs.Running.{Answers, ReadsIn, Runs, TellsInput, TellsRead, stop_status, usage_line};
 
 use crate::explaining::{Stop, explain};
 use crate::words::choose_words;
@@ -76,6 +77,21 @@ fn tell_fault<K: Sink>(ending: Ending, sink: &mut K) -> Status
     end(send(0, line.as_slice(), sink), status_of(ending))
 }
 
+/// The line for words that don't parse.
+fn usage() -> &'static [u8]
+    ensures { result.now ≡ usage_line }
+{
+    USAGE
+}
+
+/// Writes the usage line.
+fn tell_usage<K: Sink>(sink: &mut K) -> Status
+    ensures { K.has_failed sink.old ≡ false
+        → Answers usage_line Usage (K.written sink.old) (K.written sink.new) (K.has_failed sink.new) result }
+{
+    end(send(0, usage(), sink), Status::Usage)
+}
+
 /// Explains an input, and writes what is printed of it.
 fn tell_input<K: Sink>(alloc: Global, limits: Limits, input: &[u8], sink: &mut K) -> Status
     ensures { K.has_failed sink.old ≡ false
@@ -87,6 +103,23 @@ fn tell_input<K: Sink>(alloc: Global, limits: Limits, input: &[u8], sink: &mut K
             end(sent, stop_status(explained.stop))
         }
         Err(_) => tell_fault(Ending::Memory, sink),
+    }
+}
+
+/// Explains what was read, or tells why there is nothing.
+fn tell_read<K: Sink>(
+    alloc: Global,
+    limits: Limits,
+    read: Result<Vec<u8>, Ending>,
+    sink: &mut K,
+) -> Status
+    requires { IfErr read (λ ending. FitsPlace 0 ending) }
+    ensures { K.has_failed sink.old ≡ false → TellsRead limits (bytes_of read)
+        (K.written sink.old) (K.written sink.new) (K.has_failed sink.new) result }
+{
+    match read {
+        Ok(bytes) => tell_input(alloc, limits, bytes.as_slice(), sink),
+        Err(ending) => tell_fault(ending, sink),
     }
 }
 
@@ -108,10 +141,10 @@ pub fn run<S: Source, K: Sink>(
 {
     match choose_words(alloc, words) {
         Err(WordsError::NoMemory) => Status::Fault,
-        Err(WordsError::Usage) => end(send(0, USAGE, sink), Status::Usage),
-        Ok(choice) => match read_input(alloc, choice.hex, source) {
-            Ok(bytes) => tell_input(alloc, choice.limits, bytes.as_slice(), sink),
-            Err(ending) => tell_fault(ending, sink),
-        },
+        Err(WordsError::Usage) => tell_usage(sink),
+        Ok(choice) => {
+            let read = read_input(alloc, choice.hex, source);
+            tell_read(alloc, choice.limits, read, sink)
+        }
     }
 }
