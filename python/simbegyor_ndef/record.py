@@ -199,7 +199,7 @@ class Record:
             return NotImplemented
         try:
             return (self._kind(), self._name, self._payload()) == (other._kind(), other._name, other._payload())
-        except EncodeError:
+        except (EncodeError, TypeError, ValueError):
             return type(self) is type(other) and vars(self) == vars(other)
 
     __hash__ = None  # type: ignore[assignment]

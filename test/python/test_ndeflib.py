@@ -126,6 +126,7 @@ class Values(unittest.TestCase):
         for other in (request, ndef.HandoverRequestRecord('1.3'), ndef.HandoverRequestRecord('1.2'), ndef.TextRecord('a'), 5, None):
             self.assertEqual(request == other, other is not None and repr(other) == repr(request))
         self.assertNotIn(request, [ndef.Record(), ndef.TextRecord('a')])
+        self.assertEqual((Pair(1, 65536) == Pair(1, 65536), Pair(1, 65536) == Pair(1, 2)), (True, False))
 
     def test_values_are_kept(self):
         poster = ndef.SmartposterRecord('tel:1', action='save', icon=bytes(900000))
