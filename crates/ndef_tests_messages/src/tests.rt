@@ -2,7 +2,10 @@
 mod checking;
 mod encoding;
 mod faults;
+mod growing;
+mod growths;
 mod heads;
+mod lengths;
 mod memory;
 mod nested_payloads;
 mod payloads;

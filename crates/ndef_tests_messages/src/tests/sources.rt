@@ -112,3 +112,49 @@ fn consumes_at_once_what_is_taken(rt: HostRuntime) -> Result<(), Fail> {
     assert!(rt; settled.is_ok() && reader.bytes == &BYTES[5..]);
     Ok(())
 }
+
+/// Takes all bytes of a source, four at a time: of a `StdSource` the first take consumes at once, and what the others take
+/// waits.
+fn take_in_three<S: Source>(source: &mut S) -> Result<(), Fail> {
+    if source.fill()?.len() != 12 {
+        return Err("another number is shown".into());
+    }
+    source.take(4);
+    source.take(4);
+    source.take(4);
+    Ok(())
+}
+
+#[test]
+fn consumes_what_waits(rt: HostRuntime) -> Result<(), Fail> {
+    let bytes: &[u8] = &BYTES;
+    let mut source = StdSource::new(bytes);
+    take_in_three(&mut source)?;
+    let left = source.fill()?.len();
+    assert!(rt; left == 0);
+    Ok(())
+}
+
+#[test]
+fn gives_the_reader_back_behind_what_waits(rt: HostRuntime) -> Result<(), Fail> {
+    let bytes: &[u8] = &BYTES;
+    let mut source = StdSource::new(bytes);
+    take_in_three(&mut source)?;
+    let (reader, settled) = source.into_inner();
+    assert!(rt; settled.is_ok() && reader.is_empty());
+    Ok(())
+}
+
+#[test]
+fn leaves_the_reader_behind_what_waits(rt: HostRuntime) -> Result<(), Fail> {
+    let mut reader: &[u8] = &BYTES;
+    let mut source = StdSource::new(&mut reader);
+    let shown = source.fill()?.len();
+    assert!(rt; shown == 12);
+    source.take(4);
+    source.take(4);
+    source.take(4);
+    drop(source);
+    assert!(rt; reader.is_empty());
+    Ok(())
+}
