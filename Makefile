@@ -20,6 +20,7 @@ MAINTAINER ?= The Simbegyor authors <simbegyor@example.org>
 
 program := crates/ndef/out/ndef
 maker := crates/ndef_make/out/ndef_make
+explainer := crates/ndef_explain/out/ndef_explain
 archive := crates/ndef_c/out/libndef_c.a
 faster := out/x86-64-v2/libndef.a
 below_c := ndef_value ndef_piece ndef_lang ndef_nest ndef_message ndef_types ndef_c
@@ -34,7 +35,7 @@ filled := s,@PREFIX@,$(PREFIX),; s,@LIBDIR@,$(LIBDIR),; s,@VERSION@,$(VERSION),
 ifdef TARGET
 all: out/$(TARGET)/libndef.a out/$(TARGET)/libndef.so out/$(TARGET)/ndef.h
 else
-all: $(program) $(maker) $(archive) $(faster) python
+all: $(program) $(maker) $(explainer) $(archive) $(faster) python
 endif
 
 # The scripts prove and build their programs where those are older than the sources.
@@ -43,6 +44,9 @@ $(program): crates.txt $(call sources,$(notdir $(wildcard crates/*)))
 
 $(maker): crates.txt $(call sources,$(notdir $(wildcard crates/*)))
 	./ndef-make record --tnf 0 </dev/null >/dev/null
+
+$(explainer): crates.txt $(call sources,$(notdir $(wildcard crates/*)))
+	./ndef-explain </dev/null
 
 $(archive): crates.txt $(call sources,$(below_c))
 	cd crates/ndef_c && rt lib --cpu x86-64
@@ -77,6 +81,7 @@ install: all
 	    $(PREFIX)/share/man/man1 $(PREFIX)/share/bash-completion/completions)
 	install -m 755 $(program) $(DESTDIR)$(PREFIX)/bin
 	install -m 755 $(maker) $(DESTDIR)$(PREFIX)/bin/ndef-make
+	install -m 755 $(explainer) $(DESTDIR)$(PREFIX)/bin/ndef-explain
 	install -m 644 include/ndef.h $(DESTDIR)$(PREFIX)/include
 	install -m 644 $(archive) $(DESTDIR)$(LIBDIR)/libndef.a
 	install -m 644 $(faster) $(DESTDIR)$(LIBDIR)/libndef-v2.a
@@ -88,7 +93,7 @@ install: all
 	install -m 644 $(completions) $(DESTDIR)$(PREFIX)/share/bash-completion/completions
 
 uninstall:
-	rm -f $(DESTDIR)$(PREFIX)/bin/ndef $(DESTDIR)$(PREFIX)/bin/ndef-make $(DESTDIR)$(PREFIX)/include/ndef.h
+	rm -f $(addprefix $(DESTDIR)$(PREFIX)/bin/,ndef ndef-make ndef-explain) $(DESTDIR)$(PREFIX)/include/ndef.h
 	rm -f $(addprefix $(DESTDIR)$(LIBDIR)/,libndef.a libndef-v2.a pkgconfig/ndef.pc pkgconfig/ndef-v2.pc)
 	rm -rf $(DESTDIR)$(PYTHONDIR)/simbegyor_ndef
 	rm -f $(addprefix $(DESTDIR)$(PREFIX)/share/man/man1/,$(notdir $(pages)))
