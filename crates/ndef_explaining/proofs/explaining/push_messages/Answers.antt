@@ -1,4 +1,4 @@
-use Rattle.std.proofs.Common.{◌≡◌, ◌+◌, ◌∙◌, ap, arith, drop, length, length-drop}
+use Rattle.std.proofs.Common.{◌∙◌, ap, arith, drop, length, length-drop}
 use Rattle.std.proofs.lemmas.List.{drop-drop}
 use Rattle.ndef_explaining.specs.declared.explaining.Stop.TheVariants.{End, Refused}
 use Rattle.ndef_explaining.proofs.Messages.{keeps_last, keeps_next, none_left, some_left}
