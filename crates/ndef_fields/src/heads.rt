@@ -1,7 +1,7 @@
 //! The head of a piece of which only a front has come.
 ghost use Rattle.std.specs.Prelude.{◌≡◌, ◌≤◌, length};
 ghost use Rattle.ndef_piece.specs.Header.{width};
-ghost use Rattle.ndef_fields.specs.Refusals.{id_given, IsBehindPieces, IsByLengths};
+ghost use Rattle.ndef_fields.specs.Refusals.{AreWholeBefore, id_given, IsBehindPieces, IsByLengths};
 
 use crate::FieldName;
 use crate::left::{id_width, width};
@@ -9,7 +9,8 @@ use ndef_piece::whole_piece;
 
 /// The bytes behind the whole pieces at the front.
 pub(crate) fn behind_pieces(bytes: &[u8]) -> &[u8]
-    ensures { IsBehindPieces bytes.now result.now }
+    ensures behind { IsBehindPieces bytes.now result.now }
+    ensures whole { AreWholeBefore bytes.now result.now }
 {
     let mut rest = bytes;
     while let Some(piece) = whole_piece(rest) {
