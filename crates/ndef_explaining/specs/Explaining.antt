@@ -8,7 +8,8 @@ use Rattle.ndef_message.specs.Place.{Refuses}
 use Rattle.ndef_nest.specs.Typed.{IsTypedPayload, TypedReason}
 use Rattle.ndef_fields.specs.Lasts.{IsFieldOfLast}
 use Rattle.ndef_fields.specs.Names.{text_of}
-use Rattle.ndef_fields.specs.Tellings.{Tells}
+use Rattle.ndef_fields.specs.Tellings.{AreFieldsBefore, IsFront, Tells}
+use Rattle.ndef_fields.specs.declared.field.Field.{Field}
 use Rattle.ndef_fields.specs.declared.last.ByteField.{ByteField}
 use Rattle.ndef_fields.specs.declared.telling.Told.{Told}
 use Rattle.ndef_tool.specs.Quoting.{Text}
@@ -25,7 +26,8 @@ use Rattle.ndef_explaining.specs.declared.explaining.Stop.TheVariants.{End, Refu
 abbrev pub AreTold : LimitValues → List Told → (input : List ℕ) → Stop → Type 0
 AreTold limits [] input End = input ≡ []
 AreTold limits [] input (Refused refusal) = (input ≢ []) × Refuses IsTypedPayload TypedReason limits input refusal
-AreTold limits (told ∷ more) input stop = Tells limits input (Ok told) × AreTold limits more (drop told.taken input) stop
+AreTold limits (told ∷ more) input stop =
+    Tells limits input (Ok told) × AreTold limits more (drop told.taken input) stop
 
 -- the bytes of all these messages
 abbrev pub bytes_told : List Told → ℕ
@@ -71,20 +73,31 @@ IsByteText at input refusal text =
 abbrev pub AddsByte : (at : ℕ) (input : List ℕ) → Refusal → (old new : Text) → Type 0
 AddsByte at input refusal old new = (text : Text) × IsByteText at input refusal text × (new ≡ old ++ text)
 
+-- the lines of the fields of the pieces before a refused one
+abbrev pub before_text : (at : ℕ) (front : List ℕ) → List Field → Text
+before_text at front before = flat_map (field_text at front) before
+
+-- these lines are appended
+abbrev pub AddsBefore : (at : ℕ) (front : List ℕ) (old new : Text) → Type 0
+AddsBefore at front old new =
+    (before : List Field) × AreFieldsBefore front before × (new ≡ old ++ before_text at front before)
+
 -- what is printed where the messages stop, at this place, with this input left
 abbrev pub IsStopText : (at : ℕ) (input : List ℕ) → Stop → Text → Type 0
 IsStopText at input End text = text ≡ []
 IsStopText at input (Refused refusal) text =
-    (byte : Text) × IsByteText at input refusal byte × (text ≡ byte ++ reason_lines at refusal)
+    (before : List Field) × (byte : Text) × AreFieldsBefore (take refusal.at input) before
+    × IsByteText at input refusal byte
+    × (text ≡ before_text at (take refusal.at input) before ++ (byte ++ reason_lines at refusal))
 
 -- what is printed where the messages stop is appended
 abbrev pub AddsStop : (at : ℕ) (input : List ℕ) → Stop → (old new : Text) → Type 0
 AddsStop at input stop old new = (text : Text) × IsStopText at input stop text × (new ≡ old ++ text)
 
--- the place of a refusal can be counted
-abbrev pub FitsStop : (at : ℕ) → Stop → Type 0
-FitsStop at End = ⊤
-FitsStop at (Refused refusal) = at + refusal.at < 2 ^ 64
+-- the place of a refusal can be counted, and the bytes before it are a front of a message
+abbrev pub FitsStop : (at : ℕ) (input : List ℕ) → Stop → Type 0
+FitsStop at input End = ⊤
+FitsStop at input (Refused refusal) = (at + refusal.at < 2 ^ 64) × IsFront (take refusal.at input)
 
 -- the lines of the messages are appended, and the rest of the input is left
 pub record Explains (limits : LimitValues) (input : List ℕ) (old new : Text) (progress : Progress) : Type 0 where
@@ -93,7 +106,7 @@ pub record Explains (limits : LimitValues) (input : List ℕ) (old new : Text) (
   pub at_is : progress.at ≡ bytes_told told
   pub rest_is : progress.rest.now ≡ drop progress.at input
   pub text_is : new ≡ old ++ messages_text 1 0 input told
-  pub fits : FitsStop progress.at progress.stop
+  pub fits : FitsStop progress.at progress.rest.now progress.stop
 
 -- all that is printed of an input
 pub record IsExplained (limits : LimitValues) (input : List ℕ) (stop : Stop) (text : Text) : Type 0 where

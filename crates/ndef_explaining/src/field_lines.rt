@@ -9,7 +9,7 @@ use ndef_fields::{Field, FieldName, Fields};
 use ndef_value::{Bytes, NoMemory};
 
 /// At most `count` octets at the front, and those behind them.
-fn cut(octets: &[u8], count: usize) -> (&[u8], &[u8])
+pub(crate) fn cut(octets: &[u8], count: usize) -> (&[u8], &[u8])
     ensures front { result.0.now ≡ take count octets.now }
     ensures back { result.1.now ≡ drop count octets.now }
 {

@@ -1,11 +1,13 @@
 //! What is printed of a refusal.
 ghost use Rattle.std.specs.Prelude.{◌≡◌, ◌++◌, ◌+◌, ◌<◌, ◌^◌, ◌≤◌, OnOk, length};
-ghost use Rattle.ndef_explaining.specs.Explaining.{AddsByte, AddsStop, FitsStop, byte_line, reason_lines};
+ghost use Rattle.ndef_explaining.specs.Explaining.{AddsBefore, AddsByte, AddsStop, FitsStop, byte_line, reason_lines};
+ghost use Rattle.ndef_fields.specs.Tellings.{IsFront};
 ghost use Rattle.ndef_explaining.specs.Sentences.{sentence_of};
 
 use crate::cells::{push_cells, push_start};
 use crate::explaining::Stop;
-use ndef_fields::{ByteField, field_of_last};
+use crate::field_lines::{cut, push_fields};
+use ndef_fields::{ByteField, field_of_last, fields_before};
 use ndef_tool::push_number;
 use ndef_value::{Bytes, NoMemory, Reason, Refusal};
 
@@ -25,7 +27,7 @@ fn sentence_of(reason: Reason) -> &'static [u8]
         Reason::ChunkAtEnd => b"The last record of a message (ME) has to end: CF must be clear.",
         Reason::ChunkOfEmpty => b"An empty record cannot be chunked.",
         Reason::TooManyPieces =>
-            b"The record has more chunks than the limit allows; a nested message allows none.",
+            b"The record has more chunks than the limit or a nested message allows.",
         Reason::TooManyRecords => b"The message has more records than the limit allows.",
         Reason::TypeNotEmpty => b"This type name format has no type: TYPE_LENGTH has to be 0.",
         Reason::TypeEmpty => b"This type name format needs a type: TYPE_LENGTH must not be 0.",
@@ -98,16 +100,27 @@ fn push_reason(line: &mut Bytes, at: u64, refusal: Refusal) -> Result<(), NoMemo
     line.extend(b"\n")
 }
 
+/// Appends the lines of the fields of the whole pieces with which these bytes begin, a front of a message.
+fn push_before(line: &mut Bytes, at: u64, front: &[u8]) -> Result<(), NoMemory>
+    requires { IsFront front.now }
+    ensures { OnOk result (AddsBefore at front.now line.old line.new) }
+{
+    push_fields(line, at, front, fields_before(front))?;
+    Ok(())
+}
+
 /// Appends what is printed where messages stop, behind so many bytes, with these bytes left.
 pub(crate) fn push_stop(line: &mut Bytes, at: u64, bytes: &[u8], stop: Stop) -> Result<(), NoMemory>
-    requires { FitsStop at stop }
+    requires { FitsStop at bytes.now stop }
     ensures { OnOk result (AddsStop at bytes.now stop line.old line.new) }
 {
     match stop {
         Stop::End => Ok(()),
         Stop::Refused(refusal) => {
+            push_before(line, at, cut(bytes, refusal.at as usize).0)?;
             push_refused_byte(line, at, bytes, refusal)?;
-            push_reason(line, at, refusal)
+            push_reason(line, at, refusal)?;
+            Ok(())
         }
     }
 }

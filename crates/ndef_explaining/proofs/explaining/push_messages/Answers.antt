@@ -45,7 +45,7 @@ returns-in-Err c =
       at_is = omega (arith, a);
       rest_is = i.rest;
       text_is = g.text_is;
-      fits = omega (arith, within, size, value, fits);
+      fits = (omega (arith, within, size, value, fits), (c.args.limits, c.in-Err.ensures.told.place.viable));
     }
 
 pub returns : goal.returns
