@@ -1,4 +1,3 @@
-use Rattle.std.proofs.Common.{refl}
 use Rattle.ndef_piece.specs.Header.{is_set}
 use Rattle.ndef_piece.specs.Whole.{shown}
 use Rattle.ndef_fields.proofs.Proper.{kept, over}

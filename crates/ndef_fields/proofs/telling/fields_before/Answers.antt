@@ -1,4 +1,4 @@
-use Rattle.std.proofs.Common.{◌-◌, sym, ◌∙◌, ap, subst, length, take}
+use Rattle.std.proofs.Common.{sym, ◌∙◌, ap, subst}
 use Rattle.ndef_fields.specs.Parts.{placed}
 use Rattle.ndef_fields.specs.Cursors.{AreOuter, fields_in, outer_own, parts_along}
 use Rattle.ndef_fields.proofs.Contents.{outer_is, outer_parts}
