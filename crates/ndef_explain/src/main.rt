@@ -6,8 +6,8 @@ ghost use Rattle.std.specs.Process.{exit_status};
 ghost use Rattle.ndef_tool.specs.Output.{number_of_status};
 ghost use Rattle.ndef_tool.specs.Runs.{status_after};
 
-use ndef_message::{StdSink, StdSource};
 use ndef_explaining::run;
+use ndef_message::{StdSink, StdSource};
 use ndef_tool::Status;
 use std::io::{self, BufReader, BufWriter, Write};
 use std::process::ExitCode;
@@ -52,4 +52,3 @@ fn main(rt: HostRuntime) -> ExitCode {
     drop(sink);
     code_after(status, writer.flush())
 }
-

@@ -2,6 +2,7 @@
 mod cases;
 mod command;
 mod faults;
+mod made_memory;
 mod making;
 mod run_memory;
 mod runs;

@@ -1,6 +1,7 @@
 //! Worked rows, and memory that is used up.
 mod comparing;
 mod handovers;
+mod judged_first;
 mod links;
 mod made;
 mod nested_memory;

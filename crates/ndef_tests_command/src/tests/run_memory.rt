@@ -104,7 +104,7 @@ fn runs_at_last(
 }
 
 /// Blocks that are let go one by one, the small ones first.
-fn spare_blocks(alloc: Global) -> Result<Vec<Vec<u8>>, Fail> {
+pub(super) fn spare_blocks(alloc: Global) -> Result<Vec<Vec<u8>>, Fail> {
     let mut spare: Vec<Vec<u8>> = Vec::with_capacity(alloc, 2048)?;
     for _ in 0..16u8 {
         spare.push(Vec::with_capacity(alloc, 65536)?)?;
