@@ -1,12 +1,15 @@
 """Links of a page, and the names of files, functions and definitions in it."""
 import re
 
-CODE = ('*.rt', '*.antt', '*.py', '*.h', '*.c', '*.map', 'ndef', 'ndef-make', 'Makefile', '*.sh', 'crates.txt', 'run')
-# Names of Rust's, of C's and of the kit's that pages use, and placeholders.
+CODE = ('*.rt', '*.antt', '*.py', '*.h', '*.c', '*.map', 'ndef', 'ndef-make', 'ndef-explain', 'Makefile', '*.sh', 'crates.txt', 'run')
+# Names of Rust's, of C's, of the kit's, of Debian's packages and of ndeflib's classes that pages use, and placeholders.
 FOREIGN = set('''
     rt git apt make dpkg-dev lintian clang ctypes clap cc strip simdutf8 hex itoa arrayvec smallvec byteorder thiserror anyhow
     requires ensures after_borrow Copy Display Eq Hash PartialEq QNdefMessage Sig
-    mandoc pkg-config help ndeflib type
+    mandoc pkg-config help ndeflib type nodejs qemu-user
+    gcc-riscv64-linux-gnu gcc-arm-linux-gnueabihf gcc-arm-none-eabi gcc-mingw-w64-x86-64-win32 gcc-aarch64-linux-gnu
+    BluetoothEasyPairingRecord BluetoothLowEnergyRecord WifiSimpleConfigRecord WifiPeerToPeerRecord DeviceInformationRecord
+    SignatureRecord HandoverMediationRecord HandoverInitiateRecord
 '''.split())
 
 
