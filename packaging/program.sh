@@ -1,4 +1,4 @@
-# Functions of the scripts `ndef` and `ndef-make`: each runs a program of the repository. The program is proved and built first
+# Functions of the scripts `ndef`, `ndef-make` and `ndef-explain`: each runs a program of the repository. The program is proved and built first
 # where it is missing or older than its sources. The scripts set `top`, the folder of the repository.
 
 # Processor seconds that the proof of a crate takes from nothing.
