@@ -21,7 +21,6 @@ typedef char link_lies[sizeof(ndef_link) == 40 && offsetof(ndef_link, has_record
 typedef char poster_lies[sizeof(ndef_poster_parts) == 32 && offsetof(ndef_poster_parts, size) == 28 ? 1 : -1];
 typedef char error_lies[sizeof(ndef_error_parts) == 32 && offsetof(ndef_error_parts, number) == 24 ? 1 : -1];
 typedef char writing_lies[sizeof(ndef_writing) == 12 && offsetof(ndef_writing, chunk) == 8 ? 1 : -1];
-typedef char error_lies[sizeof(ndef_error_parts) == 32 && offsetof(ndef_error_parts, number) == 24 ? 1 : -1];
 struct aligned { char first; ndef_size second; };
 typedef char size_lies[sizeof(ndef_size) == 8 && offsetof(struct aligned, second) == 8 ? 1 : -1];
 
