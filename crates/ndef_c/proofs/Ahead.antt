@@ -3,11 +3,12 @@ use Rattle.std.proofs.Common.{◌≡◌, ℕ, suc, ◌+◌, ◌<◌, ◌∷◌, 
 use Rattle.std.specs.List.{AllByRecursion}
 use Rattle.std.specs.Prelude.{◌==◌, true, slice_get}
 use Rattle.std.proofs.lemmas.List.{drop-drop}
-use Rattle.ndef_value.specs.Wire.{Item, Piece, Run, SpellAll, all_pieces, payload_of, run_record, tnf_of}
-use Rattle.ndef_value.specs.declared.profile.Profile.{Profile}
+use Rattle.ndef_format.specs.Messages.{Item, SpellsPieces, all_pieces, payload_of, run_record}
+use Rattle.ndef_format.specs.Records.{Piece, Run, tnf_of}
+use Rattle.ndef_format.specs.declared.profile.Profile.{Profile}
 use Rattle.ndef_piece.specs.Heads.{HeadsAreApart}
 use Rattle.ndef_piece.specs.Whole.{IsSplit, BeginWithPiece}
-use Rattle.ndef_types.specs.Contents.{IsFirst, IsFirstAt, Lack}
+use Rattle.ndef_types.specs.Contents.{IsFirstOf, IsFirstAt, Lack}
 use Rattle.ndef_c.specs.Nested.{IsFound, IsInPieces, MayBeInPieces}
 use Rattle.ndef_c.specs.Walks.{Lies}
 use Rattle.ndef_c.specs.declared.nested.Found.{Found}
@@ -18,10 +19,10 @@ pub record Ahead (items : List Item) (rest : List ℕ) (done : List Item) : Type
   pub left : List Run
   pub all : items ≡ done ++ map run_record left
   pub single : AllByRecursion (λ r. r.later ≡ []) left
-  pub spelled : SpellAll (all_pieces left) rest
+  pub spelled : SpellsPieces (all_pieces left) rest
 
 ahead_at : (profile : Profile) (items : List Item) (bytes : List ℕ) → IsInPieces profile items bytes → Ahead items bytes []
-ahead_at profile items bytes h = record { left = h.runs; all = sym h.flat.message.items; single = h.single; spelled = h.flat.spelled }
+ahead_at profile items bytes h = record { left = h.runs; all = sym h.spelling.message.items; single = h.single; spelled = h.spelling.spelled }
 
 -- .. of a message, if there is one
 pub ahead_in : (profile : Profile) (items : List Item) (bytes : List ℕ) → MayBeInPieces profile items bytes → Ahead items bytes []
@@ -48,12 +49,12 @@ pub record NextItem (items : List Item) (rest : List ℕ) (done : List Item) : T
   pub within : (more : List Item) × (items ≡ done ++ item ∷ more)
   pub next : Ahead items behind (done ++ item ∷ [])
 
-next_in : (items done : List Item) (rest : List ℕ) (left : List Run) → items ≡ done ++ map run_record left → AllByRecursion (λ r. r.later ≡ []) left → SpellAll (all_pieces left) rest → 0 < length rest
+next_in : (items done : List Item) (rest : List ℕ) (left : List Run) → items ≡ done ++ map run_record left → AllByRecursion (λ r. r.later ≡ []) left → SpellsPieces (all_pieces left) rest → 0 < length rest
     → NextItem items rest done
 next_in items done rest [] a s w h = let n = ap length w in absurd (omega (arith, n, h))
 next_in items done rest (r ∷ left) a s w h =
     let one : all_pieces (r ∷ left) ≡ r.initial ∷ all_pieces left = ap (λ ps. r.initial ∷ (ps ++ all_pieces left)) s.0 in
-    let v = subst (λ ps. SpellAll ps rest) one w in
+    let v = subst (λ ps. SpellsPieces ps rest) one w in
     record {
       item = run_record r;
       piece = r.initial;
@@ -92,7 +93,7 @@ reached apart {items} {done} {rest} k p short behind i =
 
 -- ---- the first with a property
 
-pub none_left : (left : List Run) → SpellAll (all_pieces left) [] → left ≡ []
+pub none_left : (left : List Run) → SpellsPieces (all_pieces left) [] → left ≡ []
 none_left [] w = refl
 none_left (r ∷ left) w =
     let n = split_size r.initial w.0 w.2 [] (record { front = w.1; spells = w.4; joined = w.3 }) in
@@ -117,7 +118,7 @@ first_at P items done i w lack has = record {
   before = subst (Lack P) (sym (ap (take (length done)) w.1 ∙ take_at done (i ∷ w.0) (length done) refl)) lack;
 }
 
-pub first_is : (P : Item → Type 0) (items done : List Item) (i : Item) → (more : List Item) × (items ≡ done ++ i ∷ more) → Lack P done → P i → IsFirst P items (Some i)
+pub first_is : (P : Item → Type 0) (items done : List Item) (i : Item) → (more : List Item) × (items ≡ done ++ i ∷ more) → Lack P done → P i → IsFirstOf P items (Some i)
 first_is P items done i w lack has = (length done, first_at P items done i w lack has)
 
 pub found_of : (bytes : List ℕ) (i : Item) (f : Found) (payload : List ℕ) → f.payload.now ≡ payload → i.payload ≡ payload → Lies bytes f.at (length payload) payload → IsFound bytes i f

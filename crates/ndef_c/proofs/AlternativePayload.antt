@@ -1,10 +1,10 @@
 -- The payload of an alternative carrier: it is in its set, and stands for the value.
 use Rattle.std.proofs.Common.{◌≡◌, ℕ, ◌<◌, ◌%◌, List, [], ◌∷◌, ◌++◌, refl, sym, subst, arith, length, append_assoc, take_at, drop_at}
 use Rattle.std.specs.List.{AllByRecursion, flat_map}
-use Rattle.ndef_value.specs.Wire.{AreOctets}
-use Rattle.ndef_lang.specs.Alternative.{AreAuxiliary, AreReferences, IsAlternative}
-use Rattle.ndef_lang.specs.Octets.{IsOctet}
-use Rattle.ndef_lang.specs.OctetLaws.{field_of}
+use Rattle.ndef_format.specs.Records.{AreOctets}
+use Rattle.ndef_format.specs.Handovers.{AreAuxiliary, AreReferences, IsAlternative}
+use Rattle.ndef_format.specs.Octets.{IsOctet}
+use Rattle.ndef_lang.specs.OctetLaws.{octets_field}
 use Rattle.ndef_types.specs.Values.{AcValue, IsAcValue, IsReference, StandForNames, StandsForAc, ac_payload, counted, power_code}
 use Rattle.ndef_types.specs.declared.power.Power.{Power}
 use Rattle.ndef_types.specs.declared.power.Power.TheVariants.{Inactive, Active, Activating, Unknown}
@@ -15,7 +15,7 @@ names_are : (names : List (List ℕ)) (rest : List ℕ) → AllByRecursion IsRef
 names_are [] rest h r = r
 names_are (x ∷ names) rest h r =
     let behind = flat_map counted names ++ rest in
-    (h.0.0, rw (append_assoc x (flat_map counted names) rest) (field_of IsOctet x behind (AreReferences (length names)) h.0.1 (names_are names rest h.1 r)))
+    (h.0.0, rw (append_assoc x (flat_map counted names) rest) (octets_field IsOctet x behind (AreReferences (length names)) h.0.1 (names_are names rest h.1 r)))
 
 power_below : (p : Power) → power_code p < 256
 power_below Inactive = omega arith
@@ -26,7 +26,7 @@ power_below Unknown = omega arith
 pub payload_in_set : (v : AcValue) → IsAcValue v → IsAlternative (ac_payload v)
 payload_in_set v h =
     let behind = length v.auxiliary ∷ (flat_map counted v.auxiliary ++ v.rest) in
-    (power_below v.power, (h.reference.0, field_of IsOctet v.reference behind AreAuxiliary h.reference.1 (h.few, names_are v.auxiliary v.rest h.auxiliary h.rest)))
+    (power_below v.power, (h.reference.0, octets_field IsOctet v.reference behind AreAuxiliary h.reference.1 (h.few, names_are v.auxiliary v.rest h.auxiliary h.rest)))
 
 -- ---- what it stands for
 

@@ -2,8 +2,8 @@
 use Rattle.std.proofs.Common.{◌≡◌, ℕ, zero, suc, ◌+◌, ◌%◌, ◌<◌, ◌≤◌, ◌∷◌, [], take, drop, sym, refl, ◌∙◌, ap, subst, arith, List, length, length-drop, get_or, Some}
 use Rattle.std.specs.Prelude.{slice_get}
 use Rattle.std.proofs.lemmas.List.{drop-drop, length-take-le}
-use Rattle.ndef_lang.specs.Alternative.{IsAlternative, AreAuxiliary, AreReferences}
-use Rattle.ndef_lang.specs.Octets.{IsOctet}
+use Rattle.ndef_format.specs.Handovers.{IsAlternative, AreAuxiliary, AreReferences}
+use Rattle.ndef_format.specs.Octets.{IsOctet}
 use Rattle.ndef_lang.specs.OctetLaws.{field_parts}
 use Rattle.ndef_types.specs.Values.{AcValue, StandsForAc, StandForNames, power_code}
 use Rattle.ndef_c.specs.Alternatives.{LiesAt}

@@ -1,9 +1,9 @@
 -- Where the parts of a handover carrier lie.
 use Rattle.std.proofs.Common.{◌≡◌, ℕ, ◌+◌, ◌-◌, ◌%◌, ◌≤◌, ◌∷◌, [], take, drop, sym, refl, ◌∙◌, ap, arith, List, length, get_or, length-drop}
 use Rattle.std.proofs.lemmas.List.{drop-drop, take_all, length-take-le}
-use Rattle.ndef_value.specs.Wire.{AreOctets}
-use Rattle.ndef_lang.specs.Carrier.{IsCarrier}
-use Rattle.ndef_lang.specs.Octets.{IsOctet}
+use Rattle.ndef_format.specs.Records.{AreOctets}
+use Rattle.ndef_format.specs.Handovers.{IsCarrier}
+use Rattle.ndef_format.specs.Octets.{IsOctet}
 use Rattle.ndef_lang.specs.OctetLaws.{field_parts}
 use Rattle.ndef_types.specs.Values.{CarrierValue, StandsForCarrier}
 use Rattle.ndef_c.specs.Walks.{Lies}

@@ -5,8 +5,8 @@ use Rattle.std.proofs.lemmas.Grind.{flat_map-append}
 use Rattle.std.specs.Char.{InScalarRange}
 use Rattle.std.specs.Char.Escape.{encode_utf16}
 use lib.Utf8.{scalar, scalars, scalar_cases, encode}
-use Rattle.ndef_lang.specs.Utf16.{units_of, spelled, unit_octets}
-use Rattle.ndef_lang.specs.Utf16Laws.{spelled_length}
+use Rattle.ndef_format.specs.Texts.{units_of, spelled, unit_octets}
+use Rattle.ndef_lang.specs.Machine.Utf16Laws.{spelled_length}
 use Rattle.ndef_types.specs.UnitLaws.{same_unit}
 use Rattle.ndef_c.proofs.Puts.{put_on}
 use Rattle.ndef_c.specs.Rooms.{IsPut}

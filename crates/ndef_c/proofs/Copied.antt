@@ -1,9 +1,10 @@
 -- The payload of a run, copied piece by piece.
 use Rattle.std.proofs.Common.{◌≡◌, ℕ, ◌+◌, ◌≤◌, ◌∷◌, [], sym, refl, ◌∙◌, ap, subst, arith, List, ◌++◌, length, length-append, append_assoc, append-nil, Bool, true, false}
-use Rattle.ndef_value.specs.Wire.{Piece, Run, run_record, payload_of}
+use Rattle.ndef_format.specs.Records.{Piece, Run}
+use Rattle.ndef_format.specs.Messages.{run_record, payload_of}
 use Rattle.ndef_piece.specs.Heads.{HeadsAreApart}
 use Rattle.ndef_piece.specs.Whole.{IsSplit}
-use Rattle.ndef_c.specs.Walks.{BeginsWith}
+use Rattle.ndef_c.specs.Walks.{BeginsWithRun}
 use Rattle.ndef_c.proofs.Followed.{Later, initial_of, later_none, later_next, same_split}
 
 -- of a payload these bytes were copied, and those of the next piece and of the later ones are left
@@ -16,7 +17,7 @@ pub record Copying (payload end rest done : List ℕ) : Type 0 where
   pub others : Later next.chunked later end behind
   pub left : done ++ payload_of (next ∷ later) ≡ payload
 
-pub copying_at : (run : Run) (end bytes : List ℕ) → BeginsWith run end bytes → Copying (run_record run).payload end bytes []
+pub copying_at : (run : Run) (end bytes : List ℕ) → BeginsWithRun run end bytes → Copying (run_record run).payload end bytes []
 copying_at run end bytes b =
     let i = initial_of run end bytes b in
     record { next = run.initial; later = run.later; short = i.short; behind = i.behind; split = i.split; others = i.others; left = refl }

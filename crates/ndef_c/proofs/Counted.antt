@@ -4,7 +4,7 @@ use Rattle.std.specs.List.{AllByRecursion, flat_map}
 use Rattle.std.proofs.lemmas.List.Elements.{recursion_from_All}
 use Rattle.ndef_value.specs.ListLaws.{octets_front}
 use Rattle.ndef_value.specs.SliceLaws.{octets_drop}
-use Rattle.ndef_value.specs.Wire.{AreOctets}
+use Rattle.ndef_format.specs.Records.{AreOctets}
 use Rattle.std.proofs.lemmas.List.{length-map, length-take-le, take-append-drop, take_more}
 use Rattle.std.proofs.lemmas.List.Folds.{flat_map-map}
 use Rattle.std.proofs.lemmas.Grind.{flat_map-append}

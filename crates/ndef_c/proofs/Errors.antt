@@ -2,7 +2,7 @@
 use Rattle.std.proofs.Common.{List, length, length-drop, take, ◌∙◌, ap, sym, ◌≡◌, ℕ, ◌<◌, ◌≤◌, ◌^◌, ◌∷◌, [], ◌⊎◌, inl, inr, refl, rules, arith}
 use Rattle.std.specs.Int.{w32, to_be_bytes}
 use Rattle.std.proofs.lemmas.Nat.{from_be_bytes-to_be_bytes_4}
-use Rattle.ndef_value.specs.Wire.{AreOctets}
+use Rattle.ndef_format.specs.Records.{AreOctets}
 use Rattle.std.proofs.lemmas.List.{take_all}
 use Rattle.ndef_value.specs.SliceLaws.{behind, behind_drop}
 use Rattle.ndef_c.specs.Walks.{Lies}

@@ -5,17 +5,19 @@ use Rattle.std.specs.Prelude.{Result, Ok}
 use Rattle.std.proofs.lemmas.Bool.{cases_lt}
 use Rattle.std.proofs.lemmas.List.{append-nil, length-map, length-take-le, take_all, take_at, take-append-drop, take-append-le, take-take}
 use Rattle.std.proofs.Math.Seq.{take-append-add}
-use Rattle.ndef_value.specs.Wire.{Item, FlatBy, LimitValues, run_record}
-use Rattle.ndef_value.specs.Reason.{number_of}
-use Rattle.ndef_value.specs.declared.reason.Reason.TheVariants.{EndOfInput}
-use Rattle.ndef_value.specs.declared.refusal.Refusal.{Refusal}
-use Rattle.ndef_lang.specs.Language.{Sets, Conditions}
-use Rattle.ndef_message.specs.Deep.{Deep, IsDeep, IsMember, IsViable}
-use Rattle.ndef_message.specs.Feed.{Fronts, IsAccepted, Leads, OneJudgement, WhateverLed}
-use Rattle.ndef_message.specs.Place.{IsPlace, NoPrefixIsDeep, Refuses, RefusalsAreLocal}
-use Rattle.ndef_nest.specs.Typed.{IsTypedPayload, TypedReason}
-use Rattle.ndef_c.specs.Checks.{limits_of, ChecksTo, MayBeSet, Takes}
-use Rattle.ndef_c.specs.Feeding.{Answers, AnyPayload, FeedsTo, HaveCome, NoCondition, checked_status}
+use Rattle.ndef_format.specs.Messages.{Item, SpellsBy, run_record}
+use Rattle.ndef_format.specs.Limits.{LimitValues}
+use Rattle.ndef_format.specs.Reasons.{reason_number, Conditions}
+use Rattle.ndef_format.specs.declared.reason.Reason.TheVariants.{EndOfInput}
+use Rattle.ndef_format.specs.declared.refusal.Refusal.{Refusal}
+use Rattle.ndef_format.specs.Payloads.{Sets, IsTypedPayload}
+use Rattle.ndef_format.specs.Accepted.{Accepted, IsAccepted, IsMember, IsViable}
+use Rattle.ndef_message.specs.Feed.{Fronts, IsLongestViable, Leads, OneJudgement, WhateverLed}
+use Rattle.ndef_format.specs.Refusals.{IsPlace, Refuses}
+use Rattle.ndef_format.specs.Laws.{NoPrefixIsAccepted, RefusalsAreLocal}
+use Rattle.ndef_format.specs.NestedReasons.{TypedReason}
+use Rattle.ndef_c.specs.Checks.{limits_of, ChecksTo, MayBeSet, TakesMessage}
+use Rattle.ndef_c.specs.Feeding.{AnswersFed, AnyPayload, FeedsTo, HaveCome, NoCondition, checked_status}
 use Rattle.ndef_c.specs.declared.checking.NdefChecked.{NdefChecked}
 use Rattle.ndef_c.specs.declared.limits.NdefLimits.{NdefLimits}
 use Rattle.ndef_c.specs.declared.status.TheConstants.{OK, REFUSED, BAD_ARGUMENT, MORE}
@@ -23,10 +25,10 @@ use Rattle.ndef_c.specs.declared.status.TheConstants.{OK, REFUSED, BAD_ARGUMENT,
 -- ---- bytes that can be completed
 
 viable_front : (set : Sets) (limits : LimitValues) (a b : List ℕ) → IsViable set limits (a ++ b) → IsViable set limits a
-viable_front set limits a b v = (b ++ v.0, subst (IsDeep set limits) (append_assoc a b v.0) v.1)
+viable_front set limits a b v = (b ++ v.0, subst (IsAccepted set limits) (append_assoc a b v.0) v.1)
 
-deep_viable : (set : Sets) (limits : LimitValues) (a : List ℕ) → IsDeep set limits a → IsViable set limits a
-deep_viable set limits a d = ([], subst (IsDeep set limits) (sym (append-nil a)) d)
+deep_viable : (set : Sets) (limits : LimitValues) (a : List ℕ) → IsAccepted set limits a → IsViable set limits a
+deep_viable set limits a d = ([], subst (IsAccepted set limits) (sym (append-nil a)) d)
 
 viable_take : (set : Sets) (limits : LimitValues) (a b : List ℕ) (n : ℕ) → length a ≤ n → IsViable set limits (take n (a ++ b)) → IsViable set limits a
 viable_take set limits a b n h v =
@@ -35,7 +37,7 @@ viable_take set limits a b n h v =
     viable_front set limits a (take (n - length a) b) (subst (IsViable set limits) e v)
 
 -- all of them are accepted
-all_accepted : (set : Sets) (limits : LimitValues) (bytes : List ℕ) (n : ℕ) → IsViable set limits bytes → IsAccepted set limits bytes n → n ≡ length bytes
+all_accepted : (set : Sets) (limits : LimitValues) (bytes : List ℕ) (n : ℕ) → IsViable set limits bytes → IsLongestViable set limits bytes n → n ≡ length bytes
 all_accepted set limits bytes n v a =
     let w = a.within in
     elim (cases_lt n (length bytes)) as (λ _. n ≡ length bytes) [
@@ -64,12 +66,12 @@ module _ {Point : Type 0} {set : Sets} (holds : Conditions) {limits : LimitValue
   counted : length led ≡ g.count
   counted = length-take-le g.count front g.within
 
-  no_message : NoPrefixIsDeep set → (place : ℕ) → IsPlace set limits (led ++ bytes) place → ¬ IsDeep set limits led
-  no_message none place p d = none limits (led ++ bytes) place (length led) p (subst (IsDeep set limits) (sym (take_at led bytes (length led) refl)) d)
+  no_message : NoPrefixIsAccepted set → (place : ℕ) → IsPlace set limits (led ++ bytes) place → ¬ IsAccepted set limits led
+  no_message none place p d = none limits (led ++ bytes) place (length led) p (subst (IsAccepted set limits) (sym (take_at led bytes (length led) refl)) d)
 
   -- more are wanted
-  pub fed_more : NoPrefixIsDeep set → IsViable set limits (led ++ bytes) → ¬ IsDeep set limits (led ++ bytes) → Leads new (led ++ bytes) → (place : ℕ)
-      → WhateverLed new (λ x given point. IsAccepted set limits x place) → out.place ≡ place → out.records ≡ 0 → out.reason ≡ number_of EndOfInput → Answered MORE
+  pub fed_more : NoPrefixIsAccepted set → IsViable set limits (led ++ bytes) → ¬ IsAccepted set limits (led ++ bytes) → Leads new (led ++ bytes) → (place : ℕ)
+      → WhateverLed new (λ x given point. IsLongestViable set limits x place) → out.place ≡ place → out.records ≡ 0 → out.reason ≡ reason_number EndOfInput → Answered MORE
   fed_more none v u l place accepted e0 e1 e2 =
       let there : IsPlace set limits (led ++ bytes) (length (led ++ bytes)) =
       let e = take_all (length (led ++ bytes)) (led ++ bytes) (omega arith) in
@@ -90,7 +92,7 @@ module _ {Point : Type 0} {set : Sets} (holds : Conditions) {limits : LimitValue
       let refusal : Refusal = record { at = place; reason = EndOfInput } in
       let at_end = take_all place all (omega arith) in
       let refused : Refuses set holds limits all refusal = record {
-        place = record { within = omega arith; viable = rw at_end v'; unended = rw at_end (subst (λ x. ¬ IsDeep set limits x) same u); stops = λ h. absurd (omega arith) };
+        place = record { within = omega arith; viable = rw at_end v'; unended = rw at_end (subst (λ x. ¬ IsAccepted set limits x) same u); stops = λ h. absurd (omega arith) };
         why = record { at_end = λ q. refl; at_byte = λ h. absurd (omega arith) };
       } in (
         record { count = length all; within = omega arith; led = subst (Leads new) (sym e) l'; settled = inl refl },
@@ -101,7 +103,7 @@ module _ {Point : Type 0} {set : Sets} (holds : Conditions) {limits : LimitValue
       )
 
   -- how many of all the bytes are those of the message
-  ended : NoPrefixIsDeep set → OneJudgement set holds → (taken : ℕ) → taken ≤ length bytes → IsDeep set limits (led ++ take taken bytes)
+  ended : NoPrefixIsAccepted set → OneJudgement set holds → (taken : ℕ) → taken ≤ length bytes → IsAccepted set limits (led ++ take taken bytes)
       → (n : ℕ) × (n ≤ length all) × (take n all ≡ led ++ take taken bytes)
   ended none one taken h d =
       elim g.settled as (λ _. (n : ℕ) × (n ≤ length all) × (take n all ≡ led ++ take taken bytes)) [
@@ -115,8 +117,8 @@ module _ {Point : Type 0} {set : Sets} (holds : Conditions) {limits : LimitValue
               let whole = length-append led bytes in
               let j : ◌≡◌ {A = Result ℕ Refusal} (Ok (length led)) (Ok (length led + taken)) =
               one limits (led ++ bytes) (Ok (length led)) (Ok (length led + taken))
-              (omega (arith, whole), subst (IsDeep set limits) (sym (take_at led bytes (length led) refl)) m)
-              (omega (arith, whole, h), subst (IsDeep set limits) (sym (take-append-add led bytes taken)) d) in
+              (omega (arith, whole), subst (IsAccepted set limits) (sym (take_at led bytes (length led) refl)) m)
+              (omega (arith, whole, h), subst (IsAccepted set limits) (sym (take-append-add led bytes taken)) d) in
               let k : length led ≡ length led + taken = cc in
               let z : taken ≡ 0 = omega (arith, k) in (
                 g.count,
@@ -128,33 +130,33 @@ module _ {Point : Type 0} {set : Sets} (holds : Conditions) {limits : LimitValue
       ]
 
   -- they are a message
-  pub fed_done : NoPrefixIsDeep set → OneJudgement set holds → (taken : ℕ) → taken ≤ length bytes → IsDeep set limits (led ++ take taken bytes) → Leads new (led ++ take taken bytes)
-      → WhateverLed new (λ x given point. IsAccepted set limits x out.place) → WhateverLed new (λ x given point. out.records ≡ length given)
-      → WhateverLed new (λ x given point. IsDeep set limits x → Deep set limits given x) → out.reason ≡ 0 → Answered OK
+  pub fed_done : NoPrefixIsAccepted set → OneJudgement set holds → (taken : ℕ) → taken ≤ length bytes → IsAccepted set limits (led ++ take taken bytes) → Leads new (led ++ take taken bytes)
+      → WhateverLed new (λ x given point. IsLongestViable set limits x out.place) → WhateverLed new (λ x given point. out.records ≡ length given)
+      → WhateverLed new (λ x given point. IsAccepted set limits x → Accepted set limits given x) → out.reason ≡ 0 → Answered OK
   fed_done none one taken h d l accepted records whole e =
       let t = ended none one taken h d in
       let there = led ++ take taken bytes in
       let given : List Item = l.0 in
       let place : out.place ≡ t.0 =
       all_accepted set limits there out.place (deep_viable set limits there d) (accepted there given l.1 l.2) ∙ ap length (sym t.2) ∙ length-take-le t.0 all t.1 in
-      let deep : Deep set limits given there = whole there given l.1 l.2 d in
-      let same : given ≡ map run_record deep.runs = sym deep.flat.message.items in
-      let count : out.records ≡ length deep.runs =
-      records there given l.1 l.2 ∙ ap length same ∙ length-map deep.runs run_record in
-      let seen : Deep set limits (map run_record deep.runs) (take t.0 all) = record {
-        runs = deep.runs;
-        flat = subst (λ x. FlatBy limits.profile deep.runs (map run_record deep.runs) x) (sym t.2) (subst (λ m. FlatBy limits.profile deep.runs m there) same deep.flat);
-        within = deep.within;
-        members = subst (AllByRecursion (IsMember set limits)) same deep.members;
+      let accepted : Accepted set limits given there = whole there given l.1 l.2 d in
+      let same : given ≡ map run_record accepted.runs = sym accepted.spelling.message.items in
+      let count : out.records ≡ length accepted.runs =
+      records there given l.1 l.2 ∙ ap length same ∙ length-map accepted.runs run_record in
+      let seen : Accepted set limits (map run_record accepted.runs) (take t.0 all) = record {
+        runs = accepted.runs;
+        spelling = subst (λ x. SpellsBy limits.profile accepted.runs (map run_record accepted.runs) x) (sym t.2) (subst (λ m. SpellsBy limits.profile accepted.runs m there) same accepted.spelling);
+        within = accepted.within;
+        members = subst (AllByRecursion (IsMember set limits)) same accepted.members;
       } in
-      let takes : Takes set holds limits all out = record {
-        viewed = record { taken = t.0; runs = deep.runs; profile = limits.profile };
+      let takes : TakesMessage set holds limits all out = record {
+        viewed = record { taken = t.0; runs = accepted.runs; profile = limits.profile };
         views = (t.1, (seen, refl), refl);
         place = place;
         records = count;
         reason = e;
       } in (
-        record { count = t.0; within = t.1; led = subst (Leads new) (sym t.2) l; settled = inr (inl (subst (IsDeep set limits) (sym t.2) d)) },
+        record { count = t.0; within = t.1; led = subst (Leads new) (sym t.2) l; settled = inr (inl (subst (IsAccepted set limits) (sym t.2) d)) },
         record {
           checks = inl (refl, takes);
           more = ((λ q. (let z : 0 ≡ 5 = q in absurd (omega arith))), (λ q. absurd (q.0 refl)));
@@ -162,7 +164,7 @@ module _ {Point : Type 0} {set : Sets} (holds : Conditions) {limits : LimitValue
       )
 
   -- up to the refused byte they are the same
-  alike : NoPrefixIsDeep set → (refusal : Refusal) → refusal.at < length (led ++ bytes) → Refuses set holds limits (led ++ bytes) refusal
+  alike : NoPrefixIsAccepted set → (refusal : Refusal) → refusal.at < length (led ++ bytes) → Refuses set holds limits (led ++ bytes) refusal
       → (refusal.at < length all) × (take (refusal.at + 1) (led ++ bytes) ≡ take (refusal.at + 1) all)
   alike none refusal h r =
       let at = refusal.at in
@@ -184,8 +186,8 @@ module _ {Point : Type 0} {set : Sets} (holds : Conditions) {limits : LimitValue
       ]
 
   -- one of them is refused
-  pub fed_refused : NoPrefixIsDeep set → RefusalsAreLocal set holds → (refusal : Refusal) → refusal.at < length (led ++ bytes) → Refuses set holds limits (led ++ bytes) refusal
-      → Leads new (take (refusal.at + 1) (led ++ bytes)) → out.place ≡ refusal.at → out.records ≡ 0 → out.reason ≡ number_of refusal.reason → Answered REFUSED
+  pub fed_refused : NoPrefixIsAccepted set → RefusalsAreLocal set holds → (refusal : Refusal) → refusal.at < length (led ++ bytes) → Refuses set holds limits (led ++ bytes) refusal
+      → Leads new (take (refusal.at + 1) (led ++ bytes)) → out.place ≡ refusal.at → out.records ≡ 0 → out.reason ≡ reason_number refusal.reason → Answered REFUSED
   fed_refused none local refusal h r l e0 e1 e2 =
       let a = alike none refusal h r in
       let refused : Refuses set holds limits all refusal = local limits (led ++ bytes) all refusal h a.0 a.1 r in
@@ -212,7 +214,7 @@ never_bad {set} {holds} {limits} {bytes} {status} {out} f e =
     ]
 
 pub answers_typed : (limits : NdefLimits) (bytes : List ℕ) (status : ℕ) (before after : NdefChecked) → MayBeSet limits → limits.flags < 2
-    → FeedsTo IsTypedPayload TypedReason (limits_of limits) bytes status after → Answers limits bytes status before after
+    → FeedsTo IsTypedPayload TypedReason (limits_of limits) bytes status after → AnswersFed limits bytes status before after
 answers_typed limits bytes status before after set few f = record {
   bad = ((λ e. absurd (never_bad f e)), (λ n. absurd (n set)));
   kept = λ e. absurd (never_bad f e);
@@ -221,7 +223,7 @@ answers_typed limits bytes status before after set few f = record {
 }
 
 pub answers_opaque : (limits : NdefLimits) (bytes : List ℕ) (status : ℕ) (before after : NdefChecked) → MayBeSet limits → 2 ≤ limits.flags
-    → FeedsTo AnyPayload NoCondition (limits_of limits) bytes status after → Answers limits bytes status before after
+    → FeedsTo AnyPayload NoCondition (limits_of limits) bytes status after → AnswersFed limits bytes status before after
 answers_opaque limits bytes status before after set many f = record {
   bad = ((λ e. absurd (never_bad f e)), (λ n. absurd (n set)));
   kept = λ e. absurd (never_bad f e);

@@ -1,21 +1,20 @@
 -- The pieces that follow one another at the front of some bytes.
 use Rattle.std.proofs.Common.{◌≡◌, ℕ, ◌+◌, ◌≤◌, ◌∷◌, [], sym, refl, ◌∙◌, ap, ap₂, subst, arith, List, ◌++◌, length, length-append, append_assoc, append-nil, Bool, true, false, true≢false}
 use Rattle.ndef_value.specs.PieceLaws.{same_body}
-use Rattle.ndef_value.specs.Wire.{Piece, Run, Spells, SpellAll, Follow, IsInitial, IsLater, payload_of, fields, octets, body}
-use Rattle.ndef_value.specs.declared.profile.Profile.TheVariants.{Standard}
-use Rattle.ndef_piece.specs.Heads.{CanBeSpelled, HeadsAreApart}
+use Rattle.ndef_format.specs.Records.{Piece, Run, SpellsPiece, Follow, IsInitial, IsLater, fields, octets, body}
+use Rattle.ndef_format.specs.Messages.{SpellsPieces, payload_of}
+use Rattle.ndef_format.specs.declared.profile.Profile.TheVariants.{Standard}
+use Rattle.ndef_format.specs.Positions.{CanBeSpelled}
+use Rattle.ndef_piece.specs.Heads.{HeadsAreApart}
 use Rattle.ndef_piece.specs.Whole.{IsSplit, BeginWithPiece}
-use Rattle.ndef_c.specs.Walks.{BeginsWith, OneRecordIsThere, ends_message}
+use Rattle.ndef_c.specs.Walks.{BeginsWithRun, OneRecordIsThere, ends_message}
 use Rattle.std.specs.Prelude.{unwrap_or, Option, None, Some}
 use Rattle.std.specs.Option.{option_map}
+use Rattle.ndef_piece.specs.HeaderLaws.{id_count}
 
 -- ---- one piece
 
-id_count : (id : Option (List ℕ)) → unwrap_or (option_map length id) 0 ≡ length (unwrap_or id [])
-id_count None = refl
-id_count (Some x) = refl
-
-can_be_spelled : (p : Piece) (short : Bool) (front : List ℕ) → Spells p short front → CanBeSpelled (fields p short)
+can_be_spelled : (p : Piece) (short : Bool) (front : List ℕ) → SpellsPiece p short front → CanBeSpelled (fields p short)
 can_be_spelled p short front s = record {
   tnf = s.piece.tnf;
   kind = s.piece.kind_length;
@@ -50,7 +49,7 @@ split_size p s x bytes i =
 pub record Later (chunked : Bool) (ps : List Piece) (rest bytes : List ℕ) : Type 0 where
   pub follow : Follow chunked ps
   pub front : List ℕ
-  pub spelled : SpellAll ps front
+  pub spelled : SpellsPieces ps front
   pub joined : bytes ≡ front ++ rest
 
 -- the first of them, and the others
@@ -121,7 +120,7 @@ pub record Initial (run : Run) (rest bytes : List ℕ) : Type 0 where
   pub split : IsSplit run.initial short behind bytes
   pub others : Later run.initial.chunked run.later rest behind
 
-pub initial_of : (run : Run) (rest bytes : List ℕ) → BeginsWith run rest bytes → Initial run rest bytes
+pub initial_of : (run : Run) (rest bytes : List ℕ) → BeginsWithRun run rest bytes → Initial run rest bytes
 initial_of run rest bytes b =
     let s = b.spelled in
     record {
@@ -133,7 +132,7 @@ initial_of run rest bytes b =
     }
 
 pub begins_with : (p : Piece) (ps : List Piece) (short : Bool) (rest behind bytes : List ℕ) → IsInitial Standard p → IsSplit p short behind bytes → Later p.chunked ps rest behind
-    → BeginsWith (record { initial = p; later = ps }) rest bytes
+    → BeginsWithRun (record { initial = p; later = ps }) rest bytes
 begins_with p ps short rest behind bytes is i l = record {
   read = record { initial = is; follow = l.follow };
   front = i.front ++ l.front;
@@ -141,7 +140,7 @@ begins_with p ps short rest behind bytes is i l = record {
   joined = i.joined ∙ ap (λ x. i.front ++ x) l.joined ∙ sym (append_assoc i.front l.front rest);
 }
 
-pub begins_with_piece : (run : Run) (rest bytes : List ℕ) → BeginsWith run rest bytes → BeginWithPiece bytes
+pub begins_with_piece : (run : Run) (rest bytes : List ℕ) → BeginsWithRun run rest bytes → BeginWithPiece bytes
 begins_with_piece run rest bytes b = let i = initial_of run rest bytes b in record { piece = run.initial; short = i.short; rest = i.behind; split = i.split }
 
 pub one_record : HeadsAreApart → OneRecordIsThere
@@ -160,7 +159,7 @@ pub record From (p : Piece) (run : Run) (end behind : List ℕ) : Type 0 where
   pub is_initial : IsInitial Standard p
   pub others : Later p.chunked run.later end behind
 
-pub from_piece : HeadsAreApart → (p : Piece) (short : Bool) (behind bytes : List ℕ) → IsSplit p short behind bytes → (run : Run) (end : List ℕ) → BeginsWith run end bytes → From p run end behind
+pub from_piece : HeadsAreApart → (p : Piece) (short : Bool) (behind bytes : List ℕ) → IsSplit p short behind bytes → (run : Run) (end : List ℕ) → BeginsWithRun run end bytes → From p run end behind
 from_piece apart p short behind bytes s run end b =
     let i = initial_of run end bytes b in
     let e = same_split apart run.initial p i.short short i.behind behind bytes i.split s in

@@ -4,24 +4,22 @@ use Rattle.std.specs.Int.{w16, from_be_bytes}
 use Rattle.std.specs.List.{AllByRecursion}
 use Rattle.std.specs.Prelude.{slice_get, if◌then◌else◌}
 use Rattle.std.proofs.lemmas.List.Elements.{filter-append}
-use Rattle.ndef_value.specs.Wire.{Item}
-use Rattle.ndef_value.specs.declared.profile.Profile.{Profile}
-use Rattle.ndef_value.specs.declared.profile.Profile.TheVariants.{Standard}
-use Rattle.ndef_lang.specs.Alternative.{IsAlternative}
-use Rattle.ndef_lang.specs.HandoverError.{IsError}
-use Rattle.ndef_lang.specs.Kind.{kind_of}
-use Rattle.ndef_lang.specs.Leaf.{IsPayload}
-use Rattle.ndef_lang.specs.declared.kind.Kind.{Kind}
-use Rattle.ndef_lang.specs.declared.kind.Kind.TheVariants as kinds
-use Rattle.ndef_nest.specs.Nested.{IsComplete, IsNest, Nested, checked, kind_in}
-use Rattle.ndef_nest.specs.declared.table.Table.{Table}
-use Rattle.ndef_nest.specs.declared.table.Table.TheVariants.{SmartPoster, Request, Select}
-use Rattle.ndef_types.specs.Contents.{IsFirst, IsFirstAt, IsOfKind, Lack}
+use Rattle.ndef_format.specs.Messages.{Item}
+use Rattle.ndef_format.specs.declared.profile.Profile.{Profile}
+use Rattle.ndef_format.specs.declared.profile.Profile.TheVariants.{Standard}
+use Rattle.ndef_format.specs.Handovers.{IsAlternative, IsError}
+use Rattle.ndef_format.specs.Kinds.{kind_of}
+use Rattle.ndef_format.specs.Nested.{IsPayload, IsComplete, IsNest, Nested, checked, kind_in}
+use Rattle.ndef_format.specs.declared.kind.Kind.{Kind}
+use Rattle.ndef_format.specs.declared.kind.Kind.TheVariants as kinds
+use Rattle.ndef_format.specs.declared.table.Table.{Table}
+use Rattle.ndef_format.specs.declared.table.Table.TheVariants.{SmartPoster, Request, Select}
+use Rattle.ndef_types.specs.Contents.{IsFirstOf, IsFirstAt, IsOfKind, Lack}
 use Rattle.ndef_types.specs.ContentsLaws.{has_at}
 use Rattle.ndef_types.specs.Handovers.{IsCollisionOf}
 use Rattle.ndef_types.specs.Links.{alternatives, is_alternative}
 use Rattle.ndef_types.specs.Values.{ErrorValue, StandsForError}
-use Rattle.ndef_c.specs.Handovers.{AreContents, HasMessage, IsHandover}
+use Rattle.ndef_c.specs.Handovers.{AreHandoverContents, HasMessage, IsHandoverPayload}
 use Rattle.ndef_c.specs.Walks.{Lies}
 use Rattle.ndef_c.proofs.Places.{lies_tail}
 
@@ -72,13 +70,13 @@ members table profile (i ∷ items) t h = (
 pub record Nest (table : Table) (profile : Profile) (payload : List ℕ) : Type 0 where
   pub some : 0 < length payload
   pub items : List Item
-  pub are : AreContents table profile items (drop 1 payload)
+  pub are : AreHandoverContents table profile items (drop 1 payload)
 
 nest_by : (table : Table) (profile : Profile) (version : ℕ) (s : List ℕ) → Nested table 65535 profile s → Nest table profile (version ∷ s)
 nest_by table profile version s n = record {
   some = omega arith;
   items = n.1;
-  are = record { pieces = inr (record { runs = n.0; flat = n.2.flat; single = n.2.single }); contents = n.2.contents };
+  are = record { pieces = inr (record { runs = n.0; spelling = n.2.spelling; single = n.2.single }); contents = n.2.contents };
 }
 
 pub request_nest : (profile : Profile) (payload : List ℕ) → IsNest Request 65535 profile payload → Nest Request profile payload
@@ -102,7 +100,7 @@ handover_by : (table : Table) (payload : List ℕ) → table ≢ SmartPoster →
 handover_by table payload t n =
     record { some = n.some; items = n.items; records = n.are.pieces; each = each_alternative _ n.items (members table Standard n.items t n.are.contents.members) }
 
-pub handover_of : (payload : List ℕ) → IsHandover payload → Handover payload
+pub handover_of : (payload : List ℕ) → IsHandoverPayload payload → Handover payload
 handover_of payload (inl h) = handover_by Request payload (λ e. cc) (request_nest Standard payload h)
 handover_of payload (inr h) = handover_by Select payload (λ e. cc) (select_nest Standard payload h)
 
@@ -112,7 +110,7 @@ is_alternative_at items k i h e = has_at (λ i. IsAlternative i.payload) (altern
 -- ---- the collision resolution of a request, and the error of a select
 
 -- the first record of a kind has a payload of it
-pub first_has : (table : Table) (profile : Profile) (items : List Item) (message : List ℕ) (kind : Kind) (i : Item) → AreContents table profile items message → IsFirst (IsOfKind table kind) items (Some i)
+pub first_has : (table : Table) (profile : Profile) (items : List Item) (message : List ℕ) (kind : Kind) (i : Item) → AreHandoverContents table profile items message → IsFirstOf (IsOfKind table kind) items (Some i)
     → IsPayload kind profile i.payload
 first_has table profile items message kind i h f =
     subst (λ k. IsPayload k profile i.payload) f.1.has (has_at (λ j. IsPayload (kind_in table j.tnf j.kind) profile j.payload) items f.0 i h.contents.members f.1.at)
@@ -122,7 +120,7 @@ same_first j i items zero h f = let e = f.at in cc
 same_first j i items (suc k) h f = absurd (f.before.0 h)
 
 -- the collision resolution of a request is its first record
-pub collision_first : (items : List Item) (i : Item) (number : ℕ) → IsComplete Request items → IsFirst (IsOfKind Request kinds.Collision) items (Some i) → number ≡ from_be_bytes w16 i.payload → IsCollisionOf items number
+pub collision_first : (items : List Item) (i : Item) (number : ℕ) → IsComplete Request items → IsFirstOf (IsOfKind Request kinds.Collision) items (Some i) → number ≡ from_be_bytes w16 i.payload → IsCollisionOf items number
 collision_first [] i number h f e = absurd h
 collision_first (j ∷ items) i number h f e = e ∙ ap (λ x. from_be_bytes w16 x.payload) (sym (same_first j i items f.0 h f.1))
 

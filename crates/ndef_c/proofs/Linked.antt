@@ -3,27 +3,32 @@ use Rattle.std.proofs.Common.{◌≡◌, ◌≢◌, ℕ, zero, suc, ◌∷◌, [
 use Rattle.std.specs.List.{AllByRecursion}
 use Rattle.std.specs.Prelude.{slice_get, Ok}
 use Rattle.std.proofs.lemmas.List.{take_all}
-use Rattle.ndef_value.specs.Wire.{BeginsOnce, FlatBy, IsRun, Item, LimitValues, OneMeaning, Run, SpellAll, all_pieces, run_record}
-use Rattle.ndef_value.specs.declared.profile.Profile.{Profile}
-use Rattle.ndef_value.specs.declared.profile.Profile.TheVariants.{Strict, Standard}
-use Rattle.ndef_lang.specs.Alternative.{IsAlternative}
-use Rattle.ndef_lang.specs.Kind.{kind_of}
-use Rattle.ndef_lang.specs.Language.{Sets, Conditions}
+use Rattle.ndef_format.specs.Messages.{BeginsOnce, SpellsBy, Item, SpellsPieces, all_pieces, run_record}
+use Rattle.ndef_format.specs.Records.{IsRun, Run}
+use Rattle.ndef_format.specs.Limits.{LimitValues}
+use Rattle.ndef_format.specs.Laws.{OneMeaning}
+use Rattle.ndef_format.specs.declared.profile.Profile.{Profile}
+use Rattle.ndef_format.specs.declared.profile.Profile.TheVariants.{Strict, Standard}
+use Rattle.ndef_format.specs.Handovers.{IsAlternative}
+use Rattle.ndef_format.specs.Kinds.{kind_of}
+use Rattle.ndef_format.specs.Payloads.{Sets}
+use Rattle.ndef_format.specs.Reasons.{Conditions}
 use Rattle.ndef_message.specs.Views.{Viewed, Views}
-use Rattle.ndef_nest.specs.Nested.{HasContents, IsNest, Nested, StrictIsRead, table_of}
-use Rattle.ndef_nest.specs.declared.table.Table.{Table}
-use Rattle.ndef_nest.specs.declared.table.Table.TheVariants.{Request, Select}
+use Rattle.ndef_format.specs.Nested.{HasContents, IsNest, Nested, table_of}
+use Rattle.ndef_nest.specs.Nested.{StrictContentsAreRead}
+use Rattle.ndef_format.specs.declared.table.Table.{Table}
+use Rattle.ndef_format.specs.declared.table.Table.TheVariants.{Request, Select}
 use Rattle.ndef_piece.specs.Heads.{HeadsAreApart}
 use Rattle.ndef_types.specs.Contents.{IsFirstAt, Lack, StandsForMessage}
 use Rattle.ndef_types.specs.ContentsLaws.{has_at}
 use Rattle.ndef_types.specs.Decoding.{OneValue}
-use Rattle.ndef_types.specs.Links.{AreLinks, HasId, IsHandover as IsHandoverRecord, IsIndexOf, StandsForLinks, alternatives, records_of}
+use Rattle.ndef_types.specs.Links.{AreLinks, HasId, IsHandoverRecord as IsHandoverRecord, IsIndexOf, StandsForLinks, alternatives, records_of}
 use Rattle.ndef_types.specs.Values.{StandsForAc}
 use Rattle.ndef_types.specs.declared.link.Link.{Link}
-use Rattle.ndef_c.specs.Handovers.{HasMessage, IsHandover}
+use Rattle.ndef_c.specs.Handovers.{HasMessage, IsHandoverPayload}
 use Rattle.ndef_c.specs.Links.{BeginsWithRuns, FindsRecord, LinksAreTold, TellsPlace}
-use Rattle.ndef_c.specs.Nested.{MayBeInPieces, Tells}
-use Rattle.ndef_c.specs.Walks.{AreWalked, BeginsWith, ends_message, is_last}
+use Rattle.ndef_c.specs.Nested.{MayBeInPieces, TellsNumber}
+use Rattle.ndef_c.specs.Walks.{AreWalked, BeginsWithRun, ends_message, is_last_run}
 use Rattle.ndef_c.specs.declared.message.Place.{Place}
 use Rattle.ndef_c.proofs.Ahead.{none_left}
 use Rattle.ndef_c.proofs.Followed.{one_record}
@@ -31,38 +36,38 @@ use Rattle.ndef_c.proofs.Walked.{checks_walked, read_standard}
 
 -- ---- one message
 
-tail_once : HeadsAreApart → (bytes : List ℕ) (x y : ℕ) (rs ss : List Run) (e f : ℕ) → drop x bytes ≡ drop y bytes → is_last rs ≡ is_last ss → AreWalked bytes x rs e → AreWalked bytes y ss f → rs ≡ ss
+tail_once : HeadsAreApart → (bytes : List ℕ) (x y : ℕ) (rs ss : List Run) (e f : ℕ) → drop x bytes ≡ drop y bytes → is_last_run rs ≡ is_last_run ss → AreWalked bytes x rs e → AreWalked bytes y ss f → rs ≡ ss
 tail_once apart bytes x y [] [] e f d l a b = refl
 tail_once apart bytes x y [] (s ∷ ss) e f d l a b = absurd (true≢false l)
 tail_once apart bytes x y (r ∷ rs) [] e f d l a b = absurd (true≢false (sym l))
 tail_once apart bytes x y (r ∷ rs) (s ∷ ss) e f d l a b =
-    let o = one_record apart r s (drop a.0 bytes) (drop b.0 bytes) (drop x bytes) a.1 (subst (BeginsWith s (drop b.0 bytes)) (sym d) b.1) in
-    let ends : is_last rs ≡ is_last ss = sym a.2 ∙ ap (λ r. ends_message r.initial r.later) o.0 ∙ b.2 in
+    let o = one_record apart r s (drop a.0 bytes) (drop b.0 bytes) (drop x bytes) a.1 (subst (BeginsWithRun s (drop b.0 bytes)) (sym d) b.1) in
+    let ends : is_last_run rs ≡ is_last_run ss = sym a.2 ∙ ap (λ r. ends_message r.initial r.later) o.0 ∙ b.2 in
     ap (λ r. r ∷ rs) o.0 ∙ ap (λ rs. s ∷ rs) (tail_once apart bytes a.0 b.0 rs ss e f o.1 ends a.3 b.3)
 
-some_last : (rs : List Run) → rs ≢ [] → is_last rs ≡ false
+some_last : (rs : List Run) → rs ≢ [] → is_last_run rs ≡ false
 some_last [] h = absurd (h refl)
 some_last (r ∷ rs) h = refl
 
 runs_once : HeadsAreApart → (bytes : List ℕ) (rs ss : List Run) → BeginsWithRuns rs bytes → BeginsWithRuns ss bytes → rs ≡ ss
 runs_once apart bytes rs ss a b = tail_once apart bytes 0 0 rs ss a.end b.end refl (some_last rs a.some ∙ sym (some_last ss b.some)) a.walked b.walked
 
-not_flat : (profile : Profile) (runs : List Run) (items : List Item) (bytes : List ℕ) → bytes ≡ [] → FlatBy profile runs items bytes → ⊥
+not_flat : (profile : Profile) (runs : List Run) (items : List Item) (bytes : List ℕ) → bytes ≡ [] → SpellsBy profile runs items bytes → ⊥
 not_flat profile runs items bytes e h =
-    let none : runs ≡ [] = none_left runs (subst (SpellAll (all_pieces runs)) e h.spelled) in
+    let none : runs ≡ [] = none_left runs (subst (SpellsPieces (all_pieces runs)) e h.spelled) in
     subst (λ rs. BeginsOnce (all_pieces rs)) none h.message.begins
 
 items_once : OneMeaning → (p q : Profile) (items : List Item) (bytes : List ℕ) (message : Option (List Item)) → MayBeInPieces p items bytes → StandsForMessage q bytes message → items ≡ records_of message
 items_once one p q items bytes None (inl h) m = h.0
 items_once one p q items bytes (Some other) (inl h) m = absurd (not_flat q m.0 other bytes h.1 m.1)
-items_once one p q items bytes None (inr h) m = absurd (not_flat p h.runs items bytes m h.flat)
-items_once one p q items bytes (Some other) (inr h) m = (one p q items other bytes bytes [] (h.runs, h.flat) m (sym (append-nil bytes))).0
+items_once one p q items bytes None (inr h) m = absurd (not_flat p h.runs items bytes m h.spelling)
+items_once one p q items bytes (Some other) (inr h) m = (one p q items other bytes bytes [] (h.runs, h.spelling) m (sym (append-nil bytes))).0
 
 -- ---- the message of a check
 
 begins_with_runs : (set : Sets) (holds : Conditions) (limits : LimitValues) (bytes : List ℕ) (v : Viewed) → Views set holds limits bytes (Ok v) → BeginsWithRuns v.runs bytes
 begins_with_runs set holds limits bytes v s = record {
-  some = λ e. subst (λ rs. BeginsOnce (all_pieces rs)) (s.1.1 ∙ e) s.1.0.flat.message.begins;
+  some = λ e. subst (λ rs. BeginsOnce (all_pieces rs)) (s.1.1 ∙ e) s.1.0.spelling.message.begins;
   end = v.taken;
   walked = subst (λ b. AreWalked b 0 v.runs v.taken) (take_all (length bytes) bytes (omega arith)) (checks_walked set holds limits bytes v (length bytes) s s.0);
 }
@@ -89,9 +94,9 @@ index_once items id (Some j) None x (inr l) = absurd (lacks (HasId id) items j x
 index_once items id (Some j) (Some k) x y = ap (λ n. Some n) (same_place (HasId id) items j k x.1 y.1 x.2 y.2)
 
 index_told : (bytes : List ℕ) (runs : List Run) (id : List ℕ) (index : Option ℕ) (p : Option Place) (has number at : ℕ) → IsIndexOf (map run_record runs) id index → FindsRecord bytes runs id p → TellsPlace p has number at
-    → Tells index has number
-index_told bytes runs id index None has number at x f t = subst (λ k. Tells k has number) (index_once (map run_record runs) id None index f x) (t.0, t.1)
-index_told bytes runs id index (Some p) has number at x f t = subst (λ k. Tells k has number) (index_once (map run_record runs) id (Some p.index) index f.0 x) (t.0, t.1)
+    → TellsNumber index has number
+index_told bytes runs id index None has number at x f t = subst (λ k. TellsNumber k has number) (index_once (map run_record runs) id None index f x) (t.0, t.1)
+index_told bytes runs id index (Some p) has number at x f t = subst (λ k. TellsNumber k has number) (index_once (map run_record runs) id (Some p.index) index f.0 x) (t.0, t.1)
 
 -- ---- the links in order
 
@@ -114,7 +119,7 @@ each_standard : (profile : Profile) (rs : List Run) → AllByRecursion (IsRun pr
 each_standard profile [] h = tt
 each_standard profile (r ∷ rs) h = (read_standard profile r h.0, each_standard profile rs h.1)
 
-flat_standard : (profile : Profile) (runs : List Run) (items : List Item) (bytes : List ℕ) → FlatBy profile runs items bytes → FlatBy Standard runs items bytes
+flat_standard : (profile : Profile) (runs : List Run) (items : List Item) (bytes : List ℕ) → SpellsBy profile runs items bytes → SpellsBy Standard runs items bytes
 flat_standard profile runs items bytes h = record {
   message = record {
     each_run = each_standard profile runs h.message.each_run;
@@ -126,24 +131,24 @@ flat_standard profile runs items bytes h = record {
   spelled = h.spelled;
 }
 
-contents_standard : StrictIsRead → (table : Table) (profile : Profile) (items : List Item) → HasContents table profile items → HasContents table Standard items
+contents_standard : StrictContentsAreRead → (table : Table) (profile : Profile) (items : List Item) → HasContents table profile items → HasContents table Standard items
 contents_standard read table Strict items h = read table Standard items h
 contents_standard read table Standard items h = h
 
-nested_standard : StrictIsRead → (table : Table) (profile : Profile) (bytes : List ℕ) → Nested table 65535 profile bytes → Nested table 65535 Standard bytes
+nested_standard : StrictContentsAreRead → (table : Table) (profile : Profile) (bytes : List ℕ) → Nested table 65535 profile bytes → Nested table 65535 Standard bytes
 nested_standard read table profile bytes (runs, items, n) =
-    (runs, items, record { flat = flat_standard profile runs items bytes n.flat; single = n.single; few = n.few; contents = contents_standard read table profile items n.contents })
+    (runs, items, record { spelling = flat_standard profile runs items bytes n.spelling; single = n.single; few = n.few; contents = contents_standard read table profile items n.contents })
 
-request_standard : StrictIsRead → (profile : Profile) (s : List ℕ) → IsNest Request 65535 profile s → IsNest Request 65535 Standard s
+request_standard : StrictContentsAreRead → (profile : Profile) (s : List ℕ) → IsNest Request 65535 profile s → IsNest Request 65535 Standard s
 request_standard read profile [] h = absurd h
 request_standard read profile (v ∷ s) h = (h.0, nested_standard read Request profile s h.1)
 
-select_standard : StrictIsRead → (profile : Profile) (s : List ℕ) → IsNest Select 65535 profile s → IsNest Select 65535 Standard s
+select_standard : StrictContentsAreRead → (profile : Profile) (s : List ℕ) → IsNest Select 65535 profile s → IsNest Select 65535 Standard s
 select_standard read profile [] h = absurd h
 select_standard read profile (v ∷ s) (o, inl e) = (o, inl e)
 select_standard read profile (v ∷ s) (o, inr n) = (o, inr (nested_standard read Select profile s n))
 
-is_handover : StrictIsRead → (profile : Profile) (i : Item) → IsHandoverRecord i → IsNest (table_of (kind_of i.tnf i.kind)) 65535 profile i.payload → IsHandover i.payload
+is_handover : StrictContentsAreRead → (profile : Profile) (i : Item) → IsHandoverRecord i → IsNest (table_of (kind_of i.tnf i.kind)) 65535 profile i.payload → IsHandoverPayload i.payload
 is_handover read profile i (inl k) h = inl (request_standard read profile i.payload (subst (λ k. IsNest (table_of k) 65535 profile i.payload) k h))
 is_handover read profile i (inr k) h = inr (select_standard read profile i.payload (subst (λ k. IsNest (table_of k) 65535 profile i.payload) k h))
 
@@ -153,7 +158,7 @@ same_links : OneMeaning → (profile : Profile) (outer items : List Item) (paylo
 same_links one profile outer items [] links h m = absurd h
 same_links one profile outer items (version ∷ bytes) links h m = subst (λ is. AreLinks outer (alternatives is) links) (sym (items_once one Standard profile items bytes h.0 m h.1)) h.2
 
-pub links_told : HeadsAreApart → OneMeaning → StrictIsRead → OneValue IsAlternative StandsForAc → (set : Sets) (holds : Conditions) → LinksAreTold set holds
+pub links_told : HeadsAreApart → OneMeaning → StrictContentsAreRead → OneValue IsAlternative StandsForAc → (set : Sets) (holds : Conditions) → LinksAreTold set holds
 links_told apart one read value set holds limits bytes v handover links s k short l =
     let b = begins_with_runs set holds limits bytes v s in
     record {

@@ -3,14 +3,15 @@ use Rattle.std.proofs.Common.{◌≡◌, ◌≢◌, ℕ, ◌-◌, ◌<◌, ◌�
 use Rattle.std.specs.List.{AllByRecursion}
 use Rattle.std.specs.Prelude.{slice_get, unwrap_or}
 use Rattle.std.proofs.lemmas.List.{length-map, map-append}
-use Rattle.ndef_value.specs.Wire.{Run, run_record}
-use Rattle.ndef_piece.specs.Header.{is_set}
+use Rattle.ndef_format.specs.Records.{Run}
+use Rattle.ndef_format.specs.Messages.{run_record}
+use Rattle.ndef_format.specs.HeadReasons.{is_set}
 use Rattle.ndef_piece.specs.Heads.{HeadsAreApart}
 use Rattle.ndef_types.specs.Contents.{IsFirstAt, Lack}
 use Rattle.ndef_types.specs.Links.{HasId, IsIndexOf}
 use Rattle.ndef_c.specs.Links.{BeginsWithRuns, IsPlaceOf, LieBetween}
-use Rattle.ndef_c.specs.Runs.{HasRun, IsFirst}
-use Rattle.ndef_c.specs.Walks.{AreWalked, BeginsWith, ends_message, is_last}
+use Rattle.ndef_c.specs.Runs.{HasRun, IsFirstRun}
+use Rattle.ndef_c.specs.Walks.{AreWalked, BeginsWithRun, ends_message, is_last_run}
 use Rattle.ndef_c.specs.declared.message.Place.{Place}
 use Rattle.ndef_c.specs.declared.run.FirstRun.{FirstRun}
 use Rattle.ndef_c.proofs.Ahead.{first_at, get_behind, lack_on}
@@ -23,21 +24,21 @@ use Rattle.ndef_c.proofs.Places.{ends, id_is}
 abbrev pub IsAmid : Run → Type 0
 IsAmid r = ends_message r.initial r.later ≡ false
 
-pub between_on : (bytes : List ℕ) (from at next : ℕ) (done : List Run) (r : Run) → LieBetween bytes from done at → BeginsWith r (drop next bytes) (drop at bytes) → LieBetween bytes from (done ++ r ∷ []) next
-between_on bytes from at next [] r l b = (next, subst (λ n. BeginsWith r (drop next bytes) (drop n bytes)) (sym l) b, refl)
+pub between_on : (bytes : List ℕ) (from at next : ℕ) (done : List Run) (r : Run) → LieBetween bytes from done at → BeginsWithRun r (drop next bytes) (drop at bytes) → LieBetween bytes from (done ++ r ∷ []) next
+between_on bytes from at next [] r l b = (next, subst (λ n. BeginsWithRun r (drop next bytes) (drop n bytes)) (sym l) b, refl)
 between_on bytes from at next (d ∷ done) r l b = (l.0, l.1, between_on bytes l.0 at next done r l.2 b)
 
 pub amid_on : (done : List Run) (r : Run) → AllByRecursion IsAmid done → IsAmid r → AllByRecursion IsAmid (done ++ r ∷ [])
 amid_on [] r h e = (e, tt)
 amid_on (d ∷ done) r h e = (h.0, amid_on done r h.1 e)
 
-not_last : (done : List Run) (r : Run) → is_last (done ++ r ∷ []) ≡ false
+not_last : (done : List Run) (r : Run) → is_last_run (done ++ r ∷ []) ≡ false
 not_last [] r = refl
 not_last (d ∷ done) r = refl
 
 pub walked_to : (bytes : List ℕ) (from at next : ℕ) (done : List Run) (r : Run) → LieBetween bytes from done at → AllByRecursion IsAmid done
-    → BeginsWith r (drop next bytes) (drop at bytes) → ends_message r.initial r.later ≡ true → AreWalked bytes from (done ++ r ∷ []) next
-walked_to bytes from at next [] r l h b e = (next, subst (λ n. BeginsWith r (drop next bytes) (drop n bytes)) (sym l) b, e, refl)
+    → BeginsWithRun r (drop next bytes) (drop at bytes) → ends_message r.initial r.later ≡ true → AreWalked bytes from (done ++ r ∷ []) next
+walked_to bytes from at next [] r l h b e = (next, subst (λ n. BeginsWithRun r (drop next bytes) (drop n bytes)) (sym l) b, e, refl)
 walked_to bytes from at next (d ∷ done) r l h b e = (l.0, l.1, h.0 ∙ sym (not_last done r), walked_to bytes l.0 at next done r l.2 h.1 b e)
 
 pub some_runs : (done : List Run) (r : Run) → done ++ r ∷ [] ≢ []
@@ -68,49 +69,49 @@ run_there {bytes} {runs} {at} {done} l = there bytes at l.more l.end l.some l.wa
 pub record Onward (bytes : List ℕ) (runs : List Run) (next : ℕ) (done : List Run) (run : Run) : Type 0 where
   pub more : List Run
   pub all : runs ≡ done ++ run ∷ more
-  pub ends : ends_message run.initial run.later ≡ is_last more
+  pub ends : ends_message run.initial run.later ≡ is_last_run more
   pub left : IsAmid run → Left bytes runs next (done ++ run ∷ [])
 
 left_behind : (bytes : List ℕ) (runs done : List Run) (next place : ℕ) (run : Run) (more : List Run) (end : ℕ) → runs ≡ done ++ run ∷ more → drop place bytes ≡ drop next bytes
-    → ends_message run.initial run.later ≡ is_last more → IsAmid run → AreWalked bytes place more end → Left bytes runs next (done ++ run ∷ [])
+    → ends_message run.initial run.later ≡ is_last_run more → IsAmid run → AreWalked bytes place more end → Left bytes runs next (done ++ run ∷ [])
 left_behind bytes runs done next place run [] end a d l e w = absurd (true≢false (sym l ∙ e))
 left_behind bytes runs done next place run (q ∷ more) end a d l e w = record {
   more = q ∷ more;
   all = a ∙ sym (append_assoc done (run ∷ []) (q ∷ more));
   some = λ x. cc;
   end = end;
-  walked = (w.0, subst (BeginsWith q (drop w.0 bytes)) d w.1, w.2, w.3);
+  walked = (w.0, subst (BeginsWithRun q (drop w.0 bytes)) d w.1, w.2, w.3);
 }
 
 onward_in : HeadsAreApart → (bytes : List ℕ) (runs done : List Run) (at next : ℕ) (run : Run) (more : List Run) (end : ℕ) → runs ≡ done ++ more → more ≢ [] → AreWalked bytes at more end
-    → BeginsWith run (drop next bytes) (drop at bytes) → Onward bytes runs next done run
+    → BeginsWithRun run (drop next bytes) (drop at bytes) → Onward bytes runs next done run
 onward_in apart bytes runs done at next run [] end a s w b = absurd (s refl)
 onward_in apart bytes runs done at next run (r ∷ more) end a s w b =
     let o = one_record apart r run (drop w.0 bytes) (drop next bytes) (drop at bytes) w.1 b in
     let all : runs ≡ done ++ run ∷ more = a ∙ ap (λ x. done ++ x ∷ more) o.0 in
-    let ends : ends_message run.initial run.later ≡ is_last more = subst (λ x. ends_message x.initial x.later ≡ is_last more) o.0 w.2 in
+    let ends : ends_message run.initial run.later ≡ is_last_run more = subst (λ x. ends_message x.initial x.later ≡ is_last_run more) o.0 w.2 in
     record { more = more; all = all; ends = ends; left = λ e. left_behind bytes runs done next w.0 run more end all o.1 ends e w.3 }
 
-pub onward : HeadsAreApart → {bytes : List ℕ} {runs done : List Run} {at : ℕ} → Left bytes runs at done → (next : ℕ) (run : Run) → BeginsWith run (drop next bytes) (drop at bytes) → Onward bytes runs next done run
+pub onward : HeadsAreApart → {bytes : List ℕ} {runs done : List Run} {at : ℕ} → Left bytes runs at done → (next : ℕ) (run : Run) → BeginsWithRun run (drop next bytes) (drop at bytes) → Onward bytes runs next done run
 onward apart {bytes} {runs} {done} {at} l next run b = onward_in apart bytes runs done at next run l.more l.end l.all l.some l.walked b
 
 -- ---- where a run ends
 
 -- the run at a place ends at the next one
 pub record Next (bytes behind rest : List ℕ) (at next : ℕ) (run : Run) : Type 0 where
-  pub begins : BeginsWith run (drop next bytes) (drop at bytes)
+  pub begins : BeginsWithRun run (drop next bytes) (drop at bytes)
   pub rest_is : rest ≡ drop next bytes
   pub within : next ≤ length bytes
   pub shorter : length rest < length behind
 
-pub next_at : (run : Run) (bytes behind rest : List ℕ) (at : ℕ) → at ≤ length bytes → behind ≡ drop at bytes → BeginsWith run rest behind → Next bytes behind rest at (length bytes - length rest) run
+pub next_at : (run : Run) (bytes behind rest : List ℕ) (at : ℕ) → at ≤ length bytes → behind ≡ drop at bytes → BeginsWithRun run rest behind → Next bytes behind rest at (length bytes - length rest) run
 next_at run bytes behind rest at h e b =
     let n = ends run bytes behind rest at h e b in
     let i = initial_of run rest behind b in
     let s = split_size run.initial i.short i.behind behind i.split in
     let m = ap length i.others.joined ∙ length-append i.others.front rest in
     record {
-      begins = subst (BeginsWith run (drop (length bytes - length rest) bytes)) e (subst (λ y. BeginsWith run y behind) (sym n.rest_is) b);
+      begins = subst (BeginsWithRun run (drop (length bytes - length rest) bytes)) e (subst (λ y. BeginsWithRun run y behind) (sym n.rest_is) b);
       rest_is = sym n.rest_is;
       within = omega arith;
       shorter = omega (arith, s, m);
@@ -125,23 +126,23 @@ index_of runs done run more id index a some n lack has =
     let count : length (map run_record done) ≡ index = length-map done run_record ∙ sym n in
     (λ e. let none = ap length e in omega (arith, none, some), run_record run, subst (λ k. IsFirstAt (HasId id) (map run_record runs) k (run_record run)) count (first_at (HasId id) (map run_record runs) (map run_record done) (run_record run) (map run_record more, all) lack has))
 
-pub place_of : (bytes : List ℕ) (runs done : List Run) (run : Run) (more : List Run) (at next : ℕ) (p : Place) → runs ≡ done ++ run ∷ more → LieBetween bytes 0 done at → BeginsWith run (drop next bytes) (drop at bytes)
+pub place_of : (bytes : List ℕ) (runs done : List Run) (run : Run) (more : List Run) (at next : ℕ) (p : Place) → runs ≡ done ++ run ∷ more → LieBetween bytes 0 done at → BeginsWithRun run (drop next bytes) (drop at bytes)
     → p.index ≡ length done → p.at ≡ at → IsPlaceOf bytes runs p
 place_of bytes runs done run more at next p a l b n e = record {
   run = run;
   is = ap (λ k. slice_get runs k) n ∙ ap (λ rs. slice_get rs (length done)) a ∙ get_behind done run more;
   before = subst (λ rs. LieBetween bytes 0 rs p.at) (sym (ap (λ k. take k runs) n ∙ ap (take (length done)) a ∙ take_at done (run ∷ more) (length done) refl)) (subst (LieBetween bytes 0 done) (sym e) l);
   rest = drop next bytes;
-  begins = subst (λ k. BeginsWith run (drop next bytes) (drop k bytes)) (sym e) b;
+  begins = subst (λ k. BeginsWithRun run (drop next bytes) (drop k bytes)) (sym e) b;
 }
 
 pub lack_all : (done : List Run) (run : Run) (id : List ℕ) → Lack (HasId id) (map run_record done) → (HasId id (run_record run) → ⊥) → Lack (HasId id) (map run_record (done ++ run ∷ []))
 lack_all done run id lack h = subst (Lack (HasId id)) (sym (map-append run_record done (run ∷ []))) (lack_on (HasId id) (map run_record done) (run_record run) lack h)
 
-pub none_with : (runs done : List Run) (run : Run) (id : List ℕ) (more : List Run) → runs ≡ done ++ run ∷ more → is_last more ≡ true → Lack (HasId id) (map run_record done) → (HasId id (run_record run) → ⊥) → Lack (HasId id) (map run_record runs)
+pub none_with : (runs done : List Run) (run : Run) (id : List ℕ) (more : List Run) → runs ≡ done ++ run ∷ more → is_last_run more ≡ true → Lack (HasId id) (map run_record done) → (HasId id (run_record run) → ⊥) → Lack (HasId id) (map run_record runs)
 none_with runs done run id [] a e lack h = subst (λ rs. Lack (HasId id) (map run_record rs)) (sym a) (lack_all done run id lack h)
 none_with runs done run id (r ∷ more) a e lack h = absurd (true≢false (sym e))
 
 -- the id that is shown of a run
-pub id_of : {bytes : List ℕ} (f : FirstRun) → (x : IsFirst bytes f) → (run_record x.run).id ≡ f.first.id.now
+pub id_of : {bytes : List ℕ} (f : FirstRun) → (x : IsFirstRun bytes f) → (run_record x.run).id ≡ f.first.id.now
 id_of {bytes} f x = ap (λ q. unwrap_or q.id []) (sym x.initial) ∙ id_is (is_set 3 f.first.header) f.first.id.now x.no_id

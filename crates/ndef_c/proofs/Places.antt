@@ -3,10 +3,10 @@ use Rattle.std.proofs.Common.{◌≡◌, ℕ, suc, ◌+◌, ◌-◌, ◌<◌, �
 use Rattle.std.specs.Prelude.{unwrap_or, Some, None, if◌then◌else◌}
 use Rattle.std.proofs.lemmas.List.{drop-drop, length-take, take-append-drop}
 use mir.Val.{bool_byte}
-use Rattle.ndef_value.specs.Wire.{bit, Run, fields, octets}
-use Rattle.ndef_piece.specs.Header.{is_set}
+use Rattle.ndef_format.specs.Records.{bit, Run, fields, octets}
+use Rattle.ndef_format.specs.HeadReasons.{is_set}
 use Rattle.ndef_piece.specs.Whole.{IsSplit, piece_of}
-use Rattle.ndef_c.specs.Walks.{BeginsWith, IsRecordThere, Lies}
+use Rattle.ndef_c.specs.Walks.{BeginsWithRun, IsRecordThere, Lies}
 use Rattle.ndef_c.proofs.Followed.{initial_of, split_size}
 
 -- a part between others
@@ -54,7 +54,7 @@ pub record Ends (bytes rest : List ℕ) (at : ℕ) : Type 0 where
   pub rest_is : drop (length bytes - length rest) bytes ≡ rest
   pub onward : at < length bytes - length rest
 
-pub ends : (run : Run) (bytes behind rest : List ℕ) (at : ℕ) → at ≤ length bytes → behind ≡ drop at bytes → BeginsWith run rest behind → Ends bytes rest at
+pub ends : (run : Run) (bytes behind rest : List ℕ) (at : ℕ) → at ≤ length bytes → behind ≡ drop at bytes → BeginsWithRun run rest behind → Ends bytes rest at
 ends run bytes behind rest at h e b =
     let i = initial_of run rest behind b in
     let l = split_size run.initial i.short i.behind behind i.split in

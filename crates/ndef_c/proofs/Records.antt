@@ -3,7 +3,9 @@ use Rattle.std.proofs.Common.{◌≡◌, ◌<◌, ◌≤◌, ◌==◌, ◌+◌, 
 use Rattle.std.specs.Prelude.{unwrap_or}
 use Rattle.std.specs.List.{flat_map}
 use Rattle.std.proofs.lemmas.Grind.{flat_map-append}
-use Rattle.ndef_value.specs.Wire.{Item, fields, pieces, all_pieces, is_nil}
+use Rattle.ndef_format.specs.Messages.{Item, all_pieces}
+use Rattle.ndef_format.specs.Records.{fields, pieces}
+use Rattle.ndef_format.specs.Canonical.{is_nil}
 use Rattle.ndef_piece.specs.Heads.{written_fields}
 use Rattle.ndef_piece.specs.declared.head.Head.{Head}
 use Rattle.ndef_message.specs.declared.form.Form.{Form}

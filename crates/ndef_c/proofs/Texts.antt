@@ -5,12 +5,11 @@ use Rattle.std.proofs.lemmas.Bool.{leb-true, le-leb}
 use Rattle.std.proofs.lemmas.Str.{encodes-chars}
 use Rattle.std.specs.Prelude.{IsUtf8, chars}
 use Rattle.ndef_lang.specs.OctetLaws.{field_parts}
-use Rattle.ndef_lang.specs.Text.{IsCodeOctet, IsText, IsTextIn, is_wide, code_length}
+use Rattle.ndef_format.specs.Texts.{IsCodeOctet, IsText, IsTextIn, is_wide, code_length, spelled, units_of, unmarked}
 use Rattle.ndef_types.specs.declared.encoding.Encoding.{Encoding}
 use Rattle.ndef_types.specs.declared.encoding.Encoding.TheVariants.{Utf8, Utf16}
 use Rattle.ndef_types.specs.Values.{TextValue, StandsForText, SpellsText, is_utf16, language_octets, encoded_octets, text_payload}
-use Rattle.ndef_lang.specs.Utf16.{spelled, units_of, unmarked}
-use Rattle.ndef_lang.specs.Utf16Laws.{spelled_length}
+use Rattle.ndef_lang.specs.Machine.Utf16Laws.{spelled_length}
 use Rattle.ndef_c.specs.Texts.{AreSpelled, asked_text}
 use Rattle.ndef_c.specs.Walks.{Lies}
 

@@ -3,10 +3,12 @@ use Rattle.std.proofs.Common.{◌≡◌, ℕ, ◌+◌, ◌≤◌, ◌∷◌, [],
 use Rattle.std.specs.List.{AllByRecursion}
 use Rattle.std.proofs.lemmas.List.{take-append-drop, take-take}
 use Rattle.ndef_value.specs.TnfLaws.{read_by_all}
-use Rattle.ndef_value.specs.Wire.{Piece, Run, IsRun, SpellAll, BeginsOnce, EndsOnce, pieces, all_pieces}
-use Rattle.ndef_value.specs.declared.profile.Profile.{Profile}
-use Rattle.ndef_value.specs.declared.profile.Profile.TheVariants.{Strict, Standard}
-use Rattle.ndef_lang.specs.Language.{Sets, Conditions}
+use Rattle.ndef_format.specs.Records.{Piece, Run, IsRun, pieces}
+use Rattle.ndef_format.specs.Messages.{SpellsPieces, BeginsOnce, EndsOnce, all_pieces}
+use Rattle.ndef_format.specs.declared.profile.Profile.{Profile}
+use Rattle.ndef_format.specs.declared.profile.Profile.TheVariants.{Strict, Standard}
+use Rattle.ndef_format.specs.Payloads.{Sets}
+use Rattle.ndef_format.specs.Reasons.{Conditions}
 use Rattle.ndef_c.specs.Walks.{AreWalked, ChecksAreWalked, ends_message}
 
 -- what one reader takes for a run, each does that reads reserved values
@@ -15,7 +17,7 @@ read_standard Strict r i = record { initial = record { read = read_by_all Standa
 read_standard Standard r i = i
 
 -- the spellings of some pieces, and of others
-spell_split : (ps qs : List Piece) (bytes : List ℕ) → SpellAll (ps ++ qs) bytes → (front back : List ℕ) × (bytes ≡ front ++ back) × SpellAll ps front × SpellAll qs back
+spell_split : (ps qs : List Piece) (bytes : List ℕ) → SpellsPieces (ps ++ qs) bytes → (front back : List ℕ) × (bytes ≡ front ++ back) × SpellsPieces ps front × SpellsPieces qs back
 spell_split [] qs bytes s = ([], bytes, refl, refl, s)
 spell_split (p ∷ ps) qs bytes (short, front, rest, e, s, more) =
     let w = spell_split ps qs rest more in
@@ -30,7 +32,7 @@ ended : (p : Piece) (ps : List Piece) → EndsOnce ((p ∷ ps) ++ []) → ends_m
 ended p [] e = e
 ended p (r ∷ ps) e = ended r ps e.1
 
-walked : (profile : Profile) (rs : List Run) (bytes done left : List ℕ) (at : ℕ) → AllByRecursion (IsRun profile) rs → SpellAll (all_pieces rs) left → (rs ≡ [] → ⊥) → EndsOnce (all_pieces rs)
+walked : (profile : Profile) (rs : List Run) (bytes done left : List ℕ) (at : ℕ) → AllByRecursion (IsRun profile) rs → SpellsPieces (all_pieces rs) left → (rs ≡ [] → ⊥) → EndsOnce (all_pieces rs)
     → (rest : List ℕ) → bytes ≡ done ++ (left ++ rest) → at ≡ length done → AreWalked bytes at rs (at + length left)
 walked profile [] bytes done left at each s some e rest b a = absurd (some refl)
 walked profile (r ∷ []) bytes done left at each s some e rest b a =
@@ -69,8 +71,8 @@ front_of n m xs h = sym (take-append-drop n (take m xs)) ∙ ap (λ x. x ++ drop
 pub checks_walked : (set : Sets) (holds : Conditions) → ChecksAreWalked set holds
 checks_walked set holds limits input v count s h =
     let d = s.1.0 in
-    let m = d.flat.message in
+    let m = d.spelling.message in
     let end : 0 + length (take v.taken input) ≡ v.taken = let n = length-take-le v.taken input s.0 in omega (arith, n) in
-    let w = walked limits.profile d.runs (take count input) [] (take v.taken input) 0 m.each_run d.flat.spelled (λ e. subst (λ rs. BeginsOnce (all_pieces rs)) e m.begins) m.ends
+    let w = walked limits.profile d.runs (take count input) [] (take v.taken input) 0 m.each_run d.spelling.spelled (λ e. subst (λ rs. BeginsOnce (all_pieces rs)) e m.begins) m.ends
     (drop v.taken (take count input)) (front_of v.taken count input h) refl in
     subst (λ rs. AreWalked (take count input) 0 rs v.taken) s.1.1 (subst (AreWalked (take count input) 0 d.runs) end w)

@@ -1,7 +1,7 @@
 -- Which alternative carriers may be written, and what is written of them.
 use Rattle.std.specs.Prelude.{◌≡◌, ℕ, ◌+◌, ◌<◌, ◌≤◌, List, [], length, map, take, drop}
 use Rattle.std.specs.List.{All}
-use Rattle.ndef_lang.specs.Alternative.{IsAlternative}
+use Rattle.ndef_format.specs.Handovers.{IsAlternative}
 use Rattle.ndef_types.specs.Values.{AcValue, IsAcValue, StandsForAc, WritesAc, counted, power_code}
 use Rattle.ndef_c.specs.Alternatives.{references}
 use Rattle.ndef_c.specs.Payloads.{GivesFor}
@@ -12,12 +12,12 @@ abbrev pub part_of : List ℕ → NdefPart → List ℕ
 part_of bytes part = take part.length (drop part.at bytes)
 
 -- the part lies within so many bytes
-abbrev pub IsWithin : (size : ℕ) → NdefPart → Type 0
-IsWithin size part = part.at + part.length ≤ size
+abbrev pub IsPartWithin : (size : ℕ) → NdefPart → Type 0
+IsPartWithin size part = part.at + part.length ≤ size
 
 -- Connection Handover 1.2, Carrier Data Reference: up to 255 octets, all of them there
 abbrev pub MayBeReference : (size : ℕ) → NdefPart → Type 0
-MayBeReference size part = IsWithin size part × (part.length < 256)
+MayBeReference size part = IsPartWithin size part × (part.length < 256)
 
 -- Connection Handover 1.2, Alternative Carrier record: a power state of two bits, a carrier data reference and up to 255 auxiliary ones
 pub record MayBeAlternative (power : ℕ) (bytes : List ℕ) (parts : List NdefPart) : Type 0 where

@@ -1,6 +1,6 @@
 -- What is told of the payload of an alternative carrier.
 use Rattle.std.specs.Prelude.{◌≡◌, ℕ, ◌^◌, ◌<◌, ◌≤◌, List, ◌∷◌, length, slice_get, Some}
-use Rattle.ndef_lang.specs.Alternative.{IsAlternative}
+use Rattle.ndef_format.specs.Handovers.{IsAlternative}
 use Rattle.ndef_types.specs.Values.{AcValue, StandsForAc, power_code}
 use Rattle.ndef_c.specs.Walks.{Lies}
 use Rattle.ndef_c.specs.declared.alternative.NdefAlternative.{NdefAlternative}

@@ -1,6 +1,6 @@
 -- What is told of the payload of a handover carrier, and which carriers may be written.
 use Rattle.std.specs.Prelude.{◌≡◌, ℕ, ◌^◌, ◌+◌, ◌<◌, List, length}
-use Rattle.ndef_lang.specs.Carrier.{IsCarrier}
+use Rattle.ndef_format.specs.Handovers.{IsCarrier}
 use Rattle.ndef_types.specs.Values.{CarrierValue, StandsForCarrier}
 use Rattle.ndef_c.specs.Walks.{Lies}
 use Rattle.ndef_c.specs.declared.carrier.NdefCarrier.{NdefCarrier}

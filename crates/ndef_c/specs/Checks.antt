@@ -1,12 +1,12 @@
 -- What a check of some bytes answers.
 use Rattle.std.specs.Prelude.{◌≡◌, ℕ, ◌≤◌, ◌%◌, ◌==◌, Ok, length, ◌⊎◌, if◌then◌else◌, List}
-use Rattle.ndef_value.specs.Wire.{LimitValues, AreInRange}
-use Rattle.ndef_value.specs.Reason.{number_of}
-use Rattle.ndef_value.specs.declared.refusal.Refusal.{Refusal}
-use Rattle.ndef_value.specs.declared.profile.Profile.{Profile}
-use Rattle.ndef_value.specs.declared.profile.Profile.TheVariants.{Strict, Standard}
-use Rattle.ndef_lang.specs.Language.{Sets, Conditions}
-use Rattle.ndef_message.specs.Place.{Refuses}
+use Rattle.ndef_format.specs.Limits.{LimitValues, AreInRange}
+use Rattle.ndef_format.specs.Reasons.{reason_number, Conditions}
+use Rattle.ndef_format.specs.declared.refusal.Refusal.{Refusal}
+use Rattle.ndef_format.specs.declared.profile.Profile.{Profile}
+use Rattle.ndef_format.specs.declared.profile.Profile.TheVariants.{Strict, Standard}
+use Rattle.ndef_format.specs.Payloads.{Sets}
+use Rattle.ndef_format.specs.Refusals.{Refuses}
 use Rattle.ndef_message.specs.Views.{Viewed, Views}
 use Rattle.ndef_c.specs.declared.status.TheConstants.{OK, REFUSED}
 use Rattle.ndef_c.specs.declared.limits.NdefLimits.{NdefLimits}
@@ -30,7 +30,7 @@ abbrev pub MayBeSet : NdefLimits → Type 0
 MayBeSet n = AreInRange (limits_of n) × (n.flags ≤ 3)
 
 -- NDEF 1.0, messages: the bytes begin with a message of so many bytes and records
-pub record Takes (set : Sets) (holds : Conditions) (limits : LimitValues) (bytes : List ℕ) (out : NdefChecked) : Type 0 where
+pub record TakesMessage (set : Sets) (holds : Conditions) (limits : LimitValues) (bytes : List ℕ) (out : NdefChecked) : Type 0 where
   pub viewed : Viewed
   pub views : Views set holds limits bytes (Ok viewed)
   pub place : out.place ≡ viewed.taken
@@ -43,9 +43,9 @@ pub record RefusesAt (set : Sets) (holds : Conditions) (limits : LimitValues) (b
   pub refused : Refuses set holds limits bytes refusal
   pub place : out.place ≡ refusal.at
   pub records : out.records ≡ 0
-  pub reason : out.reason ≡ number_of refusal.reason
+  pub reason : out.reason ≡ reason_number refusal.reason
 
 -- one or the other, as the status says
 abbrev pub ChecksTo : Sets → Conditions → LimitValues → List ℕ → (status : ℕ) → NdefChecked → Type 0
 ChecksTo set holds limits bytes status out =
-    ((status ≡ OK) × Takes set holds limits bytes out) ⊎ ((status ≡ REFUSED) × RefusesAt set holds limits bytes out)
+    ((status ≡ OK) × TakesMessage set holds limits bytes out) ⊎ ((status ≡ REFUSED) × RefusesAt set holds limits bytes out)

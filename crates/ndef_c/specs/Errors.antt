@@ -1,9 +1,9 @@
 -- What is told of the payload of a handover error.
 use Rattle.std.specs.Prelude.{◌≡◌, ℕ, ◌^◌, ◌<◌, ◌==◌, ◌&&◌, nat_le, List, length, slice_index, Option, Some, None, if◌then◌else◌}
 use Rattle.std.specs.Int.{w32, from_be_bytes}
-use Rattle.ndef_lang.specs.HandoverError.{IsError}
+use Rattle.ndef_format.specs.Handovers.{IsError}
 use Rattle.ndef_types.specs.Values.{ErrorValue, StandsForError}
-use Rattle.ndef_c.specs.Nested.{Tells}
+use Rattle.ndef_c.specs.Nested.{TellsNumber}
 use Rattle.ndef_c.specs.Walks.{Lies}
 use Rattle.ndef_c.specs.declared.error.NdefError.{NdefError}
 
@@ -23,4 +23,4 @@ pub record IsErrorAt (payload : List ℕ) (out : NdefError) : Type 0 where
   pub stands : StandsForError payload error
   pub reason : out.reason ≡ error.reason
   pub detail : Lies payload out.data_at out.data_length error.detail
-  pub number : Tells (number_told error.reason error.detail) out.has_number out.number
+  pub number : TellsNumber (number_told error.reason error.detail) out.has_number out.number

@@ -1,10 +1,12 @@
 -- What is answered of a message whose bytes come in parts.
 use Rattle.std.specs.Prelude.{◌≡◌, ◌≢◌, ℕ, ◌<◌, ◌≤◌, ◌==◌, ◌⊎◌, ◌↔◌, if◌then◌else◌, List, length, take}
-use Rattle.ndef_value.specs.Wire.{AreOctets, LimitValues}
-use Rattle.ndef_lang.specs.Language.{Sets, Conditions, NoReason}
+use Rattle.ndef_format.specs.Records.{AreOctets}
+use Rattle.ndef_format.specs.Limits.{LimitValues}
+use Rattle.ndef_format.specs.Payloads.{Sets, IsTypedPayload}
+use Rattle.ndef_format.specs.Reasons.{Conditions, NoReason}
 use Rattle.ndef_lang.specs.declared.language.Language.{Ghosts}
-use Rattle.ndef_nest.specs.Typed.{IsTypedPayload, TypedReason}
-use Rattle.ndef_message.specs.Deep.{IsDeep, IsViable}
+use Rattle.ndef_format.specs.NestedReasons.{TypedReason}
+use Rattle.ndef_format.specs.Accepted.{IsAccepted, IsViable}
 use Rattle.ndef_message.specs.Feed.{Fronts, Leads}
 use Rattle.ndef_message.specs.Machine.Checkers.{CheckerReached, checker_limits}
 use Rattle.ndef_message.specs.declared.checker.Checker.{Checker}
@@ -26,17 +28,17 @@ pub record HaveCome {Point : Type 0} (set : Sets) (limits : LimitValues) (reache
   pub count : ℕ
   pub within : count ≤ length bytes
   pub led : Leads reached (take count bytes)
-  pub settled : (count ≡ length bytes) ⊎ IsDeep set limits (take count bytes) ⊎ (¬ IsViable set limits (take count bytes))
+  pub settled : (count ≡ length bytes) ⊎ IsAccepted set limits (take count bytes) ⊎ (¬ IsViable set limits (take count bytes))
 
 -- a checker with these limits was fed these bytes
-abbrev pub HasTaken : {L : Type 0} {language : Ghosts L} → Checker L language → LimitValues → List ℕ → Type 0
-HasTaken {language = language} c limits bytes = (checker_limits c ≡ limits) × HaveCome language.set limits (CheckerReached c) bytes
+abbrev pub WasFed : {L : Type 0} {language : Ghosts L} → Checker L language → LimitValues → List ℕ → Type 0
+WasFed {language = language} c limits bytes = (checker_limits c ≡ limits) × HaveCome language.set limits (CheckerReached c) bytes
 
 -- it was, where the limits are any; 2 asks for a look into no payload
 abbrev pub HasLooked : Looking → NdefLimits → List ℕ → Type 0
 HasLooked looking.Nothing limits bytes = ¬ MayBeSet limits
-HasLooked (looking.Typed c) limits bytes = MayBeSet limits × (limits.flags < 2) × HasTaken c (limits_of limits) bytes
-HasLooked (looking.Opaque c) limits bytes = MayBeSet limits × (2 ≤ limits.flags) × HasTaken c (limits_of limits) bytes
+HasLooked (looking.Typed c) limits bytes = MayBeSet limits × (limits.flags < 2) × WasFed c (limits_of limits) bytes
+HasLooked (looking.Opaque c) limits bytes = MayBeSet limits × (2 ≤ limits.flags) × WasFed c (limits_of limits) bytes
 
 -- it was begun by these limits, and fed these bytes since
 abbrev pub IsFed : NdefChecker → SoFar → Type 0
@@ -64,7 +66,7 @@ abbrev pub NoCondition : Conditions
 NoCondition kind records profile s b = NoReason
 
 -- what is answered of all the bytes so far, where 2 asks for a look into no payload
-pub record Answers (limits : NdefLimits) (bytes : List ℕ) (status : ℕ) (before after : NdefChecked) : Type 0 where
+pub record AnswersFed (limits : NdefLimits) (bytes : List ℕ) (status : ℕ) (before after : NdefChecked) : Type 0 where
   pub bad : (status ≡ BAD_ARGUMENT) ↔ (¬ MayBeSet limits)
   pub kept : status ≡ BAD_ARGUMENT → after ≡ before
   pub typed : MayBeSet limits → limits.flags < 2 → FeedsTo IsTypedPayload TypedReason (limits_of limits) bytes status after

@@ -1,14 +1,14 @@
 -- What is told of the payloads of handovers.
 use Rattle.std.specs.Prelude.{◌≡◌, ℕ, ◌+◌, ◌*◌, ◌^◌, ◌<◌, ◌⊎◌, List, drop, length, slice_index, Option, Some, None}
-use Rattle.ndef_value.specs.Wire.{Item}
-use Rattle.ndef_value.specs.declared.profile.Profile.{Profile}
-use Rattle.ndef_value.specs.declared.profile.Profile.TheVariants.{Standard}
+use Rattle.ndef_format.specs.Messages.{Item}
+use Rattle.ndef_format.specs.declared.profile.Profile.{Profile}
+use Rattle.ndef_format.specs.declared.profile.Profile.TheVariants.{Standard}
 use Rattle.ndef_value.specs.declared.limits.TheConstants.{MOST_RECORDS}
-use Rattle.ndef_lang.specs.declared.kind.Kind.TheVariants as kinds
-use Rattle.ndef_nest.specs.Nested.{IsNest, HasContents}
-use Rattle.ndef_nest.specs.declared.table.Table.{Table}
-use Rattle.ndef_nest.specs.declared.table.Table.TheVariants.{Request, Select}
-use Rattle.ndef_types.specs.Contents.{IsFirst, IsOfKind}
+use Rattle.ndef_format.specs.declared.kind.Kind.TheVariants as kinds
+use Rattle.ndef_format.specs.Nested.{IsNest, HasContents}
+use Rattle.ndef_format.specs.declared.table.Table.{Table}
+use Rattle.ndef_format.specs.declared.table.Table.TheVariants.{Request, Select}
+use Rattle.ndef_types.specs.Contents.{IsFirstOf, IsOfKind}
 use Rattle.ndef_types.specs.Handovers.{IsCollisionOf}
 use Rattle.ndef_types.specs.Links.{alternatives}
 use Rattle.ndef_types.specs.Values.{ErrorValue, StandsForError}
@@ -18,15 +18,15 @@ use Rattle.ndef_c.specs.declared.request.NdefRequest.{NdefRequest}
 use Rattle.ndef_c.specs.declared.select.NdefSelect.{NdefSelect}
 
 -- Connection Handover 1.2, Handover Request and Select records: the payload is that of a request or of a select
-abbrev pub IsHandover : List ℕ → Type 0
-IsHandover payload = IsNest Request MOST_RECORDS Standard payload ⊎ IsNest Select MOST_RECORDS Standard payload
+abbrev pub IsHandoverPayload : List ℕ → Type 0
+IsHandoverPayload payload = IsNest Request MOST_RECORDS Standard payload ⊎ IsNest Select MOST_RECORDS Standard payload
 
 -- Connection Handover 1.2, Handover Request and Select records: behind the version octet these records, a select may have none
 abbrev pub HasMessage : Profile → List Item → List ℕ → Type 0
 HasMessage profile items payload = MayBeInPieces profile items (drop 1 payload)
 
 -- Connection Handover 1.2, Handover Request and Select records: the message is these records, each with a payload of its kind, and those are there that must be
-pub record AreContents (table : Table) (profile : Profile) (items : List Item) (message : List ℕ) : Type 0 where
+pub record AreHandoverContents (table : Table) (profile : Profile) (items : List Item) (message : List ℕ) : Type 0 where
   pub pieces : MayBeInPieces profile items message
   pub contents : HasContents table profile items
 
@@ -59,6 +59,6 @@ pub record IsSelectAt (profile : Profile) (payload : List ℕ) (out : NdefSelect
   pub items : List Item
   pub records : HasMessage profile items payload
   pub error : Option Item
-  pub is_error : IsFirst (IsOfKind Select kinds.Error) items error
+  pub is_error : IsFirstOf (IsOfKind Select kinds.Error) items error
   pub tells : TellsError payload error out.has_error out.error out.detail_at out.detail_length
   pub carriers : out.carriers ≡ length (alternatives items)

@@ -1,16 +1,19 @@
 -- What is told of the links of a message.
 use Rattle.std.specs.Prelude.{◌≡◌, ◌≢◌, ℕ, ◌^◌, ◌<◌, ◌≤◌, List, [], ◌∷◌, length, map, take, drop, slice_get, Option, Some, None, Ok}
-use Rattle.ndef_value.specs.Wire.{Item, LimitValues, Run, run_record}
-use Rattle.ndef_value.specs.declared.profile.Profile.TheVariants.{Standard}
-use Rattle.ndef_lang.specs.Alternative.{IsAlternative}
-use Rattle.ndef_lang.specs.Language.{Sets, Conditions}
+use Rattle.ndef_format.specs.Messages.{Item, run_record}
+use Rattle.ndef_format.specs.Limits.{LimitValues}
+use Rattle.ndef_format.specs.Records.{Run}
+use Rattle.ndef_format.specs.declared.profile.Profile.TheVariants.{Standard}
+use Rattle.ndef_format.specs.Handovers.{IsAlternative}
+use Rattle.ndef_format.specs.Payloads.{Sets}
+use Rattle.ndef_format.specs.Reasons.{Conditions}
 use Rattle.ndef_message.specs.Views.{Viewed, Views}
-use Rattle.ndef_types.specs.Links.{IsHandover as IsHandoverRecord, IsIndexOf, LinksOf, alternatives}
+use Rattle.ndef_types.specs.Links.{IsHandoverRecord as IsHandoverRecord, IsIndexOf, LinksOf, alternatives}
 use Rattle.ndef_types.specs.Values.{AcValue, StandsForAc}
 use Rattle.ndef_types.specs.declared.link.Link.{Link}
-use Rattle.ndef_c.specs.Handovers.{IsHandover, HasMessage}
-use Rattle.ndef_c.specs.Nested.{Tells}
-use Rattle.ndef_c.specs.Walks.{BeginsWith, AreWalked, Lies}
+use Rattle.ndef_c.specs.Handovers.{IsHandoverPayload, HasMessage}
+use Rattle.ndef_c.specs.Nested.{TellsNumber}
+use Rattle.ndef_c.specs.Walks.{BeginsWithRun, AreWalked, Lies}
 use Rattle.ndef_c.specs.declared.link.NdefLink.{NdefLink}
 use Rattle.ndef_c.specs.declared.message.Place.{Place}
 
@@ -29,7 +32,7 @@ HasRuns bytes = (runs : List Run) × BeginsWithRuns runs bytes
 -- these runs lie one behind another from a place to another
 abbrev pub LieBetween : List ℕ → (at : ℕ) → List Run → (end : ℕ) → Type 0
 LieBetween bytes at [] end = at ≡ end
-LieBetween bytes at (r ∷ rs) end = (next : ℕ) × BeginsWith r (drop next bytes) (drop at bytes) × LieBetween bytes next rs end
+LieBetween bytes at (r ∷ rs) end = (next : ℕ) × BeginsWithRun r (drop next bytes) (drop at bytes) × LieBetween bytes next rs end
 
 -- the run with the index begins at the place, behind those before it
 pub record IsPlaceOf (bytes : List ℕ) (runs : List Run) (p : Place) : Type 0 where
@@ -37,7 +40,7 @@ pub record IsPlaceOf (bytes : List ℕ) (runs : List Run) (p : Place) : Type 0 w
   pub is : slice_get runs p.index ≡ Some run
   pub before : LieBetween bytes 0 (take p.index runs) p.at
   pub rest : List ℕ
-  pub begins : BeginsWith run rest (drop p.at bytes)
+  pub begins : BeginsWithRun run rest (drop p.at bytes)
 
 -- Connection Handover 1.2, carrier data reference: the place of the first record with the id; the empty id is none's
 abbrev pub FindsRecord : List ℕ → List Run → List ℕ → Option Place → Type 0
@@ -58,13 +61,13 @@ TellsRecord bytes runs reference out =
 
 -- the bytes begin with a message, and the payload is that of a handover
 pub record MayHaveLinks (bytes payload : List ℕ) : Type 0 where
-  pub handover : IsHandover payload
+  pub handover : IsHandoverPayload payload
   pub short : length payload < 2 ^ 32
   pub message : HasRuns bytes
 
 -- Connection Handover 1.2, Alternative Carrier record: the one with the index lies there in the payload, and refers to that record
 pub record IsLinkAt (bytes payload : List ℕ) (index : ℕ) (out : NdefLink) : Type 0 where
-  pub handover : IsHandover payload
+  pub handover : IsHandoverPayload payload
   pub short : length payload < 2 ^ 32
   pub runs : List Run
   pub message : BeginsWithRuns runs bytes
@@ -80,7 +83,7 @@ pub record IsLinkAt (bytes payload : List ℕ) (index : ℕ) (out : NdefLink) : 
 
 -- Connection Handover 1.2, Alternative Carrier record: the handover has none with the index
 pub record HasNoLink (bytes payload : List ℕ) (index : ℕ) : Type 0 where
-  pub handover : IsHandover payload
+  pub handover : IsHandoverPayload payload
   pub short : length payload < 2 ^ 32
   pub message : HasRuns bytes
   pub items : List Item
@@ -94,10 +97,10 @@ pub record IsLink (payload : List ℕ) (link : Link) (out : NdefLink) : Type 0 w
   pub carrier : List ℕ
   pub lies : Lies payload out.carrier_at out.carrier_length carrier
   pub stands : StandsForAc carrier link.ac
-  pub index : Tells link.index out.has_record out.record_index
+  pub index : TellsNumber link.index out.has_record out.record_index
 
 -- the links that are told are these
-pub record AreTold (bytes payload : List ℕ) (links : List Link) : Type 0 where
+pub record AreLinksTold (bytes payload : List ℕ) (links : List Link) : Type 0 where
   pub may : MayHaveLinks bytes payload
   pub each : (index : ℕ) (out : NdefLink) → IsLinkAt bytes payload index out → (link : Link) × (slice_get links index ≡ Some link) × IsLink payload link out
   pub end : (index : ℕ) → HasNoLink bytes payload index → length links ≤ index
@@ -106,4 +109,4 @@ pub record AreTold (bytes payload : List ℕ) (links : List Link) : Type 0 where
 abbrev pub LinksAreTold : Sets → Conditions → Type 0
 LinksAreTold set holds = (limits : LimitValues) (bytes : List ℕ) (v : Viewed) (handover : Item) (links : List Link) → Views set holds limits bytes (Ok v)
     → IsHandoverRecord handover → length handover.payload < 2 ^ 32 → LinksOf limits.profile (map run_record v.runs) (Some handover) (Ok links)
-    → AreTold bytes handover.payload links
+    → AreLinksTold bytes handover.payload links

@@ -1,9 +1,9 @@
 -- The payloads that say one number.
 use Rattle.std.specs.Prelude.{◌≡◌, ℕ, List, slice_index}
 use Rattle.std.specs.Int.{w16, w32, from_be_bytes}
-use Rattle.ndef_lang.specs.Leaf.{IsPayload}
-use Rattle.ndef_lang.specs.declared.kind.Kind.TheVariants as kinds
-use Rattle.ndef_value.specs.declared.profile.Profile.TheVariants.{Strict}
+use Rattle.ndef_format.specs.Nested.{IsPayload}
+use Rattle.ndef_format.specs.declared.kind.Kind.TheVariants as kinds
+use Rattle.ndef_format.specs.declared.profile.Profile.TheVariants.{Strict}
 
 -- RTD Smart Poster 1.0, recommended action record: one octet
 abbrev pub WritesAction : ℕ → List ℕ → Type 0

@@ -1,11 +1,11 @@
 -- What is answered of the payload of a record, and what is written for a value.
 use Rattle.std.specs.Prelude.{◌≡◌, ℕ, ◌^◌, ◌<◌, List, length, slice_index}
-use Rattle.ndef_value.specs.Wire.{bit}
-use Rattle.ndef_value.specs.Reason.{number_of}
-use Rattle.ndef_value.specs.declared.refusal.Refusal.{Refusal}
-use Rattle.ndef_value.specs.declared.profile.Profile.{Profile}
-use Rattle.ndef_lang.specs.Text.{IsText, is_wide}
-use Rattle.ndef_lang.specs.Uri.{IsUri}
+use Rattle.ndef_format.specs.Records.{bit}
+use Rattle.ndef_format.specs.Reasons.{reason_number}
+use Rattle.ndef_format.specs.declared.refusal.Refusal.{Refusal}
+use Rattle.ndef_format.specs.declared.profile.Profile.{Profile}
+use Rattle.ndef_format.specs.Texts.{IsText, is_wide}
+use Rattle.ndef_format.specs.Uris.{IsUri}
 use Rattle.ndef_types.specs.Decoding.{Payloads, Reasons, RefusesPayload, Writing}
 use Rattle.ndef_types.specs.Values.{StandsForUri, language_octets, encoded_octets}
 use Rattle.ndef_c.specs.Rooms.{Gives}
@@ -19,7 +19,7 @@ pub record RefusesWith (set : Payloads) (holds : Reasons) (payload : List ℕ) (
   pub refused : RefusesPayload set holds payload refusal
   pub place : out.place ≡ refusal.at
   pub records : out.records ≡ 0
-  pub reason : out.reason ≡ number_of refusal.reason
+  pub reason : out.reason ≡ reason_number refusal.reason
 
 -- RTD URI 1.0: the payload is that of a URI, which is given with its prefix
 pub record GivesUri (profile : Profile) (payload before after : List ℕ) (count status : ℕ) : Type 0 where

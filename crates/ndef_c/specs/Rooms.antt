@@ -1,7 +1,7 @@
 -- What a call leaves in the room that it is given.
 use Rattle.std.specs.Prelude.{◌≡◌, ℕ, ◌<◌, ◌≤◌, List, ◌++◌, ◌+◌, length, take, drop}
-use Rattle.ndef_value.specs.Reason.{number_of, name_of}
-use Rattle.ndef_value.specs.declared.reason.Reason.{Reason}
+use Rattle.ndef_format.specs.Reasons.{reason_number, reason_name}
+use Rattle.ndef_format.specs.declared.reason.Reason.{Reason}
 use Rattle.ndef_c.specs.declared.status.TheConstants.{OK, NO_ROOM}
 
 -- these bytes stand at the front of the room, and behind them it is as it was
@@ -21,5 +21,5 @@ pub record IsPut (at : ℕ) (text old new : List ℕ) : Type 0 where
 -- the name of the reason with this number is given
 pub record GivesName (number : ℕ) (before after : List ℕ) (count status : ℕ) : Type 0 where
   pub reason : Reason
-  pub number_is : number_of reason ≡ number
-  pub gives : Gives (name_of reason) before after count status
+  pub number_is : reason_number reason ≡ number
+  pub gives : Gives (reason_name reason) before after count status

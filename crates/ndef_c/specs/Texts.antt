@@ -1,8 +1,7 @@
 -- The texts that may be written, and what is told of those that are read.
 use Rattle.std.specs.Prelude.{◌≡◌, ℕ, ◌≤◌, ◌^◌, ◌<◌, ◌==◌, Bool, true, List, length, chars, encode_utf8_all, IsAscii, IsUtf8, if◌then◌else◌}
 use Rattle.std.specs.Str.{all_scalars}
-use Rattle.ndef_lang.specs.Text.{IsText}
-use Rattle.ndef_lang.specs.Utf16.{spelled, units_of}
+use Rattle.ndef_format.specs.Texts.{IsText, spelled, units_of}
 use Rattle.ndef_types.specs.Values.{TextValue, StandsForText, text_payload}
 use Rattle.ndef_types.specs.declared.encoding.Encoding.{Encoding}
 use Rattle.ndef_types.specs.declared.encoding.Encoding.TheVariants.{Utf8, Utf16}

@@ -1,22 +1,25 @@
 -- Where the records of some bytes lie.
 use Rattle.std.specs.Prelude.{◌≡◌, ℕ, ◌+◌, ◌<◌, ◌≤◌, Bool, true, false, List, [], ◌∷◌, ◌++◌, length, take, drop, Ok}
-use Rattle.ndef_value.specs.Wire.{Piece, Run, IsRun, SpellAll, pieces, run_record, code, bit, LimitValues}
-use Rattle.ndef_value.specs.declared.profile.Profile.TheVariants.{Standard}
-use Rattle.ndef_lang.specs.Language.{Sets, Conditions}
+use Rattle.ndef_format.specs.Records.{Piece, Run, IsRun, pieces, code, bit}
+use Rattle.ndef_format.specs.Messages.{SpellsPieces, run_record}
+use Rattle.ndef_format.specs.Limits.{LimitValues}
+use Rattle.ndef_format.specs.declared.profile.Profile.TheVariants.{Standard}
+use Rattle.ndef_format.specs.Payloads.{Sets}
+use Rattle.ndef_format.specs.Reasons.{Conditions}
 use Rattle.ndef_message.specs.Views.{Viewed, Views}
 use Rattle.ndef_c.specs.Rooms.{Gives}
 use Rattle.ndef_c.specs.declared.record.NdefRecord.{NdefRecord}
 
 -- NDEF 1.0, chunked payloads: the bytes begin with the pieces of a run, all of them whole, and these follow
-pub record BeginsWith (run : Run) (rest bytes : List ℕ) : Type 0 where
+pub record BeginsWithRun (run : Run) (rest bytes : List ℕ) : Type 0 where
   pub read : IsRun Standard run
   pub front : List ℕ
-  pub spelled : SpellAll (pieces run) front
+  pub spelled : SpellsPieces (pieces run) front
   pub joined : bytes ≡ front ++ rest
 
 -- NDEF 1.0, chunked payloads: a record begins at the place, and all of it is there
 abbrev pub IsRecordThere : List ℕ → ℕ → Type 0
-IsRecordThere bytes at = (run : Run) × (rest : List ℕ) × BeginsWith run rest (drop at bytes)
+IsRecordThere bytes at = (run : Run) × (rest : List ℕ) × BeginsWithRun run rest (drop at bytes)
 
 -- NDEF 1.0, ME: the last of some pieces ends its message
 abbrev pub ends_message : Piece → List Piece → Bool
@@ -32,7 +35,7 @@ pub record Lies (bytes : List ℕ) (at count : ℕ) (part : List ℕ) : Type 0 w
 -- NDEF 1.0, record layout and chunked payloads: this is the record at the place, and where its parts lie, one behind another
 pub record IsRecordAt (bytes : List ℕ) (at : ℕ) (r : NdefRecord) : Type 0 where
   pub run : Run
-  pub begins : BeginsWith run (drop r.end bytes) (drop at bytes)
+  pub begins : BeginsWithRun run (drop r.end bytes) (drop at bytes)
   pub at_is : r.at ≡ at
   pub onward : at < r.end
   pub within : r.end ≤ length bytes
@@ -50,25 +53,25 @@ pub record IsRecordAt (bytes : List ℕ) (at : ℕ) (r : NdefRecord) : Type 0 wh
 pub record GivesPayload (bytes : List ℕ) (at : ℕ) (before after : List ℕ) (count status : ℕ) : Type 0 where
   pub run : Run
   pub rest : List ℕ
-  pub begins : BeginsWith run rest (drop at bytes)
+  pub begins : BeginsWithRun run rest (drop at bytes)
   pub gives : Gives (run_record run).payload before after count status
 
 -- ---- laws
 
 -- At a place begins one record, and it ends at one place.
 abbrev pub OneRecordIsThere : Type 0
-OneRecordIsThere = (r s : Run) (x y bytes : List ℕ) → BeginsWith r x bytes → BeginsWith s y bytes → (r ≡ s) × (x ≡ y)
+OneRecordIsThere = (r s : Run) (x y bytes : List ℕ) → BeginsWithRun r x bytes → BeginsWithRun s y bytes → (r ≡ s) × (x ≡ y)
 
 -- no run follows
-abbrev pub is_last : List Run → Bool
-is_last [] = true
-is_last (r ∷ rs) = false
+abbrev pub is_last_run : List Run → Bool
+is_last_run [] = true
+is_last_run (r ∷ rs) = false
 
 -- these runs lie one after another from a place to another, and the last of them alone ends its message
 abbrev pub AreWalked : List ℕ → (at : ℕ) → List Run → (end : ℕ) → Type 0
 AreWalked bytes at [] end = at ≡ end
 AreWalked bytes at (r ∷ rs) end =
-    (next : ℕ) × BeginsWith r (drop next bytes) (drop at bytes) × (ends_message r.initial r.later ≡ is_last rs) × AreWalked bytes next rs end
+    (next : ℕ) × BeginsWithRun r (drop next bytes) (drop at bytes) × (ends_message r.initial r.later ≡ is_last_run rs) × AreWalked bytes next rs end
 
 -- What a check takes is walked from 0 to its end, in bytes that go no less far.
 abbrev pub ChecksAreWalked : Sets → Conditions → Type 0

@@ -1,7 +1,9 @@
 -- What is written of a record.
 use Rattle.std.specs.Prelude.{◌≡◌, ℕ, ◌/◌, ◌%◌, ◌≤◌, ◌==◌, nat_le, Bool, true, false, List, [], ◌∷◌, ◌++◌, Option, Some, None, if◌then◌else◌}
 use Rattle.std.specs.List.{flat_map}
-use Rattle.ndef_value.specs.Wire.{Item, IsShaped, HasLengths, octets, pieces, tnf_of, is_nil}
+use Rattle.ndef_format.specs.Messages.{Item, IsShaped}
+use Rattle.ndef_format.specs.Canonical.{HasLengths, is_nil}
+use Rattle.ndef_format.specs.Records.{octets, pieces, tnf_of}
 use Rattle.ndef_piece.specs.Heads.{written_fields}
 use Rattle.ndef_piece.specs.declared.head.Head.{Head}
 use Rattle.ndef_message.specs.declared.form.Form.{Form}

@@ -1,7 +1,7 @@
 //! The payloads of Alternative Carrier records (Connection Handover 1.2).
 ghost use Rattle.std.specs.Prelude.{◌≡◌, ◌≢◌, ◌<◌, ◌≤◌, ◌+◌, ◌^◌, ◌↔◌, ◌⊎◌, length, slice_index, IfNone, IfSome};
-ghost use Rattle.ndef_lang.specs.Alternative.{IsAlternative};
-ghost use Rattle.ndef_lang.specs.Language.{NoReason};
+ghost use Rattle.ndef_format.specs.Handovers.{IsAlternative};
+ghost use Rattle.ndef_format.specs.Reasons.{NoReason};
 ghost use Rattle.ndef_types.specs.Values.{AcValue, StandsForAc};
 ghost use Rattle.ndef_c.specs.Alternatives.{HasNoReference, IsAlternativeAt, IsReferenceAt, LiesAt, references};
 ghost use Rattle.ndef_c.specs.Payloads.{RefusesWith};

@@ -1,7 +1,7 @@
 //! The payloads of Handover Carrier records (Connection Handover 1.2).
 ghost use Rattle.std.specs.Prelude.{◌≡◌, ◌<◌, ◌≤◌, ◌^◌, ◌↔◌, ◌⊎◌, length, IsTrue};
-ghost use Rattle.ndef_lang.specs.Carrier.{IsCarrier};
-ghost use Rattle.ndef_lang.specs.Language.{NoReason};
+ghost use Rattle.ndef_format.specs.Handovers.{IsCarrier};
+ghost use Rattle.ndef_format.specs.Reasons.{NoReason};
 ghost use Rattle.ndef_types.specs.Values.{WritesCarrier};
 ghost use Rattle.ndef_c.specs.Carriers.{IsCarrierAt, MayBeCarrier, carrier_of};
 ghost use Rattle.ndef_c.specs.Payloads.{GivesFor, RefusesWith};

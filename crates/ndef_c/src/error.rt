@@ -1,7 +1,7 @@
 //! The payloads of Error records (Connection Handover 1.2).
 ghost use Rattle.std.specs.Prelude.{◌≡◌, ◌<◌, ◌^◌, ◌⊎◌, length};
-ghost use Rattle.ndef_lang.specs.HandoverError.{IsError, IsErrorData};
-ghost use Rattle.ndef_lang.specs.Language.{NoReason};
+ghost use Rattle.ndef_format.specs.Handovers.{IsError, IsErrorData};
+ghost use Rattle.ndef_format.specs.Reasons.{NoReason};
 ghost use Rattle.ndef_c.specs.Errors.{IsErrorAt, number_told};
 ghost use Rattle.ndef_c.specs.Payloads.{RefusesWith};
 

@@ -2,9 +2,9 @@
 ghost use Rattle.std.specs.Prelude.{◌≡◌, ◌<◌, ◌≤◌, ◌↔◌, ◌++◌, [], ℕ, List};
 ghost use Rattle.std.specs.Borrow.{full_share, sem};
 ghost use Rattle.std.specs.Ptr.{lies_at, room_at};
-ghost use Rattle.ndef_value.specs.Wire.{LimitValues};
+ghost use Rattle.ndef_format.specs.Limits.{LimitValues};
 ghost use Rattle.ndef_c.specs.Checks.{limits_of, MayBeSet};
-ghost use Rattle.ndef_c.specs.Feeding.{Answers, BeginsTo, FeedsTo, HasTaken, IsFed, SoFar};
+ghost use Rattle.ndef_c.specs.Feeding.{AnswersFed, BeginsTo, FeedsTo, WasFed, IsFed, SoFar};
 ghost use Rattle.ndef_c.specs.contracts.feeding.NdefChecker as NdefCheckers;
 
 use crate::checking::NdefChecked;
@@ -41,8 +41,8 @@ const _: () = prove!(align_of::<NdefChecker>() == 8);
 
 /// Feeds a checker, and tells what is known of all the bytes that it was fed.
 fn feed<L: OuterLanguage>(checker: &mut Checker<L>, bytes: &[u8], out: &mut NdefChecked) -> u32
-    ensures { (limits : LimitValues) (front : List ℕ) → HasTaken checker.old limits front
-        → HasTaken checker.new limits (front ++ bytes.now)
+    ensures { (limits : LimitValues) (front : List ℕ) → WasFed checker.old limits front
+        → WasFed checker.new limits (front ++ bytes.now)
         × FeedsTo L.set L.holds limits (front ++ bytes.now) result out.new }
 {
     places_are_told::<L>();
@@ -99,7 +99,7 @@ fn feed_checker(checker: &mut NdefChecker, bytes: &[u8], out: &mut NdefChecked) 
     ensures { (limits : NdefLimits) (front : List ℕ)
         → IsFed checker.old (record { limits = limits; bytes = front })
         → IsFed checker.new (record { limits = limits; bytes = front ++ bytes.now })
-        × Answers limits (front ++ bytes.now) result out.old out.new }
+        × AnswersFed limits (front ++ bytes.now) result out.old out.new }
 {
     match &mut checker.looking {
         Looking::Nothing => BAD_ARGUMENT,

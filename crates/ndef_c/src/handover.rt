@@ -1,9 +1,9 @@
 //! The payloads of handover requests and selects (Connection Handover 1.2).
 ghost use Rattle.std.specs.Prelude.{◌≡◌, ◌<◌, ◌^◌, ◌↔◌, length, drop, IsTrue};
-ghost use Rattle.ndef_value.specs.declared.profile.Profile.TheVariants.{Standard};
+ghost use Rattle.ndef_format.specs.declared.profile.Profile.TheVariants.{Standard};
 ghost use Rattle.ndef_value.specs.declared.limits.TheConstants.{MOST_RECORDS};
-ghost use Rattle.ndef_nest.specs.Nested.{IsNest, table_of};
-ghost use Rattle.ndef_c.specs.Handovers.{IsHandover, TellsVersion};
+ghost use Rattle.ndef_format.specs.Nested.{IsNest, table_of};
+ghost use Rattle.ndef_c.specs.Handovers.{IsHandoverPayload, TellsVersion};
 
 use ndef_lang::Kind;
 use ndef_nest::Nest;
@@ -23,7 +23,7 @@ fn is_nest(kind: Kind, payload: &[u8]) -> bool
 
 /// Whether the payload is that of a handover request or of a select.
 pub(crate) fn is_handover(payload: &[u8]) -> bool
-    ensures { IsTrue result ↔ (IsHandover payload.now × (length payload.now < 2 ^ 32)) }
+    ensures { IsTrue result ↔ (IsHandoverPayload payload.now × (length payload.now < 2 ^ 32)) }
 {
     is_nest(Kind::Request, payload) || is_nest(Kind::Select, payload)
 }

@@ -1,6 +1,6 @@
 //! Writes the payloads of Handover Request and Handover Select records (Connection Handover 1.2).
 ghost use Rattle.std.specs.Prelude.{◌≡◌, ◌+◌, ◌<◌, ◌^◌, ◌↔◌, ◌∷◌, length, IsTrue};
-ghost use Rattle.ndef_value.specs.declared.profile.Profile.TheVariants.{Strict};
+ghost use Rattle.ndef_format.specs.declared.profile.Profile.TheVariants.{Strict};
 ghost use Rattle.ndef_value.specs.declared.limits.TheConstants.{MOST_RECORDS};
 ghost use Rattle.ndef_c.specs.HandoverWrites.{MayBeHandover, version_of};
 ghost use Rattle.ndef_c.specs.Rooms.{Gives};

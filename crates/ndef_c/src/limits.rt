@@ -1,6 +1,6 @@
 //! Limits as numbers.
 ghost use Rattle.std.specs.Prelude.{◌≡◌, ◌<◌, ◌↔◌, IfSome, IsSome, IsTrue};
-ghost use Rattle.ndef_value.specs.Wire.{usual_limits};
+ghost use Rattle.ndef_format.specs.Limits.{usual_limits};
 ghost use Rattle.ndef_c.specs.Checks.{limits_of, profile_of, MayBeSet};
 
 use ndef_value::{Limits, Profile};

@@ -1,7 +1,7 @@
 //! The links of messages (Connection Handover 1.2).
 ghost use Rattle.std.specs.Prelude.{◌≡◌, ◌≢◌, ◌↔◌, ◌⊎◌, ◌<◌, ◌+◌, ◌^◌, List, length};
-ghost use Rattle.ndef_value.specs.Wire.{Run};
-ghost use Rattle.ndef_lang.specs.Alternative.{IsAlternative};
+ghost use Rattle.ndef_format.specs.Records.{Run};
+ghost use Rattle.ndef_format.specs.Handovers.{IsAlternative};
 ghost use Rattle.ndef_types.specs.Values.{AcValue, StandsForAc};
 ghost use Rattle.ndef_c.specs.Links.{BeginsWithRuns, HasNoLink, HasRuns, IsLinkAt, MayHaveLinks, TellsPlace, TellsRecord};
 

@@ -1,6 +1,6 @@
 //! The records of a message, one behind another.
 ghost use Rattle.std.specs.Prelude.{◌↔◌, List, IsTrue};
-ghost use Rattle.ndef_value.specs.Wire.{Run};
+ghost use Rattle.ndef_format.specs.Records.{Run};
 ghost use Rattle.ndef_c.specs.Links.{BeginsWithRuns, FindsRecord, HasRuns};
 
 use crate::run::first_run;

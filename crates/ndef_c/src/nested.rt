@@ -1,9 +1,10 @@
 //! Records of the messages in payloads, where they lie.
 ghost use Rattle.std.specs.Prelude.{◌≡◌, ℕ, false, List, [], drop, length};
-ghost use Rattle.ndef_value.specs.Wire.{Item, tnf_of};
-ghost use Rattle.ndef_value.specs.declared.profile.Profile.{Profile};
-ghost use Rattle.ndef_lang.specs.Kind.{kind_of};
-ghost use Rattle.ndef_piece.specs.Header.{is_set};
+ghost use Rattle.ndef_format.specs.Messages.{Item};
+ghost use Rattle.ndef_format.specs.Records.{tnf_of};
+ghost use Rattle.ndef_format.specs.declared.profile.Profile.{Profile};
+ghost use Rattle.ndef_format.specs.Kinds.{kind_of};
+ghost use Rattle.ndef_format.specs.HeadReasons.{is_set};
 ghost use Rattle.ndef_piece.specs.Whole.{IsSplit, shown};
 ghost use Rattle.ndef_types.specs.Contents.{IsOfKind};
 ghost use Rattle.ndef_types.specs.Links.{alternatives, is_alternative};

@@ -1,9 +1,10 @@
 //! The joined payload of a record.
 ghost use Rattle.std.specs.Prelude.{◌≡◌, ◌≢◌, ◌≤◌, ◌↔◌, length, List, ℕ};
-ghost use Rattle.ndef_value.specs.Wire.{Run, run_record};
+ghost use Rattle.ndef_format.specs.Records.{Run};
+ghost use Rattle.ndef_format.specs.Messages.{run_record};
 ghost use Rattle.ndef_c.specs.Rooms.{written_over};
 ghost use Rattle.ndef_c.specs.Runs.{HasRun};
-ghost use Rattle.ndef_c.specs.Walks.{BeginsWith, IsRecordThere, GivesPayload};
+ghost use Rattle.ndef_c.specs.Walks.{BeginsWithRun, IsRecordThere, GivesPayload};
 
 use crate::laws::one_record_is_there;
 use crate::room::put;
@@ -14,9 +15,9 @@ use ndef_piece::{heads_are_apart, whole_piece};
 /// Copies the payloads of the pieces of the run with which the bytes begin to the front of the room.
 fn copy_pieces(bytes: &[u8], room: &mut [u8])
     requires run { HasRun bytes.now }
-    requires room { (run : Run) (rest : List ℕ) → BeginsWith run rest bytes.now
+    requires room { (run : Run) (rest : List ℕ) → BeginsWithRun run rest bytes.now
         → length (run_record run).payload ≤ length room.old }
-    ensures { (run : Run) (rest : List ℕ) → BeginsWith run rest bytes.now
+    ensures { (run : Run) (rest : List ℕ) → BeginsWithRun run rest bytes.now
         → room.new ≡ written_over (run_record run).payload room.old }
 {
     heads_are_apart();

@@ -1,19 +1,19 @@
 //! The payloads of Smart Poster records (RTD Smart Poster 1.0).
 ghost use Rattle.std.specs.Prelude.{◌≡◌, ◌≢◌, ◌<◌, ◌^◌, ◌↔◌, ◌⊎◌, List, length, option_map, Some};
 ghost use Rattle.std.specs.Int.{w32, from_be_bytes};
-ghost use Rattle.ndef_value.specs.Wire.{Item};
-ghost use Rattle.ndef_value.specs.declared.profile.Profile.{Profile};
+ghost use Rattle.ndef_format.specs.Messages.{Item};
+ghost use Rattle.ndef_format.specs.declared.profile.Profile.{Profile};
 ghost use Rattle.ndef_value.specs.declared.limits.TheConstants.{MOST_RECORDS};
-ghost use Rattle.ndef_lang.specs.declared.kind.Kind.TheVariants as kinds;
-ghost use Rattle.ndef_nest.specs.Conditions.{NestReason};
-ghost use Rattle.ndef_nest.specs.Nested.{IsNest};
-ghost use Rattle.ndef_nest.specs.declared.table.Table.TheVariants as tables;
+ghost use Rattle.ndef_format.specs.declared.kind.Kind.TheVariants as kinds;
+ghost use Rattle.ndef_format.specs.NestedReasons.{NestReason};
+ghost use Rattle.ndef_format.specs.Nested.{IsNest};
+ghost use Rattle.ndef_format.specs.declared.table.Table.TheVariants as tables;
 ghost use Rattle.ndef_types.specs.Contents.{IsOfKind};
 ghost use Rattle.ndef_types.specs.Posters.{Says, action_in, action_of, size_in};
 ghost use Rattle.ndef_c.specs.Checks.{profile_of};
-ghost use Rattle.ndef_c.specs.Nested.{FirstLies, Tells};
+ghost use Rattle.ndef_c.specs.Nested.{FirstLies, TellsNumber};
 ghost use Rattle.ndef_c.specs.Payloads.{RefusesWith};
-ghost use Rattle.ndef_c.specs.Posters.{IsPosterAt, HasRecords};
+ghost use Rattle.ndef_c.specs.Posters.{IsPosterAt, HasPosterRecords};
 
 use crate::checking::NdefChecked;
 use crate::limits::profile_of;
@@ -44,8 +44,8 @@ pub struct NdefPoster {
 
 /// The payload of its URI record.
 fn uri_of(payload: &[u8]) -> Found<'_>
-    requires { (profile : Profile) × (items : List Item) × HasRecords profile items payload.now }
-    ensures { (profile : Profile) (items : List Item) → HasRecords profile items payload.now
+    requires { (profile : Profile) × (items : List Item) × HasPosterRecords profile items payload.now }
+    ensures { (profile : Profile) (items : List Item) → HasPosterRecords profile items payload.now
         → FirstLies (IsOfKind tables.SmartPoster kinds.Uri) items payload.now (Some result) }
 {
     match first_of(Table::SmartPoster, payload, Kind::Uri) {
@@ -56,8 +56,8 @@ fn uri_of(payload: &[u8]) -> Found<'_>
 
 /// What its first action record says.
 fn action_of(payload: &[u8]) -> Option<u32>
-    requires { (profile : Profile) × (items : List Item) × HasRecords profile items payload.now }
-    ensures { (profile : Profile) (items : List Item) → HasRecords profile items payload.now
+    requires { (profile : Profile) × (items : List Item) × HasPosterRecords profile items payload.now }
+    ensures { (profile : Profile) (items : List Item) → HasPosterRecords profile items payload.now
         → Says kinds.Action action_in items (option_map action_of result) }
 {
     let Some(found) = first_of(Table::SmartPoster, payload, Kind::Action) else {
@@ -79,8 +79,8 @@ fn number_of(octets: &[u8]) -> u32
 
 /// What its first size record says.
 fn size_of(payload: &[u8]) -> Option<u32>
-    requires { (profile : Profile) × (items : List Item) × HasRecords profile items payload.now }
-    ensures { (profile : Profile) (items : List Item) → HasRecords profile items payload.now
+    requires { (profile : Profile) × (items : List Item) × HasPosterRecords profile items payload.now }
+    ensures { (profile : Profile) (items : List Item) → HasPosterRecords profile items payload.now
         → Says kinds.Size size_in items result }
 {
     let Some(found) = first_of(Table::SmartPoster, payload, Kind::Size) else {
@@ -91,7 +91,7 @@ fn size_of(payload: &[u8]) -> Option<u32>
 
 /// 1 and a number, or 0 and 0 for none.
 pub(crate) fn told(number: Option<u32>) -> (u32, u32)
-    ensures { Tells number result.0 result.1 }
+    ensures { TellsNumber number result.0 result.1 }
 {
     match number {
         Some(number) => (1, number),

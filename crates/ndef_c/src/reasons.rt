@@ -1,6 +1,6 @@
 //! The names of reasons.
 ghost use Rattle.std.specs.Prelude.{◌≡◌, ◌≢◌, ◌<◌, ◌≤◌, ◌⊎◌, ◌↔◌, IfSome, IsSome};
-ghost use Rattle.ndef_value.specs.Reason.{number_of};
+ghost use Rattle.ndef_format.specs.Reasons.{reason_number};
 ghost use Rattle.ndef_c.specs.Rooms.{GivesName};
 
 use crate::room::give;
@@ -9,7 +9,7 @@ use ndef_value::Reason;
 
 /// The reason with a number.
 fn reason_of(number: u32) -> Option<Reason>
-    ensures told { IfSome result (λ r. number_of r ≡ number) }
+    ensures told { IfSome result (λ r. reason_number r ≡ number) }
     ensures some { IsSome result ↔ ((1 ≤ number) × (number ≤ 25)) }
 {
     let reason = match number {

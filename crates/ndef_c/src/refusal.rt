@@ -1,6 +1,6 @@
 //! Refusals as numbers.
 ghost use Rattle.std.specs.Prelude.{◌≡◌};
-ghost use Rattle.ndef_value.specs.Reason.{number_of};
+ghost use Rattle.ndef_format.specs.Reasons.{reason_number};
 
 use crate::checking::NdefChecked;
 use ndef_value::Refusal;
@@ -9,7 +9,7 @@ use ndef_value::Refusal;
 pub(crate) fn refused_by(refusal: Refusal) -> NdefChecked
     ensures place { result.place ≡ refusal.at }
     ensures records { result.records ≡ 0 }
-    ensures reason { result.reason ≡ number_of refusal.reason }
+    ensures reason { result.reason ≡ reason_number refusal.reason }
 {
     NdefChecked {
         place: refusal.at,

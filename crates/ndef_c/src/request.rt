@@ -1,15 +1,15 @@
 //! The payloads of Handover Request records (Connection Handover 1.2).
 ghost use Rattle.std.specs.Prelude.{◌≡◌, ◌≢◌, ◌<◌, ◌^◌, ◌↔◌, ◌⊎◌, List, length};
 ghost use Rattle.std.specs.Int.{w16, from_be_bytes};
-ghost use Rattle.ndef_value.specs.Wire.{Item};
-ghost use Rattle.ndef_value.specs.declared.profile.Profile.{Profile};
+ghost use Rattle.ndef_format.specs.Messages.{Item};
+ghost use Rattle.ndef_format.specs.declared.profile.Profile.{Profile};
 ghost use Rattle.ndef_value.specs.declared.limits.TheConstants.{MOST_RECORDS};
-ghost use Rattle.ndef_nest.specs.Conditions.{NestReason};
-ghost use Rattle.ndef_nest.specs.Nested.{IsNest};
-ghost use Rattle.ndef_nest.specs.declared.table.Table.TheVariants as tables;
+ghost use Rattle.ndef_format.specs.NestedReasons.{NestReason};
+ghost use Rattle.ndef_format.specs.Nested.{IsNest};
+ghost use Rattle.ndef_format.specs.declared.table.Table.TheVariants as tables;
 ghost use Rattle.ndef_types.specs.Handovers.{IsCollisionOf};
 ghost use Rattle.ndef_c.specs.Checks.{profile_of};
-ghost use Rattle.ndef_c.specs.Handovers.{AreContents, IsRequestAt};
+ghost use Rattle.ndef_c.specs.Handovers.{AreHandoverContents, IsRequestAt};
 ghost use Rattle.ndef_c.specs.Payloads.{RefusesWith};
 
 use crate::checking::NdefChecked;
@@ -49,8 +49,8 @@ fn number_of(octets: &[u8]) -> u16
 
 /// The random number of the first record of a request.
 fn collision_of(message: &[u8]) -> u32
-    requires { (profile : Profile) × (items : List Item) × AreContents tables.Request profile items message.now }
-    ensures { (profile : Profile) (items : List Item) → AreContents tables.Request profile items message.now
+    requires { (profile : Profile) × (items : List Item) × AreHandoverContents tables.Request profile items message.now }
+    ensures { (profile : Profile) (items : List Item) → AreHandoverContents tables.Request profile items message.now
         → IsCollisionOf items result }
 {
     match first_of(Table::Request, message, Kind::Collision) {

@@ -1,10 +1,10 @@
 //! A record at the front of some bytes, whatever these are.
 ghost use Rattle.std.specs.Prelude.{◌≡◌, ◌≤◌, ◌<◌, ◌↔◌, length, IfNone, IfSome, IsTrue};
-ghost use Rattle.ndef_value.specs.Wire.{IsInitial, IsLater};
-ghost use Rattle.ndef_value.specs.declared.profile.Profile.TheVariants.{Standard};
-ghost use Rattle.ndef_piece.specs.Header.{is_set};
+ghost use Rattle.ndef_format.specs.Records.{IsInitial, IsLater};
+ghost use Rattle.ndef_format.specs.declared.profile.Profile.TheVariants.{Standard};
+ghost use Rattle.ndef_format.specs.HeadReasons.{is_set};
 ghost use Rattle.ndef_piece.specs.Whole.{shown};
-ghost use Rattle.ndef_c.specs.Runs.{HasRun, IsFirst};
+ghost use Rattle.ndef_c.specs.Runs.{HasRun, IsFirstRun};
 
 use ndef_piece::{WholePiece, heads_are_apart, whole_piece};
 
@@ -49,7 +49,7 @@ fn is_last(piece: &WholePiece<'_>) -> bool
 /// The run with which the bytes begin, if all of it is there.
 pub(crate) fn first_run(bytes: &[u8]) -> Option<FirstRun<'_>>
     ensures none { IfNone result (¬ HasRun bytes.now) }
-    ensures some { IfSome result (IsFirst bytes.now) }
+    ensures some { IfSome result (IsFirstRun bytes.now) }
 {
     heads_are_apart();
     let Some(first) = whole_piece(bytes) else {

@@ -1,15 +1,15 @@
 //! The payloads of Handover Select records (Connection Handover 1.2).
 ghost use Rattle.std.specs.Prelude.{◌≡◌, ◌≢◌, ◌<◌, ◌^◌, ◌↔◌, ◌⊎◌, List, length, drop, Option};
-ghost use Rattle.ndef_value.specs.Wire.{Item};
-ghost use Rattle.ndef_value.specs.declared.profile.Profile.{Profile};
+ghost use Rattle.ndef_format.specs.Messages.{Item};
+ghost use Rattle.ndef_format.specs.declared.profile.Profile.{Profile};
 ghost use Rattle.ndef_value.specs.declared.limits.TheConstants.{MOST_RECORDS};
-ghost use Rattle.ndef_lang.specs.declared.kind.Kind.TheVariants as kinds;
-ghost use Rattle.ndef_nest.specs.Conditions.{NestReason};
-ghost use Rattle.ndef_nest.specs.Nested.{IsNest};
-ghost use Rattle.ndef_nest.specs.declared.table.Table.TheVariants as tables;
-ghost use Rattle.ndef_types.specs.Contents.{IsFirst, IsOfKind};
+ghost use Rattle.ndef_format.specs.declared.kind.Kind.TheVariants as kinds;
+ghost use Rattle.ndef_format.specs.NestedReasons.{NestReason};
+ghost use Rattle.ndef_format.specs.Nested.{IsNest};
+ghost use Rattle.ndef_format.specs.declared.table.Table.TheVariants as tables;
+ghost use Rattle.ndef_types.specs.Contents.{IsFirstOf, IsOfKind};
 ghost use Rattle.ndef_c.specs.Checks.{profile_of};
-ghost use Rattle.ndef_c.specs.Handovers.{AreContents, IsSelectAt, TellsError};
+ghost use Rattle.ndef_c.specs.Handovers.{AreHandoverContents, IsSelectAt, TellsError};
 ghost use Rattle.ndef_c.specs.Payloads.{RefusesWith};
 
 use crate::checking::NdefChecked;
@@ -59,8 +59,8 @@ struct Detail {
 fn error_in(payload: &[u8]) -> Detail
     requires nest { (profile : Profile) × IsNest tables.Select MOST_RECORDS profile payload.now }
     requires short { length payload.now < 2 ^ 32 }
-    ensures { (profile : Profile) (items : List Item) → AreContents tables.Select profile items (drop 1 payload.now)
-        → (error : Option Item) × IsFirst (IsOfKind tables.Select kinds.Error) items error
+    ensures { (profile : Profile) (items : List Item) → AreHandoverContents tables.Select profile items (drop 1 payload.now)
+        → (error : Option Item) × IsFirstOf (IsOfKind tables.Select kinds.Error) items error
         × TellsError payload.now error result.has result.reason result.at result.length }
 {
     let Some(found) = first_of(Table::Select, behind_version(payload), Kind::Error) else {

@@ -1,6 +1,7 @@
 //! The payloads of Text records (RTD Text 1.0).
 ghost use Rattle.std.specs.Prelude.{◌≡◌, ◌≢◌, ◌<◌, ◌≤◌, ◌^◌, ◌↔◌, ◌⊎◌, length};
-ghost use Rattle.ndef_lang.specs.Text.{IsText, TextReason};
+ghost use Rattle.ndef_format.specs.Texts.{IsText};
+ghost use Rattle.ndef_format.specs.PayloadReasons.{TextReason};
 ghost use Rattle.ndef_types.specs.Values.{WritesText, text_payload};
 ghost use Rattle.ndef_c.specs.Payloads.{GivesFor, IsTextAt, RefusesWith};
 ghost use Rattle.ndef_c.specs.Rooms.{Gives};

@@ -1,7 +1,8 @@
 //! The payloads of URI records (RTD URI 1.0).
 ghost use Rattle.std.specs.Prelude.{◌≡◌, ◌≢◌, ◌<◌, ◌^◌, ◌↔◌, ◌⊎◌, ℕ, List, length, IsUtf8};
-ghost use Rattle.ndef_value.specs.declared.profile.Profile.{Profile};
-ghost use Rattle.ndef_lang.specs.Uri.{IsUri, UriReason};
+ghost use Rattle.ndef_format.specs.declared.profile.Profile.{Profile};
+ghost use Rattle.ndef_format.specs.Uris.{IsUri};
+ghost use Rattle.ndef_format.specs.PayloadReasons.{UriReason};
 ghost use Rattle.ndef_types.specs.Decoding.{IsTooLong};
 ghost use Rattle.ndef_types.specs.Values.{StandsForUri, WritesUri};
 ghost use Rattle.ndef_c.specs.Checks.{profile_of};

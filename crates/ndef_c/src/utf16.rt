@@ -2,7 +2,7 @@
 ghost use Rattle.std.specs.Prelude.{◌≡◌, ◌+◌, ◌<◌, ◌≤◌, ◌^◌, ◌++◌, ◌∷◌, [], ℕ, List, false, length, chars, encode_utf8_all, ◌↔◌, IsTrue};
 ghost use Rattle.std.specs.Char.{InScalarRange};
 ghost use Rattle.std.specs.Char.Escape.{encode_utf16};
-ghost use Rattle.ndef_lang.specs.Utf16.{spelled, unit_octets, units_of};
+ghost use Rattle.ndef_format.specs.Texts.{spelled, unit_octets, units_of};
 ghost use Rattle.ndef_c.specs.Rooms.{Gives, IsPut};
 ghost use Rattle.ndef_c.specs.Texts.{AreSpelled};
 

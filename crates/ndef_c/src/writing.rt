@@ -1,6 +1,8 @@
 //! Writes a record.
 ghost use Rattle.std.specs.Prelude.{◌≡◌, ◌≢◌, ◌+◌, ◌*◌, ◌≤◌, ◌<◌, ◌^◌, ◌++◌, ◌&&◌, [], not, take, drop, length, unwrap_or, Some, IfSome, IsNone, IsTrue, ◌↔◌};
-ghost use Rattle.ndef_value.specs.Wire.{FitsForm, IsShaped, HasLengths, fields, tnf_of};
+ghost use Rattle.ndef_format.specs.Records.{FitsForm, fields, tnf_of};
+ghost use Rattle.ndef_format.specs.Messages.{IsShaped};
+ghost use Rattle.ndef_format.specs.Canonical.{HasLengths};
 ghost use Rattle.ndef_piece.specs.Heads.{written_fields};
 ghost use Rattle.ndef_message.specs.Cut.{first_piece, later_piece};
 ghost use Rattle.ndef_message.specs.Written.{is_short};

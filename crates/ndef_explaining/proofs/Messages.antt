@@ -2,8 +2,8 @@
 use Rattle.std.proofs.Common.{◌≡◌, ◌≢◌, ℕ, ◌+◌, ◌<◌, ◌≤◌, ap, length, refl, sym, ◌∙◌, ap₂, subst, arith, List, [], ◌∷◌, ◌++◌, append_assoc, drop}
 use Rattle.std.specs.Prelude.{Ok}
 use Rattle.std.proofs.lemmas.List.{append-nil}
-use Rattle.ndef_value.specs.Wire.{LimitValues}
-use Rattle.ndef_fields.specs.Tellings.{Tells}
+use Rattle.ndef_format.specs.Limits.{LimitValues}
+use Rattle.ndef_fields.specs.Tellings.{TellsFields}
 use Rattle.ndef_fields.specs.declared.telling.Told.{Told}
 use Rattle.ndef_tool.specs.Quoting.{Text}
 use Rattle.ndef_explaining.specs.Explaining.{AddsStop, AreTold, Explains, IsExplained, IsStopText, bytes_told, message_text, messages_text}
@@ -26,7 +26,7 @@ keeps_first limits input old told stop h = record { told = told; are_told = h; a
 
 -- one message more
 pub keeps_next : (limits : LimitValues) (input rest next : List ℕ) (at number : ℕ) (old new newer : Text) (told : Told)
-    → KeepsOn limits input rest at number old new → Tells limits rest (Ok told) → newer ≡ new ++ message_text number at rest told
+    → KeepsOn limits input rest at number old new → TellsFields limits rest (Ok told) → newer ≡ new ++ message_text number at rest told
     → next ≡ drop told.taken rest → KeepsOn limits input next (at + told.taken) (number + 1) old newer
 keeps_next limits input rest next at number old new newer told keeps tells e n more stop h =
     let g = keeps (told ∷ more) stop (tells, subst (λ x. AreTold limits more x stop) n h) in

@@ -1,6 +1,6 @@
 -- Where messages stop.
 use Rattle.std.proofs.Common.{◌≡◌, ℕ, refl, ◌∙◌, ap, List, ◌++◌, append_assoc, take}
-use Rattle.ndef_value.specs.declared.refusal.Refusal.{Refusal}
+use Rattle.ndef_format.specs.declared.refusal.Refusal.{Refusal}
 use Rattle.ndef_tool.specs.Quoting.{Text}
 use Rattle.ndef_explaining.specs.Explaining.{AddsBefore, AddsByte, AddsStop, before_text, reason_lines}
 use Rattle.ndef_explaining.specs.declared.explaining.Stop.TheVariants.{Refused}

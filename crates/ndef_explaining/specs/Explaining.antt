@@ -1,14 +1,15 @@
 -- What is printed of an input: the fields of its messages, one after another, and where it is refused.
 use Rattle.std.specs.Prelude.{◌≡◌, ◌≢◌, ℕ, ◌+◌, ◌^◌, ◌<◌, ⊤, List, [], ◌∷◌, ◌++◌, codes, decimal, drop, length, slice_index, take, Ok}
 use Rattle.std.specs.List.{flat_map}
-use Rattle.ndef_value.specs.Reason.{number_of, name_of}
-use Rattle.ndef_value.specs.Wire.{LimitValues}
-use Rattle.ndef_value.specs.declared.refusal.Refusal.{Refusal}
-use Rattle.ndef_message.specs.Place.{Refuses}
-use Rattle.ndef_nest.specs.Typed.{IsTypedPayload, TypedReason}
+use Rattle.ndef_format.specs.Reasons.{reason_number, reason_name}
+use Rattle.ndef_format.specs.Limits.{LimitValues}
+use Rattle.ndef_format.specs.declared.refusal.Refusal.{Refusal}
+use Rattle.ndef_format.specs.Refusals.{Refuses}
+use Rattle.ndef_format.specs.Payloads.{IsTypedPayload}
+use Rattle.ndef_format.specs.NestedReasons.{TypedReason}
 use Rattle.ndef_fields.specs.Lasts.{IsFieldOfLast}
-use Rattle.ndef_fields.specs.Names.{text_of}
-use Rattle.ndef_fields.specs.Tellings.{AreFieldsBefore, IsFront, Tells}
+use Rattle.ndef_fields.specs.Names.{name_text}
+use Rattle.ndef_fields.specs.Tellings.{AreFieldsBefore, IsMessageFront, TellsFields}
 use Rattle.ndef_fields.specs.declared.field.Field.{Field}
 use Rattle.ndef_fields.specs.declared.last.ByteField.{ByteField}
 use Rattle.ndef_fields.specs.declared.telling.Told.{Told}
@@ -27,7 +28,7 @@ abbrev pub AreTold : LimitValues → List Told → (input : List ℕ) → Stop �
 AreTold limits [] input End = input ≡ []
 AreTold limits [] input (Refused refusal) = (input ≢ []) × Refuses IsTypedPayload TypedReason limits input refusal
 AreTold limits (told ∷ more) input stop =
-    Tells limits input (Ok told) × AreTold limits more (drop told.taken input) stop
+    TellsFields limits input (Ok told) × AreTold limits more (drop told.taken input) stop
 
 -- the bytes of all these messages
 abbrev pub bytes_told : List Told → ℕ
@@ -35,13 +36,13 @@ bytes_told [] = 0
 bytes_told (told ∷ more) = told.taken + bytes_told more
 
 -- the line of a message, with its number and its place
-abbrev pub message_line : (number at bytes : ℕ) → Text
-message_line number at bytes =
+abbrev pub message_head : (number at bytes : ℕ) → Text
+message_head number at bytes =
     codes "message " ++ decimal number ++ codes " at " ++ decimal at ++ codes ": bytes " ++ decimal bytes ++ codes "\n"
 
 -- the lines of a message and of its fields
 abbrev pub message_text : (number at : ℕ) (input : List ℕ) → Told → Text
-message_text number at input told = message_line number at told.taken ++ flat_map (field_text at input) told.fields
+message_text number at input told = message_head number at told.taken ++ flat_map (field_text at input) told.fields
 
 -- those of messages, of which the first has this number and this place
 abbrev pub messages_text : (number at : ℕ) (input : List ℕ) → List Told → Text
@@ -54,13 +55,13 @@ messages_text number at input (told ∷ more) =
 -- the line of a refused byte: its place, itself, and the field in which it stands
 abbrev pub byte_line : (place octet : ℕ) → ByteField → Text
 byte_line place octet byte =
-    start_of place byte.depth ++ cells (octet ∷ []) ++ codes "^ " ++ text_of byte.name ++ codes "\n"
+    start_of place byte.depth ++ cells (octet ∷ []) ++ codes "^ " ++ name_text byte.name ++ codes "\n"
 
 -- the line of a refusal, as `ndef check` prints it, and a sentence
 abbrev pub reason_lines : (at : ℕ) → Refusal → Text
 reason_lines at refusal =
-    codes "refused at " ++ decimal (at + refusal.at) ++ codes ": " ++ decimal (number_of refusal.reason) ++ codes " "
-    ++ name_of refusal.reason ++ codes "\n" ++ sentence_of refusal.reason ++ codes "\n"
+    codes "refused at " ++ decimal (at + refusal.at) ++ codes ": " ++ decimal (reason_number refusal.reason) ++ codes " "
+    ++ reason_name refusal.reason ++ codes "\n" ++ sentence_of refusal.reason ++ codes "\n"
 
 -- the lines of a refused byte, where there is one
 abbrev pub IsByteText : (at : ℕ) (input : List ℕ) → Refusal → Text → Type 0
@@ -97,7 +98,7 @@ AddsStop at input stop old new = (text : Text) × IsStopText at input stop text 
 -- the place of a refusal can be counted, and the bytes before it are a front of a message
 abbrev pub FitsStop : (at : ℕ) (input : List ℕ) → Stop → Type 0
 FitsStop at input End = ⊤
-FitsStop at input (Refused refusal) = (at + refusal.at < 2 ^ 64) × IsFront (take refusal.at input)
+FitsStop at input (Refused refusal) = (at + refusal.at < 2 ^ 64) × IsMessageFront (take refusal.at input)
 
 -- the lines of the messages are appended, and the rest of the input is left
 pub record Explains (limits : LimitValues) (input : List ℕ) (old new : Text) (progress : Progress) : Type 0 where

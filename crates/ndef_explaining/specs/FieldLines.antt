@@ -1,6 +1,6 @@
 -- The lines of fields.
 use Rattle.std.specs.Prelude.{ℕ, ◌+◌, List, ◌++◌, codes, drop, take}
-use Rattle.ndef_fields.specs.Names.{text_of}
+use Rattle.ndef_fields.specs.Names.{name_text}
 use Rattle.ndef_fields.specs.declared.field.Field.{Field}
 use Rattle.ndef_fields.specs.declared.name.FieldName.{FieldName}
 use Rattle.ndef_tool.specs.Quoting.{Text}
@@ -14,7 +14,7 @@ octets_of bytes field = take field.length (drop field.at bytes)
 -- the place of a field, its first eight octets and its name
 abbrev pub front_text : (at : ℕ) → Field → (octets : List ℕ) → Text
 front_text at field octets =
-    start_of (at + field.at) field.depth ++ cells (take 8 octets) ++ codes "  " ++ text_of field.name
+    start_of (at + field.at) field.depth ++ cells (take 8 octets) ++ codes "  " ++ name_text field.name
 
 -- what the octets of a field of this name say, and the octets behind the first eight
 abbrev pub back_text : FieldName → (octets : List ℕ) → Text

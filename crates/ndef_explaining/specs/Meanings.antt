@@ -1,7 +1,7 @@
 -- What the octets of a field say.
 use Rattle.std.specs.Prelude.{ℕ, ◌%◌, nat_le, Bool, true, false, List, [], ◌∷◌, ◌++◌, codes, decimal, slice_index, slice_index_or, if◌then◌else◌}
 use Rattle.std.specs.Int.{w32, from_be_bytes}
-use Rattle.ndef_piece.specs.Header.{is_set, tnf_number}
+use Rattle.ndef_format.specs.HeadReasons.{is_set, tnf_number}
 use Rattle.ndef_fields.specs.declared.name.FieldName.{FieldName}
 use Rattle.ndef_fields.specs.declared.name.FieldName.TheVariants as names
 use Rattle.ndef_explaining.specs.declared.meaning.Reading.{Reading}
@@ -58,13 +58,13 @@ unfoldable pub tnf_word : ℕ → Text
 tnf_word number = slice_index_or tnf_words number []
 
 -- NDEF 1.0, TNF: the type name format of a header octet
-abbrev pub tnf_text : ℕ → Text
-tnf_text header = codes " TNF " ++ decimal (tnf_number header) ++ codes " " ++ tnf_word (tnf_number header)
+abbrev pub tnf_meaning : ℕ → Text
+tnf_meaning header = codes " TNF " ++ decimal (tnf_number header) ++ codes " " ++ tnf_word (tnf_number header)
 
 -- NDEF 1.0, PAYLOAD_LENGTH, and RTD Smart Poster 1.0, size: four octets, most significant first; else one octet
-abbrev pub number_of : List ℕ → ℕ
-number_of (a ∷ b ∷ c ∷ d ∷ []) = from_be_bytes w32 (a ∷ b ∷ c ∷ d ∷ [])
-number_of octets = slice_index octets 0
+abbrev pub octets_number : List ℕ → ℕ
+octets_number (a ∷ b ∷ c ∷ d ∷ []) = from_be_bytes w32 (a ∷ b ∷ c ∷ d ∷ [])
+octets_number octets = slice_index octets 0
 
 -- RTD Text 1.0, status octet: the encoding, and the length of the language code
 abbrev pub status_text : ℕ → Text
@@ -73,8 +73,8 @@ status_text status =
 
 -- what octets say that are read so
 abbrev pub meaning_of : Reading → List ℕ → Text
-meaning_of readings.Header octets = flags_text (slice_index octets 0) ++ tnf_text (slice_index octets 0)
-meaning_of readings.Number octets = codes " " ++ decimal (number_of octets)
+meaning_of readings.Header octets = flags_text (slice_index octets 0) ++ tnf_meaning (slice_index octets 0)
+meaning_of readings.Number octets = codes " " ++ decimal (octets_number octets)
 meaning_of readings.Quoted octets = codes " " ++ quoted octets
 meaning_of readings.Status octets = status_text (slice_index octets 0)
 meaning_of readings.Octets octets = []

@@ -1,7 +1,7 @@
 -- The program: a function of its words and of what the input holds.
 use Rattle.std.specs.Prelude.{◌≡◌, ◌⊎◌, ℕ, Bool, true, false, List, [], ◌∷◌, codes, drop, Option, Result, Ok, Err}
-use Rattle.ndef_value.specs.Wire.{LimitValues}
-use Rattle.ndef_message.specs.Inputs.{IsWhole}
+use Rattle.ndef_format.specs.Limits.{LimitValues}
+use Rattle.ndef_message.specs.Inputs.{IsWholeInput}
 use Rattle.ndef_message.specs.Sources.{Supply}
 use Rattle.ndef_message.specs.declared.input.InputError.{InputError}
 use Rattle.ndef_tool.specs.Chosen.{Chooses}
@@ -35,11 +35,11 @@ stop_status End = status.Clean
 stop_status (Refused refusal) = status.Refused
 
 -- the bytes of the input, at most 16777216, or those that its hexadecimal text stands for; or why there are none
-abbrev pub ReadsIn : (hex : Bool) → (before after : Supply) → Bool → Result (List ℕ) Ending → Type 0
-ReadsIn true before after failed input = IsInput before after failed input
-ReadsIn false before after failed (Ok input) = IsWhole 16777216 before after failed (Ok input)
-ReadsIn false before after failed (Err ending) =
-    (error : InputError) × IsWhole 16777216 before after failed (Err error) × (ending ≡ input_ending error)
+abbrev pub ReadsOctets : (hex : Bool) → (before after : Supply) → Bool → Result (List ℕ) Ending → Type 0
+ReadsOctets true before after failed input = IsInput before after failed input
+ReadsOctets false before after failed (Ok input) = IsWholeInput 16777216 before after failed (Ok input)
+ReadsOctets false before after failed (Err ending) =
+    (error : InputError) × IsWholeInput 16777216 before after failed (Err error) × (ending ≡ input_ending error)
 
 -- this text goes out, or a front of it before the sink fails, and this is the status
 abbrev pub Answers : Text → Status → (before after : Option (List ℕ)) → (failed : Bool) → Status → Type 0
@@ -60,7 +60,7 @@ TellsRead limits (Err ending) before after failed result =
 -- what the words and the input come to; nothing is taken of the input where the words choose nothing
 abbrev pub RunsBy : Result Choice WordsError → (before after : Supply) → Bool → (out_before out_after : Option (List ℕ)) → Bool → Status → Type 0
 RunsBy (Ok choice) before after read_failed out_before out_after failed result =
-    (input : Result (List ℕ) Ending) × ReadsIn choice.hex before after read_failed input
+    (input : Result (List ℕ) Ending) × ReadsOctets choice.hex before after read_failed input
     × TellsRead choice.limits input out_before out_after failed result
 RunsBy (Err Usage) before after read_failed out_before out_after failed result =
     (after ≡ before) × Answers usage_line status.Usage out_before out_after failed result

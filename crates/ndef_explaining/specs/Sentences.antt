@@ -1,7 +1,7 @@
 -- What is wrong, in a sentence.
 use Rattle.std.specs.Prelude.{codes}
-use Rattle.ndef_value.specs.declared.reason.Reason.{Reason}
-use Rattle.ndef_value.specs.declared.reason.Reason.TheVariants as reasons
+use Rattle.ndef_format.specs.declared.reason.Reason.{Reason}
+use Rattle.ndef_format.specs.declared.reason.Reason.TheVariants as reasons
 use Rattle.ndef_tool.specs.Quoting.{Text}
 
 -- NDEF 1.0, RTD Text 1.0, RTD URI 1.0, RTD Smart Poster 1.0 and Connection Handover 1.2: what a reason means

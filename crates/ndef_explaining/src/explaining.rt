@@ -1,6 +1,6 @@
 //! What is printed of an input.
 ghost use Rattle.std.specs.Prelude.{◌≡◌, ◌++◌, ◌+◌, ◌<◌, ◌^◌, ◌≤◌, IfOk, OnOk, length};
-ghost use Rattle.ndef_explaining.specs.Explaining.{Explains, IsExplained, message_line, message_text};
+ghost use Rattle.ndef_explaining.specs.Explaining.{Explains, IsExplained, message_head, message_text};
 
 use crate::field_lines::push_fields;
 use crate::refusal_lines::push_stop;
@@ -37,7 +37,7 @@ struct Progress<'a> {
 
 /// Appends the line of a message, with its number and its place.
 fn push_message_line(line: &mut Bytes, number: u64, at: u64, bytes: u64) -> Result<(), NoMemory>
-    ensures { OnOk result (line.new ≡ line.old ++ message_line number at bytes) }
+    ensures { OnOk result (line.new ≡ line.old ++ message_head number at bytes) }
 {
     line.extend(b"message ")?;
     push_number(line, number)?;

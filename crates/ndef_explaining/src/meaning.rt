@@ -1,7 +1,7 @@
 //! What the octets of a field say.
 ghost use Rattle.std.specs.Prelude.{◌≡◌, ◌++◌, ◌≤◌, ◌<◌, ◌%◌, OnOk, decimal, length, nat_le, slice_index};
-ghost use Rattle.ndef_piece.specs.Header.{is_set, tnf_number};
-ghost use Rattle.ndef_explaining.specs.Meanings.{flags_text, meaning_of, number_of, reading_of, said, status_text, tnf_text, tnf_word};
+ghost use Rattle.ndef_format.specs.HeadReasons.{is_set, tnf_number};
+ghost use Rattle.ndef_explaining.specs.Meanings.{flags_text, meaning_of, octets_number, reading_of, said, status_text, tnf_meaning, tnf_word};
 
 use ndef_fields::FieldName;
 use ndef_tool::{push_number, push_quoted};
@@ -67,7 +67,7 @@ fn first(octets: &[u8]) -> u8
 
 /// The number that four octets are, most significant first; of others that of the first.
 fn number_of(octets: &[u8]) -> u32
-    ensures { result ≡ number_of octets.now }
+    ensures { result ≡ octets_number octets.now }
 {
     match octets {
         [a, b, c, d] => u32::from_be_bytes([*a, *b, *c, *d]),
@@ -113,7 +113,7 @@ fn push_flags(line: &mut Bytes, header: u8) -> Result<(), NoMemory>
 
 /// Appends the type name format of a header octet.
 fn push_tnf(line: &mut Bytes, header: u8) -> Result<(), NoMemory>
-    ensures { OnOk result (line.new ≡ line.old ++ tnf_text header) }
+    ensures { OnOk result (line.new ≡ line.old ++ tnf_meaning header) }
 {
     line.extend(b" TNF ")?;
     push_number(line, u64::from(header % 8))?;

@@ -1,7 +1,7 @@
 //! What is printed of a refusal.
 ghost use Rattle.std.specs.Prelude.{◌≡◌, ◌++◌, ◌+◌, ◌<◌, ◌^◌, ◌≤◌, OnOk, length};
 ghost use Rattle.ndef_explaining.specs.Explaining.{AddsBefore, AddsByte, AddsStop, FitsStop, byte_line, reason_lines};
-ghost use Rattle.ndef_fields.specs.Tellings.{IsFront};
+ghost use Rattle.ndef_fields.specs.Tellings.{IsMessageFront};
 ghost use Rattle.ndef_explaining.specs.Sentences.{sentence_of};
 
 use crate::cells::{push_cells, push_start};
@@ -102,7 +102,7 @@ fn push_reason(line: &mut Bytes, at: u64, refusal: Refusal) -> Result<(), NoMemo
 
 /// Appends the lines of the fields of the whole pieces with which these bytes begin, a front of a message.
 fn push_before(line: &mut Bytes, at: u64, front: &[u8]) -> Result<(), NoMemory>
-    requires { IsFront front.now }
+    requires { IsMessageFront front.now }
     ensures { OnOk result (AddsBefore at front.now line.old line.new) }
 {
     push_fields(line, at, front, fields_before(front))?;

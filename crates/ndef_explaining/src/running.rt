@@ -3,9 +3,9 @@ ghost use Rattle.std.specs.Prelude.{◌≡◌, false, map, string_bytes, IfErr};
 ghost use Rattle.ndef_message.specs.Inputs.{bytes_of};
 ghost use Rattle.ndef_message.specs.Machine.Turns.{supply_of};
 ghost use Rattle.ndef_tool.specs.Output.{FitsPlace, ending_text, status_of};
-ghost use Rattle.ndef_tool.specs.Runs.{Ends};
+ghost use Rattle.ndef_tool.specs.Runs.{EndsCommand};
 ghost use Rattle.ndef_tool.specs.declared.ending.Status.TheVariants.{Usage};
-ghost use Rattle.ndef_explaining.specs.Running.{Answers, ReadsIn, Runs, TellsInput, TellsRead, stop_status, usage_line};
+ghost use Rattle.ndef_explaining.specs.Running.{Answers, ReadsOctets, Runs, TellsInput, TellsRead, stop_status, usage_line};
 
 use crate::explaining::{Stop, explain};
 use crate::words::choose_words;
@@ -45,7 +45,7 @@ fn stop_status(stop: Stop) -> Status
 
 /// The status, unless the text couldn't be written.
 fn end(written: Result<u64, WriteFault>, status: Status) -> Status
-    ensures { Ends written status result }
+    ensures { EndsCommand written status result }
 {
     match written {
         Ok(_) => status,
@@ -55,7 +55,7 @@ fn end(written: Result<u64, WriteFault>, status: Status) -> Status
 
 /// The bytes of the source, or with `hex` those that its hexadecimal text stands for.
 fn read_input<S: Source>(alloc: Global, hex: bool, source: &mut S) -> Result<Vec<u8>, Ending>
-    ensures input { ReadsIn hex (supply_of S.Source source.old) (supply_of S.Source source.new)
+    ensures input { ReadsOctets hex (supply_of S.Source source.old) (supply_of S.Source source.new)
         (S.has_failed source.new) (bytes_of result) }
     ensures room { IfErr result (λ ending. FitsPlace 0 ending) }
 {

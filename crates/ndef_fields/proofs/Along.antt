@@ -2,26 +2,27 @@
 use Rattle.std.proofs.Common.{◌≡◌, ℕ, ◌+◌, ◌<◌, Bool, refl, sym, ◌∙◌, ap, ap₂, subst, arith, List, [], ◌∷◌, ◌++◌, length, drop, drop_at, length-append}
 use Rattle.std.specs.Prelude.{slice_index, unwrap_or}
 use Rattle.std.specs.List.{AllByRecursion}
-use Rattle.ndef_value.specs.Wire.{Piece, Spells, SpellAll, fields, octets, body}
-use Rattle.ndef_nest.specs.declared.table.Table.{Table}
-use Rattle.ndef_piece.specs.Header.{is_set}
-use Rattle.ndef_piece.specs.HeaderLaws.{parts}
+use Rattle.ndef_format.specs.Records.{Piece, SpellsPiece, fields, octets, body}
+use Rattle.ndef_format.specs.Messages.{SpellsPieces}
+use Rattle.ndef_format.specs.declared.table.Table.{Table}
+use Rattle.ndef_format.specs.HeadReasons.{is_set}
+use Rattle.ndef_piece.specs.HeaderLaws.{header_parts}
 use Rattle.ndef_piece.specs.Whole.{BeginWithPiece, IsSplit}
 use Rattle.ndef_message.specs.Machine.Seen.{ArePieces, pieces_of}
 use Rattle.ndef_message.specs.Machine.SeenLaws.{First, begins, first_of, first_of_some, first_shown, told_behind, pieces_told}
 use Rattle.ndef_fields.specs.Parts.{Part, joined}
 use Rattle.ndef_fields.specs.Messages.{piece_parts, AreParts, AreNestedParts, IsInnerOwn}
-use Rattle.ndef_fields.specs.Cursors.{parts_along, inner_own, inner_in, outer_own, outer_in, AreOuter, HasContents}
+use Rattle.ndef_fields.specs.Cursors.{parts_along, inner_own, inner_in, outer_own, outer_in, AreOuter, HasPieceContents}
 use Rattle.ndef_fields.proofs.Joining.{leaf_joined, piece_joined}
 
 -- the header octet tells the form
-form_told : (p : Piece) (short : Bool) (front rest : List ℕ) → Spells p short front → is_set 4 (slice_index (front ++ rest) 0) ≡ short
+form_told : (p : Piece) (short : Bool) (front rest : List ℕ) → SpellsPiece p short front → is_set 4 (slice_index (front ++ rest) 0) ≡ short
 form_told p short front rest s =
-    ap (λ x. is_set 4 (slice_index (x ++ rest) 0)) s.spelled ∙ (parts (fields p short) s.piece.tnf).short
+    ap (λ x. is_set 4 (slice_index (x ++ rest) 0)) s.spelled ∙ (header_parts (fields p short) s.piece.tnf).short
 
 module _ (depth : ℕ) (own : Piece → List Part) where
   -- the parts of the first piece go first
-  pub first_along : (p : Piece) (short : Bool) (front rest : List ℕ) (ps : List Piece) → Spells p short front
+  pub first_along : (p : Piece) (short : Bool) (front rest : List ℕ) (ps : List Piece) → SpellsPiece p short front
       → parts_along depth own (p ∷ ps) (front ++ rest) ≡ piece_parts depth p short (own p) ++ parts_along depth own ps rest
   first_along p short front rest ps s =
       let e = form_told p short front rest s in
@@ -30,14 +31,14 @@ module _ (depth : ℕ) (own : Piece → List Part) where
       ∙ ap (λ x. piece_parts depth p short (own p) ++ parts_along depth own ps x) d
 
   -- they are the parts of the pieces
-  pub along : (Own : Piece → List Part → Type 0) (ps : List Piece) (bytes : List ℕ) → SpellAll ps bytes → AllByRecursion (λ p. Own p (own p)) ps
+  pub along : (Own : Piece → List Part → Type 0) (ps : List Piece) (bytes : List ℕ) → SpellsPieces ps bytes → AllByRecursion (λ p. Own p (own p)) ps
       → AreParts depth Own ps bytes (parts_along depth own ps bytes)
   along Own [] bytes e h = (e, refl)
   along Own (p ∷ ps) bytes (short, front, rest, e, s, more) h =
       (short, front, rest, own p, parts_along depth own ps rest, e, s, h.0, ap (parts_along depth own (p ∷ ps)) e ∙ first_along p short front rest ps s, along Own ps rest more h.1)
 
   -- their octets are those of the pieces
-  pub along_joined : (ps : List Piece) (bytes : List ℕ) → SpellAll ps bytes → AllByRecursion (λ p. joined (own p) ≡ p.payload) ps → joined (parts_along depth own ps bytes) ≡ bytes
+  pub along_joined : (ps : List Piece) (bytes : List ℕ) → SpellsPieces ps bytes → AllByRecursion (λ p. joined (own p) ≡ p.payload) ps → joined (parts_along depth own ps bytes) ≡ bytes
   along_joined [] bytes e h = sym e
   along_joined (p ∷ ps) bytes (short, front, rest, e, s, more) h =
       ap joined (ap (parts_along depth own (p ∷ ps)) e ∙ first_along p short front rest ps s)
@@ -106,15 +107,15 @@ begun_inner table bytes a w short rest i =
     let same = first_shown f.2 w short rest i in
     record {
       parts = first_parts 1 (inner_own table) f.0 f.1 bytes f.2 w short rest i;
-      pieces = (f.1, subst (SpellAll f.1) (sym same.1) f.2.more);
+      pieces = (f.1, subst (SpellsPieces f.1) (sym same.1) f.2.more);
     }
 
 pub record BegunOuter (w : Piece) (short : Bool) (rest bytes : List ℕ) : Type 0 where
   pub parts : outer_in bytes ≡ piece_parts 0 w short (outer_own w) ++ outer_in rest
-  pub contents : HasContents w
+  pub contents : HasPieceContents w
   pub outer : AreOuter rest
 
-begun_first : (qs : List Piece) (bytes : List ℕ) → SpellAll qs bytes → AllByRecursion HasContents qs → (w : Piece) (short : Bool) (rest : List ℕ) → IsSplit w short rest bytes → BegunOuter w short rest bytes
+begun_first : (qs : List Piece) (bytes : List ℕ) → SpellsPieces qs bytes → AllByRecursion HasPieceContents qs → (w : Piece) (short : Bool) (rest : List ℕ) → IsSplit w short rest bytes → BegunOuter w short rest bytes
 unfolding outer_in
 begun_first [] bytes e h w short rest i = absurd (let n = some_there w short rest bytes i in let k = ap length e in omega (arith, n, k))
 begun_first (p ∷ later) bytes s h w short rest i =
@@ -122,8 +123,8 @@ begun_first (p ∷ later) bytes s h w short rest i =
     let same = first_shown f w short rest i in
     record {
       parts = first_parts 0 outer_own p later bytes f w short rest i;
-      contents = subst HasContents (sym same.0) h.0;
-      outer = record { pieces = later; spelled = subst (SpellAll later) (sym same.1) f.more; contents = h.1 };
+      contents = subst HasPieceContents (sym same.0) h.0;
+      outer = record { pieces = later; spelled = subst (SpellsPieces later) (sym same.1) f.more; contents = h.1 };
     }
 
 pub begun_outer : (bytes : List ℕ) → AreOuter bytes → (w : Piece) (short : Bool) (rest : List ℕ) → IsSplit w short rest bytes → BegunOuter w short rest bytes

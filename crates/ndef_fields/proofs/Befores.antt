@@ -1,11 +1,14 @@
 -- The field of a byte, told by the bytes before it.
 use Rattle.std.proofs.Common.{◌≡◌, ◌≢◌, ℕ, ◌+◌, ◌-◌, inl, inr, refl, sym, ◌∙◌, ap, arith, List, [], ◌∷◌, ◌++◌, length, take, drop, take_at, drop_at, append_assoc, length-append}
 use Rattle.std.proofs.lemmas.Bool.{cases_lt}
-use Rattle.ndef_value.specs.Wire.{Fields, Piece, Run, LimitValues, all_pieces, octets, tnf_of, payload_length_octets, id_length_octets}
-use Rattle.ndef_piece.specs.declared.spot.Spot.{Spot}
-use Rattle.ndef_piece.specs.Field.{Field, InHead, InType, InId, InPayload, AtEnd, IsAt, IsProper, octets_so_far, spot_after}
-use Rattle.ndef_piece.specs.Header.{is_set, size, tnf_number, width}
-use Rattle.ndef_piece.specs.HeaderLaws.{header, parts, octets_size}
+use Rattle.ndef_format.specs.Records.{HeadFields, Piece, Run, octets, tnf_of, payload_length_octets, id_length_octets}
+use Rattle.ndef_format.specs.Limits.{LimitValues}
+use Rattle.ndef_format.specs.Messages.{all_pieces}
+use Rattle.ndef_format.specs.declared.spot.Spot.{Spot}
+use Rattle.ndef_format.specs.Positions.{Field, InHead, InType, InId, InPayload, AtEnd, IsAt, IsProper, octets_so_far, spot_after}
+use Rattle.ndef_format.specs.HeadReasons.{is_set, tnf_number, width}
+use Rattle.ndef_piece.specs.Header.{size}
+use Rattle.ndef_piece.specs.HeaderLaws.{header, header_parts, octets_size}
 use Rattle.ndef_piece.specs.Heads.{HeadsAreApart}
 use Rattle.ndef_fields.specs.declared.before.Before.TheVariants.{Head, Payload}
 use Rattle.ndef_fields.specs.declared.before.PayloadBefore.{PayloadBefore}
@@ -46,17 +49,17 @@ payload_named AtEnd p h = absurd h
 -- ---- in payloads
 
 -- what the octets of a piece tell of its payload
-record Given (head : Fields) (kind content : List ℕ) (h k : ℕ) (tail : List ℕ) : Type 0 where
+record Given (head : HeadFields) (kind content : List ℕ) (h k : ℕ) (tail : List ℕ) : Type 0 where
   chunked : is_set 5 h ≡ head.chunked
   tnf : tnf_number h ≡ head.tnf
   name : take k (body_given h tail) ≡ kind
   rest : content_given h k tail ≡ content
 
-given : (spot : Spot) (head : Fields) (kind id content : List ℕ) (h k : ℕ) (tail : List ℕ) → IsProper spot (InPayload head kind id content)
+given : (spot : Spot) (head : HeadFields) (kind id content : List ℕ) (h k : ℕ) (tail : List ℕ) → IsProper spot (InPayload head kind id content)
     → h ∷ k ∷ tail ≡ octets head ++ (kind ++ (id ++ content)) → Given head kind content h k tail
 given spot head kind id content h k tail p e =
     let c = p.0.stands.spelled in
-    let q = parts head c.tnf in
+    let q = header_parts head c.tnf in
     let t = tells head (kind ++ (id ++ content)) tail h k c (sym e) in
     let lengths = payload_length_octets head.short head.payload_length ++ id_length_octets head.id_length in
     let eh : h ≡ header head = cc in

@@ -1,19 +1,21 @@
 -- The parts of payloads.
-use Rattle.std.proofs.Common.{◌≡◌, ◌≢◌, ℕ, ◌≤◌, refl, ◌∙◌, ap, arith, List, [], ◌∷◌, drop}
+use Rattle.std.proofs.Common.{false, ◌≡◌, ℕ, ◌≤◌, refl, ◌∙◌, ap, arith, List, [], ◌∷◌, drop}
 use Rattle.std.specs.List.{AllByRecursion}
-use Rattle.ndef_value.specs.Wire.{Piece, SpellAll}
-use Rattle.ndef_lang.specs.declared.kind.Kind.{Kind}
-use Rattle.ndef_lang.specs.declared.kind.Kind.TheVariants as kinds
-use Rattle.ndef_nest.specs.declared.table.Table.TheVariants as tables
+use Rattle.ndef_format.specs.Records.{Piece}
+use Rattle.ndef_format.specs.Messages.{SpellsPieces}
+use Rattle.ndef_format.specs.declared.kind.Kind.{Kind}
+use Rattle.ndef_format.specs.declared.kind.Kind.TheVariants as kinds
+use Rattle.ndef_format.specs.declared.table.Table.TheVariants as tables
 use Rattle.ndef_fields.specs.declared.name.FieldName.TheVariants as names
 use Rattle.ndef_fields.specs.Parts.{joined}
 use Rattle.ndef_fields.specs.Payloads.{leaf_parts, stage_of, outer_stage}
 use Rattle.ndef_fields.specs.Stages.{stage_parts, stage_rank}
-use Rattle.ndef_fields.specs.Messages.{AreParts, ArePayloadParts, IsOuterOwn, outer_kind}
-use Rattle.ndef_fields.specs.Cursors.{parts_along, payload_parts, outer_own, outer_in, HoldsPieces, HasContents, AreOuter}
+use Rattle.ndef_fields.specs.Messages.{AreParts, ArePayloadParts, IsOuterOwn, piece_kind}
+use Rattle.ndef_fields.specs.Cursors.{parts_along, payload_parts, outer_own, outer_in, HoldsPieces, HasPieceContents, AreOuter}
 use Rattle.ndef_message.specs.Machine.SeenLaws.{pieces_told}
 use Rattle.ndef_fields.proofs.Joining.{leaf_joined, cut_joined}
 use Rattle.ndef_fields.proofs.Along.{along, along_joined, inner_parts, inner_joined}
+use Rattle.ndef_nest.specs.Machine.Payloads.{is_nest}
 
 -- what a payload begins with tells its parts
 pub leaf_staged : (depth : ℕ) (kind : Kind) (s : List ℕ) → leaf_parts depth kind s ≡ stage_parts depth (stage_of kind) s
@@ -78,34 +80,34 @@ payload_joined kinds.Collision s a = leaf_joined 0 kinds.Other s
 payload_joined kinds.Other s a = leaf_joined 0 kinds.Other s
 
 -- a payload with no message in it
-pub leaf_payload : (kind : Kind) (s : List ℕ) → kind ≢ kinds.SmartPoster → kind ≢ kinds.Request → kind ≢ kinds.Select → payload_parts kind s ≡ stage_parts 0 (outer_stage kind) s
-leaf_payload kinds.SmartPoster s a b c = absurd (a refl)
-leaf_payload kinds.Request s a b c = absurd (b refl)
-leaf_payload kinds.Select s a b c = absurd (c refl)
-leaf_payload kinds.Text s a b c = refl
-leaf_payload kinds.Uri s a b c = refl
-leaf_payload kinds.Carrier s a b c = refl
-leaf_payload kinds.Alternative s a b c = refl
-leaf_payload kinds.Error s a b c = refl
-leaf_payload kinds.Action s a b c = refl
-leaf_payload kinds.Size s a b c = refl
-leaf_payload kinds.MediaType s a b c = refl
-leaf_payload kinds.Collision s a b c = refl
-leaf_payload kinds.Other s a b c = refl
+pub leaf_payload : (kind : Kind) (s : List ℕ) → is_nest kind ≡ false → payload_parts kind s ≡ stage_parts 0 (outer_stage kind) s
+leaf_payload kinds.SmartPoster s e = absurd (cc)
+leaf_payload kinds.Request s e = absurd (cc)
+leaf_payload kinds.Select s e = absurd (cc)
+leaf_payload kinds.Text s e = refl
+leaf_payload kinds.Uri s e = refl
+leaf_payload kinds.Carrier s e = refl
+leaf_payload kinds.Alternative s e = refl
+leaf_payload kinds.Error s e = refl
+leaf_payload kinds.Action s e = refl
+leaf_payload kinds.Size s e = refl
+leaf_payload kinds.MediaType s e = refl
+leaf_payload kinds.Collision s e = refl
+leaf_payload kinds.Other s e = refl
 
-owns : (ps : List Piece) → AllByRecursion HasContents ps → AllByRecursion (λ p. IsOuterOwn p (outer_own p)) ps
+owns : (ps : List Piece) → AllByRecursion HasPieceContents ps → AllByRecursion (λ p. IsOuterOwn p (outer_own p)) ps
 owns [] h = tt
-owns (p ∷ ps) h = (payload_are (outer_kind p) p.payload h.0, owns ps h.1)
+owns (p ∷ ps) h = (payload_are (piece_kind p) p.payload h.0, owns ps h.1)
 
-pub leaves : (ps : List Piece) → AllByRecursion HasContents ps → AllByRecursion (λ p. joined (outer_own p) ≡ p.payload) ps
+pub leaves : (ps : List Piece) → AllByRecursion HasPieceContents ps → AllByRecursion (λ p. joined (outer_own p) ≡ p.payload) ps
 leaves [] h = tt
-leaves (p ∷ ps) h = (payload_joined (outer_kind p) p.payload h.0, leaves ps h.1)
+leaves (p ∷ ps) h = (payload_joined (piece_kind p) p.payload h.0, leaves ps h.1)
 
 -- the parts of a message
-pub outer_parts : (ps : List Piece) (bytes : List ℕ) → SpellAll ps bytes → AllByRecursion HasContents ps → AreParts 0 IsOuterOwn ps bytes (parts_along 0 outer_own ps bytes)
+pub outer_parts : (ps : List Piece) (bytes : List ℕ) → SpellsPieces ps bytes → AllByRecursion HasPieceContents ps → AreParts 0 IsOuterOwn ps bytes (parts_along 0 outer_own ps bytes)
 outer_parts ps bytes s h = along 0 outer_own IsOuterOwn ps bytes s (owns ps h)
 
-pub outer_is : (ps : List Piece) (bytes : List ℕ) → SpellAll ps bytes → outer_in bytes ≡ parts_along 0 outer_own ps bytes
+pub outer_is : (ps : List Piece) (bytes : List ℕ) → SpellsPieces ps bytes → outer_in bytes ≡ parts_along 0 outer_own ps bytes
 unfolding outer_in
 outer_is ps bytes s = ap (λ qs. parts_along 0 outer_own qs bytes) (pieces_told ps bytes s)
 

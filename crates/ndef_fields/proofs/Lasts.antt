@@ -2,13 +2,13 @@
 use Rattle.std.proofs.Common.{◌≡◌, ◌≢◌, ℕ, zero, suc, ◌-◌, ◌<◌, ◌≤◌, true, false, refl, sym, ◌∙◌, ap, ap₂, subst, arith, List, [], ◌∷◌, ◌++◌, length, take, drop, drop_at, append_assoc, length-append}
 use Rattle.std.proofs.lemmas.List.{append-nil, take_all, drop_all}
 use Rattle.std.proofs.Math.Seq.{take-nil, drop-nil}
-use Rattle.ndef_value.specs.Wire.{octets, tnf_of}
-use Rattle.ndef_lang.specs.Kind.{kind_of}
-use Rattle.ndef_lang.specs.declared.kind.Kind.{Kind}
-use Rattle.ndef_lang.specs.declared.kind.Kind.TheVariants as kinds
-use Rattle.ndef_nest.specs.Nested.{kind_in}
-use Rattle.ndef_nest.specs.declared.table.Table.{Table}
-use Rattle.ndef_piece.specs.Field.{Field, InHead, InType, InId, InPayload, AtEnd}
+use Rattle.ndef_format.specs.Records.{octets, tnf_of}
+use Rattle.ndef_format.specs.Kinds.{kind_of}
+use Rattle.ndef_format.specs.declared.kind.Kind.{Kind}
+use Rattle.ndef_format.specs.declared.kind.Kind.TheVariants as kinds
+use Rattle.ndef_format.specs.Nested.{kind_in}
+use Rattle.ndef_format.specs.declared.table.Table.{Table}
+use Rattle.ndef_format.specs.Positions.{Field, InHead, InType, InId, InPayload, AtEnd}
 use Rattle.ndef_fields.specs.declared.before.Before.TheVariants.{Head, Payload}
 use Rattle.ndef_fields.specs.declared.before.PayloadBefore.{PayloadBefore}
 use Rattle.ndef_fields.specs.declared.last.ByteField.{ByteField}
@@ -18,9 +18,10 @@ use Rattle.ndef_fields.specs.declared.stage.Stage.{Stage}
 use Rattle.ndef_fields.specs.declared.stage.Stage.TheVariants as stages
 use Rattle.ndef_fields.specs.Parts.{Part, told}
 use Rattle.ndef_fields.specs.Payloads.{leaf_parts, outer_stage, references_parts, stage_of}
-use Rattle.ndef_fields.specs.Stages.{IsCut, stage_parts}
+use Rattle.ndef_fields.specs.Stages.{IsFieldCut, stage_parts}
 use Rattle.ndef_fields.specs.Befores.{IsFieldBefore, StandsIn}
 use Rattle.ndef_fields.specs.Lasts.{EndsIn, IsFieldOf, IsInnerField, IsPayloadLast, kind_there}
+use Rattle.ndef_nest.specs.Machine.Payloads.{is_nest}
 use Rattle.ndef_fields.proofs.Contents.{leaf_staged}
 
 -- ---- the last part
@@ -59,13 +60,13 @@ nothing_staged depth (stages.AuxiliaryLength left) = no_references depth left
 nothing_staged depth (stages.Auxiliary n left) = rw (take-nil n, drop-nil n) (no_references depth left)
 
 -- behind a cut
-pub ends_later : (stage : Stage) (s : List ℕ) (cut : Cut) → IsCut stage s cut → (depth : ℕ) (name : FieldName)
+pub ends_later : (stage : Stage) (s : List ℕ) (cut : Cut) → IsFieldCut stage s cut → (depth : ℕ) (name : FieldName)
     → EndsIn (stage_parts depth cut.stage (drop cut.length s)) name → EndsIn (stage_parts depth stage s) name
 ends_later stage s cut c depth name h =
     subst (λ ps. EndsIn ps name) (sym (c.parts depth)) (ends_behind (told depth cut.name (take cut.length s)) _ name h)
 
 -- in what is cut
-pub ends_here : (stage : Stage) (s : List ℕ) (cut : Cut) → IsCut stage s cut → length s ≤ cut.length → 0 < length s → (depth : ℕ)
+pub ends_here : (stage : Stage) (s : List ℕ) (cut : Cut) → IsFieldCut stage s cut → length s ≤ cut.length → 0 < length s → (depth : ℕ)
     → EndsIn (stage_parts depth stage s) cut.name
 ends_here stage s cut c all some depth =
     let t : take cut.length s ≡ s = take_all cut.length s all in
@@ -145,18 +146,18 @@ outer_head (InPayload head kind id content) octet name h = absurd h
 outer_head AtEnd octet name h = (refl, h)
 
 -- a payload with no message in it
-pub leaf_last : (kind : Kind) (s : List ℕ) (name : FieldName) → kind ≢ kinds.SmartPoster → kind ≢ kinds.Request → kind ≢ kinds.Select
+pub leaf_last : (kind : Kind) (s : List ℕ) (name : FieldName) → is_nest kind ≡ false
     → EndsIn (stage_parts 0 (outer_stage kind) s) name → IsPayloadLast kind s (record { depth = 0; name = name })
-leaf_last kinds.SmartPoster s name a b c h = absurd (a refl)
-leaf_last kinds.Request s name a b c h = absurd (b refl)
-leaf_last kinds.Select s name a b c h = absurd (c refl)
-leaf_last kinds.Text s name a b c h = (refl, h)
-leaf_last kinds.Uri s name a b c h = (refl, h)
-leaf_last kinds.Carrier s name a b c h = (refl, h)
-leaf_last kinds.Alternative s name a b c h = (refl, h)
-leaf_last kinds.Error s name a b c h = (refl, h)
-leaf_last kinds.Action s name a b c h = (refl, h)
-leaf_last kinds.Size s name a b c h = (refl, h)
-leaf_last kinds.MediaType s name a b c h = (refl, h)
-leaf_last kinds.Collision s name a b c h = (refl, h)
-leaf_last kinds.Other s name a b c h = (refl, h)
+leaf_last kinds.SmartPoster s name e h = absurd (cc)
+leaf_last kinds.Request s name e h = absurd (cc)
+leaf_last kinds.Select s name e h = absurd (cc)
+leaf_last kinds.Text s name e h = (refl, h)
+leaf_last kinds.Uri s name e h = (refl, h)
+leaf_last kinds.Carrier s name e h = (refl, h)
+leaf_last kinds.Alternative s name e h = (refl, h)
+leaf_last kinds.Error s name e h = (refl, h)
+leaf_last kinds.Action s name e h = (refl, h)
+leaf_last kinds.Size s name e h = (refl, h)
+leaf_last kinds.MediaType s name e h = (refl, h)
+leaf_last kinds.Collision s name e h = (refl, h)
+leaf_last kinds.Other s name e h = (refl, h)

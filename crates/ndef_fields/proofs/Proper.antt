@@ -2,22 +2,25 @@
 use Rattle.std.proofs.Common.{◌≡◌, ℕ, ◌+◌, ◌<◌, ◌≤◌, Bool, true, false, refl, sym, ◌∙◌, ap, ap₂, subst, arith, Option, Some, None, List, [], ◌∷◌, ◌++◌, length, append_assoc, length-append}
 use Rattle.std.specs.Prelude.{slice_index, unwrap_or, is_some, if◌then◌else◌}
 use Rattle.std.proofs.lemmas.List.{append-nil}
-use Rattle.ndef_value.specs.Wire.{Fields, Piece, SpellAll, fields, octets, body, payload_length_octets, id_length_octets}
-use Rattle.ndef_piece.specs.declared.spot.Spot.{Spot}
-use Rattle.ndef_piece.specs.Field.{Field, InHead, InType, InId, InPayload, AtEnd, IsProper, octets_so_far}
-use Rattle.ndef_piece.specs.Header.{is_set, size, width}
-use Rattle.ndef_piece.specs.HeaderLaws.{header, parts, octets_size}
-use Rattle.ndef_piece.specs.Heads.{CanBeSpelled, HeadsAreApart, IsOpen}
+use Rattle.ndef_format.specs.Records.{HeadFields, Piece, fields, octets, body, payload_length_octets, id_length_octets}
+use Rattle.ndef_format.specs.Messages.{SpellsPieces}
+use Rattle.ndef_format.specs.declared.spot.Spot.{Spot}
+use Rattle.ndef_format.specs.Positions.{Field, InHead, InType, InId, InPayload, AtEnd, IsProper, octets_so_far, CanBeSpelled, IsOpen}
+use Rattle.ndef_format.specs.HeadReasons.{is_set, width}
+use Rattle.ndef_piece.specs.Header.{size}
+use Rattle.ndef_piece.specs.HeaderLaws.{header, header_parts, octets_size}
+use Rattle.ndef_piece.specs.Heads.{HeadsAreApart}
 use Rattle.ndef_piece.specs.Whole.{BeginWithPiece, IsSplit}
-use Rattle.ndef_message.specs.Machine.SeenLaws.{id_count, piece_head, same_split}
+use Rattle.ndef_message.specs.Machine.SeenLaws.{piece_head, same_split}
+use Rattle.ndef_piece.specs.HeaderLaws.{id_count}
 use Rattle.ndef_fields.specs.declared.name.FieldName.{FieldName}
 use Rattle.ndef_fields.specs.declared.name.FieldName.TheVariants as names
-use Rattle.ndef_fields.specs.Refusals.{IsNameOf, IsByLengths, id_given, id_width}
+use Rattle.ndef_fields.specs.Refusals.{IsNameOf, IsByLengths, id_given, id_length_width}
 
 -- ---- no piece begins there
 
 -- a head, and fewer octets than it tells of
-fewer_than_body : HeadsAreApart → (f : Fields) (s : List ℕ) → CanBeSpelled f → length s < f.kind_length + (unwrap_or f.id_length 0 + f.payload_length) → ¬ BeginWithPiece (octets f ++ s)
+fewer_than_body : HeadsAreApart → (f : HeadFields) (s : List ℕ) → CanBeSpelled f → length s < f.kind_length + (unwrap_or f.id_length 0 + f.payload_length) → ¬ BeginWithPiece (octets f ++ s)
 fewer_than_body apart f s c n w =
     let i = w.split in
     let p = w.piece in
@@ -72,14 +75,14 @@ id_read false n None z = refl
 id_read false n (Some d) z = refl
 
 -- what the octets behind a head's first two tell
-pub record Tells (f : Fields) (s tail : List ℕ) (h k : ℕ) : Type 0 where
-  pub long : length tail ≡ width h + id_width h + length s
+pub record Tells (f : HeadFields) (s tail : List ℕ) (h k : ℕ) : Type 0 where
+  pub long : length tail ≡ width h + id_length_width h + length s
   pub kind_is : k ≡ f.kind_length
   pub id_is : id_given h tail ≡ unwrap_or f.id_length 0
 
-pub tells : (f : Fields) (s tail : List ℕ) (h k : ℕ) → CanBeSpelled f → octets f ++ s ≡ h ∷ k ∷ tail → Tells f s tail h k
+pub tells : (f : HeadFields) (s tail : List ℕ) (h k : ℕ) → CanBeSpelled f → octets f ++ s ≡ h ∷ k ∷ tail → Tells f s tail h k
 tells f s tail h k c e =
-    let q = parts f c.tnf in
+    let q = header_parts f c.tnf in
     let eh : header f ≡ h = cc in
     let ek : f.kind_length ≡ k = cc in
     let et : (payload_length_octets f.short f.payload_length ++ id_length_octets f.id_length) ++ s ≡ tail = cc in
@@ -107,7 +110,7 @@ named spot (InHead (x ∷ y ∷ s)) h k tail name p e b =
     let sz = ap size eh in
     let n = ap length p.spelled ∙ length-append (x ∷ y ∷ s) (p.next ∷ p.rest) in
     let wx = ap width ex in
-    let ix = ap id_width ex in
+    let ix = ap id_length_width ex in
     let m = ap length es in
     (λ l. b.in_payload_length (omega (arith, l, wx, m)), λ l. b.in_id_length (omega (arith, l, wx, m)) (omega (arith, z, sz, n, wx, ix, m)))
 named spot (InType head kind) h k tail name p e b =
@@ -147,17 +150,17 @@ named_first spot AtEnd p e = refl
 
 -- the bytes, and what is left of them, are whole pieces before the same octets
 abbrev pub KeepsBehind : List ℕ → List ℕ → Type 0
-KeepsBehind bytes rest = (ps : List Piece) (x tail : List ℕ) → SpellAll ps x → ¬ BeginWithPiece tail → bytes ≡ x ++ tail → (qs : List Piece) × (y : List ℕ) × SpellAll qs y × (rest ≡ y ++ tail)
+KeepsBehind bytes rest = (ps : List Piece) (x tail : List ℕ) → SpellsPieces ps x → ¬ BeginWithPiece tail → bytes ≡ x ++ tail → (qs : List Piece) × (y : List ℕ) × SpellsPieces qs y × (rest ≡ y ++ tail)
 
-pub kept : (qs : List Piece) (y rest tail : List ℕ) → SpellAll qs y → ¬ BeginWithPiece tail → rest ≡ y ++ tail → (w : Piece) (short : Bool) (next : List ℕ) → IsSplit w short next rest
-    → (os : List Piece) × (z : List ℕ) × SpellAll os z × (next ≡ z ++ tail)
+pub kept : (qs : List Piece) (y rest tail : List ℕ) → SpellsPieces qs y → ¬ BeginWithPiece tail → rest ≡ y ++ tail → (w : Piece) (short : Bool) (next : List ℕ) → IsSplit w short next rest
+    → (os : List Piece) × (z : List ℕ) × SpellsPieces os z × (next ≡ z ++ tail)
 kept [] y rest tail s h e w short next i =
     absurd (h (subst BeginWithPiece (e ∙ ap (λ x. x ++ tail) s) (record { piece = w; short = short; rest = next; split = i })))
 kept (q ∷ qs) y rest tail (form, front, z, ey, sp, more) h e w short next i =
     let j : IsSplit q form (z ++ tail) rest = record { front = front; spells = sp; joined = e ∙ ap (λ x. x ++ tail) ey ∙ append_assoc front z tail } in
     (qs, z, more, (same_split w q short form next (z ++ tail) rest i j).1)
 
-pub over : (qs : List Piece) (y rest tail : List ℕ) → SpellAll qs y → rest ≡ y ++ tail → ¬ BeginWithPiece rest → rest ≡ tail
+pub over : (qs : List Piece) (y rest tail : List ℕ) → SpellsPieces qs y → rest ≡ y ++ tail → ¬ BeginWithPiece rest → rest ≡ tail
 over [] y rest tail s e h = e ∙ ap (λ x. x ++ tail) s
 over (q ∷ qs) y rest tail (short, front, z, ey, sp, more) e h =
     absurd (h (record { piece = q; short = short; rest = z ++ tail; split = record { front = front; spells = sp; joined = e ∙ ap (λ x. x ++ tail) ey ∙ append_assoc front z tail } }))

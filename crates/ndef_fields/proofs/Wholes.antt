@@ -2,24 +2,26 @@
 use Rattle.std.proofs.Common.{◌≡◌, ℕ, ◌-◌, Bool, refl, sym, ◌∙◌, ap, subst, arith, List, [], ◌∷◌, ◌++◌, length, take, take_at, append_assoc, length-append}
 use Rattle.std.specs.List.{AllByRecursion}
 use Rattle.std.proofs.lemmas.List.{append-nil}
-use Rattle.ndef_value.specs.Wire.{Piece, SpellAll, LimitValues, Spells}
+use Rattle.ndef_format.specs.Records.{Piece, SpellsPiece}
+use Rattle.ndef_format.specs.Messages.{SpellsPieces}
+use Rattle.ndef_format.specs.Limits.{LimitValues}
 use Rattle.ndef_piece.specs.Whole.{BeginWithPiece, IsSplit}
-use Rattle.ndef_message.specs.Deep.{IsViable}
+use Rattle.ndef_format.specs.Accepted.{IsViable}
 use Rattle.ndef_message.specs.Machine.SeenLaws.{same_split}
-use Rattle.ndef_nest.specs.Typed.{IsTypedPayload}
-use Rattle.ndef_fields.specs.Cursors.{AreOuter, HasContents}
+use Rattle.ndef_format.specs.Payloads.{IsTypedPayload}
+use Rattle.ndef_fields.specs.Cursors.{AreOuter, HasPieceContents}
 use Rattle.ndef_fields.specs.Refusals.{AreWholeBefore}
 use Rattle.ndef_fields.proofs.Members.{deep_outer}
 
 -- whole pieces are before the rest
 abbrev pub KeepsWhole : List ℕ → List ℕ → Type 0
-KeepsWhole bytes rest = (ps : List Piece) × (x : List ℕ) × SpellAll ps x × (bytes ≡ x ++ rest)
+KeepsWhole bytes rest = (ps : List Piece) × (x : List ℕ) × SpellsPieces ps x × (bytes ≡ x ++ rest)
 
 pub whole_first : (bytes : List ℕ) → KeepsWhole bytes bytes
 whole_first bytes = ([], [], refl, refl)
 
 -- one piece more
-spelled_more : (ps : List Piece) (x front : List ℕ) (w : Piece) (short : Bool) → SpellAll ps x → Spells w short front → SpellAll (ps ++ w ∷ []) (x ++ front)
+spelled_more : (ps : List Piece) (x front : List ℕ) (w : Piece) (short : Bool) → SpellsPieces ps x → SpellsPiece w short front → SpellsPieces (ps ++ w ∷ []) (x ++ front)
 spelled_more [] x front w short e s = (short, front, [], ap (λ y. y ++ front) e ∙ sym (append-nil front), s, refl)
 spelled_more (p ∷ ps) x front w short (form, first, rest, e, sp, more) s =
     (form, first, rest ++ front, ap (λ y. y ++ front) e ∙ append_assoc first rest front, sp, spelled_more ps rest front w short more s)
@@ -32,7 +34,7 @@ pub whole_last : (bytes rest : List ℕ) → KeepsWhole bytes rest → ¬ BeginW
 whole_last bytes rest (ps, x, s, e) h = record { pieces = ps; front = x; spelled = s; split = e; ended = h }
 
 -- the first pieces of a message hold what the message's pieces hold
-front_holds : (ps qs : List Piece) (x more : List ℕ) → SpellAll ps x → SpellAll qs (x ++ more) → AllByRecursion HasContents qs → AllByRecursion HasContents ps
+front_holds : (ps qs : List Piece) (x more : List ℕ) → SpellsPieces ps x → SpellsPieces qs (x ++ more) → AllByRecursion HasPieceContents qs → AllByRecursion HasPieceContents ps
 front_holds [] qs x more s t h = tt
 front_holds (p ∷ ps) [] x more (short, front, rest, e, sp, s) t h =
     absurd (let n = ap length t in let k = ap length e in let a = length-append x more in let b = length-append front rest in let f = ap length sp.spelled in omega (arith, n, k, a, b, f))
@@ -40,15 +42,15 @@ front_holds (p ∷ ps) (q ∷ qs) x more (short, front, rest, e, sp, s) (form, f
     let a : IsSplit p short (rest ++ more) (x ++ more) = record { front = front; spells = sp; joined = ap (λ y. y ++ more) e ∙ append_assoc front rest more } in
     let b : IsSplit q form later (x ++ more) = record { front = first; spells = tp; joined = f } in
     let same = same_split p q short form (rest ++ more) later (x ++ more) a b in
-    (subst HasContents (sym same.0) h.0, front_holds ps qs rest more s (subst (SpellAll qs) (sym same.1) t) h.1)
+    (subst HasPieceContents (sym same.0) h.0, front_holds ps qs rest more s (subst (SpellsPieces qs) (sym same.1) t) h.1)
 
 -- the whole pieces of a front of a message
 pub whole_holds : (limits : LimitValues) (bytes rest : List ℕ) → IsViable IsTypedPayload limits bytes → (w : AreWholeBefore bytes rest)
-    → AllByRecursion HasContents w.pieces
+    → AllByRecursion HasPieceContents w.pieces
 whole_holds limits bytes rest (more, v) w =
     let a = deep_outer limits v.0 (bytes ++ more) v.1 in
     let e : bytes ++ more ≡ w.front ++ (rest ++ more) = ap (λ x. x ++ more) w.split ∙ append_assoc w.front rest more in
-    front_holds w.pieces a.pieces w.front (rest ++ more) w.spelled (subst (SpellAll a.pieces) e a.spelled) a.contents
+    front_holds w.pieces a.pieces w.front (rest ++ more) w.spelled (subst (SpellsPieces a.pieces) e a.spelled) a.contents
 
 pub whole_outer : (limits : LimitValues) (bytes rest : List ℕ) → IsViable IsTypedPayload limits bytes → (w : AreWholeBefore bytes rest) → AreOuter w.front
 whole_outer limits bytes rest v w = record { pieces = w.pieces; spelled = w.spelled; contents = whole_holds limits bytes rest v w }

@@ -1,8 +1,9 @@
 -- The field of a byte, told by the bytes before it.
 use Rattle.std.specs.Prelude.{◌≡◌, ℕ, ◌+◌, List, [], ◌∷◌, ◌++◌, length, drop}
-use Rattle.ndef_value.specs.Wire.{Piece, Run, LimitValues, tnf_of}
-use Rattle.ndef_piece.specs.declared.spot.Spot.{Spot}
-use Rattle.ndef_piece.specs.Field.{Field, InPayload, IsAt, IsProper, octets_so_far}
+use Rattle.ndef_format.specs.Records.{Piece, Run, tnf_of}
+use Rattle.ndef_format.specs.Limits.{LimitValues}
+use Rattle.ndef_format.specs.declared.spot.Spot.{Spot}
+use Rattle.ndef_format.specs.Positions.{Field, InPayload, IsAt, IsProper, octets_so_far}
 use Rattle.ndef_fields.specs.declared.before.Before.{Before}
 use Rattle.ndef_fields.specs.declared.before.Before.TheVariants.{Head, Payload}
 use Rattle.ndef_fields.specs.Refusals.{IsNameOf, id_given, lengths_width}

@@ -1,22 +1,25 @@
 -- The field of the last of some bytes, in payloads and nested messages too.
 use Rattle.std.specs.Prelude.{◌≡◌, ℕ, ◌+◌, ◌<◌, Bool, List, [], ◌∷◌, ◌++◌, length, take, slice_index, if◌then◌else◌}
-use Rattle.ndef_value.specs.Wire.{LimitValues, Piece, Run, tnf_of}
-use Rattle.ndef_value.specs.declared.refusal.Refusal.{Refusal}
-use Rattle.ndef_lang.specs.Kind.{kind_of}
-use Rattle.ndef_lang.specs.declared.kind.Kind.{Kind}
-use Rattle.ndef_lang.specs.declared.kind.Kind.TheVariants as kinds
-use Rattle.ndef_message.specs.Place.{IsReason, Refuses}
-use Rattle.ndef_nest.specs.Nested.{kind_in}
-use Rattle.ndef_nest.specs.Typed.{IsTypedPayload, TypedReason}
-use Rattle.ndef_nest.specs.declared.table.Table.{Table}
-use Rattle.ndef_nest.specs.declared.table.Table.TheVariants as tables
-use Rattle.ndef_piece.specs.Field.{Field, InPayload, IsAt}
+use Rattle.ndef_format.specs.Limits.{LimitValues}
+use Rattle.ndef_format.specs.Records.{Piece, Run, tnf_of}
+use Rattle.ndef_format.specs.declared.refusal.Refusal.{Refusal}
+use Rattle.ndef_format.specs.Kinds.{kind_of}
+use Rattle.ndef_format.specs.declared.kind.Kind.{Kind}
+use Rattle.ndef_format.specs.declared.kind.Kind.TheVariants as kinds
+use Rattle.ndef_format.specs.Refusals.{IsReason, Refuses}
+use Rattle.ndef_format.specs.Nested.{kind_in}
+use Rattle.ndef_format.specs.Payloads.{IsTypedPayload}
+use Rattle.ndef_format.specs.NestedReasons.{TypedReason}
+use Rattle.ndef_format.specs.declared.table.Table.{Table}
+use Rattle.ndef_format.specs.declared.table.Table.TheVariants as tables
+use Rattle.ndef_format.specs.Positions.{Field, InPayload, IsAt}
 use Rattle.ndef_fields.specs.declared.last.ByteField.{ByteField}
 use Rattle.ndef_fields.specs.declared.name.FieldName.{FieldName}
 use Rattle.ndef_fields.specs.declared.name.FieldName.TheVariants as names
 use Rattle.ndef_fields.specs.Befores.{StandsIn}
 use Rattle.ndef_fields.specs.Parts.{Part}
-use Rattle.ndef_fields.specs.Payloads.{leaf_parts, outer_leaf}
+use Rattle.ndef_fields.specs.Payloads.{leaf_parts}
+use Rattle.ndef_format.specs.Kinds.{outer_kind}
 use Rattle.ndef_fields.specs.Refusals.{IsNameOf}
 
 -- the last of some parts has this name
@@ -46,7 +49,7 @@ abbrev pub IsPayloadLast : Kind → List ℕ → ByteField → Type 0
 IsPayloadLast kinds.SmartPoster s byte = (byte.depth ≡ 1) × IsLastInside tables.SmartPoster s byte.name
 IsPayloadLast kinds.Request s byte = IsHandoverLast tables.Request s byte
 IsPayloadLast kinds.Select s byte = IsHandoverLast tables.Select s byte
-IsPayloadLast kind s byte = (byte.depth ≡ 0) × EndsIn (leaf_parts 0 (outer_leaf kind) s) byte.name
+IsPayloadLast kind s byte = (byte.depth ≡ 0) × EndsIn (leaf_parts 0 (outer_kind kind) s) byte.name
 
 -- NDEF 1.0, chunked payloads: the kind of the payload of a piece; a payload in several pieces isn't looked into
 abbrev pub kind_there : Bool → Kind → Kind

@@ -1,7 +1,7 @@
 //! The field of a byte, told by the bytes before it.
 ghost use Rattle.std.specs.Prelude.{◌≡◌, drop, length, take};
-ghost use Rattle.ndef_value.specs.Wire.{tnf_of};
-ghost use Rattle.ndef_piece.specs.Header.{is_set, tnf_number};
+ghost use Rattle.ndef_format.specs.Records.{tnf_of};
+ghost use Rattle.ndef_format.specs.HeadReasons.{is_set, tnf_number};
 ghost use Rattle.ndef_fields.specs.Befores.{IsBefore, IsBeforeBy, IsBeforeLast, body_given, content_given};
 ghost use Rattle.ndef_fields.specs.Refusals.{NamesNext};
 

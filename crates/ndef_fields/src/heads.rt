@@ -1,6 +1,6 @@
 //! The head of a piece of which only a front has come.
 ghost use Rattle.std.specs.Prelude.{◌≡◌, ◌≤◌, length};
-ghost use Rattle.ndef_piece.specs.Header.{width};
+ghost use Rattle.ndef_format.specs.HeadReasons.{width};
 ghost use Rattle.ndef_fields.specs.Refusals.{AreWholeBefore, id_given, IsBehindPieces, IsByLengths};
 
 use crate::FieldName;

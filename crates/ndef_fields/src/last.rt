@@ -1,6 +1,6 @@
 //! The field of the last of some bytes, in payloads and nested messages too.
 ghost use Rattle.std.specs.Prelude.{◌≡◌, ◌-◌, ◌<◌, ℕ, drop, length};
-ghost use Rattle.ndef_lang.specs.Kind.{kind_of};
+ghost use Rattle.ndef_format.specs.Kinds.{kind_of};
 ghost use Rattle.ndef_fields.specs.Lasts.{EndsIn, IsFieldOfLast, IsHandoverLast, IsLastInside, IsPayloadLast, kind_there};
 ghost use Rattle.ndef_fields.specs.Stages.{stage_parts, stage_rank};
 
@@ -83,7 +83,16 @@ fn last_in_payload(kind: Kind, content: &[u8]) -> ByteField
             name: last_inside(Table::SmartPoster, content),
         },
         Kind::Request | Kind::Select => last_in_handover(Table::of(kind), content),
-        _ => ByteField {
+        Kind::Text
+        | Kind::Uri
+        | Kind::Carrier
+        | Kind::Action
+        | Kind::Size
+        | Kind::MediaType
+        | Kind::Alternative
+        | Kind::Collision
+        | Kind::Error
+        | Kind::Other => ByteField {
             depth: 0,
             name: last_name(Stage::outside(kind), content),
         },

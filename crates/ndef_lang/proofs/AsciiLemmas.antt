@@ -5,7 +5,7 @@ use Rattle.std.proofs.lemmas.Str.{IsUtf8-from_ascii}
 use Rattle.std.specs.List.{AllByRecursion}
 use Rattle.std.specs.Prelude.{IsUtf8, bit_and, min}
 use Rattle.std.specs.Int.{bit_at}
-use Rattle.ndef_lang.specs.Text.{IsCodeOctet}
+use Rattle.ndef_format.specs.Texts.{IsCodeOctet}
 
 -- ASCII is UTF-8
 pub ascii_is_utf8 : (s : List ℕ) → AllByRecursion IsCodeOctet s → IsUtf8 s

@@ -2,14 +2,12 @@
 use Rattle.std.proofs.Common.{◌≡◌, ℕ, zero, suc, ◌+◌, ◌*◌, ◌/◌, ◌%◌, ◌<◌, ◌≤◌, ◌⊎◌, inl, inr, Bool, true, false, if◌then◌else◌, List, [], ◌∷◌, length, get_or, take, drop, refl, sym, ◌∙◌, ap, subst, arith}
 use Rattle.std.proofs.lemmas.Bool.{lt-leb}
 use Rattle.std.specs.List.{AllByRecursion}
-use Rattle.ndef_value.specs.Wire.{AreOctets}
+use Rattle.ndef_format.specs.Records.{AreOctets}
 use Rattle.ndef_value.specs.SliceLaws.{behind, behind_drop, octet_at, octets_drop, octets_behind, cut_one, cut_two}
-use Rattle.ndef_lang.specs.Octets.{IsOctet, Octets}
-use Rattle.ndef_lang.specs.Text.{IsCodeOctet, IsTextIn, IsText, is_wide}
-use Rattle.ndef_lang.specs.Alternative.{IsAlternative, AreAuxiliary, AreReferences}
-use Rattle.ndef_lang.specs.Carrier.{IsCarrier}
-use Rattle.ndef_lang.specs.Utf16.{IsSpelled, spelled}
-use Rattle.ndef_lang.specs.Utf16Laws.{units_alone, units_paired, no_units}
+use Rattle.ndef_format.specs.Octets.{IsOctet, Octets}
+use Rattle.ndef_format.specs.Texts.{IsCodeOctet, IsTextIn, IsText, is_wide, IsSpelled, spelled}
+use Rattle.ndef_format.specs.Handovers.{IsAlternative, AreAuxiliary, AreReferences, IsCarrier}
+use Rattle.ndef_lang.specs.Machine.Utf16Laws.{units_alone, units_paired, no_units}
 use Rattle.ndef_lang.proofs.AsciiLemmas.{ascii_is_utf8, ascii_parts}
 
 -- ---- fields

@@ -7,10 +7,12 @@ use Rattle.std.specs.Str.{IsUtf8}
 use lib.Utf8.{scalar, scalars, encode, encodes}
 use Rattle.ndef_lang.specs.declared.utf8.Utf8Lang.{Utf8Lang}
 use Rattle.ndef_lang.specs.declared.utf8.Utf8Lang.TheVariants.{Whole}
-use Rattle.ndef_lang.specs.Language.{Follows, PassesBetween, StepsAll, IsLowest}
+use Rattle.ndef_lang.specs.Language.{Continues, PassesBetween, StepsAll}
+use Rattle.ndef_format.specs.Reasons.{IsLowest}
 use Rattle.ndef_lang.specs.StepLaws.{follows_none, follows_more, take_parts, steps_done}
-use Rattle.ndef_lang.specs.Utf8.{CompletesUtf8, Utf8Reached, Utf8Reason, utf8_told}
-use Rattle.ndef_lang.specs.Utf8Laws.{are_utf8_lengths}
+use Rattle.ndef_lang.specs.Machine.Utf8.{CompletesUtf8, Utf8Reached, utf8_told}
+use Rattle.ndef_format.specs.PayloadReasons.{Utf8Reason}
+use Rattle.ndef_lang.specs.Machine.Utf8Laws.{are_utf8_lengths}
 use Rattle.ndef_lang.proofs.Utf8Lemmas.{utf8_reason}
 
 -- what follows whole characters in a text is a text
@@ -20,7 +22,7 @@ behind_chars (c ∷ cs) r ok u =
     let p = and_parts (scalar c) (scalars cs) ok in
     behind_chars cs r p.1 (IsUtf8-past_char (encodes (c ∷ cs) ++ r) (encodes cs ++ r) c u (append_assoc (encode c) (encodes cs) r))
 
-pub follows_text : (s : List ℕ) → IsUtf8 s → Follows IsUtf8 IsUtf8 s
+pub follows_text : (s : List ℕ) → IsUtf8 s → Continues IsUtf8 IsUtf8 s
 follows_text s t r = (
   λ u. IsUtf8-append s r t u,
   λ u. behind_chars t.0 r t.1.0 (subst (λ x. IsUtf8 (x ++ r)) (sym t.1.1) u),
@@ -40,17 +42,17 @@ text_between lo hi n l p =
 
 -- what passes still does behind whole characters, or behind none
 pub front_stepped : (state : Utf8Lang) (bytes : List ℕ) (front lo hi : ℕ) → ((state ≡ Whole) × IsUtf8 (take front bytes)) ⊎ (front ≡ 0) → front ≤ lo → PassesBetween (CompletesUtf8 state) lo hi
-    → Follows (CompletesUtf8 state) (CompletesUtf8 state) (take front bytes) × PassesBetween (CompletesUtf8 state) (lo - front) (hi - front)
+    → Continues (CompletesUtf8 state) (CompletesUtf8 state) (take front bytes) × PassesBetween (CompletesUtf8 state) (lo - front) (hi - front)
 front_stepped state bytes front lo hi (inl w) l p =
-    subst (λ x. Follows (CompletesUtf8 x) (CompletesUtf8 x) (take front bytes) × PassesBetween (CompletesUtf8 x) (lo - front) (hi - front)) (sym w.0)
+    subst (λ x. Continues (CompletesUtf8 x) (CompletesUtf8 x) (take front bytes) × PassesBetween (CompletesUtf8 x) (lo - front) (hi - front)) (sym w.0)
     (follows_text (take front bytes) w.1, text_between lo hi front l (subst (λ x. PassesBetween (CompletesUtf8 x) lo hi) w.0 p))
 front_stepped state bytes front lo hi (inr e) l p =
-    subst (λ n. Follows (CompletesUtf8 state) (CompletesUtf8 state) (take n bytes) × PassesBetween (CompletesUtf8 state) (lo - n) (hi - n)) (sym e) (follows_none (CompletesUtf8 state), subst (λ a. PassesBetween (CompletesUtf8 state) a (hi - 0)) (let q : lo ≡ lo - 0 = omega arith in q) (subst (PassesBetween (CompletesUtf8 state) lo) (let q : hi ≡ hi - 0 = omega arith in q) p))
+    subst (λ n. Continues (CompletesUtf8 state) (CompletesUtf8 state) (take n bytes) × PassesBetween (CompletesUtf8 state) (lo - n) (hi - n)) (sym e) (follows_none (CompletesUtf8 state), subst (λ a. PassesBetween (CompletesUtf8 state) a (hi - 0)) (let q : lo ≡ lo - 0 = omega arith in q) (subst (PassesBetween (CompletesUtf8 state) lo) (let q : hi ≡ hi - 0 = omega arith in q) p))
 
 -- the octets of an open character were stepped, and whole characters behind them
 pub both_stepped : (old mid : Utf8Lang) (bytes : List ℕ) (lo hi begun count front : ℕ) → begun ≤ length bytes → length bytes ≤ lo → StepsAll (CompletesUtf8 old) (CompletesUtf8 mid) (take begun bytes) lo hi count → begun ≤ count
     → ((mid ≡ Whole) × IsUtf8 (take front (drop begun bytes))) ⊎ (front ≡ 0) → front ≤ length (drop begun bytes)
-    → Follows (CompletesUtf8 old) (CompletesUtf8 mid) (take (begun + front) bytes) × PassesBetween (CompletesUtf8 mid) (lo - (begun + front)) (hi - (begun + front))
+    → Continues (CompletesUtf8 old) (CompletesUtf8 mid) (take (begun + front) bytes) × PassesBetween (CompletesUtf8 mid) (lo - (begun + front)) (hi - (begun + front))
 both_stepped old mid bytes lo hi begun count front l m s n w f =
     let whole = length-take-le begun bytes l in
     let within = s.within in
@@ -60,7 +62,7 @@ both_stepped old mid bytes lo hi begun count front l m s n w f =
     let t = front_stepped mid (drop begun bytes) front (lo - begun) (hi - begun) w (omega arith) p in
     let e : lo - begun - front ≡ lo - (begun + front) = omega arith in
     let g : hi - begun - front ≡ hi - (begun + front) = omega arith in (
-      subst (Follows (CompletesUtf8 old) (CompletesUtf8 mid)) (sym (take_parts bytes begun front)) (follows_more (CompletesUtf8 old) (CompletesUtf8 mid) (CompletesUtf8 mid) (take begun bytes) (take front (drop begun bytes)) d.0 t.0),
+      subst (Continues (CompletesUtf8 old) (CompletesUtf8 mid)) (sym (take_parts bytes begun front)) (follows_more (CompletesUtf8 old) (CompletesUtf8 mid) (CompletesUtf8 mid) (take begun bytes) (take front (drop begun bytes)) d.0 t.0),
       subst (λ a. PassesBetween (CompletesUtf8 mid) a (hi - (begun + front))) e (subst (λ b. PassesBetween (CompletesUtf8 mid) (lo - begun - front) b) g t.1),
     )
 
@@ -70,4 +72,4 @@ pub utf8_all_reason : (old new : Utf8Lang) (bytes : List ℕ) (lo hi count : ℕ
 utf8_all_reason old new bytes lo hi count t l s h =
     let e : s ++ take (count + 1) bytes ≡ (s ++ take count bytes) ++ get_or bytes count 0 ∷ [] = ap (λ x. s ++ x) (take_more bytes count 0 l) ∙ sym (append_assoc s (take count bytes) (get_or bytes count 0 ∷ [])) in
     utf8_reason new (get_or bytes count 0) (s ++ take count bytes)
-    (subst (Follows IsUtf8 (CompletesUtf8 new)) e (follows_more IsUtf8 (CompletesUtf8 old) (CompletesUtf8 new) s (take (count + 1) bytes) h t.stepped))
+    (subst (Continues IsUtf8 (CompletesUtf8 new)) e (follows_more IsUtf8 (CompletesUtf8 old) (CompletesUtf8 new) s (take (count + 1) bytes) h t.stepped))

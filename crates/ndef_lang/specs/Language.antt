@@ -1,23 +1,12 @@
 -- What the laws of a payload language say.
-use Rattle.std.specs.Prelude.{◌≡◌, ℕ, ◌+◌, ◌-◌, ◌<◌, ◌≤◌, List, ◌++◌, length, take, slice_index, ◌↔◌, ◌⊎◌}
-use Rattle.ndef_value.specs.Reason.{rank_of}
-use Rattle.ndef_value.specs.Wire.{AreOctets}
-use Rattle.ndef_value.specs.declared.profile.Profile.{Profile}
-use Rattle.ndef_value.specs.declared.reason.Reason.{Reason}
-use Rattle.ndef_value.specs.declared.reason.Reason.TheVariants.{DoesNotFit}
-use Rattle.ndef_lang.specs.declared.kind.Kind.{Kind}
-
--- the payloads of each kind, of a message with so many records, for each profile
-abbrev pub Sets : Type 1
-Sets = Kind → ℕ → Profile → List ℕ → Type 0
-
--- which reasons hold of an octet after the octets of a payload before it
-abbrev pub Conditions : Type 1
-Conditions = Kind → ℕ → Profile → List ℕ → ℕ → Reason → Type 0
-
--- some list passes
-abbrev pub Passes : (List ℕ → Type 0) → Type 0
-Passes future = (r : List ℕ) × future r
+use Rattle.std.specs.Prelude.{ℕ, ◌+◌, ◌-◌, ◌<◌, ◌≤◌, List, ◌++◌, length, take, slice_index, ◌↔◌}
+use Rattle.ndef_format.specs.Records.{AreOctets}
+use Rattle.ndef_format.specs.declared.profile.Profile.{Profile}
+use Rattle.ndef_format.specs.declared.reason.Reason.{Reason}
+use Rattle.ndef_format.specs.declared.kind.Kind.{Kind}
+use Rattle.ndef_format.specs.Payloads.{Sets}
+use Rattle.ndef_format.specs.Reasons.{Conditions, IsLowest}
+use Rattle.ndef_format.specs.PayloadReasons.{Passes}
 
 -- some list of lo to hi octets passes
 pub record PassesBetween (future : List ℕ → Type 0) (lo hi : ℕ) : Type 0 where
@@ -27,8 +16,8 @@ pub record PassesBetween (future : List ℕ → Type 0) (lo hi : ℕ) : Type 0 w
   pub most : length rest ≤ hi
 
 -- the new future passes just what the old one passes behind these octets
-abbrev pub Follows : (old new : List ℕ → Type 0) → List ℕ → Type 0
-Follows old new octets = (r : List ℕ) → new r ↔ old (octets ++ r)
+abbrev pub Continues : (old new : List ℕ → Type 0) → List ℕ → Type 0
+Continues old new octets = (r : List ℕ) → new r ↔ old (octets ++ r)
 
 -- what was reached by a list is reached by it and these octets
 abbrev pub Reaches : (old new : List ℕ → Type 0) → List ℕ → Type 0
@@ -42,14 +31,14 @@ Behind future octets r = future (octets ++ r)
 -- passed; behind so many one of what is left of that still does, and so behind fewer. Behind one more none does.
 pub record StepsAll (old new : List ℕ → Type 0) (bytes : List ℕ) (lo hi count : ℕ) : Type 0 where
   pub within : count ≤ length bytes
-  pub stepped : Follows old new (take (count + 1) bytes)
+  pub stepped : Continues old new (take (count + 1) bytes)
   pub fits : PassesBetween (Behind old (take count bytes)) (lo - count) (hi - count)
   pub refused : count < length bytes → PassesBetween new (lo - (count + 1)) (hi - (count + 1)) → ⊥
 
 -- So many of these octets were stepped; where some list passed before them, one of what is left of its length passes behind them.
 pub record StepsFront (old new : List ℕ → Type 0) (bytes : List ℕ) (count : ℕ) : Type 0 where
   pub within : count ≤ length bytes
-  pub stepped : Follows old new (take count bytes)
+  pub stepped : Continues old new (take count bytes)
   pub fits : (lo hi : ℕ) → count ≤ lo → PassesBetween old lo hi → PassesBetween new (lo - count) (hi - count)
 
 -- The octets lead on, whatever the kind, the number of records and the profile.
@@ -64,11 +53,6 @@ AllPass future = (r : List ℕ) → AreOctets r → future r
 abbrev pub AllReach : Sets → Type 0
 AllReach reached = (octets : List ℕ) → AreOctets octets → ReachesEach reached reached octets
 
--- of the reasons that hold the one that is tried first
-pub record IsLowest (holds : Reason → Type 0) (reason : Reason) : Type 0 where
-  pub it : holds reason
-  pub first : (other : Reason) → holds other → rank_of reason ≤ rank_of other
-
 -- Whatever octets were reached, after which something could still follow: the reason is the one of the octet behind them.
 abbrev pub TellsWhy : (reached future : List ℕ → Type 0) → (holds : List ℕ → ℕ → Reason → Type 0) → (octet : ℕ) → Reason → Type 0
 TellsWhy reached future holds octet reason = (s : List ℕ) → reached s → Passes future → IsLowest (holds s octet) reason
@@ -76,14 +60,6 @@ TellsWhy reached future holds octet reason = (s : List ℕ) → reached s → Pa
 -- Whatever octets were reached: the reason is the one of the octet at this place of those that came behind them.
 abbrev pub TellsWhyAt : (reached : List ℕ → Type 0) → (holds : List ℕ → ℕ → Reason → Type 0) → (octets : List ℕ) → (place : ℕ) → Reason → Type 0
 TellsWhyAt reached holds octets place reason = (s : List ℕ) → reached s → IsLowest (holds (s ++ take place octets) (slice_index octets place)) reason
-
--- where one condition applies: its reason holds where it does, and always that nothing fits
-abbrev pub OneReason : Reason → Type 0 → Reason → Type 0
-OneReason reason condition other = ((other ≡ reason) × condition) ⊎ (other ≡ DoesNotFit)
-
--- where no condition applies
-abbrev pub NoReason : Reason → Type 0
-NoReason other = other ≡ DoesNotFit
 
 -- the payloads of each kind are the same
 abbrev pub SameSets : (set other : Sets) → Type 0

@@ -2,16 +2,17 @@
 use Rattle.std.proofs.Common.{suc, Fits, w8, ◌≡◌, ℕ, ◌+◌, ◌-◌, ◌<◌, ◌≤◌, List, [], ◌∷◌, ◌++◌, length, get_or, take, drop, sym, ◌∙◌, ap, subst, arith, append_assoc, length-drop}
 use Rattle.std.proofs.lemmas.List.{append-nil, take_rest, get_or-drop, take-append-drop, take-take, drop-take, take_more, take_all}
 use Rattle.ndef_value.specs.ListLaws.{octets_append, octets_back}
-use Rattle.ndef_value.specs.Wire.{AreOctets}
-use Rattle.ndef_value.specs.declared.reason.Reason.{Reason}
+use Rattle.ndef_format.specs.Records.{AreOctets}
+use Rattle.ndef_format.specs.declared.reason.Reason.{Reason}
 use Rattle.ndef_lang.specs.LengthLaws.{some_octets}
-use Rattle.ndef_lang.specs.Language.{Follows, Reaches, PassesBetween, Behind, StepsAll, StepsFront, IsLowest}
+use Rattle.ndef_lang.specs.Language.{Continues, Reaches, PassesBetween, Behind, StepsAll, StepsFront}
+use Rattle.ndef_format.specs.Reasons.{IsLowest}
 
-pub follows_none : (future : List ℕ → Type 0) → Follows future future []
+pub follows_none : (future : List ℕ → Type 0) → Continues future future []
 follows_none future r = (λ h. h, λ h. h)
 
 -- the octets t after the octets s
-pub follows_more : (old mid new : List ℕ → Type 0) (s t : List ℕ) → Follows old mid s → Follows mid new t → Follows old new (s ++ t)
+pub follows_more : (old mid new : List ℕ → Type 0) (s t : List ℕ) → Continues old mid s → Continues mid new t → Continues old new (s ++ t)
 follows_more old mid new s t f g r = rw append_assoc (λ x. (f (t ++ r)).0 ((g r).0 x), λ x. (g r).1 ((f (t ++ r)).1 x))
 
 pub reaches_none : (reached : List ℕ → Type 0) → Reaches reached reached []
@@ -22,8 +23,8 @@ reaches_more old mid new s t f g u h = subst new (append_assoc u s t) (g (u ++ s
 
 -- ---- one octet more
 
-pub follows_take : (old mid new : List ℕ → Type 0) (bytes : List ℕ) (at : ℕ) → at < length bytes → Follows old mid (take at bytes) → Follows mid new (get_or bytes at 0 ∷ []) → Follows old new (take (at + 1) bytes)
-follows_take old mid new bytes at l f g = subst (Follows old new) (sym (take_more bytes at 0 l)) (follows_more old mid new (take at bytes) (get_or bytes at 0 ∷ []) f g)
+pub follows_take : (old mid new : List ℕ → Type 0) (bytes : List ℕ) (at : ℕ) → at < length bytes → Continues old mid (take at bytes) → Continues mid new (get_or bytes at 0 ∷ []) → Continues old new (take (at + 1) bytes)
+follows_take old mid new bytes at l f g = subst (Continues old new) (sym (take_more bytes at 0 l)) (follows_more old mid new (take at bytes) (get_or bytes at 0 ∷ []) f g)
 
 pub reaches_take : (old mid new : List ℕ → Type 0) (bytes : List ℕ) (at : ℕ) → at < length bytes → Reaches old mid (take at bytes) → Reaches mid new (get_or bytes at 0 ∷ []) → Reaches old new (take (at + 1) bytes)
 reaches_take old mid new bytes at l f g = subst (Reaches old new) (sym (take_more bytes at 0 l)) (reaches_more old mid new (take at bytes) (get_or bytes at 0 ∷ []) f g)
@@ -44,18 +45,18 @@ take_rests bytes n m = ap (λ x. take n bytes ++ take m x) (take_rest bytes n) �
 pub rest_length : (bytes : List ℕ) (n : ℕ) → length (rest bytes n) ≡ length bytes - n
 rest_length bytes n = ap length (take_rest bytes n) ∙ length-drop n bytes
 
-pub follows_rest : (old mid new : List ℕ → Type 0) (bytes : List ℕ) (n m : ℕ) → Follows old mid (take n bytes) → Follows mid new (take m (rest bytes n)) → Follows old new (take (n + m) bytes)
-follows_rest old mid new bytes n m f g = subst (Follows old new) (take_rests bytes n m) (follows_more old mid new (take n bytes) (take m (rest bytes n)) f g)
+pub follows_rest : (old mid new : List ℕ → Type 0) (bytes : List ℕ) (n m : ℕ) → Continues old mid (take n bytes) → Continues mid new (take m (rest bytes n)) → Continues old new (take (n + m) bytes)
+follows_rest old mid new bytes n m f g = subst (Continues old new) (take_rests bytes n m) (follows_more old mid new (take n bytes) (take m (rest bytes n)) f g)
 
 pub reaches_rest : (old mid new : List ℕ → Type 0) (bytes : List ℕ) (n m : ℕ) → Reaches old mid (take n bytes) → Reaches mid new (take m (rest bytes n)) → Reaches old new (take (n + m) bytes)
 reaches_rest old mid new bytes n m f g = subst (Reaches old new) (take_rests bytes n m) (reaches_more old mid new (take n bytes) (take m (rest bytes n)) f g)
 
 -- ---- what passes behind octets
 
-pub passes_behind : (old new : List ℕ → Type 0) (s : List ℕ) (lo hi : ℕ) → Follows old new s → PassesBetween new lo hi → PassesBetween (Behind old s) lo hi
+pub passes_behind : (old new : List ℕ → Type 0) (s : List ℕ) (lo hi : ℕ) → Continues old new s → PassesBetween new lo hi → PassesBetween (Behind old s) lo hi
 passes_behind old new s lo hi f p = record { rest = p.rest; passed = (f p.rest).0 p.passed; least = p.least; most = p.most }
 
-pub behind_passes : (old new : List ℕ → Type 0) (s : List ℕ) (lo hi : ℕ) → Follows old new s → PassesBetween (Behind old s) lo hi → PassesBetween new lo hi
+pub behind_passes : (old new : List ℕ → Type 0) (s : List ℕ) (lo hi : ℕ) → Continues old new s → PassesBetween (Behind old s) lo hi → PassesBetween new lo hi
 behind_passes old new s lo hi f p = record { rest = p.rest; passed = (f p.rest).1 p.passed; least = p.least; most = p.most }
 
 -- before the first octet
@@ -73,16 +74,16 @@ front_passes old new bytes lo hi n m few l f p =
 -- ---- all octets, or up to one
 
 -- all of them were stepped
-pub steps_whole : (old new : List ℕ → Type 0) (bytes : List ℕ) (lo hi : ℕ) → Follows old new bytes → PassesBetween new (lo - length bytes) (hi - length bytes) → StepsAll old new bytes lo hi (length bytes)
+pub steps_whole : (old new : List ℕ → Type 0) (bytes : List ℕ) (lo hi : ℕ) → Continues old new bytes → PassesBetween new (lo - length bytes) (hi - length bytes) → StepsAll old new bytes lo hi (length bytes)
 steps_whole old new bytes lo hi f p = record {
   within = omega arith;
-  stepped = subst (Follows old new) (sym (take_all (length bytes + 1) bytes (omega arith))) f;
+  stepped = subst (Continues old new) (sym (take_all (length bytes + 1) bytes (omega arith))) f;
   fits = subst (λ s. PassesBetween (Behind old s) (lo - length bytes) (hi - length bytes)) (sym (take_all (length bytes) bytes (omega arith))) (passes_behind old new bytes (lo - length bytes) (hi - length bytes) f p);
   refused = λ l. absurd (omega arith);
 }
 
 -- one of them is refused, those before it were stepped
-pub steps_refused : (old mid new : List ℕ → Type 0) (bytes : List ℕ) (lo hi at : ℕ) → at < length bytes → Follows old mid (take at bytes) → PassesBetween mid (lo - at) (hi - at) → Follows mid new (get_or bytes at 0 ∷ [])
+pub steps_refused : (old mid new : List ℕ → Type 0) (bytes : List ℕ) (lo hi at : ℕ) → at < length bytes → Continues old mid (take at bytes) → PassesBetween mid (lo - at) (hi - at) → Continues mid new (get_or bytes at 0 ∷ [])
     → (PassesBetween new (lo - (at + 1)) (hi - (at + 1)) → ⊥) → StepsAll old new bytes lo hi at
 steps_refused old mid new bytes lo hi at l f p g bad = record {
   within = omega arith;
@@ -93,7 +94,7 @@ steps_refused old mid new bytes lo hi at l f p g bad = record {
 
 -- ---- in two parts
 
-pub steps_on : (old mid new : List ℕ → Type 0) (bytes : List ℕ) (lo hi n k : ℕ) → n ≤ length bytes → Follows old mid (take n bytes) → StepsAll mid new (rest bytes n) (lo - n) (hi - n) k → StepsAll old new bytes lo hi (n + k)
+pub steps_on : (old mid new : List ℕ → Type 0) (bytes : List ℕ) (lo hi n k : ℕ) → n ≤ length bytes → Continues old mid (take n bytes) → StepsAll mid new (rest bytes n) (lo - n) (hi - n) k → StepsAll old new bytes lo hi (n + k)
 steps_on old mid new bytes lo hi n k l f t =
     let s : StepsAll mid new (drop n bytes) (lo - n) (hi - n) k = subst (λ x. StepsAll mid new x (lo - n) (hi - n) k) (take_rest bytes n) t in
     let within = s.within in
@@ -102,7 +103,7 @@ steps_on old mid new bytes lo hi n k l f t =
     let e1 : take n bytes ++ take k (drop n bytes) ≡ take (n + k) bytes = sym (take_parts bytes n k) in
     record {
       within = omega arith;
-      stepped = subst (Follows old new) e0 (follows_more old mid new (take n bytes) (take (k + 1) (drop n bytes)) f s.stepped);
+      stepped = subst (Continues old new) e0 (follows_more old mid new (take n bytes) (take (k + 1) (drop n bytes)) f s.stepped);
       fits = at_sum (lo - n - k) (hi - n - k) (lo - (n + k)) (hi - (n + k)) (omega arith) (omega arith)
           (subst (λ x. PassesBetween (Behind old x) (lo - n - k) (hi - n - k)) e1 (twice_behind s.fits));
       refused = λ h p. s.refused (omega arith) (at_sum (lo - (n + k + 1)) (hi - (n + k + 1)) (lo - n - (k + 1)) (hi - n - (k + 1)) (omega arith) (omega arith) p);
@@ -132,7 +133,7 @@ reason_on holds reason bytes s n k h =
 -- ---- up to the end
 
 -- all of them were stepped
-pub steps_through : (old new : List ℕ → Type 0) (bytes : List ℕ) (lo hi at : ℕ) → at ≡ length bytes → Follows old new (take at bytes) → PassesBetween new (lo - at) (hi - at) → StepsAll old new bytes lo hi at
+pub steps_through : (old new : List ℕ → Type 0) (bytes : List ℕ) (lo hi at : ℕ) → at ≡ length bytes → Continues old new (take at bytes) → PassesBetween new (lo - at) (hi - at) → StepsAll old new bytes lo hi at
 steps_through old new bytes lo hi at e f p = record {
   within = omega arith;
   stepped = follows_all;
@@ -140,8 +141,8 @@ steps_through old new bytes lo hi at e f p = record {
   refused = λ l. absurd (omega arith);
 }
   where
-    follows_all : Follows old new (take (at + 1) bytes)
-    follows_all = subst (Follows old new) (take_all at bytes (omega arith) ∙ sym (take_all (at + 1) bytes (omega arith))) f
+    follows_all : Continues old new (take (at + 1) bytes)
+    follows_all = subst (Continues old new) (take_all at bytes (omega arith) ∙ sym (take_all (at + 1) bytes (omega arith))) f
 
 -- behind them there is no more
 pub all_reached : (old new : List ℕ → Type 0) (bytes : List ℕ) (at : ℕ) → length bytes ≤ at → Reaches old new (take at bytes) → Reaches old new (take (at + 1) bytes)
@@ -154,8 +155,8 @@ pub octets_each : (xs : List ℕ) → ((i : ℕ) → Fits w8 (get_or xs i 0)) �
 octets_each [] h = tt
 octets_each (x ∷ xs) h = (omega (arith, h 0), octets_each xs (λ i. h (suc i)))
 
-pub octets_behind : (s : List ℕ) → AreOctets s → Follows AreOctets AreOctets s
-octets_behind s a r = (octets_append s r a, octets_back s r)
+pub octets_follow : (s : List ℕ) → AreOctets s → Continues AreOctets AreOctets s
+octets_follow s a r = (octets_append s r a, octets_back s r)
 
 -- any octets may follow any octets
 pub steps_octets : (bytes : List ℕ) (lo hi : ℕ) → AreOctets bytes → length bytes ≤ lo → PassesBetween AreOctets lo hi → StepsAll AreOctets AreOctets bytes lo hi (length bytes)
@@ -163,11 +164,11 @@ steps_octets bytes lo hi a l p =
     let least = p.least in
     let most = p.most in
     let t = some_octets (hi - length bytes) in
-    steps_whole AreOctets AreOctets bytes lo hi (octets_behind bytes a) (record { rest = t.0; passed = t.1.0; least = omega (arith, t.1.1); most = omega (arith, t.1.1) })
+    steps_whole AreOctets AreOctets bytes lo hi (octets_follow bytes a) (record { rest = t.0; passed = t.1.0; least = omega (arith, t.1.1); most = omega (arith, t.1.1) })
 
 -- where all octets were stepped
-pub steps_done : {old new : List ℕ → Type 0} {bytes : List ℕ} {lo hi count : ℕ} → StepsAll old new bytes lo hi count → count ≡ length bytes → Follows old new bytes × PassesBetween new (lo - length bytes) (hi - length bytes)
+pub steps_done : {old new : List ℕ → Type 0} {bytes : List ℕ} {lo hi count : ℕ} → StepsAll old new bytes lo hi count → count ≡ length bytes → Continues old new bytes × PassesBetween new (lo - length bytes) (hi - length bytes)
 steps_done {old} {new} {bytes} {lo} {hi} {count} s e =
-    let f : Follows old new bytes = subst (Follows old new) (take_all (count + 1) bytes (omega arith)) s.stepped in
+    let f : Continues old new bytes = subst (Continues old new) (take_all (count + 1) bytes (omega arith)) s.stepped in
     let p : PassesBetween (Behind old bytes) (lo - count) (hi - count) = subst (λ x. PassesBetween (Behind old x) (lo - count) (hi - count)) (take_all count bytes (omega arith)) s.fits in
     (f, subst (λ n. PassesBetween new (lo - n) (hi - n)) e (behind_passes old new bytes (lo - count) (hi - count) f p))

@@ -1,7 +1,7 @@
 //! Whether octets are ASCII. Only a true answer tells something.
 ghost use Rattle.std.specs.Prelude.{◌≡◌, ◌<◌, [], ◌∷◌, length, IsTrue};
 ghost use Rattle.std.specs.List.{AllByRecursion};
-ghost use Rattle.ndef_lang.specs.Text.{IsCodeOctet};
+ghost use Rattle.ndef_format.specs.Texts.{IsCodeOctet};
 
 /// Whether up to three octets are ASCII.
 #[inline(always)]

@@ -1,16 +1,13 @@
 //! Whole payloads: whether they are in their set. Only a true answer tells something.
 ghost use Rattle.std.specs.Prelude.{◌≡◌, ◌≤◌, ◌<◌, length, take, drop, IsTrue, IsUtf8};
 ghost use Rattle.std.specs.List.{AllByRecursion};
-ghost use Rattle.ndef_lang.specs.Utf16.{IsSpelled, IsUtf16};
-ghost use Rattle.ndef_lang.specs.Text.{IsText, IsTextIn, IsCodeOctet};
-ghost use Rattle.ndef_lang.specs.Uri.{IsUri};
-ghost use Rattle.ndef_lang.specs.Alternative.{IsAlternative, AreReferences};
-ghost use Rattle.ndef_lang.specs.HandoverError.{IsError};
-ghost use Rattle.ndef_lang.specs.Carrier.{IsCarrier};
-ghost use Rattle.ndef_lang.specs.Leaf.{IsPayload};
+ghost use Rattle.ndef_format.specs.Texts.{IsSpelled, IsUtf16, IsText, IsTextIn, IsCodeOctet};
+ghost use Rattle.ndef_format.specs.Uris.{IsUri};
+ghost use Rattle.ndef_format.specs.Handovers.{IsAlternative, AreReferences, IsError, IsCarrier};
+ghost use Rattle.ndef_format.specs.Nested.{IsPayload};
 
 use super::ascii::is_ascii;
-use super::kind::Kind;
+use ndef_format::Kind;
 use ndef_value::Profile;
 
 /// Whether they are so few octets that a test for ASCII pays before one for UTF-8, and are ASCII.

@@ -1,16 +1,17 @@
 //! Payloads of Text records.
 ghost use Rattle.std.specs.Prelude.{◌≡◌, ℕ, List, [], ◌∷◌, take};
-ghost use Rattle.ndef_value.specs.declared.reason.Reason.TheVariants.{DoesNotFit};
-ghost use Rattle.ndef_lang.specs.Language.{Follows, Reaches, StepsFront, TellsWhy};
-ghost use Rattle.ndef_lang.specs.Octets.{Octets};
-ghost use Rattle.ndef_lang.specs.Text.{IsText, IsTextIn, IsCodeOctet, TextReason};
-ghost use Rattle.ndef_lang.specs.Text.{CompletesText, TextReached, UpToCode, text_told, text_lengths};
+ghost use Rattle.ndef_format.specs.declared.reason.Reason.TheVariants.{DoesNotFit};
+ghost use Rattle.ndef_lang.specs.Language.{Continues, Reaches, StepsFront, TellsWhy};
+ghost use Rattle.ndef_format.specs.Octets.{Octets};
+ghost use Rattle.ndef_format.specs.Texts.{IsText, IsTextIn, IsCodeOctet};
+ghost use Rattle.ndef_format.specs.PayloadReasons.{TextReason};
+ghost use Rattle.ndef_lang.specs.Machine.Text.{CompletesText, TextReached, UpToCode, text_told, text_lengths};
 
-use super::kind::Kind;
 use super::language::Language;
 use super::lengths::Lengths;
 use super::utf8::Utf8Lang;
 use super::utf16::Utf16State;
+use ndef_format::Kind;
 use ndef_value::{Profile, Reason};
 
 /// The payloads of Text records (RTD Text 1.0), by what completes them.
@@ -33,7 +34,7 @@ pub enum TextLang {
 
 /// Before so many octets of a language code, and a text.
 fn before_code(missing: u8, wide: bool) -> TextLang
-    ensures future { Follows (Octets IsCodeOctet missing (IsTextIn wide)) (CompletesText result) [] }
+    ensures future { Continues (Octets IsCodeOctet missing (IsTextIn wide)) (CompletesText result) [] }
     ensures reached { (s : List ℕ) → UpToCode missing wide s → TextReached result s }
     ensures told { text_told result ≡ DoesNotFit }
 {
@@ -52,7 +53,7 @@ fn before_code(missing: u8, wide: bool) -> TextLang
 impl TextLang {
     /// After an octet.
     pub(crate) fn after(self, byte: u8) -> TextLang
-        ensures future { Follows (CompletesText self) (CompletesText result) (byte ∷ []) }
+        ensures future { Continues (CompletesText self) (CompletesText result) (byte ∷ []) }
         ensures reached { Reaches (TextReached self) (TextReached result) (byte ∷ []) }
         ensures reason { TellsWhy (TextReached self) (CompletesText self) TextReason byte (text_told result) }
     {
@@ -125,7 +126,7 @@ impl TextLang {
 impl Language for TextLang {
     ghost use Rattle.ndef_lang.specs.Lengths.{meets};
     ghost use Rattle.ndef_lang.specs.LengthLaws.{states_fit};
-    ghost use Rattle.ndef_lang.specs.TextLaws.{text_octets, completes_text_octets, are_text_lengths};
+    ghost use Rattle.ndef_lang.specs.Machine.TextLaws.{texts_are_octets, completes_text_octets, are_text_lengths};
 
     ghost set = { λ kind records profile s. IsText s };
 
@@ -182,5 +183,5 @@ impl Language for TextLang {
 
     ghost future_octets = { completes_text_octets };
 
-    ghost set_octets = { λ kind records profile s h. text_octets s h };
+    ghost set_octets = { λ kind records profile s h. texts_are_octets s h };
 }

@@ -5,7 +5,7 @@ use Rattle.clap.specs.declared.error.kind.ErrorKind.{ErrorKind}
 use Rattle.clap.specs.declared.parser.matches.ArgMatches.{ArgMatches}
 use Rattle.clap.proofs.OnLiterals.{clap_on_literals}
 use Rattle.ndef_making.specs.CommandLine.{make_app}
-use Rattle.ndef_making.specs.Asked.{Part, part_by, unless_fault}
+use Rattle.ndef_making.specs.Asked.{AskedPart, part_by, unless_fault}
 
 pub make_is_simple : is_simple make_app ≡ true
 unfolding clap_on_literals
@@ -16,7 +16,7 @@ unfolding clap_on_literals
 make_is_free = refl
 
 -- a parse that succeeds gives the subcommand
-pub parsed : (built wanted : App) (words : List Text) (m : ArgMatches) (r : Option Part) → built ≡ wanted → is_simple wanted ≡ true
+pub parsed : (built wanted : App) (words : List Text) (m : ArgMatches) (r : Option AskedPart) → built ≡ wanted → is_simple wanted ≡ true
     → is_simple_and_free wanted ≡ true → HasMatchesOf built words m → (is_simple_and_free built ≡ true → fault_of built words ≡ [])
     → r ≡ subcommand_rows_of m → part_by wanted words ≡ r
 parsed built wanted words m r is simple free matches kinds said =
@@ -24,7 +24,7 @@ parsed built wanted words m r is simple free matches kinds said =
     let rows : subcommand_rows_of m ≡ subcommand_of wanted words = (matches (ap is_simple is ∙ simple)).1 ∙ ap (λ (a : App). subcommand_of a words) is in
     ap (λ (k : Kinds). unless_fault k (subcommand_of wanted words)) none ∙ sym rows ∙ sym said
 
-among : (k : ErrorKind) (kinds : Kinds) (o : Option Part) → IsAmong k kinds → unless_fault kinds o ≡ None
+among : (k : ErrorKind) (kinds : Kinds) (o : Option AskedPart) → IsAmong k kinds → unless_fault kinds o ≡ None
 among k [] o h = absurd h
 among k (x ∷ xs) o h = refl
 

@@ -1,6 +1,6 @@
 -- The records of what is said, one after another.
 use Rattle.std.proofs.Common.{◌≡◌, ◌<◌, ◌+◌, ℕ, suc, List, [], ◌∷◌, ◌++◌, length, take, map, get_or, Ok, Err, refl, sym, ap, subst}
-use Rattle.ndef_value.specs.Wire.{Item}
+use Rattle.ndef_format.specs.Messages.{Item}
 use Rattle.ndef_making.specs.Records.{Answer, AreAnsweredBy, AreMadeBy, FailsBy}
 use Rattle.ndef_making.specs.declared.fault.Fault.{Fault}
 use Rattle.ndef_making.specs.declared.fault.Fault.TheVariants.{Usage, Refused, Reading, TooLong, Memory}

@@ -2,7 +2,7 @@
 use Rattle.std.proofs.Common.{◌≡◌, ◌∙◌, ◌<◌, ◌≤◌, ◌^◌, ℕ, List, length, Ok, sym, ap, subst, arith, rules}
 use Rattle.std.specs.Prelude.{codes, IsAscii, IsErrOf}
 use Rattle.clap.specs.Words.{Text}
-use Rattle.ndef_value.specs.Wire.{Item}
+use Rattle.ndef_format.specs.Messages.{Item}
 use Rattle.ndef_types.specs.Decoding.{IsTooLong}
 use Rattle.ndef_types.specs.declared.error.EncodeError.TheVariants.{TooLong}
 use Rattle.ndef_types.specs.Values.{IsTextValue, TextValue, WritesUri, text_payload}

@@ -10,8 +10,8 @@ use Rattle.ndef_making.specs.declared.fault.Fault.TheVariants.{Usage, Memory}
 use Rattle.ndef_making.specs.declared.parts.Said.{Said}
 
 -- the name of a subcommand, and the values of its options
-abbrev pub Part : Type 0
-Part = Text × List Row
+abbrev pub AskedPart : Type 0
+AskedPart = Text × List Row
 
 -- nothing, where clap finds a fault
 abbrev pub unless_fault : {X : Type 0} → Kinds → Option X → Option X
@@ -19,11 +19,11 @@ unless_fault [] o = o
 unless_fault (k ∷ ks) o = None
 
 -- what words say on a command line: nothing where clap finds a fault in them
-abbrev pub part_by : App → List Text → Option Part
+abbrev pub part_by : App → List Text → Option AskedPart
 part_by app words = unless_fault (fault_of app words) (subcommand_of app words)
 
 -- what the words of a part say
-abbrev pub part_in : List Text → Option Part
+abbrev pub part_in : List Text → Option AskedPart
 part_in words = part_by make_app words
 
 -- the words between those that are `--and`
@@ -36,25 +36,25 @@ all_or_none [] = Some []
 all_or_none (o ∷ os) = option_and_then (λ x. option_map (λ xs. x ∷ xs) (all_or_none os)) o
 
 -- what the words ask for, of which the first is the program's name: nothing where a part says nothing
-abbrev pub asked_of : List Text → Option (List Part)
+abbrev pub asked_of : List Text → Option (List AskedPart)
 asked_of words = all_or_none (map part_in (parts_of (drop 1 words)))
 
 -- ---- step by step
 
 -- the subcommand and the options of matches
-abbrev pub part_of : Said → Part
-part_of said = (said.name.now, rows_of (found_of said.matches))
+abbrev pub asked_part : Said → AskedPart
+asked_part said = (said.name.now, rows_of (found_of said.matches))
 
 -- what a part says, or the usage line exactly where it says nothing
-abbrev pub Says : List Text → Result Said Fault → Type 0
-Says words (Ok said) = part_in words ≡ Some (part_of said)
-Says words (Err Usage) = part_in words ≡ None
-Says words (Err Memory) = ⊤
-Says words (Err _) = ⊥
+abbrev pub SaysPart : List Text → Result Said Fault → Type 0
+SaysPart words (Ok said) = part_in words ≡ Some (asked_part said)
+SaysPart words (Err Usage) = part_in words ≡ None
+SaysPart words (Err Memory) = ⊤
+SaysPart words (Err _) = ⊥
 
 -- what all parts say, or the usage line exactly where one says nothing
 abbrev pub SaidAll : List (List Text) → Result (Vec Said Global) Fault → Type 0
-SaidAll parts (Ok said) = all_or_none (map part_in parts) ≡ Some (map part_of said.items)
+SaidAll parts (Ok said) = all_or_none (map part_in parts) ≡ Some (map asked_part said.items)
 SaidAll parts (Err Usage) = all_or_none (map part_in parts) ≡ None
 SaidAll parts (Err Memory) = ⊤
 SaidAll parts (Err _) = ⊥

@@ -4,10 +4,11 @@ use Rattle.std.specs.declared.alloc.Global.{Global}
 use Rattle.std.specs.List.{list_any}
 use Rattle.hex.specs.Hex.{encode_lower}
 use Rattle.clap.specs.Words.{Row, Text}
-use Rattle.ndef_value.specs.Wire.{AreItems, Item, canonical}
+use Rattle.ndef_format.specs.Canonical.{AreItems, canonical}
+use Rattle.ndef_format.specs.Messages.{Item}
 use Rattle.ndef_message.specs.Sources.{Supply}
-use Rattle.ndef_making.specs.Asked.{Part, asked_of}
-use Rattle.ndef_making.specs.Inputs.{IsPayload}
+use Rattle.ndef_making.specs.Asked.{AskedPart, asked_of}
+use Rattle.ndef_making.specs.Inputs.{IsPayloadInput}
 use Rattle.ndef_making.specs.Options.{flag_of, subject_named}
 use Rattle.ndef_making.specs.Posters.{MakesPoster}
 use Rattle.ndef_making.specs.Records.{Answer, AreAnsweredBy, AreMadeBy, Asks, FailsBy, MakesItem, MakesText, MakesUri, item_said, text_said, uri_said}
@@ -25,17 +26,17 @@ takes_input (Some subject.Record) = true
 takes_input _ = false
 
 -- whether the part takes the input
-abbrev pub is_reader : Part → Bool
+abbrev pub is_reader : AskedPart → Bool
 is_reader part = takes_input (subject_named part.0)
 
 -- how many parts take it
-abbrev pub readers_of : List Part → ℕ
+abbrev pub readers_of : List AskedPart → ℕ
 readers_of = count_by is_reader
 
 -- it is read for one part, left where none takes it, and asked for in vain by more
 abbrev pub ReadsFor : ℕ → (before after : Supply) → Bool → Result (List ℕ) Fault → Type 0
 ReadsFor zero before after failed input = (after ≡ before) × (input ≡ Ok [])
-ReadsFor (suc zero) before after failed input = IsPayload before after failed input
+ReadsFor (suc zero) before after failed input = IsPayloadInput before after failed input
 ReadsFor (suc (suc n)) before after failed input = (after ≡ before) × (input ≡ Err Usage)
 
 -- ---- the records
@@ -49,25 +50,25 @@ MakesBy (Some subject.Poster) rows input answer = MakesPoster rows answer
 MakesBy (Some subject.Record) rows input answer = Asks MakesItem (item_said rows input) answer
 
 -- what is made of a part, with the input
-abbrev pub Makes : Part → (input : List ℕ) → Answer → Type 0
+abbrev pub Makes : AskedPart → (input : List ℕ) → Answer → Type 0
 Makes part input answer = MakesBy (subject_named part.0) part.1 input answer
 
 -- the records of the parts, in order
-abbrev pub AreMade : List Part → (input : List ℕ) → List Item → Type 0
+abbrev pub AreMade : List AskedPart → (input : List ℕ) → List Item → Type 0
 AreMade parts input items = AreMadeBy (λ part. Makes part input) parts items
 
 -- the first part of which no record is made, and why
-abbrev pub FailsAt : List Part → (input : List ℕ) → Fault → Type 0
+abbrev pub FailsAt : List AskedPart → (input : List ℕ) → Fault → Type 0
 FailsAt parts input fault = FailsBy (λ part. Makes part input) parts fault
 
 -- the records of the parts, or why there are none
-abbrev pub AreAnswered : List Part → (input : List ℕ) → Result (Vec Item Global) Fault → Type 0
+abbrev pub AreAnswered : List AskedPart → (input : List ℕ) → Result (Vec Item Global) Fault → Type 0
 AreAnswered parts input answer = AreAnsweredBy (λ part. Makes part input) parts answer
 
 -- ---- what is written
 
 -- whether a part asks for hexadecimal digits
-abbrev pub wants_hex : List Part → Bool
+abbrev pub wants_hex : List AskedPart → Bool
 wants_hex = list_any (λ part. flag_of (codes "hex") part.1)
 
 -- bytes as they are, or as a line of hexadecimal digits
@@ -76,26 +77,26 @@ shown_in false bytes = bytes
 shown_in true bytes = encode_lower bytes ++ codes "\n"
 
 -- NDEF 1.0, messages: the canonical spelling of the records, of which there are at most 65535
-abbrev pub IsMessage : (hex : Bool) → List Item → Result Text Fault → Type 0
-IsMessage hex items (Ok text) = AreItems items × (text ≡ shown_in hex (canonical items))
-IsMessage hex items (Err (Refused TooManyRecords)) = 65535 < length items
-IsMessage hex items (Err Memory) = ⊤
-IsMessage hex items (Err _) = ⊥
+abbrev pub MakesMessage : (hex : Bool) → List Item → Result Text Fault → Type 0
+MakesMessage hex items (Ok text) = AreItems items × (text ≡ shown_in hex (canonical items))
+MakesMessage hex items (Err (Refused TooManyRecords)) = 65535 < length items
+MakesMessage hex items (Err Memory) = ⊤
+MakesMessage hex items (Err _) = ⊥
 
 -- what is written for the parts: their message, or why there is none
-abbrev pub IsWritten : List Part → (input : List ℕ) → Result Text Fault → Type 0
+abbrev pub IsWritten : List AskedPart → (input : List ℕ) → Result Text Fault → Type 0
 IsWritten parts input (Err Memory) = ⊤
-IsWritten parts input (Ok text) = (items : List Item) × AreMade parts input items × IsMessage (wants_hex parts) items (Ok text)
+IsWritten parts input (Ok text) = (items : List Item) × AreMade parts input items × MakesMessage (wants_hex parts) items (Ok text)
 IsWritten parts input (Err fault) =
-    FailsAt parts input fault ⊎ ((items : List Item) × AreMade parts input items × IsMessage (wants_hex parts) items (Err fault))
+    FailsAt parts input fault ⊎ ((items : List Item) × AreMade parts input items × MakesMessage (wants_hex parts) items (Err fault))
 
 -- the same with what comes of reading
-abbrev pub IsWrittenOf : List Part → Result (List ℕ) Fault → Result Text Fault → Type 0
+abbrev pub IsWrittenOf : List AskedPart → Result (List ℕ) Fault → Result Text Fault → Type 0
 IsWrittenOf parts (Ok input) made = IsWritten parts input made
 IsWrittenOf parts (Err fault) made = made ≡ Err fault
 
 -- the message for which the words ask; the usage line where they ask for nothing
-abbrev pub IsMadeFor : Option (List Part) → (before after : Supply) → Bool → Result Text Fault → Type 0
+abbrev pub IsMadeFor : Option (List AskedPart) → (before after : Supply) → Bool → Result Text Fault → Type 0
 IsMadeFor None before after failed made = (after ≡ before) × (made ≡ Err Usage)
 IsMadeFor (Some parts) before after failed made =
     (input : Result (List ℕ) Fault) × ReadsFor (readers_of parts) before after failed input × IsWrittenOf parts input made

@@ -3,8 +3,8 @@ use Rattle.std.specs.Prelude.{Bool, false, List, Option, Some, None, codes, ifâ—
 use Rattle.std.specs.Option.{option_map_or}
 use Rattle.std.specs.Str.{bytes_eq}
 use Rattle.clap.specs.Words.{Row, Text, first_of}
-use Rattle.ndef_value.specs.declared.tnf.Tnf.{Tnf}
-use Rattle.ndef_value.specs.declared.tnf.Tnf.TheVariants as tnf
+use Rattle.ndef_format.specs.declared.tnf.Tnf.{Tnf}
+use Rattle.ndef_format.specs.declared.tnf.Tnf.TheVariants as tnf
 use Rattle.ndef_making.specs.declared.options.Subject.{Subject}
 use Rattle.ndef_making.specs.declared.options.Subject.TheVariants as subject
 

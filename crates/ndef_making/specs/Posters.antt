@@ -8,10 +8,11 @@ use Rattle.std.specs.Str.Parse.{digits_value, without_leading_plus}
 use Rattle.clap.specs.ValueTests.{accepts}
 use Rattle.clap.specs.Words.{Row, Text, all_of}
 use Rattle.clap.specs.declared.builder.value_parser.ValueParser.TheVariants as vp
-use Rattle.ndef_value.specs.Wire.{Item, canonical}
-use Rattle.ndef_value.specs.declared.profile.Profile.TheVariants.{Strict}
-use Rattle.ndef_nest.specs.Nested.{HasContents}
-use Rattle.ndef_nest.specs.declared.table.Table.TheVariants as tables
+use Rattle.ndef_format.specs.Messages.{Item}
+use Rattle.ndef_format.specs.Canonical.{canonical}
+use Rattle.ndef_format.specs.declared.profile.Profile.TheVariants.{Strict}
+use Rattle.ndef_format.specs.Nested.{HasContents}
+use Rattle.ndef_format.specs.declared.table.Table.TheVariants as tables
 use Rattle.ndef_types.specs.Contents.{IsFirstWrong}
 use Rattle.ndef_types.specs.Posters.{LacksUri}
 use Rattle.ndef_types.specs.Values.{TextValue}

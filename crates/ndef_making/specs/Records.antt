@@ -2,8 +2,9 @@
 use Rattle.std.specs.Prelude.{◌++◌, ◌∷◌, ◌≡◌, ◌<◌, ◌≤◌, ◌^◌, ℕ, Bool, true, false, List, [], length, Option, Some, None, Result, Ok, Err, ⊤, option_and_then, option_map, codes, chars, IsAscii, Vec}
 use Rattle.std.specs.declared.alloc.Global.{Global}
 use Rattle.clap.specs.Words.{Row, Text, first_of}
-use Rattle.ndef_value.specs.Wire.{HasLengths, IsShaped, Item}
-use Rattle.ndef_value.specs.declared.tnf.Tnf.TheVariants.{WellKnown}
+use Rattle.ndef_format.specs.Canonical.{HasLengths}
+use Rattle.ndef_format.specs.Messages.{IsShaped, Item}
+use Rattle.ndef_format.specs.declared.tnf.Tnf.TheVariants.{WellKnown}
 use Rattle.ndef_types.specs.Decoding.{IsTooLong}
 use Rattle.ndef_types.specs.Values.{TextValue, WritesText, WritesUri}
 use Rattle.ndef_types.specs.declared.encoding.Encoding.{Encoding}
@@ -24,14 +25,14 @@ well_known kind payload = record { tnf = WellKnown; kind = kind; id = []; payloa
 -- ---- texts
 
 -- the encoding of a text
-abbrev pub encoding_of : Bool → Encoding
-encoding_of false = Utf8
-encoding_of true = Utf16
+abbrev pub encoding_for : Bool → Encoding
+encoding_for false = Utf8
+encoding_for true = Utf16
 
 -- RTD Text 1.0: the text of a part; its language is English where none is given
 abbrev pub text_said : List Row → Option TextValue
 text_said rows = option_map (λ text. record {
-  encoding = encoding_of (flag_of (codes "utf16") rows);
+  encoding = encoding_for (flag_of (codes "utf16") rows);
   language = word_or (codes "language") (codes "en") rows;
   text = chars text;
 }) (first_of (codes "text") rows)

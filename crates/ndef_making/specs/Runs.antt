@@ -20,14 +20,14 @@ status_after false st = st
 status_after true st = status.Fault
 
 -- the message goes out, or the line of the fault to the other sink
-abbrev pub Tells : Result Text Fault → (written_before written_after : Option (List ℕ)) → Bool → (lines_before lines_after : Option (List ℕ)) → Bool → Status → Type 0
-Tells (Ok text) written_before written_after sink_failed lines_before lines_after lines_failed result =
+abbrev pub TellsOutcome : Result Text Fault → (written_before written_after : Option (List ℕ)) → Bool → (lines_before lines_after : Option (List ℕ)) → Bool → Status → Type 0
+TellsOutcome (Ok text) written_before written_after sink_failed lines_before lines_after lines_failed result =
     GoesOut written_before written_after sink_failed text × (lines_after ≡ lines_before) × (lines_failed ≡ false) × (result ≡ status_after sink_failed status.Made)
-Tells (Err fault) written_before written_after sink_failed lines_before lines_after lines_failed result =
+TellsOutcome (Err fault) written_before written_after sink_failed lines_before lines_after lines_failed result =
     (written_after ≡ written_before) × (sink_failed ≡ false) × GoesOut lines_before lines_after lines_failed (line_of fault) × (result ≡ status_of fault)
 
 -- what the words and the input come to
 abbrev pub Runs : List Text → (before after : Supply) → Bool → (written_before written_after : Option (List ℕ)) → Bool → (lines_before lines_after : Option (List ℕ)) → Bool → Status → Type 0
 Runs words before after source_failed written_before written_after sink_failed lines_before lines_after lines_failed result =
     (made : Result Text Fault) × IsMade words before after source_failed made
-    × Tells made written_before written_after sink_failed lines_before lines_after lines_failed result
+    × TellsOutcome made written_before written_after sink_failed lines_before lines_after lines_failed result

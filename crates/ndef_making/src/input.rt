@@ -1,6 +1,6 @@
 //! The payload that stands on the input.
 ghost use Rattle.ndef_message.specs.Machine.Turns.{supply_of};
-ghost use Rattle.ndef_making.specs.Inputs.{IsPayload};
+ghost use Rattle.ndef_making.specs.Inputs.{IsPayloadInput};
 
 use crate::Fault;
 use ndef_message::{Source, read_all};
@@ -12,7 +12,7 @@ const MOST: usize = 1048576;
 
 /// Reads the input to its end.
 pub(crate) fn read_payload<S: Source>(alloc: Global, source: &mut S) -> Result<Bytes, Fault>
-    ensures { IsPayload (supply_of S.Source source.old) (supply_of S.Source source.new)
+    ensures { IsPayloadInput (supply_of S.Source source.old) (supply_of S.Source source.new)
         (S.has_failed source.new) result }
 {
     Ok(Bytes::from(read_all(alloc, source, MOST)?))

@@ -1,8 +1,8 @@
 //! The message that the words ask for.
 ghost use Rattle.std.specs.Prelude.{◌≡◌, ◌≢◌, [], drop, map, string_bytes, IfOk};
 ghost use Rattle.ndef_message.specs.Machine.Turns.{supply_of};
-ghost use Rattle.ndef_making.specs.Asked.{part_of};
-ghost use Rattle.ndef_making.specs.Making.{AreAnswered, IsMade, IsMessage, ReadsFor, is_reader, readers_of, shown_in, wants_hex};
+ghost use Rattle.ndef_making.specs.Asked.{asked_part};
+ghost use Rattle.ndef_making.specs.Making.{AreAnswered, IsMade, MakesMessage, ReadsFor, is_reader, readers_of, shown_in, wants_hex};
 
 use crate::input::read_payload;
 use crate::options::{Subject, flag, subject_named};
@@ -15,14 +15,14 @@ use std::alloc::Global;
 
 /// Whether a part takes the input.
 fn is_reader(said: &Said<'_>) -> bool
-    ensures { result ≡ is_reader (part_of said.now) }
+    ensures { result ≡ is_reader (asked_part said.now) }
 {
     matches!(subject_named(said.name), Some(Subject::Record))
 }
 
 /// How many parts take the input.
 fn readers_of(said: &[Said<'_>]) -> usize
-    ensures { result ≡ readers_of (map part_of said.now) }
+    ensures { result ≡ readers_of (map asked_part said.now) }
 {
     let mut count = 0;
     for part in said {
@@ -35,7 +35,7 @@ fn readers_of(said: &[Said<'_>]) -> usize
 
 /// The input, where one part takes it; it is left where none does.
 fn read_for<S: Source>(alloc: Global, said: &[Said<'_>], source: &mut S) -> Result<Bytes, Fault>
-    ensures { ReadsFor (readers_of (map part_of said.now)) (supply_of S.Source source.old)
+    ensures { ReadsFor (readers_of (map asked_part said.now)) (supply_of S.Source source.old)
         (supply_of S.Source source.new) (S.has_failed source.new) result }
 {
     match readers_of(said) {
@@ -47,7 +47,7 @@ fn read_for<S: Source>(alloc: Global, said: &[Said<'_>], source: &mut S) -> Resu
 
 /// Whether the bytes are written as hexadecimal digits.
 fn wants_hex(said: &[Said<'_>]) -> bool
-    ensures { result ≡ wants_hex (map part_of said.now) }
+    ensures { result ≡ wants_hex (map asked_part said.now) }
 {
     for part in said {
         if flag(&part.matches, "hex") {
@@ -59,7 +59,7 @@ fn wants_hex(said: &[Said<'_>]) -> bool
 
 /// The records of the parts, with the input.
 fn make_records(alloc: Global, said: &[Said<'_>], input: &[u8]) -> Result<Vec<Record>, Fault>
-    ensures { AreAnswered (map part_of said.now) input.now result }
+    ensures { AreAnswered (map asked_part said.now) input.now result }
 {
     let mut records = Vec::new(alloc);
     for part in said {
@@ -86,7 +86,7 @@ fn shown(alloc: Global, hex: bool, bytes: Bytes) -> Result<Bytes, NoMemory>
 /// What is written of the records.
 fn write_records(alloc: Global, hex: bool, records: Vec<Record>) -> Result<Bytes, Fault>
     requires { records.items ≢ [] }
-    ensures { IsMessage hex records.items result }
+    ensures { MakesMessage hex records.items result }
 {
     match Message::new(records) {
         Ok(message) => {

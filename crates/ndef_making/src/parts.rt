@@ -1,6 +1,6 @@
 //! The parts of the words, each of which asks for a record.
 ghost use Rattle.std.specs.Prelude.{◌≡◌, map, string_bytes, IfOk};
-ghost use Rattle.ndef_making.specs.Asked.{SaidAll, Says, parts_of};
+ghost use Rattle.ndef_making.specs.Asked.{SaidAll, SaysPart, parts_of};
 
 use crate::Fault;
 use crate::command::make_command;
@@ -25,7 +25,7 @@ pub(crate) fn parts<'a>(alloc: Global, words: &'a [String]) -> Result<Vec<&'a [S
 
 /// What a part says.
 fn say<'a>(alloc: Global, part: &'a [String]) -> Result<Said<'a>, Fault>
-    ensures { Says (map string_bytes part.now) result }
+    ensures { SaysPart (map string_bytes part.now) result }
 {
     let Ok(command) = make_command(alloc) else {
         return Err(Fault::Memory);

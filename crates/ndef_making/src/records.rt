@@ -1,7 +1,7 @@
 //! The records that parts ask for.
 ghost use Rattle.std.specs.Prelude.{◌≡◌, ◌<◌, ◌≤◌, ◌^◌, length, chars};
 ghost use Rattle.clap.specs.Words.{found_of, rows_of};
-ghost use Rattle.ndef_making.specs.Asked.{part_of};
+ghost use Rattle.ndef_making.specs.Asked.{asked_part};
 ghost use Rattle.ndef_making.specs.Making.{Makes};
 ghost use Rattle.ndef_making.specs.Records.{Asks, MakesItem, MakesText, MakesUri, item_said, text_said, uri_said, well_known};
 
@@ -92,7 +92,7 @@ fn given_record(alloc: Global, matches: &ArgMatches<'_>, payload: &[u8]) -> Resu
 
 /// The record that a part asks for, with the input.
 pub(crate) fn make_record(alloc: Global, said: &Said<'_>, input: &[u8]) -> Result<Record, Fault>
-    ensures { Makes (part_of said.now) input.now result }
+    ensures { Makes (asked_part said.now) input.now result }
 {
     match subject_named(said.name) {
         Some(Subject::Text) => text_record(alloc, &said.matches),

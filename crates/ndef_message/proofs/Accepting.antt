@@ -3,27 +3,30 @@ use Rattle.std.proofs.Common.{◌≡◌, ℕ, ◌+◌, ◌-◌, ◌<◌, ◌≤�
 use Rattle.std.specs.Prelude.{is_some, if◌then◌else◌}
 use Rattle.std.proofs.lemmas.List.{length-take-le, append-nil}
 use Rattle.std.proofs.Math.Seq.{take-append_seam, take-append-add}
-use Rattle.ndef_value.specs.Wire.{HasShape, IsItem, Item, Piece, LimitValues, AreInRange, AreOctets, Spells, SpellAll, body, fields, octets, tnf_of}
+use Rattle.ndef_format.specs.Records.{HasShape, Piece, AreOctets, SpellsPiece, body, fields, octets, tnf_of}
+use Rattle.ndef_format.specs.Canonical.{IsItem}
+use Rattle.ndef_format.specs.Messages.{Item, SpellsPieces}
+use Rattle.ndef_format.specs.Limits.{LimitValues, AreInRange}
 use Rattle.ndef_value.specs.ListLaws.{octets_append}
 use Rattle.ndef_value.specs.TnfLaws.{changed_name}
-use Rattle.ndef_value.specs.declared.profile.Profile.{Profile}
-use Rattle.ndef_lang.specs.declared.kind.Kind.{Kind}
-use Rattle.ndef_lang.specs.declared.kind.Kind.TheVariants.{Other}
+use Rattle.ndef_format.specs.declared.profile.Profile.{Profile}
+use Rattle.ndef_format.specs.declared.kind.Kind.{Kind}
+use Rattle.ndef_format.specs.declared.kind.Kind.TheVariants.{Other}
 use Rattle.ndef_lang.specs.declared.language.Language.{Ghosts}
-use Rattle.ndef_lang.specs.Kind.{kind_of}
-use Rattle.ndef_lang.specs.Language.{Sets}
+use Rattle.ndef_format.specs.Kinds.{kind_of}
+use Rattle.ndef_format.specs.Payloads.{Sets}
 use Rattle.ndef_lang.specs.StepLaws.{rest, rest_length, take_rests}
-use Rattle.ndef_piece.specs.Header.{is_set, tnf_number}
-use Rattle.ndef_piece.specs.Heads.{IsOpen}
-use Rattle.ndef_piece.specs.Pieces as pieces
+use Rattle.ndef_format.specs.HeadReasons.{is_set, tnf_number}
+use Rattle.ndef_format.specs.Positions.{IsOpen}
+use Rattle.ndef_format.specs.Positions as pieces
 use Rattle.ndef_piece.specs.Walk.{Before, start, spot, ending_record, record_with, after, inside, outside, Walked}
 use Rattle.ndef_piece.specs.Whole.{IsSplit, shown}
 use Rattle.ndef_piece.specs.declared.head_reader.Step.TheVariants as steps
 use Rattle.ndef_piece.specs.declared.whole.WholePiece.{WholePiece}
-use Rattle.ndef_message.specs.Deep.{IsMember, IsViable}
+use Rattle.ndef_format.specs.Accepted.{IsMember, IsViable}
 use Rattle.ndef_message.specs.Feed.{Fronts, Leads, WhateverLed}
 use Rattle.ndef_message.specs.Machine.Points.{Point, InHead, AtEnd, IsAtPoint}
-use Rattle.ndef_message.specs.Machine.Accepted.{AreRecords, BeginsWith, Comes, EndsRecords, EndsRun, GoesOn, IsBehind, IsFresh, IsRecord, IsRunEnd, LeadsBetween, record_of, with_payload}
+use Rattle.ndef_message.specs.Machine.Accepted.{AreTakenRecords, BeginsWith, Comes, EndsRecords, EndsRun, RunGoesOn, IsBehind, IsFresh, IsTakenRecord, IsRunEnd, LeadsBetween, record_of, with_payload}
 use Rattle.ndef_message.specs.Machine.Format.{FormatLaws}
 use Rattle.ndef_message.specs.Machine.State.{numbers, spot_of, behind_chunk, behind_record, Stands, Knows}
 use Rattle.ndef_message.specs.declared.phase.Place.{Place}
@@ -57,7 +60,7 @@ front_and bytes front rest n k e is small =
     let m : n ≡ length front = omega arith in
     (omega arith, ap (λ n. take (n + k) bytes) m ∙ ap (take (length front + k)) e ∙ take-append-add front rest k)
 
-pub spelled_one : (p : Piece) (short : Bool) (front : List ℕ) → Spells p short front → SpellAll (p ∷ []) front
+pub spelled_one : (p : Piece) (short : Bool) (front : List ℕ) → SpellsPiece p short front → SpellsPieces (p ∷ []) front
 spelled_one p short front s = (short, front, [], sym (append-nil front), s, refl)
 
 pub walked_append : (limits : LimitValues) (ps qs : List Piece) (b c d : Before) (given items : List Item) → Walked limits b ps given c → Walked limits c qs items d → Walked limits b (ps ++ qs) (given ++ items) d
@@ -106,13 +109,13 @@ module _ (set : Sets) (limits : LimitValues) (place : Place) (bytes : List ℕ) 
       let item : record_with c.begun p ≡ record_of w = ap (λ m. record_with m p) none ∙ sym (record_is w b.no_id) in
       record {
         pieces = p ∷ [];
-        spelled = subst (SpellAll (p ∷ [])) (sym f.1) (spelled_one p (is_set 4 w.header) b.split.front b.split.spells);
+        spelled = subst (SpellsPieces (p ∷ [])) (sym f.1) (spelled_one p (is_set 4 w.header) b.split.front b.split.spells);
         walked = subst (λ m. Walked limits c (p ∷ []) (m ∷ []) (outside limits false p.last (c.records - 1))) item
             (walked_end limits c p over (subst (λ x. pieces.Stands (spot_of limits.profile x) p) e b.stands) b.one);
         members = (b.member, tt);
       }
 
-  pub record_from : IsRecord set limits place bytes taken (is_set 6 w.header)
+  pub record_from : IsTakenRecord set limits place bytes taken (is_set 6 w.header)
   record_from =
       let short = split_shorter p (is_set 4 w.header) w.rest.now bytes b.split in
       record { some = omega arith; within = omega arith; outer = b.outer; ends = λ c e none over. (record_of w, one_record c e none over) }
@@ -136,7 +139,7 @@ module _ (set : Sets) (limits : LimitValues) (place : Place) (bytes : List ℕ) 
       }
 
 -- ---- a record in pieces
-pub run_start : (limits : LimitValues) (records count room : ℕ) (m : Item) (place : Place) (bytes : List ℕ) → place ≡ numbers (inside records count room m) → GoesOn limits records count room m place bytes bytes
+pub run_start : (limits : LimitValues) (records count room : ℕ) (m : Item) (place : Place) (bytes : List ℕ) → place ≡ numbers (inside records count room m) → RunGoesOn limits records count room m place bytes bytes
 run_start limits records count room m place bytes e =
     let same : with_payload m [] ≡ m = ap (λ z. record { tnf = m.tnf; kind = m.kind; id = m.id; payload = z }) (append-nil m.payload) in
     record {
@@ -152,7 +155,7 @@ run_start limits records count room m place bytes e =
       walked = (refl, ap (inside records count room) same);
     }
 
-module _ (limits : LimitValues) (records count room : ℕ) (m : Item) (bytes rest : List ℕ) (place : Place) (g : GoesOn limits records count room m place bytes rest)
+module _ (limits : LimitValues) (records count room : ℕ) (m : Item) (bytes rest : List ℕ) (place : Place) (g : RunGoesOn limits records count room m place bytes rest)
     (p : Piece) (short : Bool) (behind : List ℕ) (split : IsSplit p short behind rest) (stands : pieces.Stands (spot_of limits.profile place) p) where
   abbrev c : Before
   c = inside records g.pieces_left g.room_left (with_payload m g.payload)
@@ -169,10 +172,10 @@ module _ (limits : LimitValues) (records count room : ℕ) (m : Item) (bytes res
   all_joined : bytes ≡ (g.front ++ split.front) ++ behind
   all_joined = g.joined ∙ ap (λ x. g.front ++ x) split.joined ∙ sym (append_assoc g.front split.front behind)
 
-  all_spelled : SpellAll (g.later ++ p ∷ []) (g.front ++ split.front)
+  all_spelled : SpellsPieces (g.later ++ p ∷ []) (g.front ++ split.front)
   all_spelled = spell_append g.later (p ∷ []) g.front split.front g.spelled (spelled_one p short split.front split.spells)
 
-  pub run_on : (place' : Place) → p.chunked ≡ true → place' ≡ behind_chunk place (length p.payload) → GoesOn limits records count room m place' bytes behind
+  pub run_on : (place' : Place) → p.chunked ≡ true → place' ≡ behind_chunk place (length p.payload) → RunGoesOn limits records count room m place' bytes behind
   run_on place' e is = record {
     later = g.later ++ p ∷ [];
     payload = g.payload ++ p.payload;
@@ -195,7 +198,7 @@ module _ (limits : LimitValues) (records count room : ℕ) (m : Item) (bytes res
           later = g.later ++ p ∷ [];
           payload = g.payload ++ p.payload;
           octets = octets_append g.payload p.payload g.octets split.spells.piece.payload;
-          spelled = subst (SpellAll (g.later ++ p ∷ [])) (sym f.1) all_spelled;
+          spelled = subst (SpellsPieces (g.later ++ p ∷ [])) (sym f.1) all_spelled;
           walked = walked_append limits g.later (p ∷ []) (inside records count room m) c (outside limits false p.last (records - 1)) [] (more ∷ []) g.walked
               (subst (λ x. Walked limits c (p ∷ []) (x ∷ []) (outside limits false p.last (records - 1))) more_is (walked_end limits c p refl at_c e));
         },
@@ -204,7 +207,7 @@ module _ (limits : LimitValues) (records count room : ℕ) (m : Item) (bytes res
 -- a piece that begins a run, and the run
 pub run_from : (set : Sets) (limits : LimitValues) (place : Place) (bytes : List ℕ) (p : Piece) (short : Bool) (rest : List ℕ) (taken k : ℕ) (last : Bool) (next : Place) → IsSplit p short rest bytes
     → pieces.Stands (spot_of limits.profile place) p → p.chunked ≡ true → place.inside ≡ false → ((s : List ℕ) → AreOctets s → set (kind_of (tnf_of p.tnf) p.kind) limits.records limits.profile s) → taken ≡ length bytes - length rest
-    → next ≡ behind_chunk place (length p.payload) → k ≤ length rest → IsRunEnd limits next (take k rest) last → IsRecord set limits place bytes (taken + k) last
+    → next ≡ behind_chunk place (length p.payload) → k ≤ length rest → IsRunEnd limits next (take k rest) last → IsTakenRecord set limits place bytes (taken + k) last
 run_from set limits place bytes p short rest taken k last next split stands chunked outer any is ne small run =
     let f = front_and bytes split.front rest taken k split.joined is small in
     let shorter = split_shorter p short rest bytes split in
@@ -221,7 +224,7 @@ run_from set limits place bytes p short rest taken k last next split stands chun
             with_payload m r.payload,
             record {
               pieces = p ∷ r.later;
-              spelled = subst (SpellAll (p ∷ r.later)) (sym f.1) (spell_append (p ∷ []) r.later split.front (take k rest) (spelled_one p short split.front split.spells) r.spelled);
+              spelled = subst (SpellsPieces (p ∷ r.later)) (sym f.1) (spell_append (p ∷ []) r.later split.front (take k rest) (spelled_one p short split.front split.spells) r.spelled);
               walked = walked_append limits (p ∷ []) r.later c d (outside limits false last (c.records - 1)) [] (with_payload m r.payload ∷ []) w r.walked;
               members = (any (p.payload ++ r.payload) (octets_append p.payload r.payload split.spells.piece.payload r.octets), tt);
             },
@@ -229,14 +232,14 @@ run_from set limits place bytes p short rest taken k last next split stands chun
     }
 
 -- ---- records
-pub records_start : (set : Sets) (limits : LimitValues) (place : Place) (bytes : List ℕ) → AreRecords set limits place bytes 0 place false
+pub records_start : (set : Sets) (limits : LimitValues) (place : Place) (bytes : List ℕ) → AreTakenRecords set limits place bytes 0 place false
 records_start set limits place bytes = record {
   within = omega arith;
   comes = λ c e none over. record { there = c; place_is = e; no_run = none; over = over; some = λ h. absurd (omega arith); pieces = []; items = []; spelled = refl; walked = (refl, refl); members = tt };
 }
 
-pub records_on : (set : Sets) (limits : LimitValues) (place mid place' : Place) (bytes : List ℕ) (at n : ℕ) (last : Bool) → AreRecords set limits place bytes at mid false → IsRecord set limits mid (rest bytes at) n last
-    → place' ≡ behind_record limits mid → AreRecords set limits place bytes (at + n) place' last
+pub records_on : (set : Sets) (limits : LimitValues) (place mid place' : Place) (bytes : List ℕ) (at n : ℕ) (last : Bool) → AreTakenRecords set limits place bytes at mid false → IsTakenRecord set limits mid (rest bytes at) n last
+    → place' ≡ behind_record limits mid → AreTakenRecords set limits place bytes (at + n) place' last
 records_on set limits place mid place' bytes at n last g r is =
     let small = g.within in
     let more = r.within in
@@ -254,7 +257,7 @@ records_on set limits place mid place' bytes at n last g r is =
             some = λ h. refl;
             pieces = x.pieces ++ y.1.pieces;
             items = x.items ++ y.0 ∷ [];
-            spelled = subst (SpellAll (x.pieces ++ y.1.pieces)) (take_rests bytes at n) (spell_append x.pieces y.1.pieces (take at bytes) (take n (rest bytes at)) x.spelled y.1.spelled);
+            spelled = subst (SpellsPieces (x.pieces ++ y.1.pieces)) (take_rests bytes at n) (spell_append x.pieces y.1.pieces (take at bytes) (take n (rest bytes at)) x.spelled y.1.spelled);
             walked = walked_append limits x.pieces y.1.pieces c x.there d x.items (y.0 ∷ []) x.walked y.1.walked;
             members = members_append set limits x.items (y.0 ∷ []) x.members y.1.members;
           };
@@ -324,7 +327,7 @@ module _ (laws : FormatLaws) {L : Type 0} {language : Ghosts L} {limits : LimitV
       let opens : last ≡ false → IsOpen (spot limits.profile d) [] = λ e. subst (λ x. IsOpen (spot_of limits.profile x) []) is (behind.opens e) in
       by_end last ps w s all more (behind.place_is ∙ is) reader opens behind.phase_is
     where
-      by_end : (last : Bool) (ps : List Piece) → Walked limits (start limits) ps (given ++ items) (outside limits false last left) → SpellAll ps (at.done ++ t) → bytes ++ t ≡ (at.done ++ t) ++ []
+      by_end : (last : Bool) (ps : List Piece) → Walked limits (start limits) ps (given ++ items) (outside limits false last left) → SpellsPieces ps (at.done ++ t) → bytes ++ t ≡ (at.done ++ t) ++ []
           → IsViable language.set limits (bytes ++ t) → new.place ≡ numbers (outside limits false last left)
           → (last ≡ false → new.reader ≡ record { spot = spot limits.profile (outside limits false last left); octets = []; answer = steps.More }) → (last ≡ false → IsOpen (spot limits.profile (outside limits false last left)) [])
           → new.phase ≡ (if last then phases.Done else phases.Head) → LeadsBetween (Stands language limits new) (bytes ++ t) (given ++ items)

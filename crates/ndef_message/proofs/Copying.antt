@@ -4,18 +4,20 @@ use Rattle.std.specs.Prelude.{unwrap_or, if◌then◌else◌}
 use Rattle.std.proofs.lemmas.List.{append-nil, length-take-le, take-append-drop}
 use Rattle.std.proofs.Math.Seq.{take-append_seam}
 use Rattle.ndef_value.specs.ListLaws.{octets_taken}
-use Rattle.ndef_value.specs.Wire.{Item, Piece, Fields, AreInRange, AreOctets, fields, octets, body}
+use Rattle.ndef_format.specs.Messages.{Item}
+use Rattle.ndef_format.specs.Records.{Piece, HeadFields, AreOctets, fields, octets, body}
+use Rattle.ndef_format.specs.Limits.{AreInRange}
 use Rattle.ndef_lang.specs.declared.language.Language.{Ghosts}
-use Rattle.ndef_piece.specs.Header.{is_set}
-use Rattle.ndef_piece.specs.Heads.{MayStand}
-use Rattle.ndef_piece.specs.Pieces as pieces
+use Rattle.ndef_format.specs.HeadReasons.{is_set}
+use Rattle.ndef_format.specs.Positions.{MayStand}
+use Rattle.ndef_format.specs.Positions as pieces
 use Rattle.ndef_piece.specs.Walk.{start, spot, Walked}
 use Rattle.ndef_piece.specs.Whole.{shown}
 use Rattle.ndef_piece.specs.declared.whole.WholePiece.{WholePiece}
 use Rattle.ndef_message.specs.Decoding.{EndsThere, Wants}
-use Rattle.ndef_message.specs.Deep.{IsViable}
+use Rattle.ndef_format.specs.Accepted.{IsViable}
 use Rattle.ndef_message.specs.Feed.{WhateverLed}
-use Rattle.ndef_message.specs.Machine.Points.{Point, field_of, IsAtPoint, InType, InId, InPayload, before, octets_so_far, IsPart, IsProper, opened_at, IsBetween}
+use Rattle.ndef_message.specs.Machine.Points.{Point, field_of, IsAtPoint, InType, InId, InPayload, before, octets_at, IsPartAt, IsProperAt, opened_at, IsBetweenRecords}
 use Rattle.ndef_message.specs.Machine.Accepted.{BeginsWith, IsFresh, LeadsBetween, record_of}
 use Rattle.ndef_message.specs.Machine.Checkers.{CheckerReached}
 use Rattle.ndef_message.specs.Machine.DecoderState.{DecoderKnows}
@@ -27,7 +29,7 @@ use Rattle.ndef_message.specs.declared.checker.Checker.{Checker}
 use Rattle.ndef_message.specs.declared.phase.Phase.TheVariants as phases
 use Rattle.ndef_message.proofs.Accepting.{AtBetween, between, front_of, record_is}
 use Rattle.ndef_message.proofs.Feeding.{going}
-use Rattle.ndef_message.specs.Machine.SeenLaws.{id_count}
+use Rattle.ndef_piece.specs.HeaderLaws.{id_count}
 use Rattle.ndef_message.proofs.Placed.{placed, records_there}
 use Rattle.ndef_message.proofs.Rests.{viable_front}
 use Rattle.ndef_message.proofs.Taking.{ends_there}
@@ -51,7 +53,7 @@ before_payload o k i z = simp (append_assoc, append-nil)
 
 -- ---- what is kept between records
 
-between_opened : (point : Point) → IsBetween point → opened_at point ≡ no_octets
+between_opened : (point : Point) → IsBetweenRecords point → opened_at point ≡ no_octets
 between_opened point (c, none, inl e) = ap opened_at e ∙ ap (λ b. opened_head b []) none
 between_opened point (c, none, inr e) = ap opened_at e
 
@@ -105,7 +107,7 @@ module _ (laws : FormatLaws) {L : Type 0} {language : Ghosts L} (old new : Check
 
   -- ---- memory was refused for a copy
 
-  abbrev f : Fields
+  abbrev f : HeadFields
   f = fields p (is_set 4 w.header)
 
   front_is : t ≡ octets f ++ body p
@@ -116,13 +118,13 @@ module _ (laws : FormatLaws) {L : Type 0} {language : Ghosts L} (old new : Check
       let s = begins.split.spells in
       (laws.to_heads (spot old.limits.profile stood.c) p (is_set 4 w.header) s.piece s.form).0 (subst (λ x. pieces.Stands (spot_of old.limits.profile x) p) stood.place_is begins.stands)
 
-  part : (k i z : List ℕ) → AreOctets k → AreOctets i → AreOctets z → IsPart old.limits stood.c f k i z
+  part : (k i z : List ℕ) → AreOctets k → AreOctets i → AreOctets z → IsPartAt old.limits stood.c f k i z
   part k i z a b d = record { goes_on = stood.over; stands = may_stand; kind_octets = a; id_octets = b; payload_octets = d }
 
   -- at the field of one of its bytes
-  wants_at : (point' : Point) (more : List ℕ) → before point' ≡ stood.c → t ≡ octets_so_far point' ++ more → 0 < length more → IsProper old.limits point' → MayGrow (field_of point') → Wants language.set old.limits bytes given t
+  wants_at : (point' : Point) (more : List ℕ) → before point' ≡ stood.c → t ≡ octets_at point' ++ more → 0 < length more → IsProperAt old.limits point' → MayGrow (field_of point') → Wants language.set old.limits bytes given t
   wants_at point' more at_c e some proper grows =
-      let so_far = octets_so_far point' in
+      let so_far = octets_at point' in
       let count = length so_far in
       let cut : take count t ≡ so_far = ap (take count) e ∙ take-append_seam so_far more in
       let start_is : bytes ≡ stood.at.done = stood.at.split ∙ append-nil stood.at.done in

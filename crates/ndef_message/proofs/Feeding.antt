@@ -1,17 +1,18 @@
 -- Bytes of one field after another.
 use Rattle.std.proofs.Common.{◌≡◌, ◌≢◌, ℕ, ◌+◌, ◌<◌, ◌≤◌, ◌^◌, inl, inr, refl, sym, ◌∙◌, ap, subst, arith, List, [], ◌∷◌, ◌++◌, length, take, drop, append_assoc, Some, None, get_or}
 use Rattle.std.proofs.lemmas.List.{append-nil, take_all, take-append-drop}
-use Rattle.ndef_value.specs.Wire.{Item, LimitValues, AreInRange}
+use Rattle.ndef_format.specs.Messages.{Item}
+use Rattle.ndef_format.specs.Limits.{LimitValues, AreInRange}
 use Rattle.ndef_lang.specs.StepLaws.{rest, take_rests}
 use Rattle.ndef_lang.specs.declared.language.Language.{Ghosts}
 use Rattle.ndef_message.specs.Machine.Checkers.{CheckerReached}
-use Rattle.ndef_message.specs.Deep.{IsDeep, IsViable}
+use Rattle.ndef_format.specs.Accepted.{IsAccepted, IsViable}
 use Rattle.ndef_message.specs.Machine.Points.{Point, IsAtPoint}
 use Rattle.ndef_message.specs.Machine.Moves.{point_with}
 use Rattle.ndef_message.specs.Feed.{SomeLed, Fronts, WhateverLed, Leads, Feeds}
 use Rattle.ndef_message.specs.Machine.State.{answer_of, Matches, Stands, Reached, Onward, Knows}
 use Rattle.ndef_message.specs.Machine.Format.{FormatLaws}
-use Rattle.ndef_message.specs.Place.{Refuses}
+use Rattle.ndef_format.specs.Refusals.{Refuses}
 use Rattle.ndef_message.specs.declared.checker.Checker.{Checker}
 use Rattle.ndef_message.specs.declared.fed.Fed.{Fed}
 use Rattle.ndef_message.specs.declared.fed.Fed.TheVariants as fed
@@ -81,7 +82,7 @@ module _ (laws : FormatLaws) {L : Type 0} {language : Ghosts L} (c : Checker L l
       let q : fed.Done at ≡ answer = cc in
       subst (Feeds language.set language.holds c.limits (CheckerReached c) front bytes) q (h, whole k.1, (given, point, k))
     where
-      whole : Reached language c.limits c.state (front ++ take at bytes) given point → IsDeep language.set c.limits (front ++ take at bytes)
+      whole : Reached language c.limits c.state (front ++ take at bytes) given point → IsAccepted language.set c.limits (front ++ take at bytes)
       whole (inl s) =
           let d = done_point language c.limits c.state point w s.matches in
           ended laws language.set c.limits range (front ++ take at bytes) given d.0 (subst (IsAtPoint c.limits (front ++ take at bytes) given) d.1 s.at) s.viable
@@ -111,8 +112,8 @@ module _ (laws : FormatLaws) {L : Type 0} {language : Ghosts L} (c : Checker L l
     feeds_more e h k =
         let all : front ++ take at bytes ≡ front ++ bytes = ap (λ y. front ++ y) (take_all at bytes (omega arith)) in
         let s = going language c.limits c.state at (front ++ take at bytes) k.0 k.1 e k.2.1 in
-        let no : ¬ IsDeep language.set c.limits (front ++ bytes) = λ d.
-        let u = unended laws language.set c.limits range (front ++ take at bytes) k.0 k.1 s.at (subst (IsDeep language.set c.limits) (sym all) d) in
+        let no : ¬ IsAccepted language.set c.limits (front ++ bytes) = λ d.
+        let u = unended laws language.set c.limits range (front ++ take at bytes) k.0 k.1 s.at (subst (IsAccepted language.set c.limits) (sym all) d) in
         let m = subst (Matches language c.limits c.state) u.1 s.matches in
         not_done language c.limits c.state at e m.1 in
         subst (λ l. Feeds language.set language.holds l (CheckerReached c) front bytes fed.More) same

@@ -1,11 +1,13 @@
 -- What fronts tell.
 use Rattle.std.proofs.Common.{◌≡◌, ℕ, ◌<◌, ◌≤◌, inl, inr, refl, sym, ◌∙◌, ap, subst, arith, List, [], ◌∷◌, ◌++◌, length, map, take, append-nil, length-append}
 use Rattle.std.proofs.Math.Seq.{take-append_seam}
-use Rattle.ndef_value.specs.Wire.{run_record, LimitValues}
-use Rattle.ndef_lang.specs.Language.{Sets}
-use Rattle.ndef_piece.specs.Field.{IsAt, OneField}
-use Rattle.ndef_message.specs.Deep.{IsViable}
-use Rattle.ndef_message.specs.Opened.{IsTaken, begun_record, open_record, bytes_held, OneLed, OneHeld}
+use Rattle.ndef_format.specs.Messages.{run_record}
+use Rattle.ndef_format.specs.Limits.{LimitValues}
+use Rattle.ndef_format.specs.Payloads.{Sets}
+use Rattle.ndef_format.specs.Positions.{IsAt, begun_record}
+use Rattle.ndef_piece.specs.Field.{OneField}
+use Rattle.ndef_format.specs.Accepted.{IsViable}
+use Rattle.ndef_message.specs.Opened.{IsTaken, open_record, bytes_held, OneLed, OneHeld}
 use Rattle.ndef_message.proofs.Places.{order}
 
 -- where a byte was refused the bytes taken aren't all

@@ -1,11 +1,12 @@
 -- What led to a checker or a decoder ends the records that were given, and leads to a field.
 use Rattle.std.proofs.Common.{◌≡◌, ℕ, sym, List, [], ◌∷◌, ◌++◌, append-nil, arith, Some, None, inl, inr}
-use Rattle.ndef_value.specs.Wire.{Item, LimitValues}
+use Rattle.ndef_format.specs.Messages.{Item}
+use Rattle.ndef_format.specs.Limits.{LimitValues}
 use Rattle.ndef_lang.specs.declared.language.Language.{Ghosts}
 use Rattle.ndef_piece.specs.Walk.{WalksAreCounted}
 use Rattle.ndef_message.specs.Feed.{WhateverLed}
-use Rattle.ndef_lang.specs.Language.{Sets}
-use Rattle.ndef_message.specs.Deep.{IsViable}
+use Rattle.ndef_format.specs.Payloads.{Sets}
+use Rattle.ndef_format.specs.Accepted.{IsViable}
 use Rattle.ndef_message.specs.Opened.{IsTaken, HasLed}
 use Rattle.ndef_message.specs.Machine.Points.{Point, field_of, IsAtPoint}
 use Rattle.ndef_message.specs.Machine.Decoders.{DecoderReached, decoder_limits}

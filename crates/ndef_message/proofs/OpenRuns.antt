@@ -3,16 +3,19 @@ use Rattle.std.proofs.Common.{◌≡◌, ℕ, ◌-◌, ◌<◌, ◌^◌, Bool, t
 use Rattle.std.specs.Prelude.{is_some}
 use Rattle.std.proofs.lemmas.List.{append-nil}
 use Rattle.ndef_value.specs.ListLaws.{octets_append, octets_back}
-use Rattle.ndef_value.specs.Wire.{Item, LimitValues, AreInRange, AreOctets, SpellAll, body, fields, octets}
-use Rattle.ndef_lang.specs.Kind.{kind_of}
-use Rattle.ndef_lang.specs.Language.{Sets, AllPass, AllReach}
+use Rattle.ndef_format.specs.Messages.{Item, SpellsPieces}
+use Rattle.ndef_format.specs.Limits.{LimitValues, AreInRange}
+use Rattle.ndef_format.specs.Records.{AreOctets, body, fields, octets}
+use Rattle.ndef_format.specs.Kinds.{kind_of}
+use Rattle.ndef_format.specs.Payloads.{Sets}
+use Rattle.ndef_lang.specs.Language.{AllPass, AllReach}
 use Rattle.ndef_lang.specs.declared.language.Language.{Ghosts}
-use Rattle.ndef_piece.specs.Heads.{IsOpen}
+use Rattle.ndef_format.specs.Positions.{IsOpen}
 use Rattle.ndef_piece.specs.Walk.{Before, start, record_with, inside, Walked}
 use Rattle.ndef_piece.specs.declared.head_reader.Step.TheVariants as steps
-use Rattle.ndef_message.specs.Deep.{IsMember, IsViable}
+use Rattle.ndef_format.specs.Accepted.{IsMember, IsViable}
 use Rattle.ndef_message.specs.Feed.{Leads, WhateverLed}
-use Rattle.ndef_message.specs.Machine.Accepted.{AreChunks, GoesOn, IsAtChunk, IsBehindChunks, with_payload}
+use Rattle.ndef_message.specs.Machine.Accepted.{AreChunks, RunGoesOn, IsAtChunk, IsBehindChunks, with_payload}
 use Rattle.ndef_message.specs.Machine.Format.{FormatLaws}
 use Rattle.ndef_message.specs.Machine.Payload.{completes}
 use Rattle.ndef_message.specs.Machine.Points.{Point, InHead, IsAtPoint}
@@ -28,8 +31,8 @@ use Rattle.ndef_message.proofs.Rests.{spell_append}
 use Rattle.ndef_message.proofs.Viable.{viable}
 
 -- the run as far as it has come, without the bytes to come
-pub run_cut : (limits : LimitValues) (records count room : ℕ) (m : Item) (bytes rest : List ℕ) (place : Place) → GoesOn limits records count room m place bytes rest
-    → (n : ℕ) → n ≡ length bytes - length rest → GoesOn limits records count room m place (take n bytes) []
+pub run_cut : (limits : LimitValues) (records count room : ℕ) (m : Item) (bytes rest : List ℕ) (place : Place) → RunGoesOn limits records count room m place bytes rest
+    → (n : ℕ) → n ≡ length bytes - length rest → RunGoesOn limits records count room m place (take n bytes) []
 run_cut limits records count room m bytes rest place g n is = record {
   later = g.later;
   payload = g.payload;
@@ -133,7 +136,7 @@ chunks_lead laws language limits range old new place t octets_of fresh chunks be
     let ps = a.at.pieces ++ g.later in
     let done = a.at.done ++ g.front in
     let w : Walked limits (start limits) ps given d = subst (λ x. Walked limits (start limits) ps x d) (append-nil given) (walked_append limits a.at.pieces g.later (start limits) c d given [] a.at.walked g.walked) in
-    let spelled : SpellAll ps done = spell_append a.at.pieces g.later a.at.done g.front a.at.spelled g.spelled in
+    let spelled : SpellsPieces ps done = spell_append a.at.pieces g.later a.at.done g.front a.at.spelled g.spelled in
     let split : bytes ++ t ≡ done ++ [] = ap (λ x. x ++ t) (a.at.split ∙ append-nil a.at.done) ∙ ap (λ x. a.at.done ++ x) (g.joined ∙ append-nil g.front) ∙ sym (append-nil done) in
     let members = given_members laws language.set limits range bytes given (InHead c []) a.at a.viable_is in
     let speaks = speaks_on language limits old.payload octets_of fresh.future fresh.reached a.m g.payload g.octets a.speaks in

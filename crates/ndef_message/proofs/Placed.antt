@@ -1,16 +1,17 @@
 -- A point that bytes lead to is a field behind whole runs and the pieces of an open one.
 use Rattle.std.proofs.Common.{◌≡◌, ℕ, Bool, refl, sym, ◌∙◌, ap, subst, List, [], ◌∷◌, ◌++◌, map, append-nil, None, inl, inr}
-use Rattle.ndef_value.specs.Wire.{Item, Piece, Run, SpellAll, all_pieces, run_record, octets, LimitValues}
-use Rattle.ndef_value.specs.declared.reason.Reason.{Reason}
-use Rattle.ndef_lang.specs.Language.{Conditions}
-use Rattle.ndef_piece.specs.declared.spot.Spot.{Spot}
-use Rattle.ndef_piece.specs.Heads.{IsOpen, MayStand}
+use Rattle.ndef_format.specs.Messages.{Item, SpellsPieces, all_pieces, run_record}
+use Rattle.ndef_format.specs.Records.{Piece, Run, octets}
+use Rattle.ndef_format.specs.Limits.{LimitValues}
+use Rattle.ndef_format.specs.declared.reason.Reason.{Reason}
+use Rattle.ndef_format.specs.Reasons.{Conditions}
+use Rattle.ndef_format.specs.declared.spot.Spot.{Spot}
+use Rattle.ndef_format.specs.Positions.{IsOpen, MayStand, spot_after, IsAt, EndsAt, AreBefore, begun_record}
 use Rattle.ndef_piece.specs.Walk.{Before, spot, standing, IsCounted, WalksAreCounted}
-use Rattle.ndef_piece.specs.Field as fields
-use Rattle.ndef_piece.specs.Field.{spot_after, IsAt, EndsAt, AreBefore}
-use Rattle.ndef_message.specs.Opened.{begun_record, AreRecords}
-use Rattle.ndef_message.specs.Place.{IsReason, IsReasonOf}
-use Rattle.ndef_message.specs.Machine.Points.{Point, InHead, InType, InId, InPayload, AtEnd, before, field_of, octets_so_far, IsPart, IsProper, IsAtPoint, IsReasonAt, IsBetween}
+use Rattle.ndef_format.specs.Positions as fields
+use Rattle.ndef_message.specs.Opened.{AreRecords}
+use Rattle.ndef_format.specs.Refusals.{IsReason, IsReasonOf}
+use Rattle.ndef_message.specs.Machine.Points.{Point, InHead, InType, InId, InPayload, AtEnd, before, field_of, octets_at, IsPartAt, IsProperAt, IsAtPoint, IsReasonAt, IsBetweenRecords}
 
 -- the runs and the open pieces before a point, and its field
 pub record Placed (limits : LimitValues) (bytes : List ℕ) (given : List Item) (point : Point) : Type 0 where
@@ -21,25 +22,25 @@ pub record Placed (limits : LimitValues) (bytes : List ℕ) (given : List Item) 
   pub record_is : (before point).begun ≡ begun_record begun
   pub spot_is : spot limits.profile (before point) ≡ spot_after limits runs begun
 
-same_octets : (point : Point) → octets_so_far point ≡ fields.octets_so_far (field_of point)
+same_octets : (point : Point) → octets_at point ≡ fields.octets_so_far (field_of point)
 same_octets (InHead c xs) = refl
 same_octets (InType c f kind) = ap (λ y. octets f ++ y) (append-nil kind)
 same_octets (InId c f kind id) = ap (λ y. octets f ++ (kind ++ y)) (append-nil id)
 same_octets (InPayload c f kind id payload) = refl
 same_octets (AtEnd c) = refl
 
-part_at : (limits : LimitValues) (place : Spot) (c : Before) (f : _) (kind id payload : List ℕ) → spot limits.profile c ≡ place → IsPart limits c f kind id payload → fields.IsPart place f kind id payload
+part_at : (limits : LimitValues) (place : Spot) (c : Before) (f : _) (kind id payload : List ℕ) → spot limits.profile c ≡ place → IsPartAt limits c f kind id payload → fields.IsPart place f kind id payload
 part_at limits place c f kind id payload e p =
     record { stands = subst (λ x. MayStand x f) e p.stands; name_octets = p.kind_octets; id_octets = p.id_octets; content_octets = p.payload_octets }
 
-proper_at : (limits : LimitValues) (place : Spot) (point : Point) → spot limits.profile (before point) ≡ place → IsProper limits point → fields.IsProper place (field_of point)
+proper_at : (limits : LimitValues) (place : Spot) (point : Point) → spot limits.profile (before point) ≡ place → IsProperAt limits point → fields.IsProper place (field_of point)
 proper_at limits place (InHead c xs) e p = subst (λ x. IsOpen x xs) e p.1
 proper_at limits place (InType c f kind) e p = (part_at limits place c f kind [] [] e p.0, p.1)
 proper_at limits place (InId c f kind id) e p = (part_at limits place c f kind id [] e p.0, p.1, p.2)
 proper_at limits place (InPayload c f kind id payload) e p = (part_at limits place c f kind id payload e p.0, p.1, p.2, p.3)
 proper_at limits place (AtEnd c) e p = tt
 
-ends_at : (limits : LimitValues) (ps : List Piece) (given : List Item) (point : Point) → IsCounted limits ps given (before point) → IsProper limits point → EndsAt (field_of point) ps
+ends_at : (limits : LimitValues) (ps : List Piece) (given : List Item) (point : Point) → IsCounted limits ps given (before point) → IsProperAt limits point → EndsAt (field_of point) ps
 ends_at limits ps given (InHead c xs) k p = k.not_over p.0
 ends_at limits ps given (InType c f kind) k p = k.not_over p.0.goes_on
 ends_at limits ps given (InId c f kind id) k p = k.not_over p.0.goes_on
@@ -60,7 +61,7 @@ placed counted limits bytes given point a =
       at = record {
         front = a.done;
         split = a.split ∙ ap (λ y. a.done ++ y) (same_octets point);
-        spelled = subst (λ ps. SpellAll ps a.done) k.pieces_are a.spelled;
+        spelled = subst (λ ps. SpellsPieces ps a.done) k.pieces_are a.spelled;
         before = k.before;
         ends = subst (EndsAt (field_of point)) k.pieces_are (ends_at limits a.pieces given point k a.proper);
         proper = proper_at limits (spot_after limits k.runs k.begun) point k.spot_is a.proper;
@@ -93,13 +94,13 @@ none_begun [] e = refl
 none_begun (p ∷ begun) e = cc
 
 -- where no record is begun the bytes are those of records
-pub records_there : WalksAreCounted → (limits : LimitValues) (bytes : List ℕ) (given : List Item) (point : Point) → IsBetween point → IsAtPoint limits bytes given point → AreRecords limits bytes given
+pub records_there : WalksAreCounted → (limits : LimitValues) (bytes : List ℕ) (given : List Item) (point : Point) → IsBetweenRecords point → IsAtPoint limits bytes given point → AreRecords limits bytes given
 records_there counted limits bytes given point between a = by_side between
   where
     p : Placed limits bytes given point
     p = placed counted limits bytes given point a
 
-    at : (before point).begun ≡ None → octets_so_far point ≡ [] → AreRecords limits bytes given
+    at : (before point).begun ≡ None → octets_at point ≡ [] → AreRecords limits bytes given
     at none empty =
         let begun = none_begun p.begun (sym p.record_is ∙ none) in
         let all : bytes ≡ p.at.front = p.at.split ∙ ap (λ y. p.at.front ++ y) (sym (same_octets point) ∙ empty) ∙ append-nil p.at.front in
@@ -107,9 +108,9 @@ records_there counted limits bytes given point between a = by_side between
           runs = p.runs;
           means = p.means;
           before = runs_alone p.at.before;
-          spelled = subst (λ ps. SpellAll ps bytes) (ap (λ y. all_pieces p.runs ++ y) begun ∙ append-nil (all_pieces p.runs)) (subst (SpellAll (all_pieces p.runs ++ p.begun)) (sym all) p.at.spelled);
+          spelled = subst (λ ps. SpellsPieces ps bytes) (ap (λ y. all_pieces p.runs ++ y) begun ∙ append-nil (all_pieces p.runs)) (subst (SpellsPieces (all_pieces p.runs ++ p.begun)) (sym all) p.at.spelled);
         }
 
-    by_side : IsBetween point → AreRecords limits bytes given
-    by_side (c, none, inl e) = at (ap (λ x. (before x).begun) e ∙ none) (ap octets_so_far e)
-    by_side (c, none, inr e) = at (ap (λ x. (before x).begun) e ∙ none) (ap octets_so_far e)
+    by_side : IsBetweenRecords point → AreRecords limits bytes given
+    by_side (c, none, inl e) = at (ap (λ x. (before x).begun) e ∙ none) (ap octets_at e)
+    by_side (c, none, inr e) = at (ap (λ x. (before x).begun) e ∙ none) (ap octets_at e)

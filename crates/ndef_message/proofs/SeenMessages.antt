@@ -1,14 +1,17 @@
 -- What is seen of a message that was checked.
 use Rattle.std.proofs.Common.{◌≡◌, ℕ, ◌<◌, ◌≤◌, ◌^◌, refl, sym, ◌∙◌, ap, subst, arith, List, [], ◌∷◌, length, map, take, length-take-le, Ok}
 use Rattle.std.specs.List.{AllByRecursion}
-use Rattle.ndef_value.specs.Wire.{Run, Item, pieces, all_pieces, payload_of, run_record, IsRun, IsShaped, FlatBy, BeginsOnce, LimitValues, AreInRange, OneMeaning}
-use Rattle.ndef_value.specs.declared.profile.Profile.{Profile}
-use Rattle.ndef_lang.specs.Language.{Sets, Conditions}
+use Rattle.ndef_format.specs.Records.{Run, pieces, IsRun}
+use Rattle.ndef_format.specs.Messages.{Item, all_pieces, payload_of, run_record, IsShaped, SpellsBy, BeginsOnce}
+use Rattle.ndef_format.specs.Limits.{LimitValues, AreInRange}
+use Rattle.ndef_format.specs.Laws.{OneMeaning, NoPrefixIsAccepted}
+use Rattle.ndef_format.specs.declared.profile.Profile.{Profile}
+use Rattle.ndef_format.specs.Payloads.{Sets}
+use Rattle.ndef_format.specs.Reasons.{Conditions}
 use Rattle.ndef_message.specs.Checkings.{HasRecords}
-use Rattle.ndef_message.specs.Deep.{Deep, IsMember}
-use Rattle.ndef_message.specs.Place.{NoPrefixIsDeep}
-use Rattle.ndef_message.specs.Machine.Seen.{AreRuns, AreChecked, IsRecord, pieces_of, runs_of, viewed_of}
-use Rattle.ndef_message.specs.Views.{Viewed, Views, OneView, NeverRefused}
+use Rattle.ndef_format.specs.Accepted.{Accepted, IsMember}
+use Rattle.ndef_message.specs.Machine.Seen.{AreRuns, AreChecked, IsSeenRecord, pieces_of, runs_of, viewed_of}
+use Rattle.ndef_message.specs.Views.{Viewed, Views, OneView, NeverRefusedInView}
 use Rattle.ndef_message.proofs.ReadBack.{one_front}
 use Rattle.ndef_message.specs.Machine.SeenLaws.{pieces_told, runs_told, follow_of_read, flat_told}
 
@@ -21,7 +24,7 @@ length_joined [] = refl
 length_joined (r ∷ rs) = let e = length_joined rs in omega (arith, e)
 
 reads : (profile : Profile) (most : ℕ) (rs : List Run) → most < 2 ^ 32 → AllByRecursion (IsRun profile) rs → AllByRecursion IsShaped (map run_record rs)
-    → AllByRecursion (λ r. length (payload_of (pieces r)) ≤ most) rs → AllByRecursion IsRecord rs
+    → AllByRecursion (λ r. length (payload_of (pieces r)) ≤ most) rs → AllByRecursion IsSeenRecord rs
 reads profile most [] n a b c = tt
 reads profile most (r ∷ rs) n a b c =
     (record { follow = a.0.follow; shaped = b.0; small = let k = c.0 in omega (arith, k, n) }, reads profile most rs n a.1 b.1 c.1)
@@ -31,19 +34,19 @@ some_runs [] b = absurd b
 some_runs (r ∷ rs) b = omega arith
 
 module _ (set : Sets) (limits : LimitValues) where
-  deep_runs : (bytes : List ℕ) (items : List Item) → AreInRange limits → Deep set limits items bytes → AreRuns bytes
+  deep_runs : (bytes : List ℕ) (items : List Item) → AreInRange limits → Accepted set limits items bytes → AreRuns bytes
   deep_runs bytes items range d = record {
     runs = d.runs;
-    spelled = d.flat.spelled;
-    read = reads limits.profile limits.payload d.runs range.payload.1 d.flat.message.each_run (subst (AllByRecursion IsShaped) (sym d.flat.message.items) d.flat.message.shaped) d.within.small;
+    spelled = d.spelling.spelled;
+    read = reads limits.profile limits.payload d.runs range.payload.1 d.spelling.message.each_run (subst (AllByRecursion IsShaped) (sym d.spelling.message.items) d.spelling.message.shaped) d.within.small;
   }
 
   -- the bytes of a message, to be looked at
   pub message_seen : (bytes : List ℕ) (records : ℕ) → AreInRange limits → HasRecords set limits bytes records → AreChecked bytes records
   unfolding deep_runs
   message_seen bytes records range (items, d, n) =
-      let k : length items ≡ length d.runs = ap length (sym d.flat.message.items) ∙ length_joined d.runs in
-      let s = some_runs d.runs d.flat.message.begins in
+      let k : length items ≡ length d.runs = ap length (sym d.spelling.message.items) ∙ length_joined d.runs in
+      let s = some_runs d.runs d.spelling.message.begins in
       let f = d.within.few_records in
       let r = range.records.1 in
       record { whole = deep_runs bytes items range d; records_are = n ∙ k; some = omega (arith, n, k, s); few = omega (arith, n, k, f, r) }
@@ -55,13 +58,13 @@ module _ (set : Sets) (limits : LimitValues) where
   views_of holds input taken records profile v range n (items, d, k) p e =
       let runs : v.runs ≡ d.runs = ap (λ v. v.runs) e ∙ whole_told (deep_runs (take taken input) items range d) in
       let bytes : v.taken ≡ taken = ap (λ v. v.taken) e ∙ length-take-le taken input n in
-      let same : items ≡ map run_record d.runs = sym d.flat.message.items in
+      let same : items ≡ map run_record d.runs = sym d.spelling.message.items in
       rw (runs, bytes) (
         n,
         (
           record {
             runs = d.runs;
-            flat = subst (λ m. FlatBy limits.profile d.runs m (take taken input)) same d.flat;
+            spelling = subst (λ m. SpellsBy limits.profile d.runs m (take taken input)) same d.spelling;
             within = d.within;
             members = subst (AllByRecursion (IsMember set limits)) same d.members;
           },
@@ -82,9 +85,9 @@ one_view meaning set holds limits input v items count r h d =
     let e = r.1.0 in
     let t = one_front meaning set limits input items (map run_record v.runs) count v.taken h r.0 d e in
     let runs : d.runs ≡ v.runs =
-    sym (flat_told limits.profile d.runs items (take count input) d.flat) ∙ ap (λ n. runs_of (pieces_of (take n input))) t.1
-    ∙ flat_told limits.profile e.runs (map run_record v.runs) (take v.taken input) e.flat ∙ r.1.1 in
+    sym (flat_told limits.profile d.runs items (take count input) d.spelling) ∙ ap (λ n. runs_of (pieces_of (take n input))) t.1
+    ∙ flat_told limits.profile e.runs (map run_record v.runs) (take v.taken input) e.spelling ∙ r.1.1 in
     record { items_are = t.0; runs_are = runs; count_is = t.1 }
 
-pub never_refused : (set : Sets) (holds : Conditions) → NoPrefixIsDeep set → NeverRefused set holds
+pub never_refused : (set : Sets) (holds : Conditions) → NoPrefixIsAccepted set → NeverRefusedInView set holds
 never_refused set holds none limits input refusal count r d = none limits input refusal.at count r.place d

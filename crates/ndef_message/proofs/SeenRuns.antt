@@ -2,8 +2,10 @@
 use Rattle.std.proofs.Common.{◌≡◌, ℕ, ◌+◌, ◌-◌, ◌<◌, ◌≤◌, take, drop, take_at, drop_at, ◌^◌, true, false, refl, sym, ◌∙◌, ap, ap₂, subst, arith, List, [], ◌∷◌, ◌++◌, length, length-append, append_assoc, append-nil, true≢false, Some, None}
 use Rattle.std.specs.Prelude.{unwrap_or}
 use Rattle.std.specs.List.{AllByRecursion, concat}
-use Rattle.ndef_value.specs.Wire.{Piece, SpellAll, Run, pieces, all_pieces, payload_of, Follow, run_record, HasLengths}
-use Rattle.ndef_message.specs.Machine.Seen.{AreRun, AreRuns, IsRecord, pieces_of, runs_of, run_of}
+use Rattle.ndef_format.specs.Records.{Piece, Run, pieces, Follow}
+use Rattle.ndef_format.specs.Messages.{SpellsPieces, all_pieces, payload_of, run_record}
+use Rattle.ndef_format.specs.Canonical.{HasLengths}
+use Rattle.ndef_message.specs.Machine.Seen.{AreRun, AreRuns, IsSeenRecord, pieces_of, runs_of, run_of}
 use Rattle.ndef_message.specs.Views.{payloads, only_payload}
 use Rattle.ndef_message.proofs.Rests.{spell_append}
 use Rattle.ndef_message.specs.Machine.SeenLaws.{First, first_of, pieces_told, run_told, run_is}
@@ -17,19 +19,19 @@ pub record Going (bytes rest : List ℕ) (size : ℕ) : Type 0 where
   pub later : List Piece
   pub are : done ++ next ∷ later ≡ pieces run
   pub follow : Follow next.chunked later
-  pub read : IsRecord run
-  pub each : AllByRecursion IsRecord runs
+  pub read : IsSeenRecord run
+  pub each : AllByRecursion IsSeenRecord runs
   pub front : List ℕ
   pub split : bytes ≡ front ++ rest
-  pub spelled : SpellAll done front
-  pub left : SpellAll (next ∷ (later ++ all_pieces runs)) rest
+  pub spelled : SpellsPieces done front
+  pub left : SpellsPieces (next ∷ (later ++ all_pieces runs)) rest
   pub counted : size + length (payload_of (next ∷ later)) ≡ length (payload_of (pieces run))
 
 -- before the first piece
 pub going_at : (bytes : List ℕ) → 0 < length bytes → AreRuns bytes → Going bytes bytes 0
 going_at bytes some a = by_runs a.runs a.spelled a.read
   where
-    by_runs : (rs : List Run) → SpellAll (all_pieces rs) bytes → AllByRecursion IsRecord rs → Going bytes bytes 0
+    by_runs : (rs : List Run) → SpellsPieces (all_pieces rs) bytes → AllByRecursion IsSeenRecord rs → Going bytes bytes 0
     by_runs [] s h = absurd (let n = ap length s in omega (arith, n, some))
     by_runs (r ∷ rs) s h = record {
       run = r;
@@ -53,7 +55,7 @@ pub next_of : {bytes rest : List ℕ} {size : ℕ} (g : Going bytes rest size) �
 next_of {rest = rest} g = first_of g.next (g.later ++ all_pieces g.runs) rest g.left
 
 -- the pieces read so far with it
-one_more : {bytes rest : List ℕ} {size : ℕ} (g : Going bytes rest size) → SpellAll (g.done ++ g.next ∷ []) (g.front ++ (next_of g).split.front)
+one_more : {bytes rest : List ℕ} {size : ℕ} (g : Going bytes rest size) → SpellsPieces (g.done ++ g.next ∷ []) (g.front ++ (next_of g).split.front)
 one_more g =
     let n = next_of g in
     let octets = n.split.front in
@@ -75,7 +77,7 @@ pub goes_on : {bytes rest : List ℕ} {size : ℕ} (g : Going bytes rest size) �
     → Going bytes behind n
 goes_on {bytes} {rest} {size} g c behind b n e = by_later g.later g.are g.follow (next_of g).more g.counted
   where
-    by_later : (later : List Piece) → g.done ++ g.next ∷ later ≡ pieces g.run → Follow g.next.chunked later → SpellAll (later ++ all_pieces g.runs) (next_of g).rest
+    by_later : (later : List Piece) → g.done ++ g.next ∷ later ≡ pieces g.run → Follow g.next.chunked later → SpellsPieces (later ++ all_pieces g.runs) (next_of g).rest
         → size + length (payload_of (g.next ∷ later)) ≡ length (payload_of (pieces g.run)) → Going bytes behind n
     by_later [] are f more k = absurd (true≢false (sym c ∙ f))
     by_later (q ∷ later) are f more k = record {
@@ -91,7 +93,7 @@ goes_on {bytes} {rest} {size} g c behind b n e = by_later g.later g.are g.follow
       front = g.front ++ (next_of g).split.front;
       split = further g ∙ ap (λ x. (g.front ++ (next_of g).split.front) ++ x) (sym b);
       spelled = one_more g;
-      left = subst (SpellAll (q ∷ (later ++ all_pieces g.runs))) (sym b) more;
+      left = subst (SpellsPieces (q ∷ (later ++ all_pieces g.runs))) (sym b) more;
       counted = let l = length-append g.next.payload (payload_of (q ∷ later)) in omega (arith, l, k, e);
     }
 
@@ -106,7 +108,7 @@ pub is_over : {bytes rest : List ℕ} {size : ℕ} (g : Going bytes rest size) �
     → Over bytes behind n
 is_over {bytes} {rest} {size} g c behind b n e = by_later g.later g.are g.follow (next_of g).more g.counted
   where
-    by_later : (later : List Piece) → g.done ++ g.next ∷ later ≡ pieces g.run → Follow g.next.chunked later → SpellAll (later ++ all_pieces g.runs) (next_of g).rest
+    by_later : (later : List Piece) → g.done ++ g.next ∷ later ≡ pieces g.run → Follow g.next.chunked later → SpellsPieces (later ++ all_pieces g.runs) (next_of g).rest
         → size + length (payload_of (g.next ∷ later)) ≡ length (payload_of (pieces g.run)) → Over bytes behind n
     by_later (q ∷ later) are f more k = absurd (true≢false (sym f.0 ∙ c))
     by_later [] are f more k = record {
@@ -114,11 +116,11 @@ is_over {bytes} {rest} {size} g c behind b n e = by_later g.later g.are g.follow
       split = further g ∙ ap (λ x. (g.front ++ (next_of g).split.front) ++ x) (sym b);
       run = record {
         run = g.run;
-        spelled = subst (λ ps. SpellAll ps (g.front ++ (next_of g).split.front)) are (one_more g);
+        spelled = subst (λ ps. SpellsPieces ps (g.front ++ (next_of g).split.front)) are (one_more g);
         read = g.read;
         size_is = let l = length-append g.next.payload [] in omega (arith, l, k, e);
       };
-      rest = record { runs = g.runs; spelled = subst (SpellAll (all_pieces g.runs)) (sym b) more; read = g.each };
+      rest = record { runs = g.runs; spelled = subst (SpellsPieces (all_pieces g.runs)) (sym b) more; read = g.each };
     }
 
 -- it is a part of the bytes
@@ -141,7 +143,7 @@ pub told : {bytes behind : List ℕ} {size : ℕ} (o : Over bytes behind size) �
 told {bytes} {behind} o =
     let r = o.run.run in
     let rs = o.rest.runs in
-    let all : SpellAll (pieces r ++ all_pieces rs) bytes = subst (SpellAll (pieces r ++ all_pieces rs)) (sym o.split) (spell_append (pieces r) (all_pieces rs) o.front behind o.run.spelled o.rest.spelled) in
+    let all : SpellsPieces (pieces r ++ all_pieces rs) bytes = subst (SpellsPieces (pieces r ++ all_pieces rs)) (sym o.split) (spell_append (pieces r) (all_pieces rs) o.front behind o.run.spelled o.rest.spelled) in
     ap runs_of (pieces_told (pieces r ++ all_pieces rs) bytes all)
     ∙ run_told r.initial r.later (all_pieces rs) o.run.read.follow
     ∙ ap₂ (λ x ps. x ∷ runs_of ps) (sym (run_is r o.front o.run.spelled)) (sym (pieces_told (all_pieces rs) behind o.rest.spelled))
@@ -156,8 +158,8 @@ run_seen {bytes} a e = sym (run_is a.run bytes a.spelled) ∙ e
 pub initial_of : {bytes : List ℕ} {size : ℕ} (a : AreRun bytes size) → First a.run.initial a.run.later bytes
 initial_of {bytes} a = first_of a.run.initial a.run.later bytes a.spelled
 
-pub read_seen : {bytes : List ℕ} {size : ℕ} {r : Run} (a : AreRun bytes size) → run_of bytes ≡ r → IsRecord r
-read_seen a e = subst IsRecord (run_seen a e) a.read
+pub read_seen : {bytes : List ℕ} {size : ℕ} {r : Run} (a : AreRun bytes size) → run_of bytes ≡ r → IsSeenRecord r
+read_seen a e = subst IsSeenRecord (run_seen a e) a.read
 
 pub payloads_joined : (ps : List Piece) → concat (payloads ps) ≡ payload_of ps
 payloads_joined [] = refl
@@ -172,7 +174,7 @@ pub not_only_one : (p : Piece) (later : List Piece) → Follow p.chunked later �
 not_only_one p [] f c = absurd (true≢false (sym c ∙ f))
 not_only_one p (q ∷ later) f c = refl
 
-id_size : (p : Piece) (bytes : List ℕ) (later : List Piece) → SpellAll (p ∷ later) bytes → (length p.kind < 256) × (length (unwrap_or p.id []) < 256)
+id_size : (p : Piece) (bytes : List ℕ) (later : List Piece) → SpellsPieces (p ∷ later) bytes → (length p.kind < 256) × (length (unwrap_or p.id []) < 256)
 id_size p bytes later s = (s.4.piece.kind_length, s.4.piece.id_length)
 
 -- its parts are as long as those of a record

@@ -3,19 +3,22 @@ use Rattle.std.proofs.Common.{◌≡◌, ℕ, ◌+◌, ◌-◌, ◌<◌, ◌≤�
 use Rattle.std.specs.List.{AllByRecursion}
 use Rattle.std.proofs.lemmas.List.{take_more, length-take-le}
 use Rattle.ndef_value.specs.ListLaws.{octets_append, octets_taken}
-use Rattle.ndef_value.specs.Wire.{Item, Fields, LimitValues, AreInRange, AreOctets}
-use Rattle.ndef_value.specs.declared.profile.Profile.{Profile}
-use Rattle.ndef_value.specs.declared.reason.Reason.{Reason}
-use Rattle.ndef_lang.specs.declared.kind.Kind.{Kind}
-use Rattle.ndef_lang.specs.declared.kind.Kind.TheVariants.{Other}
-use Rattle.ndef_lang.specs.Kind.{kind_of}
-use Rattle.ndef_lang.specs.Language.{Follows, Reaches, PassesBetween, Behind, StepsAll, IsLowest}
+use Rattle.ndef_format.specs.Messages.{Item}
+use Rattle.ndef_format.specs.Records.{HeadFields, AreOctets}
+use Rattle.ndef_format.specs.Limits.{LimitValues, AreInRange}
+use Rattle.ndef_format.specs.declared.profile.Profile.{Profile}
+use Rattle.ndef_format.specs.declared.reason.Reason.{Reason}
+use Rattle.ndef_format.specs.declared.kind.Kind.{Kind}
+use Rattle.ndef_format.specs.declared.kind.Kind.TheVariants.{Other}
+use Rattle.ndef_format.specs.Kinds.{kind_of}
+use Rattle.ndef_lang.specs.Language.{Continues, Reaches, PassesBetween, Behind, StepsAll}
+use Rattle.ndef_format.specs.Reasons.{IsLowest}
 use Rattle.ndef_lang.specs.StepLaws.{steps_done}
 use Rattle.ndef_lang.specs.declared.language.Language.{Ghosts}
 use Rattle.ndef_piece.specs.declared.head.Head.{Head}
 use Rattle.ndef_piece.specs.Walk.{Before}
-use Rattle.ndef_message.specs.Deep.{IsMember, IsViable}
-use Rattle.ndef_message.specs.Opened.{record_so_far}
+use Rattle.ndef_format.specs.Accepted.{IsMember, IsViable}
+use Rattle.ndef_format.specs.Positions.{record_so_far}
 use Rattle.ndef_message.specs.Machine.Points.{Point, InPayload, IsAtPoint}
 use Rattle.ndef_message.specs.Machine.Moves.{given_next, point_next}
 use Rattle.ndef_message.specs.Machine.Format.{FormatLaws}
@@ -28,7 +31,7 @@ use Rattle.ndef_message.proofs.Octets.{AtPayload, at_with, payload_body, payload
 
 -- what a language has read, with these octets more
 speaks_all : {L : Type 0} (language : Ghosts L) (limits : LimitValues) (old new : L) (m : Item) (t : List ℕ)
-    → ((k : Kind) (n : ℕ) (profile : Profile) → Reaches (language.reached old k n profile) (language.reached new k n profile) t) → Follows (language.future old) (language.future new) t
+    → ((k : Kind) (n : ℕ) (profile : Profile) → Reaches (language.reached old k n profile) (language.reached new k n profile) t) → Continues (language.future old) (language.future new) t
     → Speaks language limits old m → Speaks language limits new (record m { payload = m.payload ++ t })
 speaks_all language limits old new m t r f s = record {
   reached = r _ _ _ m.payload s.reached;
@@ -38,7 +41,7 @@ speaks_all language limits old new m t r f s = record {
   );
 }
 
-so_far_all : (m : Option Item) (f : Fields) (k i z t : List ℕ)
+so_far_all : (m : Option Item) (f : HeadFields) (k i z t : List ℕ)
     → record (record_so_far m f k i z) { payload = (record_so_far m f k i z).payload ++ t } ≡ record_so_far m f k i (z ++ t)
 so_far_all None f k i z t = refl
 so_far_all (Some m) f k i z t = ap (λ y. record m { payload = y }) (append_assoc m.payload z t)
@@ -103,7 +106,7 @@ module _ {L : Type 0} {language : Ghosts L} {limits : LimitValues} {state : Stat
 
   -- .. by a state that has
   pub body_all : (payload' : L) (t : List ℕ) → AreOctets t → length t ≤ left
-      → ((k : Kind) (n : ℕ) (profile : Profile) → Reaches (language.reached state.payload k n profile) (language.reached payload' k n profile) t) → Follows (language.future state.payload) (language.future payload') t
+      → ((k : Kind) (n : ℕ) (profile : Profile) → Reaches (language.reached state.payload k n profile) (language.reached payload' k n profile) t) → Continues (language.future state.payload) (language.future payload') t
       → InBody language limits (record state { payload = payload' }) h 0 (left - length t) (bytes ++ t) given a.c a.f a.kind a.id (a.payload ++ t)
   body_all payload' t are few r f = body_by language payload' t are few (speaks_all language limits state.payload payload' (record_so_far a.c.begun a.f a.kind a.id a.payload) t r f a.speaks)
 
@@ -144,7 +147,7 @@ module _ (laws : FormatLaws) {L : Type 0} {language : Ghosts L} {limits : LimitV
         (ap (λ n. n - count) most_is ∙ most_after h.chunked state.place.room h.payload_length left count l ∙ ap (λ n. most_left h.chunked state.place.room h.payload_length (left - n)) (sym e)) p)
 
     -- .. and it
-    never_viable : (s : List ℕ) → AreOctets s → length s ≡ count + 1 → count + 1 ≤ left → ((k : Kind) (n : ℕ) (profile : Profile) → Reaches (language.reached state.payload k n profile) (language.reached payload' k n profile) s) → Follows (language.future state.payload) (language.future payload') s
+    never_viable : (s : List ℕ) → AreOctets s → length s ≡ count + 1 → count + 1 ≤ left → ((k : Kind) (n : ℕ) (profile : Profile) → Reaches (language.reached state.payload k n profile) (language.reached payload' k n profile) s) → Continues (language.future state.payload) (language.future payload') s
         → (PassesBetween (language.future payload') (left - (count + 1)) (most - (count + 1)) → ⊥) → IsViable language.set limits (bytes ++ s) → ⊥
     never_viable s ok e l r f bad v =
         bad (between_at (left - length s) (most_left h.chunked state.place.room h.payload_length (left - length s)) (left - (count + 1)) (most - (count + 1)) (ap (λ n. left - n) e)
@@ -189,7 +192,7 @@ module _ (laws : FormatLaws) {L : Type 0} {language : Ghosts L} {limits : LimitV
 
 -- all of them were taken
 pub all_taken : {L : Type 0} {language : Ghosts L} {limits : LimitValues} {state : State L}
-    (bytes : List ℕ) (given : List Item) (point : Point) (c : Before) (f : Fields) (k i z t s : List ℕ) → point ≡ InPayload c f k i z → s ≡ t → length z + length t ≤ f.payload_length
+    (bytes : List ℕ) (given : List Item) (point : Point) (c : Before) (f : HeadFields) (k i z t s : List ℕ) → point ≡ InPayload c f k i z → s ≡ t → length z + length t ≤ f.payload_length
     → Stands language limits state (bytes ++ t) (given_next limits given c f k i (z ++ t)) (point_next limits c f k i (z ++ t)) → Onward language limits state bytes given point s
 all_taken {language = language} {limits} {state} bytes given point c f k i z t s e g few x =
     subst (Onward language limits state bytes given point) (sym g)

@@ -2,9 +2,10 @@
 use Rattle.std.proofs.Common.{Bool, IsTrue, ℕ, ◌+◌, ◌≤◌, List, length}
 use Rattle.std.proofs.Math.Logic.{∥∥₁_elim}
 use Rattle.std.proofs.Props.{props}
-use Rattle.ndef_value.specs.Wire.{Item, HasShape, IsShaped}
-use Rattle.ndef_value.specs.declared.tnf.Tnf.{Tnf}
-use Rattle.ndef_value.specs.declared.tnf.Tnf.TheVariants.{Empty, WellKnown, Media, AbsoluteUri, External, Unknown, Unchanged}
+use Rattle.ndef_format.specs.Messages.{Item, IsShaped}
+use Rattle.ndef_format.specs.Records.{HasShape}
+use Rattle.ndef_format.specs.declared.tnf.Tnf.{Tnf}
+use Rattle.ndef_format.specs.declared.tnf.Tnf.TheVariants.{Empty, WellKnown, Media, AbsoluteUri, External, Unknown, Unchanged}
 use Rattle.ndef_message.specs.Opened.{Opened}
 use Rattle.ndef_message.specs.Machine.Open.{HasRoom}
 use Rattle.ndef_message.specs.declared.phase.Phase.{Phase}

@@ -11,10 +11,10 @@ bytes_of (Ok bytes) = Ok bytes.items
 bytes_of (Err error) = Err error
 
 -- the whole input, where it has at most so many bytes; of a longer one so many are taken, and no more where something failed
-abbrev pub IsWhole : (most : ℕ) (before after : Supply) → Bool → Result (List ℕ) InputError → Type 0
-IsWhole most before after failed (Ok input) =
+abbrev pub IsWholeInput : (most : ℕ) (before after : Supply) → Bool → Result (List ℕ) InputError → Type 0
+IsWholeInput most before after failed (Ok input) =
     (failed ≡ false) × (length input ≤ most) × Gave before after input × IfSome before.coming (λ all. all ≡ input)
-IsWhole most before after failed (Err TooLong) =
+IsWholeInput most before after failed (Err TooLong) =
     (failed ≡ false) × IfSome before.coming (λ all. most < length all) × (front : List ℕ) × (length front ≡ most) × Gave before after front
-IsWhole most before after failed (Err ReadFault) = (failed ≡ true) × (n : ℕ) × (n ≤ most) × Counts before.taken after.taken n
-IsWhole most before after failed (Err NoMemory) = (failed ≡ false) × (front : List ℕ) × (length front ≤ most) × Gave before after front
+IsWholeInput most before after failed (Err ReadFault) = (failed ≡ true) × (n : ℕ) × (n ≤ most) × Counts before.taken after.taken n
+IsWholeInput most before after failed (Err NoMemory) = (failed ≡ false) × (front : List ℕ) × (length front ≤ most) × Gave before after front

@@ -1,11 +1,14 @@
 -- What is seen of the bytes of a message without copying them.
 use Rattle.std.specs.Prelude.{◌≡◌, ℕ, ◌≤◌, List, [], ◌∷◌, length, map, take, Option, Some, None, Result, Ok, Err}
-use Rattle.ndef_value.specs.Wire.{Piece, Run, Item, run_record, LimitValues}
-use Rattle.ndef_value.specs.declared.profile.Profile.{Profile}
-use Rattle.ndef_value.specs.declared.refusal.Refusal.{Refusal}
-use Rattle.ndef_lang.specs.Language.{Sets, Conditions}
-use Rattle.ndef_message.specs.Deep.{Deep, IsDeep}
-use Rattle.ndef_message.specs.Place.{Refuses}
+use Rattle.ndef_format.specs.Records.{Piece, Run}
+use Rattle.ndef_format.specs.Messages.{Item, run_record}
+use Rattle.ndef_format.specs.Limits.{LimitValues}
+use Rattle.ndef_format.specs.declared.profile.Profile.{Profile}
+use Rattle.ndef_format.specs.declared.refusal.Refusal.{Refusal}
+use Rattle.ndef_format.specs.Payloads.{Sets}
+use Rattle.ndef_format.specs.Reasons.{Conditions}
+use Rattle.ndef_format.specs.Accepted.{Accepted, IsAccepted}
+use Rattle.ndef_format.specs.Refusals.{Refuses}
 
 -- the view of a message: how many bytes it has, its runs, and how reserved values were read
 pub record Viewed : Type 0 where
@@ -16,7 +19,7 @@ pub record Viewed : Type 0 where
 -- NDEF 1.0, messages: what is seen of an input: so many bytes at its front are a message, in these runs; or it is refused.
 abbrev pub Views : Sets → Conditions → LimitValues → (input : List ℕ) → Result Viewed Refusal → Type 0
 Views set holds limits input (Ok v) =
-    (v.taken ≤ length input) × ((deep : Deep set limits (map run_record v.runs) (take v.taken input)) × (deep.runs ≡ v.runs)) × (v.profile ≡ limits.profile)
+    (v.taken ≤ length input) × ((accepted : Accepted set limits (map run_record v.runs) (take v.taken input)) × (accepted.runs ≡ v.runs)) × (v.profile ≡ limits.profile)
 Views set holds limits input (Err refusal) = Refuses set holds limits input refusal
 
 -- NDEF 1.0, chunked payloads: the payloads of some pieces
@@ -39,9 +42,9 @@ pub record IsSeen (v : Viewed) (items : List Item) (runs : List Run) (count : �
 -- What is seen of an input is the only message at its front, in the only runs that spell it.
 abbrev pub OneView : Sets → Conditions → Type 0
 OneView set holds = (limits : LimitValues) (input : List ℕ) (v : Viewed) (items : List Item) (count : ℕ)
-    → Views set holds limits input (Ok v) → count ≤ length input → (d : Deep set limits items (take count input)) → IsSeen v items d.runs count
+    → Views set holds limits input (Ok v) → count ≤ length input → (d : Accepted set limits items (take count input)) → IsSeen v items d.runs count
 
 -- An input that begins with a message is not refused.
-abbrev pub NeverRefused : Sets → Conditions → Type 0
-NeverRefused set holds = (limits : LimitValues) (input : List ℕ) (refusal : Refusal) (count : ℕ)
-    → Views set holds limits input (Err refusal) → ¬ IsDeep set limits (take count input)
+abbrev pub NeverRefusedInView : Sets → Conditions → Type 0
+NeverRefusedInView set holds = (limits : LimitValues) (input : List ℕ) (refusal : Refusal) (count : ℕ)
+    → Views set holds limits input (Err refusal) → ¬ IsAccepted set limits (take count input)

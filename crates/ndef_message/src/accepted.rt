@@ -1,11 +1,11 @@
 //! Whole records at the front of a slice, or pieces of an open run, seen at once to be right. What isn't
 //! seen may be right too.
 ghost use Rattle.std.specs.Prelude.{◌≡◌, ◌<◌, ◌≤◌, length, take, true, false, IfSome, IsTrue};
-ghost use Rattle.ndef_piece.specs.Header.{is_set};
-ghost use Rattle.ndef_piece.specs.Pieces as pieces;
+ghost use Rattle.ndef_format.specs.HeadReasons.{is_set};
+ghost use Rattle.ndef_format.specs.Positions as pieces;
 ghost use Rattle.ndef_piece.specs.Whole.{IsSplit, shown};
-ghost use Rattle.ndef_message.specs.Deep.{IsMember};
-ghost use Rattle.ndef_message.specs.Machine.Accepted.{AreChunks, AreRecords, BeginsWith, IsRecord, IsRunEnd, record_of};
+ghost use Rattle.ndef_format.specs.Accepted.{IsMember};
+ghost use Rattle.ndef_message.specs.Machine.Accepted.{AreChunks, AreTakenRecords, BeginsWith, IsTakenRecord, IsRunEnd, record_of};
 ghost use Rattle.ndef_message.specs.Machine.State.{spot_of};
 
 use crate::phase::Place;
@@ -108,7 +108,7 @@ fn accepted_record<L: OuterLanguage>(
     place: &Place,
     bytes: &[u8],
 ) -> Option<(usize, bool)>
-    ensures { IfSome result (λ r. IsRecord L.set limits.now place.now bytes.now r.0 r.1) }
+    ensures { IfSome result (λ r. IsTakenRecord L.set limits.now place.now bytes.now r.0 r.1) }
 {
     let piece = whole_piece(bytes)?;
     let taken = bytes.len() - piece.rest.len();
@@ -134,7 +134,7 @@ pub(crate) fn accepted_records<L: OuterLanguage>(
     place: Place,
     bytes: &[u8],
 ) -> (usize, Place, bool)
-    ensures records { AreRecords L.set limits.now place bytes.now result.0 result.1 result.2 }
+    ensures records { AreTakenRecords L.set limits.now place bytes.now result.0 result.1 result.2 }
     ensures outer { place.inside ≡ false → result.1.inside ≡ false }
 {
     let mut at = 0;

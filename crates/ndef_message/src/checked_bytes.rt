@@ -1,6 +1,6 @@
 //! The bytes of pieces that were checked.
 ghost use Rattle.std.specs.Prelude.{◌≡◌, [], false};
-ghost use Rattle.ndef_piece.specs.Header.{is_set};
+ghost use Rattle.ndef_format.specs.HeadReasons.{is_set};
 ghost use Rattle.ndef_piece.specs.Whole.{BeginWithPiece, IsSplit, shown};
 
 use ndef_piece::{WholePiece, whole_piece};

@@ -1,8 +1,8 @@
 //! The checker of a message: whole records and pieces, and else bytes of one field, one after another.
 ghost use Rattle.std.specs.Prelude.{◌≡◌, ◌+◌, ◌-◌, ◌<◌, ◌≤◌, ◌++◌, ◌∷◌, [], ℕ, List, length, take, None, IfSome, if◌then◌else◌};
-ghost use Rattle.ndef_value.specs.Wire.{greatest_length};
-ghost use Rattle.ndef_piece.specs.Header.{is_set};
-ghost use Rattle.ndef_message.specs.Feed.{Leads, SomeLed, WhateverLed, Feeds, Ends, IsAccepted};
+ghost use Rattle.ndef_format.specs.Limits.{greatest_length};
+ghost use Rattle.ndef_format.specs.HeadReasons.{is_set};
+ghost use Rattle.ndef_message.specs.Feed.{Leads, SomeLed, WhateverLed, Feeds, Ends, IsLongestViable};
 ghost use Rattle.ndef_message.specs.Machine.Accepted.{BeginsWith, IsFresh, LeadsBetween, record_of};
 ghost use Rattle.ndef_message.specs.Machine.State.{answer_of, Knows, Onward};
 
@@ -103,7 +103,7 @@ impl<L: OuterLanguage> Checker<L> {
     /// many as a message within the limits can have.
     pub fn place(&self) -> u64
         ensures accepted { WhateverLed (CheckerReached self.now) (λ front given point.
-            IsAccepted L.set (checker_limits self.now) front result) }
+            IsLongestViable L.set (checker_limits self.now) front result) }
         ensures bound { result ≤ greatest_length (checker_limits self.now) }
     {
         format_laws(&self.limits);

@@ -1,6 +1,6 @@
 //! All that a source gives.
 ghost use Rattle.std.specs.Prelude.{◌≡◌};
-ghost use Rattle.ndef_message.specs.Inputs.{bytes_of, IsWhole};
+ghost use Rattle.ndef_message.specs.Inputs.{bytes_of, IsWholeInput};
 ghost use Rattle.ndef_message.specs.Machine.Turns.{supply_of};
 ghost use Rattle.ndef_message.specs.declared.input.InputError.TheVariants as errors;
 
@@ -44,7 +44,7 @@ pub fn read_all<S: Source>(
     source: &mut S,
     most: usize,
 ) -> Result<Vec<u8>, InputError>
-    ensures { IsWhole most (supply_of S.Source source.old) (supply_of S.Source source.new)
+    ensures { IsWholeInput most (supply_of S.Source source.old) (supply_of S.Source source.new)
         (S.has_failed source.new) (bytes_of result) }
 {
     let mut input = Vec::new(alloc);

@@ -1,10 +1,12 @@
 //! A record of a message, where it lies.
 ghost use Rattle.std.specs.Prelude.{◌≡◌, ◌<◌, ◌∷◌, [], false, length, option_map, IfOk};
 ghost use Rattle.std.specs.List.{concat};
-ghost use Rattle.ndef_value.specs.Wire.{HasLengths, IsShaped, run_record, pieces};
-ghost use Rattle.ndef_piece.specs.Header.{is_set};
+ghost use Rattle.ndef_format.specs.Canonical.{HasLengths};
+ghost use Rattle.ndef_format.specs.Messages.{IsShaped, run_record};
+ghost use Rattle.ndef_format.specs.Records.{pieces};
+ghost use Rattle.ndef_format.specs.HeadReasons.{is_set};
 ghost use Rattle.ndef_piece.specs.Whole.{shown};
-ghost use Rattle.ndef_message.specs.Machine.Seen.{AreRuns, IsRecord, pieces_of, runs_of};
+ghost use Rattle.ndef_message.specs.Machine.Seen.{AreRuns, IsSeenRecord, pieces_of, runs_of};
 ghost use Rattle.ndef_message.specs.Views.{only_payload, payloads};
 
 use crate::Pieces;
@@ -26,7 +28,7 @@ pub struct Item<'a> {
 }
 
 impl<'a> Model for Item<'a> {
-    ghost use Rattle.ndef_value.specs.Wire.{Run};
+    ghost use Rattle.ndef_format.specs.Records.{Run};
     ghost use Rattle.ndef_message.specs.Machine.Seen.{AreRun, run_of};
 
     ghost Value = { Run };
@@ -61,7 +63,7 @@ impl<'a> Item<'a> {
     fn first(&self) -> WholePiece<'a>
         ensures shown { shown result ≡ self.now.initial }
         ensures no_id { is_set 3 result.header ≡ false → result.id.now ≡ [] }
-        ensures read { IsRecord self.now }
+        ensures read { IsSeenRecord self.now }
         ensures lengths { HasLengths (run_record self.now) }
     {
         first_piece(self.bytes)

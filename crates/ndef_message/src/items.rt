@@ -16,7 +16,7 @@ pub struct Items<'a> {
 
 impl<'a> Model for Items<'a> {
     ghost use Rattle.std.specs.Prelude.{List};
-    ghost use Rattle.ndef_value.specs.Wire.{Run};
+    ghost use Rattle.ndef_format.specs.Records.{Run};
     ghost use Rattle.ndef_message.specs.Machine.Seen.{AreRuns, pieces_of, runs_of};
 
     ghost Value = { List Run };

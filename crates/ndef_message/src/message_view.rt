@@ -1,6 +1,6 @@
 //! A message, where it lies.
 ghost use Rattle.std.specs.Prelude.{◌≡◌, ◌≤◌, length, map, IfOk};
-ghost use Rattle.ndef_value.specs.Wire.{run_record};
+ghost use Rattle.ndef_format.specs.Messages.{run_record};
 ghost use Rattle.ndef_message.specs.Machine.Seen.{AreChecked, viewed_of};
 
 use crate::Items;

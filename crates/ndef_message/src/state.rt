@@ -1,8 +1,9 @@
 //! Whole records of a message, and bytes of one field of it.
 ghost use Rattle.std.specs.Prelude.{◌≡◌, ◌≢◌, ◌++◌, ◌∷◌, [], ◌-◌, ◌<◌, ◌≤◌, ◌^◌, ◌⊎◌, ◌↔◌, ℕ, List, length, take, IfNone, IfSome, IsTrue, true, false};
 ghost use Rattle.std.specs.List.{AllByRecursion};
-ghost use Rattle.ndef_value.specs.Wire.{Item, Fields};
-ghost use Rattle.ndef_piece.specs.Header.{is_set};
+ghost use Rattle.ndef_format.specs.Messages.{Item};
+ghost use Rattle.ndef_format.specs.Records.{HeadFields};
+ghost use Rattle.ndef_format.specs.HeadReasons.{is_set};
 ghost use Rattle.ndef_piece.specs.Walk.{Before};
 
 use crate::accepted::{accepted_chunks, accepted_records, whole_record};
@@ -24,10 +25,9 @@ pub(crate) struct State<L: OuterLanguage> {
 impl<L: OuterLanguage> State<L> {
     ghost use Rattle.ndef_message.specs.Feed.{Leads, SomeLed, WhateverLed};
     ghost use Rattle.ndef_message.specs.Machine.Points.{Point};
-    ghost use Rattle.ndef_message.specs.Machine.State.{Stands, StandsBehind, Stopped, Came, Onward};
-    ghost use Rattle.ndef_message.specs.Machine.State.{InBody, SomeBody, WholeHead, SomeWhole, IsWithinHead, CanGoOn, behind_record};
+    ghost use Rattle.ndef_message.specs.Machine.State.{Stands, StandsBehind, Stopped, Came, Onward, InBody, SomeBody, WholeHead, SomeWhole, IsWithinHead, CanGoOn, behind_record};
     ghost use Rattle.ndef_message.specs.Machine.Accepted.{BeginsWith, IsAtChunk, IsBehind, IsBehindChunks, IsFresh};
-    ghost use Rattle.ndef_message.specs.Deep.{IsMember, IsViable};
+    ghost use Rattle.ndef_format.specs.Accepted.{IsMember, IsViable};
 
     /// Whether a record may begin here, and no octet of it has come.
     fn is_fresh(&self) -> bool
@@ -259,7 +259,7 @@ impl<L: OuterLanguage> State<L> {
     /// Goes on behind a whole head.
     fn behind_head(&mut self, limits: &Limits, at: u64, head: Head)
         requires led { ∥ SomeWhole L.Language limits.now self.old head ∥₁ }
-        ensures entered { (bytes : List ℕ) (given : List Item) (point : Point) (b : ℕ) (c : Before) (f : Fields)
+        ensures entered { (bytes : List ℕ) (given : List Item) (point : Point) (b : ℕ) (c : Before) (f : HeadFields)
             → Came L.Language limits.now at Reason.DoesNotFit bytes given point b
             → WholeHead L.Language limits.now self.old head (bytes ++ b ∷ []) given c f
             → StandsBehind L.Language limits.now self.new (bytes ++ b ∷ []) given c f [] [] []
@@ -276,7 +276,7 @@ impl<L: OuterLanguage> State<L> {
     /// Goes on behind the whole head of a record's first piece, behind which any payload can be completed.
     fn begin_record(&mut self, limits: &Limits, head: Head)
         requires outside { self.old.place.inside ≡ false }
-        ensures stands { (bytes : List ℕ) (given : List Item) (c : Before) (f : Fields)
+        ensures stands { (bytes : List ℕ) (given : List Item) (c : Before) (f : HeadFields)
             → WholeHead L.Language limits.now self.old head bytes given c f
             → AllByRecursion (IsMember L.set limits.now) given
             → StandsBehind L.Language limits.now self.new bytes given c f [] [] [] }
@@ -397,7 +397,7 @@ impl<L: OuterLanguage> State<L> {
         reason: Reason,
     )
         requires led { ∥ SomeBody L.Language limits.now self.old head id_left left ∥₁ }
-        ensures entered { (bytes : List ℕ) (given : List Item) (point : Point) (b : ℕ) (c : Before) (f : Fields)
+        ensures entered { (bytes : List ℕ) (given : List Item) (point : Point) (b : ℕ) (c : Before) (f : HeadFields)
             (kind id payload : List ℕ)
             → Came L.Language limits.now at reason bytes given point b
             → InBody L.Language limits.now self.old head id_left left (bytes ++ b ∷ []) given c f kind id payload
@@ -419,7 +419,7 @@ impl<L: OuterLanguage> State<L> {
 
     /// Goes on behind so much of the id and the payload of a piece.
     fn settle(&mut self, limits: &Limits, head: Head, id_left: u8, left: u32)
-        ensures stands { (bytes : List ℕ) (given : List Item) (c : Before) (f : Fields) (kind id payload : List ℕ)
+        ensures stands { (bytes : List ℕ) (given : List Item) (c : Before) (f : HeadFields) (kind id payload : List ℕ)
             → InBody L.Language limits.now self.old head id_left left bytes given c f kind id payload
             → IsViable L.set limits.now bytes
             → StandsBehind L.Language limits.now self.new bytes given c f kind id payload }

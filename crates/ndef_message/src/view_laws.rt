@@ -1,5 +1,5 @@
 //! What holds of views, whoever makes them.
-ghost use Rattle.ndef_message.specs.Views.{NeverRefused, OneView};
+ghost use Rattle.ndef_message.specs.Views.{NeverRefusedInView, OneView};
 
 use crate::places_are_told;
 use ndef_lang::OuterLanguage;
@@ -8,7 +8,7 @@ use ndef_value::one_meaning;
 /// There is a view exactly where the bytes begin with a message: such bytes are not refused, and what
 /// is seen is the only message at their front, in the only runs that spell it.
 pub fn views_are_exact<L: OuterLanguage>()
-    ensures refused { NeverRefused L.set L.holds }
+    ensures refused { NeverRefusedInView L.set L.holds }
     ensures one { OneView L.set L.holds }
 {
     one_meaning();

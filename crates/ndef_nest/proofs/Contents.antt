@@ -1,17 +1,16 @@
 -- Contents of nested messages, as readers of each profile take them.
 use Rattle.std.proofs.Common.{◌≢◌, List, [], ◌∷◌, ℕ, refl}
 use Rattle.std.specs.List.{AllByRecursion}
-use Rattle.ndef_value.specs.Wire.{Item}
-use Rattle.ndef_value.specs.declared.profile.Profile.{Profile}
-use Rattle.ndef_value.specs.declared.profile.Profile.TheVariants.{Strict, Standard}
-use Rattle.ndef_lang.specs.Kind.{kind_of}
-use Rattle.ndef_lang.specs.Leaf.{IsPayload}
-use Rattle.ndef_lang.specs.Uri.{IsUri}
-use Rattle.ndef_lang.specs.declared.kind.Kind.{Kind}
-use Rattle.ndef_lang.specs.declared.kind.Kind.TheVariants as kinds
-use Rattle.ndef_nest.specs.Nested.{HasContents, kind_in, checked}
-use Rattle.ndef_nest.specs.declared.table.Table.{Table}
-use Rattle.ndef_nest.specs.declared.table.Table.TheVariants.{SmartPoster, Request, Select}
+use Rattle.ndef_format.specs.Messages.{Item}
+use Rattle.ndef_format.specs.declared.profile.Profile.{Profile}
+use Rattle.ndef_format.specs.declared.profile.Profile.TheVariants.{Strict, Standard}
+use Rattle.ndef_format.specs.Kinds.{kind_of}
+use Rattle.ndef_format.specs.Nested.{IsPayload, HasContents, kind_in, checked}
+use Rattle.ndef_format.specs.Uris.{IsUri}
+use Rattle.ndef_format.specs.declared.kind.Kind.{Kind}
+use Rattle.ndef_format.specs.declared.kind.Kind.TheVariants as kinds
+use Rattle.ndef_format.specs.declared.table.Table.{Table}
+use Rattle.ndef_format.specs.declared.table.Table.TheVariants.{SmartPoster, Request, Select}
 
 read_uri : (profile : Profile) (payload : List ℕ) → IsUri Strict payload → IsUri profile payload
 read_uri Strict payload h = h

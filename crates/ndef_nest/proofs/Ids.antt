@@ -1,14 +1,14 @@
 -- Octets of a nested record's id that are taken at once.
 use Rattle.std.proofs.Common.{◌≡◌, ℕ, ◌-◌, ◌≤◌, ◌↔◌, List, [], ◌∷◌, ◌++◌, length, length-append, refl, ap, subst, arith}
 use Rattle.ndef_value.specs.ListLaws.{zeros, zeros_length, zeros_octets}
-use Rattle.ndef_value.specs.Wire.{AreOctets}
-use Rattle.ndef_lang.specs.Language.{Follows, PassesBetween, StepsAll}
+use Rattle.ndef_format.specs.Records.{AreOctets}
+use Rattle.ndef_lang.specs.Language.{Continues, PassesBetween, StepsAll}
 use Rattle.ndef_lang.specs.StepLaws.{behind_passes, steps_whole}
 use Rattle.ndef_nest.specs.Machine.Demands.{IsBody}
 use Rattle.ndef_nest.proofs.Steps.{after_id, chain}
 
 module _ (member tail : List ℕ → Type 0) where
-  ids_follow : (id payload : ℕ) (t : List ℕ) → AreOctets t → length t ≤ id → Follows (IsBody member id payload tail) (IsBody member (id - length t) payload tail) t
+  ids_follow : (id payload : ℕ) (t : List ℕ) → AreOctets t → length t ≤ id → Continues (IsBody member id payload tail) (IsBody member (id - length t) payload tail) t
   ids_follow id payload [] are few r = subst (λ n. IsBody member n payload tail r ↔ IsBody member id payload tail r) (let e : id ≡ id - 0 = omega arith in e) (λ x. x, λ x. x)
   ids_follow id payload (b ∷ t) are few r =
       subst (λ n. IsBody member n payload tail r ↔ IsBody member id payload tail ((b ∷ t) ++ r)) (let e : id - 1 - length t ≡ id - length (b ∷ t) = omega arith in e)
@@ -41,7 +41,7 @@ module _ (member tail : List ℕ → Type 0) where
       }
 
   -- no octet of an id is refused
-  pub ids_taken : (new : List ℕ → Type 0) (id payload : ℕ) (t : List ℕ) (lo hi : ℕ) → AreOctets t → length t ≤ id → Follows (IsBody member (id - length t) payload tail) new [] → PassesBetween (IsBody member id payload tail) lo hi
+  pub ids_taken : (new : List ℕ → Type 0) (id payload : ℕ) (t : List ℕ) (lo hi : ℕ) → AreOctets t → length t ≤ id → Continues (IsBody member (id - length t) payload tail) new [] → PassesBetween (IsBody member id payload tail) lo hi
       → StepsAll (IsBody member id payload tail) new t lo hi (length t)
   ids_taken new id payload t lo hi are few f p =
       steps_whole (IsBody member id payload tail) new t lo hi (λ r. chain (f r) (ids_follow id payload t are few r))

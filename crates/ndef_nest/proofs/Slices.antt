@@ -2,23 +2,25 @@
 use Rattle.std.proofs.Common.{◌≡◌, IsTrue, ℕ, zero, suc, ◌+◌, ◌-◌, ◌<◌, ◌≤◌, ◌↔◌, Bool, false, List, [], ◌∷◌, ◌++◌, length, take, get_or, length-append, refl, sym, ◌∙◌, ap, subst, arith, append_assoc}
 use Rattle.std.proofs.lemmas.List.{append-nil, take_all, take-take, length-take, length-take-le, get_or-take}
 use Rattle.ndef_value.specs.ListLaws.{octets_append}
-use Rattle.ndef_value.specs.Wire.{AreOctets, octets, tnf_of}
-use Rattle.ndef_value.specs.declared.profile.Profile.{Profile}
-use Rattle.ndef_value.specs.declared.reason.Reason.{Reason}
-use Rattle.ndef_lang.specs.Language.{Follows, Reaches, PassesBetween, Behind, StepsAll, IsLowest}
-use Rattle.ndef_lang.specs.Leaf.{PayloadReason, CompletesLeaf, LeafReached, leaf_lengths}
+use Rattle.ndef_format.specs.Records.{AreOctets, octets, tnf_of}
+use Rattle.ndef_format.specs.declared.profile.Profile.{Profile}
+use Rattle.ndef_format.specs.declared.reason.Reason.{Reason}
+use Rattle.ndef_lang.specs.Language.{Continues, Reaches, PassesBetween, Behind, StepsAll}
+use Rattle.ndef_format.specs.Reasons.{IsLowest}
+use Rattle.ndef_format.specs.PayloadReasons.{PayloadReason}
+use Rattle.ndef_lang.specs.Machine.Leaf.{CompletesLeaf, LeafReached, leaf_lengths}
 use Rattle.ndef_lang.specs.Lengths.{meets}
 use Rattle.ndef_lang.specs.StepLaws.{rest, follows_none, follows_more, reaches_more, passes_none, steps_done, steps_whole, steps_refused, take_rests}
-use Rattle.ndef_lang.specs.declared.kind.Kind.{Kind}
+use Rattle.ndef_format.specs.declared.kind.Kind.{Kind}
 use Rattle.ndef_lang.specs.declared.leaf.Leaf.{Leaf}
 use Rattle.ndef_nest.specs.declared.context.Context.{Context}
 use Rattle.ndef_nest.specs.declared.phase.Body.{Body}
 use Rattle.ndef_nest.specs.declared.phase.Phase.{Phase}
-use Rattle.ndef_nest.specs.Nested.{kind_in}
+use Rattle.ndef_format.specs.Nested.{kind_in}
 use Rattle.ndef_nest.specs.Machine.Phases.{Completes}
 use Rattle.ndef_nest.specs.Machine.Demands.{IsBody}
 use Rattle.ndef_piece.specs.Field.{OneField}
-use Rattle.ndef_nest.specs.Conditions.{MessageReason}
+use Rattle.ndef_format.specs.NestedReasons.{MessageReason}
 use Rattle.ndef_nest.specs.Machine.Reached.{IsInBody}
 use Rattle.ndef_nest.specs.Machine.BodyLaws.{payload_step, body_as}
 use Rattle.ndef_nest.specs.Machine.SpanLaws.{leaf_at}
@@ -35,7 +37,7 @@ payload_steps member tail (suc payload) (b ∷ t) r h =
     subst (λ n. IsBody (λ s. member ((b ∷ t) ++ s)) 0 n tail r ↔ IsBody member 0 (suc payload) tail ((b ∷ t) ++ r)) (let e : payload - length t ≡ suc payload - length (b ∷ t) = omega arith in e)
     (chain (payload_steps (λ s. member (b ∷ s)) tail payload t r (omega arith)) (payload_step member tail payload b (t ++ r)))
 
-pub payload_follows : (member next tail : List ℕ → Type 0) (payload : ℕ) (t : List ℕ) → length t ≤ payload → Follows member next t → Follows (IsBody member 0 payload tail) (IsBody next 0 (payload - length t) tail) t
+pub payload_follows : (member next tail : List ℕ → Type 0) (payload : ℕ) (t : List ℕ) → length t ≤ payload → Continues member next t → Continues (IsBody member 0 payload tail) (IsBody next 0 (payload - length t) tail) t
 payload_follows member next tail payload t h f r =
     let w = payload_steps member tail payload t r h in (
       λ x. w.0 (body_as next (λ s. member (t ++ s)) tail 0 (payload - length t) r (λ s. (f s).0) x),
@@ -148,7 +150,7 @@ steps_front old new bytes lo hi n count l less s =
     let e0 : take count (take n bytes) ≡ take count bytes = take-take count n bytes (omega arith) in
     record {
       within = omega arith;
-      stepped = subst (Follows old new) e1 s.stepped;
+      stepped = subst (Continues old new) e1 s.stepped;
       fits = subst (λ x. PassesBetween (Behind old x) (lo - count) (hi - count)) e0 s.fits;
       refused = λ h. s.refused (omega (arith, length-take-le n bytes l));
     }
@@ -170,11 +172,11 @@ fresh_steps c first xs old new bytes lo hi count e f h = rw (e, f) h
 
 -- ---- one octet
 
-pub one_taken : (old new : List ℕ → Type 0) (bytes : List ℕ) (lo hi : ℕ) → 0 < length bytes → Follows old new (get_or bytes 0 0 ∷ []) → PassesBetween new (lo - 1) (hi - 1) → StepsAll old new (take 1 bytes) lo hi 1
+pub one_taken : (old new : List ℕ → Type 0) (bytes : List ℕ) (lo hi : ℕ) → 0 < length bytes → Continues old new (get_or bytes 0 0 ∷ []) → PassesBetween new (lo - 1) (hi - 1) → StepsAll old new (take 1 bytes) lo hi 1
 one_taken old new [] lo hi h f p = absurd (omega arith)
 one_taken old new (x ∷ xs) lo hi h f p = steps_whole old new (x ∷ []) lo hi f p
 
-pub one_refused : (old new : List ℕ → Type 0) (bytes : List ℕ) (lo hi : ℕ) → 0 < length bytes → PassesBetween old lo hi → Follows old new (get_or bytes 0 0 ∷ []) → (PassesBetween new (lo - 1) (hi - 1) → ⊥) → StepsAll old new (take 1 bytes) lo hi 0
+pub one_refused : (old new : List ℕ → Type 0) (bytes : List ℕ) (lo hi : ℕ) → 0 < length bytes → PassesBetween old lo hi → Continues old new (get_or bytes 0 0 ∷ []) → (PassesBetween new (lo - 1) (hi - 1) → ⊥) → StepsAll old new (take 1 bytes) lo hi 0
 one_refused old new [] lo hi h p f bad = absurd (omega arith)
 one_refused old new (x ∷ xs) lo hi h p f bad = steps_refused old old new (x ∷ []) lo hi 0 (omega arith) (follows_none old) (passes_none p) f bad
 
@@ -188,15 +190,15 @@ one_reason holds reason (x ∷ xs) s h l = subst (λ y. IsLowest (holds y x) rea
 
 -- ---- a run of fronts
 
-pub run_on : (old mid new : List ℕ → Type 0) (bytes : List ℕ) (lo hi at n count : ℕ) → n ≤ length (rest bytes at) → n ≤ count → Follows old mid (take at bytes) → StepsAll mid new (take n (rest bytes at)) (lo - at) (hi - at) count
-    → Follows old new (take (at + n) bytes) × PassesBetween new (lo - (at + n)) (hi - (at + n))
+pub run_on : (old mid new : List ℕ → Type 0) (bytes : List ℕ) (lo hi at n count : ℕ) → n ≤ length (rest bytes at) → n ≤ count → Continues old mid (take at bytes) → StepsAll mid new (take n (rest bytes at)) (lo - at) (hi - at) count
+    → Continues old new (take (at + n) bytes) × PassesBetween new (lo - (at + n)) (hi - (at + n))
 run_on old mid new bytes lo hi at n count l all f s =
     let whole = length-take-le n (rest bytes at) l in
     let within = s.within in
     let d = steps_done s (omega arith) in
     let e : lo - at - length (take n (rest bytes at)) ≡ lo - (at + n) = omega arith in
     let g : hi - at - length (take n (rest bytes at)) ≡ hi - (at + n) = omega arith in (
-      subst (Follows old new) (take_rests bytes at n) (follows_more old mid new (take at bytes) (take n (rest bytes at)) f d.0),
+      subst (Continues old new) (take_rests bytes at n) (follows_more old mid new (take at bytes) (take n (rest bytes at)) f d.0),
       subst (λ x. PassesBetween new x (hi - (at + n))) e (subst (λ x. PassesBetween new (lo - at - length (take n (rest bytes at))) x) g d.1),
     )
 

@@ -3,23 +3,22 @@ use Rattle.std.proofs.Common.{◌≡◌, ◌≢◌, ℕ, ◌+◌, ◌-◌, ◌<�
 use Rattle.std.specs.Prelude.{◌==◌, ◌||◌, nat_lt, unwrap_or}
 use Rattle.std.proofs.lemmas.Bool.Decides.{eqb_tells, nat_tests}
 use Rattle.std.proofs.lemmas.List.{length-take-le}
-use Rattle.ndef_value.specs.Wire.{AreOctets}
-use Rattle.ndef_value.specs.declared.profile.Profile.{Profile}
+use Rattle.ndef_format.specs.Records.{AreOctets}
+use Rattle.ndef_format.specs.declared.profile.Profile.{Profile}
 use Rattle.ndef_piece.specs.declared.head.Head.{Head}
-use Rattle.ndef_piece.specs.Heads.{HeadsAreApart, IsWhole}
+use Rattle.ndef_piece.specs.Heads.{HeadsAreApart, IsWholeHead}
 use Rattle.ndef_piece.specs.Whole.{BeginWithHead}
-use Rattle.ndef_lang.specs.Language.{Follows, PassesBetween, Reaches, StepsAll}
+use Rattle.ndef_lang.specs.Language.{Continues, PassesBetween, Reaches, StepsAll}
 use Rattle.ndef_lang.specs.StepLaws.{follows_more, reaches_more, steps_whole, take_parts}
-use Rattle.ndef_lang.specs.Leaf.{IsPayload}
-use Rattle.ndef_lang.specs.declared.kind.Kind.{Kind}
+use Rattle.ndef_format.specs.Nested.{IsPayload, kind_in}
+use Rattle.ndef_format.specs.declared.kind.Kind.{Kind}
 use Rattle.ndef_nest.specs.declared.context.Context.{Context}
 use Rattle.ndef_nest.specs.declared.demand.Demand.{Demand}
 use Rattle.ndef_nest.specs.declared.phase.Name.{Name}
 use Rattle.ndef_nest.specs.declared.phase.Phase.{Phase}
 use Rattle.ndef_nest.specs.declared.phase.Phase.TheVariants as phases
-use Rattle.ndef_nest.specs.Nested.{kind_in}
-use Rattle.ndef_nest.specs.Machine.Demands.{Allows, IsBody, IsTyped, Later, Rest, Tail, after, spot}
-use Rattle.ndef_nest.specs.Machine.Phases.{Completes, CompletesHeaded, CompletesNamed, IsBetween, fewer, is_first, is_sound}
+use Rattle.ndef_nest.specs.Machine.Demands.{Allows, IsBody, IsTypeField, Later, RecordsToCome, Tail, demand_after, nested_spot}
+use Rattle.ndef_nest.specs.Machine.Phases.{Completes, CompletesHeaded, CompletesNamed, IsBetween, fewer, is_first_octet, is_sound}
 use Rattle.ndef_nest.specs.Machine.Reached.{HasCome, IsHeaded, IsInHead, IsNamed}
 use Rattle.ndef_nest.specs.Machine.SpanLaws.{some_records}
 use Rattle.ndef_nest.specs.Machine.BodyLaws.{typed_end, typed_step}
@@ -28,14 +27,14 @@ use Rattle.ndef_nest.proofs.Steps.{chain, head_whole}
 
 -- where a record may begin, what completes the message with some octets is records
 between_completes : (c : Context) (first : Bool) (xs : List ℕ) (phase : Phase) (t r : List ℕ) → IsBetween phase xs → 0 < length t
-    → Rest c.profile c.table c.records (is_first phase first) c.demand (t ++ r) ↔ Completes c first xs phase (t ++ r)
+    → RecordsToCome c.profile c.table c.records (is_first_octet phase first) c.demand (t ++ r) ↔ Completes c first xs phase (t ++ r)
 between_completes c first xs phases.Start [] r h some = absurd (omega arith)
 between_completes c first xs phases.Start (b ∷ t) r h some = (λ x. inr x, λ z. (elim z [ inl x ↦ absurd (let e = x.1 in cc) | inr x ↦ x ]))
 between_completes c first xs phases.Head t r h some = rw h (λ x. x, λ x. x)
 between_completes c first xs _ t r h some = absurd h
 
 -- where a record may begin, what has come of the message is whole records
-between_come : (c : Context) (first : Bool) (xs : List ℕ) (phase : Phase) (records : ℕ) (m : List ℕ) → IsBetween phase xs → HasCome c first xs phase records m → IsInHead c (is_first phase first) [] records m
+between_come : (c : Context) (first : Bool) (xs : List ℕ) (phase : Phase) (records : ℕ) (m : List ℕ) → IsBetween phase xs → HasCome c first xs phase records m → IsInHead c (is_first_octet phase first) [] records m
 between_come c first xs phases.Start records m h x = head_first c records m x.0 x.1
 between_come c first xs phases.Head records m h x = rw h at x
 between_come c first xs _ records m h x = absurd h
@@ -52,7 +51,7 @@ not_version phases.Version xs h e = h
 not_version _ xs h e = cc
 
 -- behind a head that isn't the last, another record may begin
-pub head_followed : (profile : Profile) (first : Bool) (records : ℕ) (xs : List ℕ) (h : Head) → 0 < records → IsWhole (spot profile first records) xs h → h.last || nat_lt 0 (records - 1) ≡ true
+pub head_followed : (profile : Profile) (first : Bool) (records : ℕ) (xs : List ℕ) (h : Head) → 0 < records → IsWholeHead (nested_spot profile first records) xs h → h.last || nat_lt 0 (records - 1) ≡ true
 head_followed profile first records xs h some at = by_last h.last refl
   where
     one_piece : (chunked : Bool) → at.fields.chunked ≡ chunked → at.fields.chunked ≡ false
@@ -68,28 +67,28 @@ head_followed profile first records xs h some at = by_last h.last refl
 
 -- what completes the message behind a whole head is what goes on after it
 pub head_completes : (apart : HeadsAreApart) (c : Context) (first : Bool) (xs : List ℕ) (phase : Phase) (bytes : List ℕ) (h : Head) (count : ℕ) → IsBetween phase xs → 0 < c.records
-    → BeginWithHead (spot c.profile (is_first phase first) c.records) bytes h count → Follows (Completes c first xs phase) (CompletesHeaded (fewer c) h) (take count bytes)
+    → BeginWithHead (nested_spot c.profile (is_first_octet phase first) c.records) bytes h count → Continues (Completes c first xs phase) (CompletesHeaded (fewer c) h) (take count bytes)
 head_completes apart c first xs phase bytes h count between some at r =
     let t = take count bytes in
-    chain (head_whole apart c.profile c.table c.records (is_first phase first) c.demand [] t r h some at.whole)
+    chain (head_whole apart c.profile c.table c.records (is_first_octet phase first) c.demand [] t r h some at.whole)
     (between_completes c first xs phase t r between (omega (arith, at.some, length-take-le count bytes at.within)))
 
 -- what has come of the message with a whole head
 pub head_comes : (c : Context) (first : Bool) (xs : List ℕ) (phase : Phase) (bytes : List ℕ) (h : Head) (count records : ℕ) → IsBetween phase xs → 0 < c.records
-    → BeginWithHead (spot c.profile (is_first phase first) c.records) bytes h count → Reaches (HasCome c first xs phase records) (IsHeaded (fewer c) h records) (take count bytes)
+    → BeginWithHead (nested_spot c.profile (is_first_octet phase first) c.records) bytes h count → Reaches (HasCome c first xs phase records) (IsHeaded (fewer c) h records) (take count bytes)
 head_comes c first xs phase bytes h count records between some at m x =
-    whole_head c (fewer c) (is_first phase first) [] records m (spot c.profile (is_first phase first) c.records) (take count bytes) h some refl refl at.whole (between_come c first xs phase records m between x)
+    whole_head c (fewer c) (is_first_octet phase first) [] records m (nested_spot c.profile (is_first_octet phase first) c.records) (take count bytes) h some refl refl at.whole (between_come c first xs phase records m between x)
 
 -- a whole type
 typed_whole : (profile : Profile) (more : Demand → List ℕ → Type 0) (last : Bool) (demand : Demand) (of : List ℕ → Kind) (id payload : ℕ) (t r : List ℕ) → AreOctets t
-    → (Allows demand (of t) × IsBody (IsPayload (of t) profile) id payload (Tail more last (after demand (of t))) r) ↔ IsTyped profile of more last demand (length t) id payload (t ++ r)
+    → (Allows demand (of t) × IsBody (IsPayload (of t) profile) id payload (Tail more last (demand_after demand (of t))) r) ↔ IsTypeField profile of more last demand (length t) id payload (t ++ r)
 typed_whole profile more last demand of id payload [] r are = let w = typed_end profile more last demand of id payload r in (w.1, w.0)
 typed_whole profile more last demand of id payload (b ∷ t) r are =
     chain (typed_whole profile more last demand (λ z. of (b ∷ z)) id payload t r are.1) (typed_step profile more last demand of (length t) id payload b (t ++ r) are.0)
 
 module _ (c : Context) (h : Head) (n : Name) (kind : Kind) (t : List ℕ) (are : AreOctets t) (whole : length t ≡ h.kind_length) (is : kind_in c.table h.tnf t ≡ kind) (last : n.last ≡ h.last) (id : n.id ≡ unwrap_or h.id_length 0) (payload : n.payload ≡ h.payload_length) where
   -- what completes the message behind a head and its type
-  pub type_completes : Follows (CompletesHeaded c h) (CompletesNamed c kind n) t
+  pub type_completes : Continues (CompletesHeaded c h) (CompletesNamed c kind n) t
   type_completes r =
       rw (sym is, last, id, payload, sym whole) (typed_whole c.profile (Later c.profile c.table c.records) h.last c.demand (kind_in c.table h.tnf) (unwrap_or h.id_length 0) h.payload_length t r are)
 
@@ -109,17 +108,17 @@ module _ (c : Context) (h : Head) (n : Name) (kind : Kind) (t : List ℕ) (are :
   }
 
 -- octets that are taken at once, where some list passes behind them
-pub front_taken : (old new : List ℕ → Type 0) (bytes : List ℕ) (lo hi count : ℕ) → count ≤ length bytes → Follows old new (take count bytes) → PassesBetween new (lo - count) (hi - count) → StepsAll old new (take count bytes) lo hi count
+pub front_taken : (old new : List ℕ → Type 0) (bytes : List ℕ) (lo hi count : ℕ) → count ≤ length bytes → Continues old new (take count bytes) → PassesBetween new (lo - count) (hi - count) → StepsAll old new (take count bytes) lo hi count
 front_taken old new bytes lo hi count within f p =
     let t = take count bytes in
     let e : length t ≡ count = length-take-le count bytes within in
     subst (λ k. StepsAll old new t lo hi k) e (steps_whole old new t lo hi f (subst (λ k. PassesBetween new (lo - k) (hi - k)) (sym e) p))
 
 -- what follows two parts of the octets, and what they lead to
-pub both_follow : (old mid new : List ℕ → Type 0) (bytes : List ℕ) (n m : ℕ) → Follows old mid (take n bytes) → Follows mid new (take (n + m - n) (drop n bytes)) → Follows old new (take (n + m) bytes)
+pub both_follow : (old mid new : List ℕ → Type 0) (bytes : List ℕ) (n m : ℕ) → Continues old mid (take n bytes) → Continues mid new (take (n + m - n) (drop n bytes)) → Continues old new (take (n + m) bytes)
 both_follow old mid new bytes n m f g =
     let e : n + m - n ≡ m = omega arith in
-    subst (Follows old new) (sym (take_parts bytes n m)) (follows_more old mid new (take n bytes) (take m (drop n bytes)) f (subst (λ k. Follows mid new (take k (drop n bytes))) e g))
+    subst (Continues old new) (sym (take_parts bytes n m)) (follows_more old mid new (take n bytes) (take m (drop n bytes)) f (subst (λ k. Continues mid new (take k (drop n bytes))) e g))
 
 pub both_reach : (old mid new : List ℕ → Type 0) (bytes : List ℕ) (n m : ℕ) → Reaches old mid (take n bytes) → Reaches mid new (take (n + m - n) (drop n bytes)) → Reaches old new (take (n + m) bytes)
 both_reach old mid new bytes n m f g =

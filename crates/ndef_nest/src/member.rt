@@ -1,7 +1,7 @@
 //! Whether whole payloads are nested messages. Only a true answer tells something.
 ghost use Rattle.std.specs.Prelude.{◌≡◌, ◌≤◌, ℕ, suc, IfSome, IsTrue};
-ghost use Rattle.ndef_nest.specs.Nested.{IsNest, Nested};
-ghost use Rattle.ndef_nest.specs.Machine.Demands.{Later, Rest, Tail};
+ghost use Rattle.ndef_format.specs.Nested.{IsNest, Nested};
+ghost use Rattle.ndef_nest.specs.Machine.Demands.{Later, RecordsToCome, Tail};
 
 use crate::Table;
 use crate::context::Context;
@@ -15,7 +15,7 @@ use ndef_value::Profile;
 fn behind_record(context: Context, first: bool, bytes: &[u8]) -> Option<(Demand, bool, &[u8])>
     ensures { IfSome result (λ r. (others : ℕ) → context.records ≡ suc others
         → Tail (Later context.profile context.table others) r.1 r.0 r.2.now
-        → Rest context.profile context.table context.records first context.demand bytes.now) }
+        → RecordsToCome context.profile context.table context.records first context.demand bytes.now) }
 {
     heads_are_of_pieces();
     let piece = whole_piece(bytes)?;

@@ -2,17 +2,16 @@
 ghost use Rattle.std.specs.Prelude.{◌≡◌, ◌≤◌, ◌<◌, ◌+◌, ◌-◌, ◌^◌, ◌↔◌, ◌||◌, ℕ, nat_lt, Bool, true, List, [], ◌∷◌, length, take, IfSome};
 ghost use Rattle.ndef_piece.specs.Whole.{BeginWithHead};
 ghost use Rattle.ndef_piece.specs.declared.head_reader.Step.TheVariants as steps;
-ghost use Rattle.ndef_value.specs.declared.reason.Reason.TheVariants as reasons;
-ghost use Rattle.ndef_lang.specs.Language.{Follows, Reaches, ReachesEach, PassesBetween, StepsAll};
-ghost use Rattle.ndef_lang.specs.Language.{IsLowest, OneReason, TellsWhy, TellsWhyAt};
-ghost use Rattle.ndef_value.specs.declared.profile.Profile.{Profile};
-ghost use Rattle.ndef_lang.specs.declared.kind.Kind.{Kind};
-ghost use Rattle.ndef_nest.specs.Nested.{IsNest, IsVersion, table_of};
-ghost use Rattle.ndef_nest.specs.Machine.Demands.{suits, spot};
-ghost use Rattle.ndef_nest.specs.Machine.Spans.{least, most};
-ghost use Rattle.ndef_nest.specs.Machine.Phases.{Completes, CompletesBehind, CompletesHeaded, CompletesVersion};
-ghost use Rattle.ndef_nest.specs.Machine.Phases.{IsBetween, IsSoundBehind, Suits, is_sound, start_fits};
-ghost use Rattle.ndef_nest.specs.Conditions.{MessageReason, NestReason};
+ghost use Rattle.ndef_format.specs.declared.reason.Reason.TheVariants as reasons;
+ghost use Rattle.ndef_lang.specs.Language.{Continues, Reaches, ReachesEach, PassesBetween, StepsAll, TellsWhy, TellsWhyAt};
+ghost use Rattle.ndef_format.specs.Reasons.{IsLowest, OneReason};
+ghost use Rattle.ndef_format.specs.declared.profile.Profile.{Profile};
+ghost use Rattle.ndef_format.specs.declared.kind.Kind.{Kind};
+ghost use Rattle.ndef_format.specs.Nested.{IsNest, IsVersion, table_of};
+ghost use Rattle.ndef_nest.specs.Machine.Demands.{suits, nested_spot};
+ghost use Rattle.ndef_nest.specs.Machine.Spans.{least_octets, most};
+ghost use Rattle.ndef_nest.specs.Machine.Phases.{Completes, CompletesBehind, CompletesHeaded, CompletesVersion, IsBetween, IsSoundBehind, Suits, is_sound, start_fits};
+ghost use Rattle.ndef_format.specs.NestedReasons.{MessageReason, NestReason};
 ghost use Rattle.ndef_nest.specs.Machine.Reached.{HasCome, HasComeBehind, IsHeaded, IsNew};
 ghost use Rattle.ndef_nest.specs.Machine.Told.{may_have, head_told};
 ghost use Rattle.ndef_nest.specs.Machine.Fronts.{FrontAt};
@@ -41,7 +40,7 @@ pub struct Nest {
     told: Reason,
     ghost suited: { suits context.table context.demand ≡ true },
     ghost going: { reader.answer ≡ steps.More },
-    ghost spot: { reader.spot ≡ spot context.profile reader.spot.first context.records },
+    ghost spot: { reader.spot ≡ nested_spot context.profile reader.spot.first context.records },
     ghost sound: { is_sound context reader.spot.first reader.octets phase ≡ true },
     ghost front: { FrontAt reader.spot reader.octets } by { front_at_prop reader.spot reader.octets },
 }
@@ -84,7 +83,7 @@ fn head_reason(demand: Demand, bounds: &Bounds) -> Reason
 /// The least and the greatest number of octets of the records to come.
 fn records_span(context: &Context) -> (u64, u64)
     requires { 0 < context.now.records }
-    ensures { result ≡ (least context.now.demand, most context.now.demand (context.now.records - 1)) }
+    ensures { result ≡ (least_octets context.now.demand, most context.now.demand (context.now.records - 1)) }
 {
     (
         least(context.demand),
@@ -107,7 +106,7 @@ impl Nest {
     /// Before the first octet of the payload; its message has at most `records` records, 1 to 65535.
     pub fn new(table: Table, records: u32, profile: Profile) -> Self
         requires some { 1 ≤ records }
-        ensures future { Follows (IsNest table records profile) (future result) [] }
+        ensures future { Continues (IsNest table records profile) (future result) [] }
         ensures reached { (kind : Kind) → table_of kind ≡ table → reached result kind records profile [] }
     {
         let context = Context {
@@ -156,7 +155,7 @@ impl Nest {
     fn at(context: Context, phase: Phase) -> Nest
         requires suited { Suits context }
         requires sound { IsSoundBehind context phase }
-        ensures future { Follows (CompletesBehind context phase) (future result) [] }
+        ensures future { Continues (CompletesBehind context phase) (future result) [] }
         ensures come { (records : ℕ) (m : List ℕ) → HasComeBehind context phase records m
             → come result records m }
         ensures kept { result.context ≡ context }
@@ -173,7 +172,7 @@ impl Nest {
     fn behind_head(context: Context, head: &Head) -> Nest
         requires suited { Suits context }
         requires followed { head.now.last || nat_lt 0 context.records ≡ true }
-        ensures future { Follows (CompletesHeaded context head.now) (future result) [] }
+        ensures future { Continues (CompletesHeaded context head.now) (future result) [] }
         ensures come { (records : ℕ) (m : List ℕ) → IsHeaded context head.now records m
             → come result records m }
         ensures kept { (result.context.table ≡ context.table) × (result.context.profile ≡ context.profile) }
@@ -187,7 +186,7 @@ impl Nest {
         requires suited { Suits context }
         requires followed { head.now.last || nat_lt 0 context.records ≡ true }
         requires whole { length name.now ≡ head.now.kind_length }
-        ensures future { Follows (CompletesHeaded context head.now) (future result) name.now }
+        ensures future { Continues (CompletesHeaded context head.now) (future result) name.now }
         ensures come { (records : ℕ) → Reaches (IsHeaded context head.now records) (come result records) name.now }
         ensures kept { (result.context.table ≡ context.table) × (result.context.profile ≡ context.profile) }
     {
@@ -287,7 +286,7 @@ impl Nest {
     /// Takes an octet of a head.
     fn at_head(&mut self, byte: u8)
         requires { self.old.phase ≡ Phase.Head }
-        ensures future { Follows (future self.old) (future self.new) (byte ∷ []) }
+        ensures future { Continues (future self.old) (future self.new) (byte ∷ []) }
         ensures come { (records : ℕ) → Reaches (come self.old records) (come self.new records) (byte ∷ []) }
         ensures kept { (self.new.context.table ≡ self.old.context.table)
             × (self.new.context.profile ≡ self.old.context.profile) }

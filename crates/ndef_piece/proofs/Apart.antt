@@ -2,57 +2,59 @@
 use Rattle.std.proofs.Common.{◌≡◌, ℕ, ◌+◌, ◌<◌, Bool, refl, sym, ◌∙◌, ap, arith, List, [], ◌∷◌, ◌++◌, length, Option, Some, length-append}
 use Rattle.std.specs.Prelude.{is_some}
 use Rattle.std.proofs.lemmas.List.{append-nil}
-use Rattle.ndef_value.specs.Wire.{Fields, octets}
-use Rattle.ndef_value.specs.declared.reason.Reason.{Reason}
+use Rattle.ndef_format.specs.Records.{HeadFields, octets}
+use Rattle.ndef_format.specs.declared.reason.Reason.{Reason}
 use Rattle.ndef_piece.specs.declared.head.Head.{Head}
-use Rattle.ndef_piece.specs.declared.spot.Spot.{Spot}
+use Rattle.ndef_format.specs.declared.spot.Spot.{Spot}
 use Rattle.ndef_piece.specs.declared.head_reader.Step.TheVariants as steps
-use Rattle.ndef_piece.specs.Header.{is_set, tnf_number, size}
-use Rattle.ndef_piece.specs.Heads.{head, CanBeSpelled, HeadsAreApart, HeadersTell, Begins, IsOpen, IsWhole, IsViable}
-use Rattle.ndef_piece.specs.Reading.{OneAnswer}
+use Rattle.ndef_format.specs.HeadReasons.{is_set, tnf_number}
+use Rattle.ndef_piece.specs.Header.{size}
+use Rattle.ndef_piece.specs.Heads.{head, HeadsAreApart, HeadersTell, BeginsHead, IsWholeHead, IsViableHead}
+use Rattle.ndef_format.specs.Positions.{CanBeSpelled, IsOpen}
+use Rattle.ndef_piece.specs.Machine.Reading.{OneAnswer}
 use Rattle.ndef_value.specs.ListLaws.{cut_alike}
 use Rattle.ndef_piece.proofs.ReadBack.{read_back}
-use Rattle.ndef_piece.specs.HeaderLaws.{octets_size, header, parts}
+use Rattle.ndef_piece.specs.HeaderLaws.{octets_size, header, header_parts}
 
 -- ---- heads with one header octet
 
 -- what the header octet tells is alike
-pub record Alike (g h : Fields) : Type 0 where
+pub record Alike (g h : HeadFields) : Type 0 where
   pub last : g.last ≡ h.last
   pub chunked : g.chunked ≡ h.chunked
   pub short : g.short ≡ h.short
   pub tnf : g.tnf ≡ h.tnf
   pub id : is_some g.id_length ≡ is_some h.id_length
 
-pub alike : (g h : Fields) → g.tnf < 8 → h.tnf < 8 → header g ≡ header h → Alike g h
+pub alike : (g h : HeadFields) → g.tnf < 8 → h.tnf < 8 → header g ≡ header h → Alike g h
 alike g h t u e = record {
-  last = sym (parts g t).ends ∙ ap (is_set 6) e ∙ (parts h u).ends;
-  chunked = sym (parts g t).chunked ∙ ap (is_set 5) e ∙ (parts h u).chunked;
-  short = sym (parts g t).short ∙ ap (is_set 4) e ∙ (parts h u).short;
-  tnf = sym (parts g t).tnf ∙ ap tnf_number e ∙ (parts h u).tnf;
-  id = sym (parts g t).id_there ∙ ap (is_set 3) e ∙ (parts h u).id_there;
+  last = sym (header_parts g t).ends ∙ ap (is_set 6) e ∙ (header_parts h u).ends;
+  chunked = sym (header_parts g t).chunked ∙ ap (is_set 5) e ∙ (header_parts h u).chunked;
+  short = sym (header_parts g t).short ∙ ap (is_set 4) e ∙ (header_parts h u).short;
+  tnf = sym (header_parts g t).tnf ∙ ap tnf_number e ∙ (header_parts h u).tnf;
+  id = sym (header_parts g t).id_there ∙ ap (is_set 3) e ∙ (header_parts h u).id_there;
 }
 
 -- a header octet tells the type name format
 pub headers_tell : HeadersTell
-headers_tell f b rest h e = let g : b ≡ header f = cc in ap tnf_number g ∙ (parts f h.tnf).tnf
+headers_tell f b rest h e = let g : b ≡ header f = cc in ap tnf_number g ∙ (header_parts f h.tnf).tnf
 
 -- ---- heads with all octets alike
 
 -- heads with the same octets are read alike
-same_head : (h g : Fields) → CanBeSpelled h → CanBeSpelled g → octets h ≡ octets g → head h ≡ head g
+same_head : (h g : HeadFields) → CanBeSpelled h → CanBeSpelled g → octets h ≡ octets g → head h ≡ head g
 same_head h g a b e =
     sym (read_back h (octets g) a e _ _ _ _ _ _ _ _ refl refl refl refl refl refl refl refl)
     ∙ read_back g (octets g) b refl _ _ _ _ _ _ _ _ refl refl refl refl refl refl refl refl
 
 -- one head's octets do not end inside another's
-same_size : (h g : Fields) → CanBeSpelled h → CanBeSpelled g → (x y : List ℕ) → octets h ++ x ≡ octets g ++ y → length (octets h) ≡ length (octets g)
+same_size : (h g : HeadFields) → CanBeSpelled h → CanBeSpelled g → (x y : List ℕ) → octets h ++ x ≡ octets g ++ y → length (octets h) ≡ length (octets g)
 same_size h g a b x y e =
     let f : header h ≡ header g = cc in
     octets_size h a.tnf ∙ ap size f ∙ sym (octets_size g b.tnf)
 
 -- the fields, one by one
-abbrev make : Bool → Bool → Bool → Bool → ℕ → ℕ → ℕ → Option ℕ → Fields
+abbrev make : Bool → Bool → Bool → Bool → ℕ → ℕ → ℕ → Option ℕ → HeadFields
 make first last chunked short tnf k n i = record { first = first; last = last; chunked = chunked; short = short; tnf = tnf; kind_length = k; payload_length = n; id_length = i }
 
 same_parts : (a a' b b' c c' d d' : Bool) (t t' k k' n n' : ℕ) (i i' : Option ℕ) → a ≡ a' → b ≡ b' → c ≡ c' → d ≡ d' → t ≡ t' → k ≡ k' → n ≡ n' → i ≡ i'
@@ -72,12 +74,12 @@ heads_are_apart f g x y a b e =
     )
 
 -- only one head begins with a whole one
-pub only_head : (spot : Spot) (xs : List ℕ) (h : Head) (w : IsWhole spot xs h) (f : Fields) (b : Begins spot xs f) → (f ≡ w.fields) × ([] ≡ b.rest)
+pub only_head : (spot : Spot) (xs : List ℕ) (h : Head) (w : IsWholeHead spot xs h) (f : HeadFields) (b : BeginsHead spot xs f) → (f ≡ w.fields) × ([] ≡ b.rest)
 only_head spot xs h w f b =
     heads_are_apart f w.fields [] b.rest b.stands.spelled w.stands.spelled (append-nil (octets f) ∙ b.spelled ∙ ap (λ x. x ++ b.rest) (sym w.spelled))
 
 -- no head lies in an open front
-pub open_not_past : (at : Spot) (xs : List ℕ) (o : IsOpen at xs) (g : Fields) (m : List ℕ) → CanBeSpelled g → xs ≡ octets g ++ m → ⊥
+pub open_not_past : (at : Spot) (xs : List ℕ) (o : IsOpen at xs) (g : HeadFields) (m : List ℕ) → CanBeSpelled g → xs ≡ octets g ++ m → ⊥
 open_not_past at [] o g m l e = cc
 open_not_past at (x ∷ xs) o g m l e =
     let s = o.spelled in
@@ -100,19 +102,19 @@ only_reason : (r s : Reason) → Some r ≡ Some s → r ≡ s
 only_reason r s e = cc
 
 -- whole octets are read as one head
-whole_once : (spot : Spot) (xs : List ℕ) (h g : Head) → IsWhole spot xs h → IsWhole spot xs g → h ≡ g
+whole_once : (spot : Spot) (xs : List ℕ) (h g : Head) → IsWholeHead spot xs h → IsWholeHead spot xs g → h ≡ g
 whole_once spot xs h g a b = sym a.read ∙ same_head a.fields b.fields a.stands.spelled b.stands.spelled (a.spelled ∙ sym b.spelled) ∙ b.read
 
 -- no octets are both a whole head and the front of a longer one
-not_both : (spot : Spot) (xs : List ℕ) (h : Head) → IsOpen spot xs → IsWhole spot xs h → ⊥
+not_both : (spot : Spot) (xs : List ℕ) (h : Head) → IsOpen spot xs → IsWholeHead spot xs h → ⊥
 not_both spot xs h o w = open_not_past spot xs o w.fields [] w.stands.spelled (sym w.spelled ∙ sym (append-nil (octets w.fields)))
 
 -- an open front is viable
-viable_open : (spot : Spot) (xs : List ℕ) → IsOpen spot xs → IsViable spot xs
+viable_open : (spot : Spot) (xs : List ℕ) → IsOpen spot xs → IsViableHead spot xs
 viable_open spot xs o = (o.fields, record { stands = o.stands; rest = o.next ∷ o.rest; spelled = o.spelled })
 
 -- a whole head is viable
-viable_whole : (spot : Spot) (xs : List ℕ) (h : Head) → IsWhole spot xs h → IsViable spot xs
+viable_whole : (spot : Spot) (xs : List ℕ) (h : Head) → IsWholeHead spot xs h → IsViableHead spot xs
 viable_whole spot xs h w = (w.fields, record { stands = w.stands; rest = []; spelled = w.spelled ∙ sym (append-nil xs) })
 
 pub one_answer : OneAnswer

@@ -4,26 +4,26 @@ use Rattle.std.specs.Prelude.{is_some, unwrap_or, ◌==◌, ◌&&◌, nat_lt, If
 use Rattle.std.proofs.lemmas.List.{append-nil, take_all}
 use Rattle.std.proofs.lemmas.Bool.{lt-ltb, le-ltb, and_from}
 use Rattle.std.proofs.lemmas.Bool.Decides.{eqb_tells}
-use Rattle.ndef_value.specs.Wire.{Fields, octets, header_octet, HasShape, tnf_of, payload_length_octets, id_length_octets, AreOctets}
+use Rattle.ndef_format.specs.Records.{HeadFields, octets, header_octet, HasShape, tnf_of, payload_length_octets, id_length_octets, AreOctets}
 use Rattle.ndef_piece.specs.declared.head.Head.{Head}
-use Rattle.ndef_piece.specs.declared.spot.Spot.{Spot}
+use Rattle.ndef_format.specs.declared.spot.Spot.{Spot}
 use Rattle.ndef_piece.specs.declared.bounds.Bounds.{Bounds}
-use Rattle.ndef_piece.specs.Heads.{CanBeSpelled, head, MayStand, Begins, IsOpen}
-use Rattle.ndef_piece.specs.Header.{tnf_number, size}
-use Rattle.ndef_piece.specs.Conditions.{least_from}
+use Rattle.ndef_format.specs.Positions.{CanBeSpelled, MayStand, IsOpen}
+use Rattle.ndef_piece.specs.Heads.{head, BeginsHead}
+use Rattle.ndef_format.specs.HeadReasons.{tnf_number, least_from}
+use Rattle.ndef_piece.specs.Header.{size}
 use Rattle.ndef_piece.specs.Ranges.{greatest_from, range_of}
 use Rattle.ndef_piece.specs.Bounds.{BoundsOfFronts, BoundsOfHeads, IsIn, AreWithin, AreBounds, kind_range, id_range, bounds_of, bounds_at, front_bounds}
-use Rattle.ndef_piece.specs.Reading.{Reading, IsSound}
+use Rattle.ndef_piece.specs.Machine.Reading.{Reading, IsSound}
 use Rattle.ndef_piece.specs.declared.head_reader.Step.{Step}
 use Rattle.ndef_piece.specs.declared.head_reader.Step.TheVariants as steps
-use Rattle.ndef_piece.proofs.Sorts.{empty, named, unnamed, sort}
+use Rattle.ndef_piece.proofs.Sorts.{empty, named, unnamed, sort, empty_lengths}
 use Rattle.ndef_piece.proofs.Guards.{and_false}
 use Rattle.ndef_piece.proofs.Lengths.{octet_count, within, has, fits_form, length_octets}
-use Rattle.ndef_piece.specs.HeaderLaws.{octets_size, header, parts}
+use Rattle.ndef_piece.specs.HeaderLaws.{octets_size, header, header_parts}
 use Rattle.ndef_piece.proofs.Stages.{length_part, at_header, at_kind, at_length, at_id, stage}
 use Rattle.ndef_piece.proofs.Sizes.{width_of}
 use Rattle.ndef_value.specs.ListLaws.{front_in, octets_front}
-use Rattle.ndef_piece.proofs.Sorts.{empty_lengths}
 use Rattle.ndef_piece.proofs.Apart.{alike, only_head}
 
 -- ---- shapes and ranges
@@ -86,7 +86,7 @@ no_id (Some d) i e = cc
 
 -- ---- the head h with other lengths
 
-abbrev other : Fields → (kind id payload : ℕ) → Fields
+abbrev other : HeadFields → (kind id payload : ℕ) → HeadFields
 other h kind id payload = record {
   first = h.first;
   last = h.last;
@@ -99,14 +99,14 @@ other h kind id payload = record {
 }
 
 -- payload lengths, by the octets of PAYLOAD_LENGTH that are read
-record IsPayload (spot : Spot) (h : Fields) (ls : List ℕ) (n : ℕ) : Type 0 where
+record IsPayload (spot : Spot) (h : HeadFields) (ls : List ℕ) (n : ℕ) : Type 0 where
   least : least_from (octet_count h.short) ls ≤ n
   greatest : n ≤ greatest_from (octet_count h.short) ls
   room : n ≤ spot.room
   empty : h.tnf ≡ 0 → n ≡ 0
 
 -- it may stand too, and its octets begin alike
-other_head : (spot : Spot) (h : Fields) (ls m : List ℕ) (k i n : ℕ) → MayStand spot h → length_part h ≡ ls ++ m → IsIn k (kind_range h.tnf []) → IsIn i (id_range h.tnf (is_some h.id_length))
+other_head : (spot : Spot) (h : HeadFields) (ls m : List ℕ) (k i n : ℕ) → MayStand spot h → length_part h ≡ ls ++ m → IsIn k (kind_range h.tnf []) → IsIn i (id_range h.tnf (is_some h.id_length))
     → IsPayload spot h ls n → MayStand spot (other h k i n) × (unwrap_or (other_id h.id_length i) 0 ≡ i) × ((rest : List ℕ) × (length_part (other h k i n) ≡ ls ++ rest))
 other_head spot h ls m k i n s e kr ir p =
     let l = length_octets h.short h.payload_length s.spelled.form in
@@ -130,11 +130,11 @@ other_head spot h ls m k i n s e kr ir p =
     )
 
 -- it has the same header octet
-same_octet : (h : Fields) (k i n : ℕ) → header (other h k i n) ≡ header h
+same_octet : (h : HeadFields) (k i n : ℕ) → header (other h k i n) ≡ header h
 same_octet h k i n = ap (λ b. header_octet h.first h.last h.chunked h.short b h.tnf) (other_some h.id_length i)
 
 -- a number in the range of payload lengths is one
-from_range : (spot : Spot) (h : Fields) (ls m : List ℕ) (n : ℕ) → MayStand spot h → length_part h ≡ ls ++ m
+from_range : (spot : Spot) (h : HeadFields) (ls m : List ℕ) (n : ℕ) → MayStand spot h → length_part h ≡ ls ++ m
     → ((least_from (octet_count h.short) ls ≤ h.payload_length) × (h.payload_length ≤ greatest_from (octet_count h.short) ls))
     → IsIn n (cond (h.tnf == 0) (0, 0) (least_from (octet_count h.short) ls, min (greatest_from (octet_count h.short) ls) spot.room)) → IsPayload spot h ls n
 from_range spot h ls m n s e w r =
@@ -152,14 +152,14 @@ from_range spot h ls m n s e w r =
 -- ---- the range of payload lengths
 
 -- the payload length of a head that begins with the header octet of h, and whose payload length begins with ls
-in_range : (spot : Spot) (h g : Fields) (ls m : List ℕ) → h.tnf < 8 → header g ≡ header h → CanBeSpelled g → length_part g ≡ ls ++ m
+in_range : (spot : Spot) (h g : HeadFields) (ls m : List ℕ) → h.tnf < 8 → header g ≡ header h → CanBeSpelled g → length_part g ≡ ls ++ m
     → (least_from (octet_count h.short) ls ≤ g.payload_length) × (g.payload_length ≤ greatest_from (octet_count h.short) ls)
 in_range spot h g ls m t e l w =
     subst (λ s. (least_from (octet_count s) ls ≤ g.payload_length) × (g.payload_length ≤ greatest_from (octet_count s) ls))
     (alike g h l.tnf t e).short (within g.short g.payload_length l.payload l.form ls m w)
 
 -- such a head, where its first octets are the header octet, a type length and ls
-begun_range : (spot : Spot) (h g : Fields) (k : ℕ) (ls : List ℕ) → h.tnf < 8 → length ls ≤ octet_count h.short → Begins spot (header h ∷ k ∷ ls) g
+begun_range : (spot : Spot) (h g : HeadFields) (k : ℕ) (ls : List ℕ) → h.tnf < 8 → length ls ≤ octet_count h.short → BeginsHead spot (header h ∷ k ∷ ls) g
     → (least_from (octet_count h.short) ls ≤ g.payload_length) × (g.payload_length ≤ greatest_from (octet_count h.short) ls)
 begun_range spot h g k ls t n b =
     let e = b.spelled in
@@ -171,11 +171,11 @@ begun_range spot h g k ls t n b =
     in_range spot h g ls w.0 t eh b.stands.spelled w.1
 
 -- an empty record has no payload
-empty_length : (spot : Spot) (h g : Fields) → h.tnf < 8 → h.tnf ≡ 0 → header g ≡ header h → MayStand spot g → g.payload_length ≡ 0
+empty_length : (spot : Spot) (h g : HeadFields) → h.tnf < 8 → h.tnf ≡ 0 → header g ≡ header h → MayStand spot g → g.payload_length ≡ 0
 empty_length spot h g t z e s = (empty_lengths g.tnf _ _ _ s.shape ((alike g h s.spelled.tnf t e).tnf ∙ z)).1
 
 -- so it lies in the range
-to_range : (spot : Spot) (h g : Fields) (ls : List ℕ) → h.tnf < 8 → header g ≡ header h → MayStand spot g
+to_range : (spot : Spot) (h g : HeadFields) (ls : List ℕ) → h.tnf < 8 → header g ≡ header h → MayStand spot g
     → ((least_from (octet_count h.short) ls ≤ g.payload_length) × (g.payload_length ≤ greatest_from (octet_count h.short) ls))
     → IsIn g.payload_length (cond (h.tnf == 0) (0, 0) (least_from (octet_count h.short) ls, min (greatest_from (octet_count h.short) ls) spot.room))
 to_range spot h g ls t e s w =
@@ -187,14 +187,14 @@ to_range spot h g ls t e s w =
 -- ---- heads that go on are within the bounds
 
 -- all lengths of a head that goes on lie in the ranges
-sound : (spot : Spot) (h f : Fields) (xs : List ℕ) → h.tnf < 8 → (begun : Begins spot (header h ∷ xs) f) → IsIn f.kind_length (kind_range (tnf_number (header h)) xs)
+sound : (spot : Spot) (h f : HeadFields) (xs : List ℕ) → h.tnf < 8 → (begun : BeginsHead spot (header h ∷ xs) f) → IsIn f.kind_length (kind_range (tnf_number (header h)) xs)
     → IsIn f.payload_length (range_of spot (header h ∷ xs)) → AreWithin f (length begun.rest) (bounds_of spot (header h) xs)
 sound spot h f xs t b kind payload =
     let s = b.stands in
     let e = b.spelled in
     let eh : header f ≡ header h = cc in
     let a = alike f h s.spelled.tnf t eh in
-    let p = parts h t in
+    let p = header_parts h t in
     let n : length (octets f) ≡ size (header h) = octets_size f s.spelled.tnf ∙ ap size eh in
     let v = unwrap_or f.id_length 0 in
     let z : f.tnf ≡ 0 → v ≡ 0 = λ z. (rw z at s.shape).1 in
@@ -215,10 +215,10 @@ sound spot h f xs t b kind payload =
 -- ---- after the header octet
 
 -- the bounds there
-kind_bounds : (spot : Spot) (h : Fields) → MayStand spot h → AreBounds spot (header h ∷ []) (bounds_of spot (header h) [])
+kind_bounds : (spot : Spot) (h : HeadFields) → MayStand spot h → AreBounds spot (header h ∷ []) (bounds_of spot (header h) [])
 kind_bounds spot h s =
     let t = s.spelled.tnf in
-    let p = parts h t in
+    let p = header_parts h t in
     record {
       sound = λ f b.
           (let e = b.spelled in
@@ -240,11 +240,11 @@ kind_bounds spot h s =
 -- ---- after TYPE_LENGTH and the octets ls of PAYLOAD_LENGTH
 
 -- the bounds there
-length_bounds : (spot : Spot) (h : Fields) (ls m : List ℕ) → MayStand spot h → length_part h ≡ ls ++ m
+length_bounds : (spot : Spot) (h : HeadFields) (ls m : List ℕ) → MayStand spot h → length_part h ≡ ls ++ m
     → AreBounds spot (header h ∷ h.kind_length ∷ ls) (bounds_of spot (header h) (h.kind_length ∷ ls))
 length_bounds spot h ls m s e =
     let t = s.spelled.tnf in
-    let p = parts h t in
+    let p = header_parts h t in
     let l = length_octets h.short h.payload_length s.spelled.form in
     let small : length ls ≤ octet_count h.short = omega (arith, ap length e, length-append ls m, l.0) in
     let all : take (octet_count h.short) ls ≡ ls = take_all (octet_count h.short) ls small in
@@ -314,7 +314,7 @@ whole_bounds spot xs h w =
           let c : g.kind_length ≡ h.kind_length = ap (λ x. x.kind_length) a in
           let d : unwrap_or g.id_length 0 ≡ unwrap_or h.id_length 0 = ap (λ x. unwrap_or x.id_length 0) a in
           let e : g.payload_length ≡ h.payload_length = ap (λ x. x.payload_length) a in
-          let begun : Begins spot xs g = record { stands = w.stands; rest = []; spelled = w.spelled ∙ sym (append-nil xs) } in
+          let begun : BeginsHead spot xs g = record { stands = w.stands; rest = []; spelled = w.spelled ∙ sym (append-nil xs) } in
           (g, begun, omega (arith, c, kr.0, kr.1), omega (arith, d, ir.0, ir.1), omega (arith, e, nr.0, nr.1)));
     }
 

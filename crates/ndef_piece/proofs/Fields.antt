@@ -5,24 +5,25 @@ use Rattle.std.specs.List.{AllByRecursion}
 use Rattle.std.proofs.lemmas.Bool.{false≢true}
 use Rattle.ndef_value.specs.ListLaws.{cut_alike}
 use Rattle.ndef_value.specs.PieceLaws.{same_body, follow_once, same_run}
-use Rattle.ndef_value.specs.Wire.{Piece, Spells, SpellAll, Fields, fields, octets, body, Run, all_pieces, Follow, EndsOnce}
-use Rattle.ndef_piece.specs.declared.spot.Spot.{Spot}
-use Rattle.ndef_piece.specs.Heads.{CanBeSpelled, IsOpen}
-use Rattle.ndef_piece.specs.Field.{Field, InHead, InType, InId, InPayload, AtEnd, octets_so_far, IsProper, EndsAt, NoneLast, OneField}
+use Rattle.ndef_format.specs.Records.{Piece, SpellsPiece, HeadFields, fields, octets, body, Run, Follow}
+use Rattle.ndef_format.specs.Messages.{SpellsPieces, all_pieces, EndsOnce}
+use Rattle.ndef_format.specs.declared.spot.Spot.{Spot}
+use Rattle.ndef_format.specs.Positions.{CanBeSpelled, IsOpen, Field, InHead, InType, InId, InPayload, AtEnd, octets_so_far, IsProper, EndsAt, NoneLast}
+use Rattle.ndef_piece.specs.Field.{OneField}
 use Rattle.ndef_piece.proofs.Apart.{heads_are_apart}
 use Rattle.ndef_piece.proofs.PieceHeads.{id_length}
 
 -- ---- pieces
 
 -- the head of a piece
-piece_head : (p : Piece) (short : Bool) (bytes : List ℕ) → Spells p short bytes → CanBeSpelled (fields p short)
+piece_head : (p : Piece) (short : Bool) (bytes : List ℕ) → SpellsPiece p short bytes → CanBeSpelled (fields p short)
 piece_head p short bytes s = record { tnf = s.piece.tnf; kind = s.piece.kind_length; payload = s.piece.payload_length; form = s.form; id = rw (id_length p.id) s.piece.id_length }
 
 body_length : (p : Piece) → length (body p) ≡ length p.kind + length (unwrap_or p.id []) + length p.payload
 body_length p = omega (arith, length-append p.kind (unwrap_or p.id [] ++ p.payload), length-append (unwrap_or p.id []) p.payload)
 
 -- two spelled pieces at the front of the same octets are one
-same_piece : (p q : Piece) (s t : Bool) (x y a b : List ℕ) → Spells p s x → Spells q t y → x ++ a ≡ y ++ b → (p ≡ q) × (a ≡ b)
+same_piece : (p q : Piece) (s t : Bool) (x y a b : List ℕ) → SpellsPiece p s x → SpellsPiece q t y → x ++ a ≡ y ++ b → (p ≡ q) × (a ≡ b)
 same_piece p q s t x y a b h k e =
     let f : octets (fields p s) ++ (body p ++ a) ≡ octets (fields q t) ++ (body q ++ b) =
     sym (append_assoc (octets (fields p s)) (body p) a) ∙ ap (λ z. z ++ a) (sym h.spelled) ∙ e ∙ ap (λ z. z ++ b) k.spelled ∙ append_assoc (octets (fields q t)) (body q) b in
@@ -31,17 +32,17 @@ same_piece p q s t x y a b h k e =
 
 -- ---- fields
 
-abbrev kinds_of : Fields → ℕ
+abbrev kinds_of : HeadFields → ℕ
 kinds_of f = f.kind_length
 
-abbrev ids_of : Fields → ℕ
+abbrev ids_of : HeadFields → ℕ
 ids_of f = unwrap_or f.id_length 0
 
-abbrev payloads_of : Fields → ℕ
+abbrev payloads_of : HeadFields → ℕ
 payloads_of f = f.payload_length
 
 -- a head that has begun doesn't hold a whole one
-not_in_head : (spot : Spot) (xs rest : List ℕ) (f : Fields) → IsOpen spot xs → CanBeSpelled f → xs ≡ octets f ++ rest → ⊥
+not_in_head : (spot : Spot) (xs rest : List ℕ) (f : HeadFields) → IsOpen spot xs → CanBeSpelled f → xs ≡ octets f ++ rest → ⊥
 not_in_head spot xs rest f o s e =
     let more = o.next ∷ o.rest in
     let g : octets o.fields ++ [] ≡ octets f ++ (rest ++ more) = append-nil (octets o.fields) ∙ o.spelled ∙ ap (λ z. z ++ more) e ∙ append_assoc (octets f) rest more in
@@ -49,7 +50,7 @@ not_in_head spot xs rest f o s e =
     omega (arith, ap length w.1, length-append rest more)
 
 -- the octets of a field don't go past a piece
-no_overrun : (spot : Spot) (field : Field) (p : Piece) (short : Bool) (bytes rest : List ℕ) → IsProper spot field → Spells p short bytes → octets_so_far field ≡ bytes ++ rest → ⊥
+no_overrun : (spot : Spot) (field : Field) (p : Piece) (short : Bool) (bytes rest : List ℕ) → IsProper spot field → SpellsPiece p short bytes → octets_so_far field ≡ bytes ++ rest → ⊥
 no_overrun spot (InHead xs) p short bytes rest at s e =
     not_in_head spot xs (body p ++ rest) (fields p short) at (piece_head p short bytes s)
     (e ∙ ap (λ z. z ++ rest) s.spelled ∙ append_assoc (octets (fields p short)) (body p) rest)
@@ -129,7 +130,7 @@ module _ (ps : List Piece) (spot other : Spot) where
 -- ---- the pieces before a field
 
 -- pieces at the front of the same octets, with no piece more in what is behind them, are the same
-same_pieces : (spot other : Spot) (p q : Field) → IsProper spot p → IsProper other q → (d e : List Piece) (a b : List ℕ) → SpellAll d a → SpellAll e b
+same_pieces : (spot other : Spot) (p q : Field) → IsProper spot p → IsProper other q → (d e : List Piece) (a b : List ℕ) → SpellsPieces d a → SpellsPieces e b
     → a ++ octets_so_far p ≡ b ++ octets_so_far q → (d ≡ e) × (octets_so_far p ≡ octets_so_far q)
 same_pieces spot other p q at to [] [] a b h k f = (refl, sym (ap (λ z. z ++ octets_so_far p) h) ∙ f ∙ ap (λ z. z ++ octets_so_far q) k)
 same_pieces spot other p q at to [] (g ∷ e) a b h k f =

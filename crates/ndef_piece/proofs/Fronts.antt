@@ -1,8 +1,10 @@
 -- Which piece may come next in a message within the limits.
 use Rattle.std.proofs.Common.{◌≡◌, ℕ, ◌-◌, ◌^◌, ◌<◌, ◌≤◌, Bool, true, false, refl, sym, ◌∙◌, subst, arith, List, [], ◌∷◌, ◌++◌, length, append_assoc}
 use Rattle.std.proofs.lemmas.List.{append-nil}
-use Rattle.ndef_value.specs.Wire.{Piece, Item, LimitValues, AreInRange}
-use Rattle.ndef_piece.specs.Pieces.{Stands}
+use Rattle.ndef_format.specs.Records.{Piece}
+use Rattle.ndef_format.specs.Messages.{Item}
+use Rattle.ndef_format.specs.Limits.{LimitValues, AreInRange}
+use Rattle.ndef_format.specs.Positions.{Stands}
 use Rattle.ndef_piece.specs.Walk.{Before, start, spot, ending_record, after, Walk, Walked, standing}
 use Rattle.ndef_piece.specs.Fronts.{AreMessage, BeginMessage, FrontsHaveSpots}
 use Rattle.ndef_piece.proofs.Walks.{walks_are_messages, walks_are_cut}

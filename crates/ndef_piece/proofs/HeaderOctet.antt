@@ -3,8 +3,8 @@ use Rattle.std.proofs.Common.{◌≡◌, ℕ, zero, suc, ◌+◌, ◌*◌, ◌/�
 use mir.Val.{bool_byte}
 use Rattle.std.proofs.lemmas.Nat.{or_shifted}
 use Rattle.std.specs.Prelude.{◌==◌}
-use Rattle.ndef_value.specs.Wire.{bit, header_octet}
-use Rattle.ndef_piece.specs.Header.{is_set, tnf_number}
+use Rattle.ndef_format.specs.Records.{bit, header_octet}
+use Rattle.ndef_format.specs.HeadReasons.{is_set, tnf_number}
 
 -- a digit as a flag
 test_bit : (x : ℕ) → x < 2 → bit (x == 1) ≡ x

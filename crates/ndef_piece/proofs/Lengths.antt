@@ -1,8 +1,8 @@
 -- The octets of a payload length, and the numbers that a front of them can spell.
 use Rattle.std.proofs.Common.{◌≡◌, ℕ, ◌/◌, ◌%◌, ◌^◌, ◌<◌, ◌≤◌, Bool, true, false, cond, refl, ap, arith, List, [], ◌∷◌, ◌++◌, length}
 use Rattle.std.specs.Int.{w32, to_be_bytes}
-use Rattle.ndef_value.specs.Wire.{payload_length_octets, FitsForm, AreOctets}
-use Rattle.ndef_piece.specs.Conditions.{least_from}
+use Rattle.ndef_format.specs.Records.{payload_length_octets, FitsForm, AreOctets}
+use Rattle.ndef_format.specs.HeadReasons.{least_from}
 use Rattle.ndef_piece.specs.Ranges.{greatest_from}
 
 -- the octets of a number in the long form begin with what can spell it

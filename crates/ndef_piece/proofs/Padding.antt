@@ -2,8 +2,8 @@
 use Rattle.std.proofs.Common.{◌≡◌, ℕ, ◌+◌, ◌-◌, ◌<◌, sym, ◌∙◌, ap, arith, List, ◌++◌, length, take, drop, length-append}
 use Rattle.std.specs.Prelude.{replicate, slice_set}
 use Rattle.std.proofs.lemmas.List.{length_push, length-replicate, take_more_set, take-append-drop, drop_at, drop-set-lt, drop-drop, drop-replicate}
-use Rattle.ndef_piece.specs.Inside.{padded}
-use Rattle.ndef_piece.specs.InsideLaws.{counted}
+use Rattle.ndef_piece.specs.Machine.Inside.{padded}
+use Rattle.ndef_piece.specs.Machine.InsideLaws.{octets_counted}
 
 -- zeros still stand behind one octet more
 pub zeros_kept : (xs : List ℕ) (i b : ℕ) → i < 7 → xs ≡ padded (take i xs) → slice_set xs i b ≡ padded (take (i + 1) (slice_set xs i b))
@@ -11,7 +11,7 @@ zeros_kept xs i b few zeros =
     let t = take i xs in
     let ys = slice_set xs i b in
     let u = take (i + 1) ys in
-    let n : length t ≡ i = counted xs i (omega (arith, few)) zeros in
+    let n : length t ≡ i = octets_counted xs i (omega (arith, few)) zeros in
     let whole : i < length xs = omega (arith, few, ap length zeros, length-append t (replicate (7 - length t) 0), length-replicate {A = ℕ} (7 - length t) 0) in
     let rest : drop i xs ≡ replicate (7 - i) 0 = ap (drop i) zeros ∙ drop_at t _ i n ∙ ap (λ k. replicate {A = ℕ} (7 - k) 0) n in
     let tail : drop (i + 1) ys ≡ replicate (7 - i - 1) 0 =

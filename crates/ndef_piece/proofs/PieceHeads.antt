@@ -2,10 +2,11 @@
 use Rattle.std.proofs.Common.{◌≡◌, ℕ, zero, suc, Bool, true, false, refl, sym, ◌∙◌, ap, subst, arith, List, [], ◌∷◌, ◌++◌, length, inl, inr, Option, Some, None, length-append, replicate}
 use Rattle.std.specs.Prelude.{unwrap_or}
 use Rattle.std.specs.Option.{option_map}
-use Rattle.ndef_value.specs.Wire.{Piece, IsPiece, IsLater, IsRead, FitsForm, Fields, fields, octets, body, HasShape, tnf_of, AreOctets}
-use Rattle.ndef_piece.specs.declared.spot.Spot.{Spot}
-use Rattle.ndef_piece.specs.Heads.{head, MayStand, CanBeSpelled, IsOpen}
-use Rattle.ndef_piece.specs.Pieces.{Stands, HeadsOfPieces, PiecesOfHeads, HeadsOfBytes, LengthsOfPieces}
+use Rattle.ndef_format.specs.Records.{Piece, IsPiece, IsLater, IsRead, FitsForm, HeadFields, fields, octets, body, HasShape, tnf_of, AreOctets}
+use Rattle.ndef_format.specs.declared.spot.Spot.{Spot}
+use Rattle.ndef_piece.specs.Heads.{head}
+use Rattle.ndef_format.specs.Positions.{MayStand, CanBeSpelled, IsOpen, Stands}
+use Rattle.ndef_piece.specs.Pieces.{HeadsOfPieces, PiecesOfHeads, HeadsOfBytes, LengthsOfPieces}
 use Rattle.ndef_piece.specs.HeaderLaws.{octets_size, header}
 use Rattle.ndef_value.specs.ListLaws.{split_append}
 use Rattle.ndef_piece.proofs.Apart.{heads_are_apart}
@@ -75,7 +76,7 @@ pieces_of_heads spot h p fits e m =
     )
 
 -- no head ends before the last octet of an open front and one more
-past_open : (spot : Spot) (g : Fields) (xs m : List ℕ) (b : ℕ) → IsOpen spot xs → CanBeSpelled g → xs ++ b ∷ [] ≡ octets g ++ m → m ≡ []
+past_open : (spot : Spot) (g : HeadFields) (xs m : List ℕ) (b : ℕ) → IsOpen spot xs → CanBeSpelled g → xs ++ b ∷ [] ≡ octets g ++ m → m ≡ []
 past_open spot g [] m b o l e = cc
 past_open spot g (x ∷ xs) m b o l e =
     let s = o.spelled in
@@ -126,7 +127,7 @@ zero_id_octets None = tt
 zero_id_octets (Some n) = zero_octets n
 
 -- a piece of zeros, with the lengths of a head
-abbrev pub zero_piece : Fields → Piece
+abbrev pub zero_piece : HeadFields → Piece
 zero_piece h = record {
   first = h.first;
   last = h.last;
@@ -137,10 +138,10 @@ zero_piece h = record {
   payload = zeros h.payload_length;
 }
 
-pub zero_head : (h : Fields) → fields (zero_piece h) h.short ≡ h
+pub zero_head : (h : HeadFields) → fields (zero_piece h) h.short ≡ h
 zero_head h = rw (zeros_length h.kind_length, zeros_length h.payload_length, zero_id_length h.id_length) refl
 
-pub zero_fits : (h : Fields) → CanBeSpelled h → IsPiece (zero_piece h)
+pub zero_fits : (h : HeadFields) → CanBeSpelled h → IsPiece (zero_piece h)
 zero_fits h l = record {
   tnf = l.tnf;
   kind = zero_octets h.kind_length;

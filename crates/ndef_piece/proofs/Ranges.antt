@@ -2,11 +2,12 @@
 use Rattle.std.proofs.Common.{◌≡◌, ◌≢◌, ℕ, ◌^◌, ◌<◌, ◌≤◌, Bool, true, false, refl, sym, ◌∙◌, ap, subst, arith, List, [], ◌∷◌, None}
 use Rattle.std.specs.Prelude.{unwrap_or}
 use Rattle.std.proofs.lemmas.List.{append-nil}
-use Rattle.ndef_value.specs.Wire.{Fields, octets, HasShape, tnf_of}
+use Rattle.ndef_format.specs.Records.{HeadFields, octets, HasShape, tnf_of}
 use Rattle.ndef_piece.specs.declared.head.Head.{Head}
-use Rattle.ndef_piece.specs.declared.spot.Spot.{Spot}
+use Rattle.ndef_format.specs.declared.spot.Spot.{Spot}
 use Rattle.ndef_piece.specs.Bounds.{IsIn}
-use Rattle.ndef_piece.specs.Heads.{MayStand, IsOpen, IsWhole, Begins, IsRange}
+use Rattle.ndef_format.specs.Positions.{MayStand, IsOpen}
+use Rattle.ndef_piece.specs.Heads.{IsWholeHead, BeginsHead, IsRange}
 use Rattle.ndef_piece.specs.Ranges.{range_of}
 use Rattle.ndef_piece.proofs.Apart.{only_head}
 use Rattle.ndef_value.specs.TnfLaws.{read_by_all}
@@ -17,7 +18,7 @@ abbrev pub any_tnf : Bool → ℕ
 any_tnf true = 6
 any_tnf false = 5
 
-abbrev pub any_head : Spot → ℕ → Fields
+abbrev pub any_head : Spot → ℕ → HeadFields
 any_head spot n = record {
   first = spot.first;
   last = true;
@@ -63,7 +64,7 @@ any_stands spot n below small =
 
 -- ---- the payload lengths that are left
 
-open_begins : (spot : Spot) (xs : List ℕ) (o : IsOpen spot xs) → Begins spot xs o.fields
+open_begins : (spot : Spot) (xs : List ℕ) (o : IsOpen spot xs) → BeginsHead spot xs o.fields
 open_begins spot xs o = record { stands = o.stands; rest = o.next ∷ o.rest; spelled = o.spelled }
 
 -- before the header octet every payload length that has room is left
@@ -87,7 +88,7 @@ open_range spot (x ∷ xs) room o =
     )
 
 -- after a whole head its own payload length is left
-pub whole_range : (spot : Spot) (xs : List ℕ) (g : Head) → IsWhole spot xs g → IsRange spot xs (g.payload_length, g.payload_length)
+pub whole_range : (spot : Spot) (xs : List ℕ) (g : Head) → IsWholeHead spot xs g → IsRange spot xs (g.payload_length, g.payload_length)
 whole_range spot xs g w n =
     let k : w.fields.payload_length ≡ g.payload_length = ap (λ x. x.payload_length) w.read in (
       (λ v.

@@ -3,22 +3,22 @@ use Rattle.std.proofs.Common.{◌≡◌, ℕ, ◌+◌, Bool, true, false, cond, 
 use Rattle.std.specs.Prelude.{is_some, slice_index}
 use Rattle.std.proofs.lemmas.List.{take-append-le}
 use Rattle.std.proofs.Math.Seq.{take-length}
-use Rattle.ndef_value.specs.Wire.{Fields, code, octets, tnf_of, payload_length_octets, id_length_octets}
-use Rattle.ndef_value.specs.declared.tnf.Tnf.{Tnf}
+use Rattle.ndef_format.specs.Records.{HeadFields, code, octets, tnf_of, payload_length_octets, id_length_octets}
+use Rattle.ndef_format.specs.declared.tnf.Tnf.{Tnf}
 use Rattle.ndef_piece.specs.declared.head.Head.{Head}
-use Rattle.ndef_value.specs.declared.tnf.Tnf.TheVariants.{Empty, WellKnown, Media, AbsoluteUri, External, Unknown, Unchanged}
-use Rattle.ndef_piece.specs.declared.spot.Spot.{Spot}
-use Rattle.ndef_piece.specs.Heads.{head, written_fields, CanBeSpelled, MayStand, IsWhole}
-use Rattle.ndef_piece.specs.Header.{is_set, tnf_number, width}
-use Rattle.ndef_piece.specs.Conditions.{least_from}
+use Rattle.ndef_format.specs.declared.tnf.Tnf.TheVariants.{Empty, WellKnown, Media, AbsoluteUri, External, Unknown, Unchanged}
+use Rattle.ndef_format.specs.declared.spot.Spot.{Spot}
+use Rattle.ndef_piece.specs.Heads.{head, written_fields, IsWholeHead}
+use Rattle.ndef_format.specs.Positions.{CanBeSpelled, MayStand}
+use Rattle.ndef_format.specs.HeadReasons.{is_set, tnf_number, width, least_from}
 use Rattle.ndef_piece.specs.Ranges.{length_front}
 use Rattle.ndef_piece.proofs.Lengths.{octet_count, length_octets, whole_number}
-use Rattle.ndef_piece.specs.HeaderLaws.{header, parts}
+use Rattle.ndef_piece.specs.HeaderLaws.{header, header_parts}
 use Rattle.ndef_piece.proofs.Stages.{length_part}
 use Rattle.ndef_piece.proofs.Sizes.{width_of}
 
 -- the octets of the payload length stand after the type length
-front_of : (h : Fields) → CanBeSpelled h → length_front (octets h) ≡ length_part h
+front_of : (h : HeadFields) → CanBeSpelled h → length_front (octets h) ≡ length_part h
 front_of h l =
     let n = (length_octets h.short h.payload_length l.form).0 in
     rw (width_of h l.tnf) (ap (λ n. take n (length_part h ++ id_length_octets h.id_length)) (sym n)
@@ -34,11 +34,11 @@ id_at false n None x k = refl
 id_at false n (Some d) x k = refl
 
 -- it is the id length
-id_of : (h : Fields) → CanBeSpelled h → cond (is_set 3 (header h)) (Some (slice_index (octets h) (2 + width (header h)))) None ≡ h.id_length
-id_of h l = rw ((parts h l.tnf).id_there, (parts h l.tnf).short) (id_at h.short h.payload_length h.id_length (header h) h.kind_length)
+id_of : (h : HeadFields) → CanBeSpelled h → cond (is_set 3 (header h)) (Some (slice_index (octets h) (2 + width (header h)))) None ≡ h.id_length
+id_of h l = rw ((header_parts h l.tnf).id_there, (header_parts h l.tnf).short) (id_at h.short h.payload_length h.id_length (header h) h.kind_length)
 
 -- a head of the parts that its octets tell is the head
-pub read_back : (h : Fields) (xs : List ℕ) → CanBeSpelled h → octets h ≡ xs
+pub read_back : (h : HeadFields) (xs : List ℕ) → CanBeSpelled h → octets h ≡ xs
     → (first last chunked short : Bool) (t : Tnf) (k n : ℕ) (i : Option ℕ)
     → first ≡ is_set 7 (slice_index xs 0) → last ≡ is_set 6 (slice_index xs 0) → chunked ≡ is_set 5 (slice_index xs 0) → short ≡ is_set 4 (slice_index xs 0)
     → t ≡ tnf_of (tnf_number (slice_index xs 0)) → k ≡ slice_index xs 1
@@ -46,7 +46,7 @@ pub read_back : (h : Fields) (xs : List ℕ) → CanBeSpelled h → octets h ≡
     → i ≡ cond (is_set 3 (slice_index xs 0)) (Some (slice_index xs (2 + width (slice_index xs 0)))) None
     → ◌≡◌ {A = Head} (record { first = first; last = last; chunked = chunked; short = short; tnf = t; kind_length = k; payload_length = n; id_length = i }) (head h)
 read_back h xs l e first last chunked short t k n i p1 p2 p3 p4 p5 p6 p7 p8 =
-    let p = parts h l.tnf in
+    let p = header_parts h l.tnf in
     let q1 : first ≡ h.first = p1 ∙ ap (λ x. is_set 7 (slice_index x 0)) (sym e) ∙ p.begins in
     let q2 : last ≡ h.last = p2 ∙ ap (λ x. is_set 6 (slice_index x 0)) (sym e) ∙ p.ends in
     let q3 : chunked ≡ h.chunked = p3 ∙ ap (λ x. is_set 5 (slice_index x 0)) (sym e) ∙ p.chunked in
@@ -76,5 +76,5 @@ written_head : (h : Head) → head (written_fields h) ≡ h
 written_head h = rw (same_name h.tnf) refl
 
 -- wherever it may stand
-pub written_is_read : (spot : Spot) (h : Head) → MayStand spot (written_fields h) → IsWhole spot (octets (written_fields h)) h
+pub written_is_read : (spot : Spot) (h : Head) → MayStand spot (written_fields h) → IsWholeHead spot (octets (written_fields h)) h
 written_is_read spot h m = record { fields = written_fields h; stands = m; spelled = refl; read = written_head h }

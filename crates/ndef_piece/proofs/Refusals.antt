@@ -2,13 +2,12 @@
 use Rattle.std.proofs.Common.{◌≡◌, ℕ, ◌<◌, Bool, true, false, refl, ◌∙◌, ap, arith, [], ◌∷◌, None}
 use Rattle.std.specs.Prelude.{◌==◌, nat_lt, not, ◌&&◌}
 use Rattle.std.proofs.lemmas.Bool.{ltb-true, eqb-true, ne_eqb, not-true, and_parts}
-use Rattle.ndef_value.specs.Wire.{Fields, HasShape, IsRead, tnf_of}
-use Rattle.ndef_value.specs.declared.profile.Profile.{Profile}
-use Rattle.ndef_value.specs.declared.profile.Profile.TheVariants.{Strict, Standard}
-use Rattle.ndef_piece.specs.declared.spot.Spot.{Spot}
-use Rattle.ndef_piece.specs.Heads.{MayStand}
-use Rattle.ndef_piece.specs.Header.{tnf_number}
-use Rattle.ndef_piece.specs.Conditions.{is_strict, reason_for}
+use Rattle.ndef_format.specs.Records.{HeadFields, HasShape, IsRead, tnf_of}
+use Rattle.ndef_format.specs.declared.profile.Profile.{Profile}
+use Rattle.ndef_format.specs.declared.profile.Profile.TheVariants.{Strict, Standard}
+use Rattle.ndef_format.specs.declared.spot.Spot.{Spot}
+use Rattle.ndef_format.specs.Positions.{MayStand}
+use Rattle.ndef_format.specs.HeadReasons.{tnf_number, is_strict, reason_for}
 use Rattle.ndef_piece.specs.HeaderLaws.{Parts}
 use Rattle.ndef_piece.proofs.Sorts.{empty, named, unnamed, sort}
 use Rattle.ndef_piece.proofs.Guards.{and_false, skip}
@@ -19,7 +18,7 @@ strict_read Strict n h e = ne_eqb n 7 (λ f. omega arith)
 strict_read Standard n h e = cc
 
 -- no condition holds of the header octet
-pub header_fits : (spot : Spot) (h : Fields) (i : Bool) (n : ℕ) → MayStand spot h → Parts n h.first h.last h.chunked h.short i h.tnf
+pub header_fits : (spot : Spot) (h : HeadFields) (i : Bool) (n : ℕ) → MayStand spot h → Parts n h.first h.last h.chunked h.short i h.tnf
     → (spot.inside ≡ true → i ≡ false) → reason_for spot [] n ≡ None
 header_fits spot h i n m p no_id =
     rw (p.begins, p.ends, p.chunked, p.id_there, p.tnf)

@@ -1,10 +1,13 @@
 -- The bytes that complete a message, past its heads and within them.
 use Rattle.std.proofs.Common.{subst, ◌≡◌, ◌^◌, ℕ, ◌<◌, inl, inr, false, refl, sym, ◌∙◌, ap, arith, List, [], ◌∷◌, ◌++◌, append_assoc}
 use Rattle.std.proofs.lemmas.List.{append-nil}
-use Rattle.ndef_value.specs.Wire.{all_pieces, Piece, IsPiece, Item, Fields, fields, octets, body, SpellAll, LimitValues}
-use Rattle.ndef_piece.specs.Heads.{MayStand, IsOpen, IsViable}
+use Rattle.ndef_format.specs.Messages.{all_pieces, Item, SpellsPieces}
+use Rattle.ndef_format.specs.Records.{Piece, IsPiece, HeadFields, fields, octets, body}
+use Rattle.ndef_format.specs.Limits.{LimitValues}
+use Rattle.ndef_format.specs.Positions.{MayStand, IsOpen}
+use Rattle.ndef_piece.specs.Heads.{IsViableHead}
 use Rattle.ndef_piece.specs.Walk.{record_with, Before, spot, ending_record, after, Walk}
-use Rattle.ndef_piece.specs.Rest.{RestsCanFollow, Rest, RestsAreFlat, RestsEnd, RestsPastHeads, RestsWithinHeads}
+use Rattle.ndef_piece.specs.Rest.{RestsCanFollow, Rest, RestsSpell, RestsEnd, RestsPastHeads, RestsWithinHeads}
 use Rattle.ndef_value.specs.ListLaws.{split_append}
 use Rattle.ndef_piece.proofs.PieceHeads.{zero_piece, zero_head, zero_fits, heads_of_pieces, pieces_of_heads}
 use Rattle.ndef_piece.proofs.Apart.{heads_are_apart, open_not_past}
@@ -12,11 +15,11 @@ use Rattle.ndef_piece.proofs.Walks.{walks_are_messages}
 use Rattle.ndef_piece.proofs.WalksOn.{walks_can_end}
 use Rattle.std.proofs.lemmas.Bool.{cases_Bool, both_ways}
 
-pub rests_are_flat : RestsAreFlat
+pub rests_are_flat : RestsSpell
 rests_are_flat limits items bytes r = (
   (λ w.
       let m = (walks_are_messages limits w.0 items r).0 w.1 in
-      (m.0, record { message = m.2; spelled = subst (λ ps. SpellAll ps bytes) m.1 w.2 }, m.3)),
+      (m.0, record { message = m.2; spelled = subst (λ ps. SpellsPieces ps bytes) m.1 w.2 }, m.3)),
   (λ w. (all_pieces w.0, (walks_are_messages limits (all_pieces w.0) items r).1 (w.0, refl, w.1.message, w.2), w.1.spelled)),
 )
 
@@ -24,13 +27,13 @@ pub rests_end : RestsEnd
 rests_end limits c bytes items o = (to, λ w. ([], (o, w.1), w.0)) where
   to : Rest limits c bytes items → (bytes ≡ []) × (items ≡ [])
   to w = by_pieces w.0 w.1 w.2 where
-    by_pieces : (ps : List Piece) → Walk limits c ps items → SpellAll ps bytes → (bytes ≡ []) × (items ≡ [])
+    by_pieces : (ps : List Piece) → Walk limits c ps items → SpellsPieces ps bytes → (bytes ≡ []) × (items ≡ [])
     by_pieces [] w s = (s, w.1)
     by_pieces (p ∷ ps) w s = absurd (both_ways c.over w.0 o)
 
 -- the first piece has the head
-past : (limits : LimitValues) (c : Before) (f : Fields) (bytes : List ℕ) (items : List Item) → c.over ≡ false → MayStand (spot limits.profile c) f
-    → (ps : List Piece) → Walk limits c ps items → SpellAll ps (octets f ++ bytes)
+past : (limits : LimitValues) (c : Before) (f : HeadFields) (bytes : List ℕ) (items : List Item) → c.over ≡ false → MayStand (spot limits.profile c) f
+    → (ps : List Piece) → Walk limits c ps items → SpellsPieces ps (octets f ++ bytes)
     → (p : Piece) × (later : List ℕ) × (rest : List Item) × IsPiece p × (fields p f.short ≡ f) × (bytes ≡ body p ++ later) × (items ≡ ending_record c p ++ rest) × Rest limits (after limits c p) later rest
 past limits c f bytes items o m [] w s = absurd (both_ways c.over o w.0)
 past limits c f bytes items o m (p ∷ ps) w s =
@@ -54,7 +57,7 @@ rests_past_heads limits c f bytes items o m = (
 
 -- the first head goes on after an open front
 within : (limits : LimitValues) (c : Before) (xs bytes : List ℕ) (items : List Item) → c.over ≡ false → IsOpen (spot limits.profile c) xs
-    → (ps : List Piece) → Walk limits c ps items → SpellAll ps (xs ++ bytes) → (b : ℕ) × (more : List ℕ) × (bytes ≡ b ∷ more) × IsViable (spot limits.profile c) (xs ++ b ∷ [])
+    → (ps : List Piece) → Walk limits c ps items → SpellsPieces ps (xs ++ bytes) → (b : ℕ) × (more : List ℕ) × (bytes ≡ b ∷ more) × IsViableHead (spot limits.profile c) (xs ++ b ∷ [])
 within limits c xs bytes items o h [] w s = absurd (both_ways c.over o w.0)
 within limits c xs bytes items o h (p ∷ ps) w s =
     let v = s.4 in

@@ -2,8 +2,9 @@
 use Rattle.std.proofs.Common.{ℕ, sym, subst, arith, List, [], ◌∷◌, ◌++◌, length, length-append}
 use Rattle.std.specs.Prelude.{unwrap_or}
 use Rattle.std.proofs.lemmas.List.{append-nil}
-use Rattle.ndef_value.specs.Wire.{Piece, Run, Item, HasShape, IsShaped, IsInitial, Follow, payload_of, run_record, tnf_of}
-use Rattle.ndef_value.specs.declared.profile.Profile.{Profile}
+use Rattle.ndef_format.specs.Records.{Piece, Run, HasShape, IsInitial, Follow, tnf_of}
+use Rattle.ndef_format.specs.Messages.{Item, IsShaped, payload_of, run_record}
+use Rattle.ndef_format.specs.declared.profile.Profile.{Profile}
 use Rattle.ndef_value.specs.TnfLaws.{changed_name}
 use Rattle.ndef_piece.proofs.Sorts.{empty, named, unnamed, sort, other_payload, read_small}
 

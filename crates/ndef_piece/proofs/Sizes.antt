@@ -1,14 +1,15 @@
 -- How many octets a head has.
 use Rattle.std.proofs.Common.{◌≡◌, ℕ, ◌+◌, ◌<◌, ◌≤◌, Bool, true, false, cond, refl, arith}
-use Rattle.ndef_value.specs.Wire.{Fields}
-use Rattle.ndef_piece.specs.Header.{is_set, size, width}
+use Rattle.ndef_format.specs.Records.{HeadFields}
+use Rattle.ndef_format.specs.HeadReasons.{is_set, width}
+use Rattle.ndef_piece.specs.Header.{size}
 use Rattle.ndef_piece.specs.Heads.{HeadsHaveSizes}
 use Rattle.ndef_piece.proofs.Lengths.{octet_count}
-use Rattle.ndef_piece.specs.HeaderLaws.{flags_size, header, parts}
+use Rattle.ndef_piece.specs.HeaderLaws.{flags_size, header, header_parts}
 
 -- the octets of PAYLOAD_LENGTH
-pub width_of : (h : Fields) → h.tnf < 8 → width (header h) ≡ octet_count h.short
-width_of h t = rw (parts h t).short refl
+pub width_of : (h : HeadFields) → h.tnf < 8 → width (header h) ≡ octet_count h.short
+width_of h t = rw (header_parts h t).short refl
 
 -- a head has as many octets as its flags say
 pub heads_have_sizes : HeadsHaveSizes

@@ -1,9 +1,9 @@
 -- Type name formats by their numbers.
 use Rattle.std.proofs.Common.{◌≡◌, ◌≢◌, ℕ, zero, suc, ◌<◌, refl, arith}
 use Rattle.std.specs.Prelude.{◌↔◌}
-use Rattle.ndef_value.specs.Wire.{HasShape, IsRead, tnf_of}
-use Rattle.ndef_value.specs.declared.profile.Profile.{Profile}
-use Rattle.ndef_value.specs.declared.profile.Profile.TheVariants.{Strict, Standard}
+use Rattle.ndef_format.specs.Records.{HasShape, IsRead, tnf_of}
+use Rattle.ndef_format.specs.declared.profile.Profile.{Profile}
+use Rattle.ndef_format.specs.declared.profile.Profile.TheVariants.{Strict, Standard}
 
 -- the shapes that they ask for: of 0 nothing but the head, of 1 to 4 a type, of the others none
 pub data Sort (t : ℕ) : Type 0 where

@@ -1,16 +1,16 @@
 -- Where the next octet of a head stands.
 use Rattle.std.proofs.Common.{◌≡◌, ℕ, inl, inr, refl, sym, ◌∙◌, ap, List, [], ◌∷◌, ◌++◌, Option, Some, None}
-use Rattle.ndef_value.specs.Wire.{Fields, octets, payload_length_octets, id_length_octets}
+use Rattle.ndef_format.specs.Records.{HeadFields, octets, payload_length_octets, id_length_octets}
 use Rattle.ndef_piece.specs.HeaderLaws.{header}
 use Rattle.ndef_value.specs.ListLaws.{split_append}
 use Rattle.std.proofs.lemmas.List.{append-nil}
 
 -- its octets of PAYLOAD_LENGTH
-abbrev pub length_part : Fields → List ℕ
+abbrev pub length_part : HeadFields → List ℕ
 length_part h = payload_length_octets h.short h.payload_length
 
 -- the next octet b of the head h, after the octets xs
-pub data Stage (h : Fields) (xs : List ℕ) (b : ℕ) : Type 0 where
+pub data Stage (h : HeadFields) (xs : List ℕ) (b : ℕ) : Type 0 where
   at_header : xs ≡ [] → header h ≡ b → Stage h xs b
   at_kind : xs ≡ header h ∷ [] → h.kind_length ≡ b → Stage h xs b
   at_length : (ls m : List ℕ) → xs ≡ header h ∷ h.kind_length ∷ ls → length_part h ≡ ls ++ b ∷ m → Stage h xs b
@@ -25,7 +25,7 @@ id_next (Some d) (y ∷ []) rest b e = cc
 id_next (Some d) (y ∷ z ∷ m) rest b e = cc
 
 -- the next octet stands in one of the fields
-pub stage : (h : Fields) (xs rest : List ℕ) (b : ℕ) → octets h ≡ xs ++ b ∷ rest → Stage h xs b
+pub stage : (h : HeadFields) (xs rest : List ℕ) (b : ℕ) → octets h ≡ xs ++ b ∷ rest → Stage h xs b
 stage h [] rest b e = at_header refl cc
 stage h (x ∷ []) rest b e = at_kind (let ex : header h ≡ x = cc in ap (λ t. t ∷ []) (sym ex)) cc
 stage h (x ∷ k ∷ ls) rest b e =

@@ -2,17 +2,18 @@
 use Rattle.std.proofs.Common.{◌≡◌, ℕ, ◌^◌, ◌<◌, refl, sym, ◌∙◌, ap, subst, arith, List, [], ◌∷◌, ◌++◌, length, Some, None, length-append}
 use Rattle.std.specs.Prelude.{slice_index}
 use Rattle.std.proofs.lemmas.List.{append-nil}
-use Rattle.ndef_value.specs.declared.reason.Reason.{Reason}
+use Rattle.ndef_format.specs.declared.reason.Reason.{Reason}
 use Rattle.ndef_piece.specs.declared.head.Head.{Head}
-use Rattle.ndef_piece.specs.declared.spot.Spot.{Spot}
+use Rattle.ndef_format.specs.declared.spot.Spot.{Spot}
 use Rattle.ndef_piece.specs.declared.head_reader.Step.{Step}
 use Rattle.ndef_piece.specs.declared.head_reader.Step.TheVariants as steps
-use Rattle.ndef_value.specs.Wire.{Fields, octets}
-use Rattle.ndef_piece.specs.Heads.{head, CanBeSpelled, IsOpen, IsRange}
+use Rattle.ndef_format.specs.Records.{HeadFields, octets}
+use Rattle.ndef_piece.specs.Heads.{head, IsRange}
+use Rattle.ndef_format.specs.Positions.{CanBeSpelled, IsOpen}
 use Rattle.ndef_piece.specs.Header.{size}
-use Rattle.ndef_piece.specs.Conditions.{reason_for}
+use Rattle.ndef_format.specs.HeadReasons.{reason_for}
 use Rattle.ndef_piece.specs.Ranges.{range_of}
-use Rattle.ndef_piece.specs.Reading.{Reading, IsAnswer, IsSound}
+use Rattle.ndef_piece.specs.Machine.Reading.{Reading, IsAnswer, IsSound}
 use Rattle.ndef_piece.specs.HeaderLaws.{octets_size, header}
 use Rattle.ndef_piece.proofs.Allowed.{refused}
 use Rattle.ndef_piece.proofs.Takes.{taken}
@@ -37,14 +38,14 @@ open_short spot xs o =
     omega (arith, e, s, ap length o.spelled, length-append xs (o.next ∷ o.rest))
 
 -- the first octet of a viable front is the header octet
-first_octet : (h : Fields) (xs r : List ℕ) (b : ℕ) → octets h ≡ (xs ++ b ∷ []) ++ r → slice_index (xs ++ b ∷ []) 0 ≡ header h
+first_octet : (h : HeadFields) (xs r : List ℕ) (b : ℕ) → octets h ≡ (xs ++ b ∷ []) ++ r → slice_index (xs ++ b ∷ []) 0 ≡ header h
 first_octet h [] r b e = let f : header h ≡ b = cc in sym f
 first_octet h (x ∷ xs) r b e = let f : header h ≡ x = cc in sym f
 
 -- what is answered where no condition holds
 pub answered : (spot : Spot) (xs : List ℕ) (b : ℕ) (answer : Step) → IsOpen spot xs → b < 256 → reason_for spot xs b ≡ None
     → (length (xs ++ b ∷ []) < size (slice_index (xs ++ b ∷ []) 0) → answer ≡ steps.More)
-    → ((h : Fields) → CanBeSpelled h → octets h ≡ xs ++ b ∷ [] → answer ≡ steps.Head (head h))
+    → ((h : HeadFields) → CanBeSpelled h → octets h ≡ xs ++ b ∷ [] → answer ≡ steps.Head (head h))
     → IsAnswer spot xs b answer
 answered spot xs b answer o below none more whole =
     let v = taken spot xs b o below none in

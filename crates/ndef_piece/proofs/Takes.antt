@@ -3,24 +3,23 @@ use Rattle.std.proofs.Common.{◌≡◌, ◌≢◌, ℕ, zero, suc, ◌^◌, ◌
 use Rattle.std.specs.Prelude.{is_some, ◌==◌, not, ◌&&◌, nat_lt, unwrap_or}
 use Rattle.std.proofs.lemmas.Bool.{lt-ltb, ltb-false, eqb-false, eqb-true, eq-eqb, not-false, and_from}
 use Rattle.std.proofs.lemmas.Bool.Decides.{eqb_tells}
-use Rattle.ndef_value.specs.Wire.{Fields, HasShape, IsRead, tnf_of, header_octet, payload_length_octets, id_length_octets, FitsForm, AreOctets}
-use Rattle.ndef_value.specs.declared.profile.Profile.{Profile}
-use Rattle.ndef_value.specs.declared.profile.Profile.TheVariants.{Strict, Standard}
-use Rattle.ndef_piece.specs.declared.spot.Spot.{Spot}
-use Rattle.ndef_piece.specs.Heads.{MayStand, IsOpen, Begins, IsViable}
-use Rattle.ndef_piece.specs.Header.{is_set, tnf_number}
-use Rattle.ndef_piece.specs.Conditions.{is_strict, least_from, reason_for}
+use Rattle.ndef_format.specs.Records.{HeadFields, HasShape, IsRead, tnf_of, header_octet, payload_length_octets, id_length_octets, FitsForm, AreOctets}
+use Rattle.ndef_format.specs.declared.profile.Profile.{Profile}
+use Rattle.ndef_format.specs.declared.profile.Profile.TheVariants.{Strict, Standard}
+use Rattle.ndef_format.specs.declared.spot.Spot.{Spot}
+use Rattle.ndef_format.specs.Positions.{MayStand, IsOpen}
+use Rattle.ndef_piece.specs.Heads.{BeginsHead, IsViableHead}
+use Rattle.ndef_format.specs.HeadReasons.{is_set, tnf_number, is_strict, least_from, reason_for}
 use Rattle.ndef_piece.specs.Ranges.{greatest_from}
-use Rattle.ndef_piece.specs.Reading.{ConditionsAreExact}
+use Rattle.ndef_piece.specs.Machine.Reading.{ConditionsAreExact}
 use Rattle.ndef_piece.proofs.HeaderOctet.{octet_of_parts}
 use Rattle.ndef_piece.proofs.Guards.{false_of_and, same_flag, skipped}
 use Rattle.ndef_piece.proofs.Sorts.{empty, named, unnamed, sort, other_payload, empty_lengths}
-use Rattle.ndef_value.specs.ListLaws.{octets_front}
+use Rattle.ndef_value.specs.ListLaws.{octets_front, octets_append}
 use Rattle.ndef_piece.proofs.Sizes.{width_of}
-use Rattle.ndef_value.specs.ListLaws.{octets_append}
 use Rattle.std.proofs.lemmas.List.{append-nil}
 use Rattle.ndef_piece.proofs.Lengths.{octet_count, has, fits_form, least_below, length_octets}
-use Rattle.ndef_piece.specs.HeaderLaws.{header, parts}
+use Rattle.ndef_piece.specs.HeaderLaws.{header, header_parts}
 use Rattle.ndef_piece.proofs.Stages.{length_part, at_header, at_kind, at_length, at_id, stage}
 use Rattle.ndef_piece.proofs.Allowed.{allowed, zero_octet, in_length, past_length}
 
@@ -71,7 +70,7 @@ least_id_there true = refl
 least_id_there false = refl
 
 -- the least head with this header octet
-abbrev least_head : ℕ → Fields
+abbrev least_head : ℕ → HeadFields
 least_head b = record {
   first = is_set 7 b;
   last = is_set 6 b;
@@ -84,7 +83,7 @@ least_head b = record {
 }
 
 -- a header octet of which no condition holds is that of the least head
-header_taken : (spot : Spot) (b : ℕ) → b < 256 → reason_for spot [] b ≡ None → IsViable spot (b ∷ [])
+header_taken : (spot : Spot) (b : ℕ) → b < 256 → reason_for spot [] b ≡ None → IsViableHead spot (b ∷ [])
 header_taken spot b below e =
     let r1 = skipped _ _ _ e in
     let r2 = skipped _ _ _ r1.1 in
@@ -128,7 +127,7 @@ header_taken spot b below e =
 -- ---- a head with one length changed
 
 -- the head h with another payload length
-with_payload : (spot : Spot) (h : Fields) (n : ℕ) → MayStand spot h → h.tnf ≢ 0 → n < 2 ^ 32 → FitsForm h.short n → n ≤ spot.room
+with_payload : (spot : Spot) (h : HeadFields) (n : ℕ) → MayStand spot h → h.tnf ≢ 0 → n < 2 ^ 32 → FitsForm h.short n → n ≤ spot.room
     → MayStand spot (record h { payload_length = n })
 with_payload spot h n s not_empty below form small = record {
   spelled = record { tnf = s.spelled.tnf; kind = s.spelled.kind; payload = below; form = form; id = s.spelled.id };
@@ -163,9 +162,9 @@ kind_shape t h k i n m s e f g =
     ]
 
 -- the head h goes on with another type length of which no condition holds
-kind_taken : (spot : Spot) (h : Fields) (b : ℕ) → MayStand spot h → b < 256 → reason_for spot (header h ∷ []) b ≡ None → IsViable spot (header h ∷ b ∷ [])
+kind_taken : (spot : Spot) (h : HeadFields) (b : ℕ) → MayStand spot h → b < 256 → reason_for spot (header h ∷ []) b ≡ None → IsViableHead spot (header h ∷ b ∷ [])
 kind_taken spot h b s below e =
-    let p = (parts h s.spelled.tnf).tnf in
+    let p = (header_parts h s.spelled.tnf).tnf in
     let e' = rw p at e in
     let r1 = skipped _ _ _ e' in
     let r2 = skipped _ _ _ r1.1 in
@@ -189,9 +188,9 @@ kind_taken spot h b s below e =
     )
 
 -- the head h with another payload length, whose octets begin alike
-other_length : (spot : Spot) (h : Fields) (ls : List ℕ) (n : ℕ) → MayStand spot h → h.tnf ≢ 0 → AreOctets ls → length ls ≤ octet_count h.short
+other_length : (spot : Spot) (h : HeadFields) (ls : List ℕ) (n : ℕ) → MayStand spot h → h.tnf ≢ 0 → AreOctets ls → length ls ≤ octet_count h.short
     → least_from (octet_count h.short) ls ≤ n → n ≤ greatest_from (octet_count h.short) ls → n ≤ spot.room
-    → Begins spot (header h ∷ h.kind_length ∷ ls) (record h { payload_length = n })
+    → BeginsHead spot (header h ∷ h.kind_length ∷ ls) (record h { payload_length = n })
 other_length spot h ls n s t o l p q small =
     let f = fits_form h.short n ls l o q in
     let w = has h.short n ls l o p q in
@@ -202,14 +201,14 @@ other_length spot h ls n s t o l p q small =
     }
 
 -- some head goes on with an octet of PAYLOAD_LENGTH of which no condition holds
-length_taken : (spot : Spot) (h : Fields) (ls m : List ℕ) (a b : ℕ) → MayStand spot h → b < 256 → length_part h ≡ ls ++ a ∷ m
-    → reason_for spot (header h ∷ h.kind_length ∷ ls) b ≡ None → IsViable spot (header h ∷ h.kind_length ∷ (ls ++ b ∷ []))
+length_taken : (spot : Spot) (h : HeadFields) (ls m : List ℕ) (a b : ℕ) → MayStand spot h → b < 256 → length_part h ≡ ls ++ a ∷ m
+    → reason_for spot (header h ∷ h.kind_length ∷ ls) b ≡ None → IsViableHead spot (header h ∷ h.kind_length ∷ (ls ++ b ∷ []))
 length_taken spot h ls m a b s below e none =
     let l = length_octets h.short h.payload_length s.spelled.form in
     let o : AreOctets (ls ++ a ∷ m) = subst AreOctets e l.1 in
     let o' : AreOctets (ls ++ b ∷ []) = octets_append ls (b ∷ []) (octets_front ls (a ∷ m) o) (below, tt) in
     let n : length (ls ++ b ∷ []) ≤ octet_count h.short = omega (arith, length-append ls (a ∷ m), length-append ls (b ∷ []), ap length e, l.0) in
-    let none' = rw (in_length h ls m a s.spelled e, (parts h s.spelled.tnf).tnf, width_of h s.spelled.tnf) at none in
+    let none' = rw (in_length h ls m a s.spelled e, (header_parts h s.spelled.tnf).tnf, width_of h s.spelled.tnf) at none in
     let r1 = skipped _ _ _ none' in
     let r2 = skipped _ _ _ r1.1 in
     elim (eqb_tells h.tnf 0) [
@@ -245,10 +244,10 @@ id_shape t h k i n b s e =
     ]
 
 -- the head h goes on with another id length of which no condition holds
-id_taken : (spot : Spot) (h : Fields) (a b : ℕ) → MayStand spot h → b < 256 → h.id_length ≡ Some a
-    → reason_for spot (header h ∷ h.kind_length ∷ length_part h) b ≡ None → IsViable spot (header h ∷ h.kind_length ∷ (length_part h ++ b ∷ []))
+id_taken : (spot : Spot) (h : HeadFields) (a b : ℕ) → MayStand spot h → b < 256 → h.id_length ≡ Some a
+    → reason_for spot (header h ∷ h.kind_length ∷ length_part h) b ≡ None → IsViableHead spot (header h ∷ h.kind_length ∷ (length_part h ++ b ∷ []))
 id_taken spot h a b s below e none =
-    let none' = rw (past_length h s.spelled, (parts h s.spelled.tnf).tnf) at none in
+    let none' = rw (past_length h s.spelled, (header_parts h s.spelled.tnf).tnf) at none in
     let r1 = skipped _ _ _ none' in (
       record h { id_length = Some b },
       record {
@@ -271,7 +270,7 @@ id_taken spot h a b s below e none =
 -- ---- any octet
 
 -- where no condition holds of the octet after an open front, some head goes on with it
-pub taken : (spot : Spot) (xs : List ℕ) (b : ℕ) → IsOpen spot xs → b < 256 → reason_for spot xs b ≡ None → IsViable spot (xs ++ b ∷ [])
+pub taken : (spot : Spot) (xs : List ℕ) (b : ℕ) → IsOpen spot xs → b < 256 → reason_for spot xs b ≡ None → IsViableHead spot (xs ++ b ∷ [])
 taken spot xs b o below none =
     elim (stage o.fields xs o.rest o.next o.spelled) [
       | at_header x y ↦

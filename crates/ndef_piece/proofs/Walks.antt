@@ -2,7 +2,9 @@
 use Rattle.std.proofs.Common.{◌≡◌, true, false, refl, sym, ◌∙◌, ap, subst, List, [], ◌∷◌, ◌++◌, append_assoc}
 use Rattle.std.specs.List.{AllByRecursion}
 use Rattle.std.proofs.lemmas.Bool.{false≢true}
-use Rattle.ndef_value.specs.Wire.{Piece, Run, Item, IsShaped, BeginsOnce, EndsOnce, all_pieces, IsMessage, IsWithin}
+use Rattle.ndef_format.specs.Records.{Piece, Run}
+use Rattle.ndef_format.specs.Messages.{Item, IsShaped, BeginsOnce, EndsOnce, all_pieces, IsMessage}
+use Rattle.ndef_format.specs.Limits.{IsWithin}
 use Rattle.ndef_piece.specs.Walk.{Before, start, ending_record, after, Walk, Walked, WalksAreMessages, WalksAreCut}
 use Rattle.ndef_piece.proofs.WalksToRuns.{not_first, to_runs, later_firsts, ends_once}
 use Rattle.ndef_piece.proofs.WalksFromRuns.{outer_back}

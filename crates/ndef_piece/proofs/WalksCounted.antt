@@ -6,9 +6,11 @@ use Rattle.std.proofs.lemmas.List.{append-nil, map-append}
 use Rattle.std.proofs.lemmas.Bool.{cases_Bool, eq-eqb, false≢true}
 use Rattle.std.proofs.lemmas.Bool.Decides.{eqb_tells}
 use Rattle.std.proofs.lemmas.Grind.{flat_map-append}
-use Rattle.ndef_value.specs.Wire.{Piece, Run, Item, pieces, payload_of, run_record, tnf_of, all_pieces, Follow, EndsOnce, LimitValues}
-use Rattle.ndef_piece.specs.Field.{spot_after, PiecesStand, RunsStand, AreBefore, NoneLast, ended_run, PiecesGoOn}
-use Rattle.ndef_piece.specs.Pieces.{Stands}
+use Rattle.ndef_format.specs.Records.{Piece, Run, pieces, tnf_of, Follow}
+use Rattle.ndef_format.specs.Messages.{Item, payload_of, run_record, all_pieces, EndsOnce}
+use Rattle.ndef_format.specs.Limits.{LimitValues}
+use Rattle.ndef_format.specs.Positions.{spot_after, PiecesStand, RunsStand, AreBefore, NoneLast, Stands}
+use Rattle.ndef_piece.specs.Field.{ended_run, PiecesGoOn}
 use Rattle.ndef_piece.specs.Walk.{Before, outside, inside, start, spot, record_with, ending_record, after, Walk, Walked, standing, WalksAreCounted}
 use Rattle.ndef_piece.proofs.RunShapes.{run}
 use Rattle.ndef_piece.proofs.WalksToRuns.{over_after, ends_once}

@@ -4,7 +4,9 @@ use Rattle.std.specs.Prelude.{unwrap_or, ◌==◌}
 use Rattle.std.specs.List.{AllByRecursion}
 use Rattle.std.proofs.lemmas.List.{append-nil}
 use Rattle.std.proofs.lemmas.Bool.{ne_eqb, both_ways, true≢false, false≢true}
-use Rattle.ndef_value.specs.Wire.{Piece, Run, Item, IsShaped, Follow, IsRun, pieces, payload_of, run_record, tnf_of, EndsOnce, all_pieces, LimitValues}
+use Rattle.ndef_format.specs.Records.{Piece, Run, Follow, IsRun, pieces, tnf_of}
+use Rattle.ndef_format.specs.Messages.{Item, IsShaped, payload_of, run_record, EndsOnce, all_pieces}
+use Rattle.ndef_format.specs.Limits.{LimitValues}
 use Rattle.ndef_piece.specs.Walk.{outside, inside, Walk}
 use Rattle.ndef_piece.proofs.RunShapes.{run, grown, shaped_piece}
 

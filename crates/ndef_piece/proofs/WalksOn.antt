@@ -3,8 +3,10 @@ use Rattle.std.proofs.Common.{◌≡◌, ◌≢◌, ℕ, ◌-◌, ◌<◌, inl, 
 use Rattle.std.specs.Prelude.{is_some}
 use Rattle.std.proofs.lemmas.List.{append-nil}
 use Rattle.std.proofs.lemmas.Bool.{cases_Bool, true≢false, false≢true}
-use Rattle.ndef_value.specs.Wire.{Piece, Item, HasShape, IsInitial, tnf_of, LimitValues}
-use Rattle.ndef_value.specs.declared.profile.Profile.{Profile}
+use Rattle.ndef_format.specs.Records.{Piece, HasShape, IsInitial, tnf_of}
+use Rattle.ndef_format.specs.Messages.{Item}
+use Rattle.ndef_format.specs.Limits.{LimitValues}
+use Rattle.ndef_format.specs.declared.profile.Profile.{Profile}
 use Rattle.ndef_piece.specs.Walk.{Before, inside, Walk, RunsGoOn, WalksCanEnd}
 use Rattle.ndef_value.specs.TnfLaws.{read_by_all}
 

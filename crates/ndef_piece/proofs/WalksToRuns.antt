@@ -4,8 +4,10 @@ use Rattle.std.specs.Prelude.{unwrap_or}
 use Rattle.std.specs.List.{AllByRecursion}
 use Rattle.std.proofs.lemmas.List.{append-nil}
 use Rattle.std.proofs.lemmas.Bool.{eqb-false, cases_Bool, false≢true}
-use Rattle.ndef_value.specs.Wire.{Piece, Run, Item, IsShaped, Follow, IsRun, pieces, payload_of, run_record, tnf_of, EndsOnce, all_pieces, LimitValues}
-use Rattle.ndef_piece.specs.Pieces.{Stands}
+use Rattle.ndef_format.specs.Records.{Piece, Run, Follow, IsRun, pieces, tnf_of}
+use Rattle.ndef_format.specs.Messages.{Item, IsShaped, payload_of, run_record, EndsOnce, all_pieces}
+use Rattle.ndef_format.specs.Limits.{LimitValues}
+use Rattle.ndef_format.specs.Positions.{Stands}
 use Rattle.ndef_piece.specs.Walk.{Before, outside, inside, spot, after, Walk}
 use Rattle.ndef_piece.proofs.RunShapes.{run, grown, shaped_run}
 

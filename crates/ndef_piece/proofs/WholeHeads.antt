@@ -3,14 +3,15 @@ use Rattle.std.proofs.Common.{◌≡◌, ℕ, ◌+◌, ◌-◌, ◌^◌, ◌<◌
 use Rattle.std.specs.Prelude.{is_some, unwrap_or, if◌then◌else◌}
 use Rattle.std.specs.Bool.{then_some}
 use Rattle.std.proofs.Math.Seq.{take-append_seam}
-use Rattle.ndef_value.specs.Wire.{FitsForm, AreOctets, octets, header_octet, payload_length_octets, id_length_octets}
+use Rattle.ndef_format.specs.Records.{FitsForm, AreOctets, octets, header_octet, payload_length_octets, id_length_octets}
 use Rattle.ndef_value.specs.ListLaws.{octets_front, octets_back}
 use Rattle.ndef_value.specs.SliceLaws.{behind, cut_two, octet_at, octets_behind}
-use Rattle.ndef_piece.specs.Header.{is_set}
-use Rattle.ndef_piece.specs.Heads.{head, CanBeSpelled, MayStand}
+use Rattle.ndef_format.specs.HeadReasons.{is_set}
+use Rattle.ndef_piece.specs.Heads.{head}
+use Rattle.ndef_format.specs.Positions.{CanBeSpelled, MayStand}
 use Rattle.ndef_piece.specs.Whole.{BeginWithHead, fields_of}
 use Rattle.ndef_piece.specs.declared.head.Head.{Head}
-use Rattle.ndef_piece.specs.declared.spot.Spot.{Spot}
+use Rattle.ndef_format.specs.declared.spot.Spot.{Spot}
 use Rattle.ndef_piece.proofs.HeaderOctet.{octet_of_parts}
 
 -- whether an id length is there

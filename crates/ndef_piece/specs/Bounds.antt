@@ -1,11 +1,13 @@
 -- The lengths of the heads that go on after some octets.
 use Rattle.std.specs.Prelude.{◌≡◌, ℕ, ◌+◌, ◌-◌, ◌≤◌, ◌==◌, Bool, not, ◌&&◌, nat_lt, List, [], ◌∷◌, length, unwrap_or, Option, Some, None, if◌then◌else◌}
-use Rattle.ndef_value.specs.Wire.{Fields, tnf_of}
+use Rattle.ndef_format.specs.Records.{HeadFields, tnf_of}
 use Rattle.ndef_piece.specs.declared.head.Head.{Head}
-use Rattle.ndef_piece.specs.declared.spot.Spot.{Spot}
+use Rattle.ndef_format.specs.declared.spot.Spot.{Spot}
 use Rattle.ndef_piece.specs.declared.bounds.Bounds.{Bounds}
-use Rattle.ndef_piece.specs.Heads.{Begins, IsOpen, IsWhole}
-use Rattle.ndef_piece.specs.Header.{is_set, tnf_number, size}
+use Rattle.ndef_piece.specs.Heads.{BeginsHead, IsWholeHead}
+use Rattle.ndef_format.specs.Positions.{IsOpen}
+use Rattle.ndef_format.specs.HeadReasons.{is_set, tnf_number}
+use Rattle.ndef_piece.specs.Header.{size}
 use Rattle.ndef_piece.specs.Ranges.{range_of}
 
 -- a number from the least to the greatest
@@ -13,7 +15,7 @@ abbrev pub IsIn : ℕ → ℕ × ℕ → Type 0
 IsIn n range = (range.0 ≤ n) × (n ≤ range.1)
 
 -- the fields have these flags, and lengths in these ranges, and so many of their octets are to come
-pub record AreWithin (f : Fields) (count : ℕ) (b : Bounds) : Type 0 where
+pub record AreWithin (f : HeadFields) (count : ℕ) (b : Bounds) : Type 0 where
   pub left : count ≡ b.left
   pub last : f.last ≡ b.last
   pub chunked : f.chunked ≡ b.chunked
@@ -25,9 +27,9 @@ pub record AreWithin (f : Fields) (count : ℕ) (b : Bounds) : Type 0 where
 -- The heads that may stand at the spot and go on after these octets lie within the bounds,
 -- and all lengths within them are had together.
 pub record AreBounds (spot : Spot) (xs : List ℕ) (b : Bounds) : Type 0 where
-  pub sound : (f : Fields) (begun : Begins spot xs f) → AreWithin f (length begun.rest) b
+  pub sound : (f : HeadFields) (begun : BeginsHead spot xs f) → AreWithin f (length begun.rest) b
   pub full : (kind id payload : ℕ) → IsIn kind b.kind → IsIn id b.id → IsIn payload b.payload
-      → (f : Fields) × Begins spot xs f × (f.kind_length ≡ kind) × (unwrap_or f.id_length 0 ≡ id) × (f.payload_length ≡ payload)
+      → (f : HeadFields) × BeginsHead spot xs f × (f.kind_length ≡ kind) × (unwrap_or f.id_length 0 ≡ id) × (f.payload_length ≡ payload)
 
 -- NDEF 1.0, TYPE_LENGTH: the type lengths of a type name format, after these octets behind the header octet
 abbrev pub kind_range : ℕ → List ℕ → ℕ × ℕ
@@ -75,4 +77,4 @@ BoundsOfFronts = (spot : Spot) (header : ℕ) (xs : List ℕ) → IsOpen spot (h
 
 -- The bounds of a whole head are its lengths.
 abbrev pub BoundsOfHeads : Type 0
-BoundsOfHeads = (spot : Spot) (xs : List ℕ) (h : Head) → IsWhole spot xs h → AreBounds spot xs (bounds_at h)
+BoundsOfHeads = (spot : Spot) (xs : List ℕ) (h : Head) → IsWholeHead spot xs h → AreBounds spot xs (bounds_at h)

@@ -1,8 +1,9 @@
 -- Which piece may come next in a message within the limits.
 use Rattle.std.specs.Prelude.{◌≡◌, Bool, true, false, List, [], ◌∷◌, ◌++◌, ◌↔◌}
-use Rattle.ndef_value.specs.Wire.{Piece, Run, Item, all_pieces, IsMessage, LimitValues, AreInRange, IsWithin}
-use Rattle.ndef_piece.specs.Pieces.{Stands}
-use Rattle.ndef_piece.specs.Field.{spot_after}
+use Rattle.ndef_format.specs.Records.{Piece, Run}
+use Rattle.ndef_format.specs.Messages.{Item, all_pieces, IsMessage}
+use Rattle.ndef_format.specs.Limits.{LimitValues, AreInRange, IsWithin}
+use Rattle.ndef_format.specs.Positions.{Stands, spot_after}
 
 -- NDEF 1.0, messages: these are the pieces of a message within the limits
 abbrev pub AreMessage : LimitValues → List Piece → Type 0

@@ -1,8 +1,10 @@
 -- The header octet and its parts.
-use Rattle.std.proofs.Common.{◌≡◌, ℕ, ◌+◌, ◌*◌, ◌/◌, ◌%◌, ◌<◌, Bool, true, false, cond, length, length-append, Option, Some, None, refl, ◌∙◌, ap, arith}
+use Rattle.std.proofs.Common.{◌≡◌, ℕ, ◌+◌, ◌*◌, ◌/◌, ◌%◌, ◌<◌, Bool, true, false, cond, length, length-append, Option, Some, None, refl, ◌∙◌, ap, arith, List, [], unwrap_or}
 use Rattle.std.specs.Prelude.{◌==◌, is_some}
-use Rattle.ndef_value.specs.Wire.{Fields, bit, header_octet, id_length_octets, octets, payload_length_octets}
-use Rattle.ndef_piece.specs.Header.{is_set, tnf_number, size}
+use Rattle.ndef_format.specs.Records.{HeadFields, bit, header_octet, id_length_octets, octets, payload_length_octets}
+use Rattle.ndef_format.specs.HeadReasons.{is_set, tnf_number}
+use Rattle.ndef_piece.specs.Header.{size}
+use Rattle.std.specs.Option.{option_map}
 
 -- a flag as a digit
 pub bit_below : (b : Bool) → bit b < 2
@@ -43,8 +45,8 @@ pub record Parts (n : ℕ) (b e c s i : Bool) (t : ℕ) : Type 0 where
   pub tnf : tnf_number n ≡ t
 
 -- the parts of a header octet are those that it was made of
-pub parts_of : (b e c s i : Bool) (t : ℕ) → t < 8 → Parts (header_octet b e c s i t) b e c s i t
-parts_of b e c s i t u = record {
+pub octet_parts : (b e c s i : Bool) (t : ℕ) → t < 8 → Parts (header_octet b e c s i t) b e c s i t
+octet_parts b e c s i t u = record {
   begins = ap (λ x. x == 1) (at_7 (bit b) (bit e) (bit c) (bit s) (bit i) t (bit_below b) (bit_below e) (bit_below c) (bit_below s) (bit_below i) u) ∙ bit_test b;
   ends = ap (λ x. x == 1) (at_6 (bit b) (bit e) (bit c) (bit s) (bit i) t (bit_below b) (bit_below e) (bit_below c) (bit_below s) (bit_below i) u) ∙ bit_test e;
   chunked = ap (λ x. x == 1) (at_5 (bit b) (bit e) (bit c) (bit s) (bit i) t (bit_below b) (bit_below e) (bit_below c) (bit_below s) (bit_below i) u) ∙ bit_test c;
@@ -54,12 +56,12 @@ parts_of b e c s i t u = record {
 }
 
 -- the header octet of a head
-abbrev pub header : Fields → ℕ
+abbrev pub header : HeadFields → ℕ
 header h = header_octet h.first h.last h.chunked h.short (is_some h.id_length) h.tnf
 
 -- the parts of its header octet
-pub parts : (h : Fields) → h.tnf < 8 → Parts (header h) h.first h.last h.chunked h.short (is_some h.id_length) h.tnf
-parts h t = parts_of h.first h.last h.chunked h.short (is_some h.id_length) h.tnf t
+pub header_parts : (h : HeadFields) → h.tnf < 8 → Parts (header h) h.first h.last h.chunked h.short (is_some h.id_length) h.tnf
+header_parts h t = octet_parts h.first h.last h.chunked h.short (is_some h.id_length) h.tnf t
 
 -- ---- sizes
 
@@ -73,10 +75,15 @@ id_size : (o : Option ℕ) → length (id_length_octets o) ≡ cond (is_some o) 
 id_size None = refl
 id_size (Some d) = refl
 
-pub flags_size : (h : Fields) → length (octets h) ≡ 2 + cond h.short 1 4 + cond (is_some h.id_length) 1 0
+pub flags_size : (h : HeadFields) → length (octets h) ≡ 2 + cond h.short 1 4 + cond (is_some h.id_length) 1 0
 flags_size h =
     omega (arith, length-append (payload_length_octets h.short h.payload_length) (id_length_octets h.id_length), length_size h.short h.payload_length, id_size h.id_length)
 
 -- a header octet tells the size of the head
-pub octets_size : (h : Fields) → h.tnf < 8 → length (octets h) ≡ size (header h)
-octets_size h t = let p = parts h t in rw (p.short, p.id_there) (flags_size h)
+pub octets_size : (h : HeadFields) → h.tnf < 8 → length (octets h) ≡ size (header h)
+octets_size h t = let p = header_parts h t in rw (p.short, p.id_there) (flags_size h)
+
+-- NDEF 1.0, ID_LENGTH: the length that a piece tells of its id, 0 where it has none
+pub id_count : (id : Option (List ℕ)) → unwrap_or (option_map length id) 0 ≡ length (unwrap_or id [])
+id_count None = refl
+id_count (Some xs) = refl

@@ -3,9 +3,6 @@ pub mod HeaderLaws
 pub mod Heads
 pub mod Conditions
 pub mod Ranges
-pub mod Reading
-pub mod Inside
-pub mod InsideLaws
 pub mod Bounds
 pub mod Pieces
 pub mod Field
@@ -13,3 +10,4 @@ pub mod Walk
 pub mod Fronts
 pub mod Rest
 pub mod Whole
+pub mod Machine

@@ -1,8 +1,7 @@
 -- The payload lengths that an open front of a head leaves, computed from its octets.
 use Rattle.std.specs.Prelude.{ℕ, ◌+◌, ◌-◌, ◌*◌, ◌^◌, ◌==◌, List, [], ◌∷◌, take, min, if◌then◌else◌}
-use Rattle.ndef_piece.specs.declared.spot.Spot.{Spot}
-use Rattle.ndef_piece.specs.Header.{tnf_number, width}
-use Rattle.ndef_piece.specs.Conditions.{least_from}
+use Rattle.ndef_format.specs.declared.spot.Spot.{Spot}
+use Rattle.ndef_format.specs.HeadReasons.{tnf_number, width, least_from}
 
 -- NDEF 1.0, PAYLOAD_LENGTH: the greatest number that n octets can spell, most significant first, of which these are the front
 abbrev pub greatest_from : ℕ → List ℕ → ℕ

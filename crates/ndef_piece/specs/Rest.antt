@@ -1,19 +1,22 @@
 -- The bytes that complete a message.
 use Rattle.std.specs.Prelude.{◌≡◌, ℕ, ◌^◌, ◌<◌, true, false, List, [], ◌∷◌, ◌++◌, ◌↔◌}
-use Rattle.ndef_value.specs.Wire.{Piece, IsPiece, Item, Fields, fields, octets, body, SpellAll, FlatBy, Run, LimitValues, AreInRange, IsWithin}
-use Rattle.ndef_piece.specs.Heads.{MayStand, IsOpen, IsViable}
+use Rattle.ndef_format.specs.Records.{Piece, IsPiece, HeadFields, fields, octets, body, Run}
+use Rattle.ndef_format.specs.Messages.{Item, SpellsPieces, SpellsBy}
+use Rattle.ndef_format.specs.Limits.{LimitValues, AreInRange, IsWithin}
+use Rattle.ndef_format.specs.Positions.{MayStand, IsOpen}
+use Rattle.ndef_piece.specs.Heads.{IsViableHead}
 use Rattle.ndef_piece.specs.Walk.{Before, start, spot, ending_record, after, Walk}
 
 -- NDEF 1.0, messages: these bytes complete a message of which this is known, and end these records
 abbrev pub Rest : LimitValues → Before → List ℕ → List Item → Type 0
-Rest limits c bytes items = (ps : List Piece) × Walk limits c ps items × SpellAll ps bytes
+Rest limits c bytes items = (ps : List Piece) × Walk limits c ps items × SpellsPieces ps bytes
 
 -- ---- laws
 
 -- From the start they are the messages within the limits.
-abbrev pub RestsAreFlat : Type 0
-RestsAreFlat = (limits : LimitValues) (items : List Item) (bytes : List ℕ) → AreInRange limits
-    → Rest limits (start limits) bytes items ↔ ((runs : List Run) × FlatBy limits.profile runs items bytes × IsWithin limits runs)
+abbrev pub RestsSpell : Type 0
+RestsSpell = (limits : LimitValues) (items : List Item) (bytes : List ℕ) → AreInRange limits
+    → Rest limits (start limits) bytes items ↔ ((runs : List Run) × SpellsBy limits.profile runs items bytes × IsWithin limits runs)
 
 -- Where the message is over, nothing follows.
 abbrev pub RestsEnd : Type 0
@@ -22,7 +25,7 @@ RestsEnd = (limits : LimitValues) (c : Before) (bytes : List ℕ) (items : List 
 
 -- Past a head that may stand: type, id and payload of some piece that has it, and what completes the message after that piece.
 abbrev pub RestsPastHeads : Type 0
-RestsPastHeads = (limits : LimitValues) (c : Before) (f : Fields) (bytes : List ℕ) (items : List Item) → c.over ≡ false → MayStand (spot limits.profile c) f
+RestsPastHeads = (limits : LimitValues) (c : Before) (f : HeadFields) (bytes : List ℕ) (items : List Item) → c.over ≡ false → MayStand (spot limits.profile c) f
     → Rest limits c (octets f ++ bytes) items
     ↔ ((p : Piece) × (later : List ℕ) × (rest : List Item) × IsPiece p × (fields p f.short ≡ f) × (bytes ≡ body p ++ later) × (items ≡ ending_record c p ++ rest)
     × Rest limits (after limits c p) later rest)
@@ -30,9 +33,9 @@ RestsPastHeads = (limits : LimitValues) (c : Before) (f : Fields) (bytes : List 
 -- Within a head another octet follows, and it is one with which some head goes on.
 abbrev pub RestsWithinHeads : Type 0
 RestsWithinHeads = (limits : LimitValues) (c : Before) (xs bytes : List ℕ) (items : List Item) → c.over ≡ false → IsOpen (spot limits.profile c) xs
-    → Rest limits c (xs ++ bytes) items → (b : ℕ) × (more : List ℕ) × (bytes ≡ b ∷ more) × IsViable (spot limits.profile c) (xs ++ b ∷ [])
+    → Rest limits c (xs ++ bytes) items → (b : ℕ) × (more : List ℕ) × (bytes ≡ b ∷ more) × IsViableHead (spot limits.profile c) (xs ++ b ∷ [])
 
 -- After any head that may stand the message can be completed.
 abbrev pub RestsCanFollow : Type 0
-RestsCanFollow = (limits : LimitValues) (c : Before) (f : Fields) → AreInRange limits → c.over ≡ false → c.room < 2 ^ 32 → MayStand (spot limits.profile c) f
+RestsCanFollow = (limits : LimitValues) (c : Before) (f : HeadFields) → AreInRange limits → c.over ≡ false → c.room < 2 ^ 32 → MayStand (spot limits.profile c) f
     → (bytes : List ℕ) × (items : List Item) × Rest limits c (octets f ++ bytes) items

@@ -1,10 +1,11 @@
 -- The pieces of a message, one after another, each at its spot.
 use Rattle.std.specs.Prelude.{◌≡◌, ℕ, ◌-◌, ◌^◌, ◌<◌, ◌≤◌, map, ◌==◌, Bool, true, false, List, [], ◌∷◌, ◌++◌, length, is_some, unwrap_or, Option, Some, None, ◌↔◌, if◌then◌else◌}
-use Rattle.ndef_value.specs.Wire.{Piece, IsPiece, AreOctets, Run, Item, run_record, payload_of, tnf_of, all_pieces, EndsOnce, IsMessage, LimitValues, AreInRange, IsWithin}
-use Rattle.ndef_value.specs.declared.profile.Profile.{Profile}
-use Rattle.ndef_piece.specs.declared.spot.Spot.{Spot}
-use Rattle.ndef_piece.specs.Pieces.{Stands}
-use Rattle.ndef_piece.specs.Field.{spot_after, AreBefore, NoneLast}
+use Rattle.ndef_format.specs.Records.{Piece, IsPiece, AreOctets, Run, tnf_of}
+use Rattle.ndef_format.specs.Messages.{Item, run_record, payload_of, all_pieces, EndsOnce, IsMessage}
+use Rattle.ndef_format.specs.Limits.{LimitValues, AreInRange, IsWithin}
+use Rattle.ndef_format.specs.declared.profile.Profile.{Profile}
+use Rattle.ndef_format.specs.declared.spot.Spot.{Spot}
+use Rattle.ndef_format.specs.Positions.{Stands, spot_after, AreBefore, NoneLast}
 
 -- what is known before a piece, by the pieces before it
 pub record Before : Type 0 where

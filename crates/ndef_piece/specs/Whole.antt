@@ -1,10 +1,10 @@
 -- A whole piece at the front of some bytes.
 use Rattle.std.specs.Prelude.{◌≡◌, ℕ, ◌<◌, ◌≤◌, Bool, List, ◌++◌, length, take, Some, None, if◌then◌else◌}
-use Rattle.ndef_value.specs.Wire.{Fields, Piece, Spells}
-use Rattle.ndef_piece.specs.Header.{is_set, tnf_number}
-use Rattle.ndef_piece.specs.Heads.{IsWhole}
+use Rattle.ndef_format.specs.Records.{HeadFields, Piece, SpellsPiece}
+use Rattle.ndef_format.specs.HeadReasons.{is_set, tnf_number}
+use Rattle.ndef_piece.specs.Heads.{IsWholeHead}
 use Rattle.ndef_piece.specs.declared.head.Head.{Head}
-use Rattle.ndef_piece.specs.declared.spot.Spot.{Spot}
+use Rattle.ndef_format.specs.declared.spot.Spot.{Spot}
 use Rattle.ndef_piece.specs.declared.whole.WholePiece.{WholePiece}
 
 -- NDEF 1.0, record layout: the piece that a header octet and these parts make
@@ -26,7 +26,7 @@ shown w = piece_of w.header w.kind.now w.id.now w.payload.now
 -- NDEF 1.0, record layout: the bytes are the octets of the piece, and then these
 pub record IsSplit (p : Piece) (short : Bool) (rest bytes : List ℕ) : Type 0 where
   pub front : List ℕ
-  pub spells : Spells p short front
+  pub spells : SpellsPiece p short front
   pub joined : bytes ≡ front ++ rest
 
 -- NDEF 1.0, record layout: the bytes begin with the octets of a piece
@@ -37,7 +37,7 @@ pub record BeginWithPiece (bytes : List ℕ) : Type 0 where
   pub split : IsSplit piece short rest bytes
 
 -- NDEF 1.0, record layout: the fields that a header octet and these lengths tell
-abbrev pub fields_of : ℕ → (kind id payload : ℕ) → Fields
+abbrev pub fields_of : ℕ → (kind id payload : ℕ) → HeadFields
 fields_of header kind id payload = record {
   first = is_set 7 header;
   last = is_set 6 header;
@@ -53,4 +53,4 @@ fields_of header kind id payload = record {
 pub record BeginWithHead (spot : Spot) (bytes : List ℕ) (h : Head) (count : ℕ) : Type 0 where
   pub some : 0 < count
   pub within : count ≤ length bytes
-  pub whole : IsWhole spot (take count bytes) h
+  pub whole : IsWholeHead spot (take count bytes) h

@@ -1,7 +1,6 @@
 //! Why an octet is refused in the head of a piece: the lowest reason that holds of it.
 ghost use Rattle.std.specs.Prelude.{◌≡◌, ◌<◌, ◌≤◌, [], ◌∷◌, length};
-ghost use Rattle.ndef_piece.specs.Header.{width};
-ghost use Rattle.ndef_piece.specs.Conditions.{is_strict, reason_for};
+ghost use Rattle.ndef_format.specs.HeadReasons.{width, is_strict, reason_for};
 
 use crate::Spot;
 use crate::header::{BEGIN, CHUNK, END, ID_THERE, is_set, tnf_number, width};

@@ -1,8 +1,10 @@
 //! The head of a piece.
 ghost use Rattle.std.specs.Prelude.{◌≡◌, ◌+◌, length, slice_index, if◌then◌else◌, Some, None};
-ghost use Rattle.ndef_value.specs.Wire.{Fields, octets};
-ghost use Rattle.ndef_piece.specs.Header.{is_set, width, size};
-ghost use Rattle.ndef_piece.specs.Heads.{head, CanBeSpelled};
+ghost use Rattle.ndef_format.specs.Records.{HeadFields, octets};
+ghost use Rattle.ndef_format.specs.HeadReasons.{is_set, width};
+ghost use Rattle.ndef_piece.specs.Header.{size};
+ghost use Rattle.ndef_piece.specs.Heads.{head};
+ghost use Rattle.ndef_format.specs.Positions.{CanBeSpelled};
 
 use crate::header::{BEGIN, CHUNK, END, ID_THERE, SHORT, is_set, tnf_number, tnf_of, width};
 use crate::payload_length::{least_and_greatest, length_front};
@@ -46,7 +48,7 @@ fn id_length_of(taken: &[u8]) -> Option<u8>
 /// The head that these octets are.
 pub(crate) fn head_of(taken: &[u8]) -> Head
     requires { length taken.now ≡ size (slice_index taken.now 0) }
-    ensures { (f : Fields) → CanBeSpelled f → octets f ≡ taken.now → result ≡ head f }
+    ensures { (f : HeadFields) → CanBeSpelled f → octets f ≡ taken.now → result ≡ head f }
 {
     let header = taken[0];
     let (payload_length, _) = least_and_greatest(width(header), length_front(taken));

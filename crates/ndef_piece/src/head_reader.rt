@@ -1,10 +1,11 @@
 //! The head of a piece, read octet by octet.
 ghost use Rattle.std.specs.Prelude.{◌≡◌, ◌≢◌, ◌<◌, true, false, [], ◌∷◌, ◌++◌, length, take, slice_index, slice_set, IfSome, IsSome, IsTrue};
-ghost use Rattle.ndef_value.specs.Wire.{Fields, octets};
+ghost use Rattle.ndef_format.specs.Records.{HeadFields, octets};
 ghost use Rattle.ndef_piece.specs.Header.{size};
-ghost use Rattle.ndef_piece.specs.Heads.{head, CanBeSpelled, IsOpen, IsViable, IsRange};
+ghost use Rattle.ndef_piece.specs.Heads.{head, IsViableHead, IsRange};
+ghost use Rattle.ndef_format.specs.Positions.{CanBeSpelled, IsOpen};
 ghost use Rattle.ndef_piece.specs.Bounds.{AreBounds};
-ghost use Rattle.ndef_piece.specs.Reading.{IsAnswer, IsSound, IfHead, IfRefused};
+ghost use Rattle.ndef_piece.specs.Machine.Reading.{IsAnswer, IsSound, IfHead, IfRefused};
 ghost use Rattle.ndef_piece.specs.Whole.{BeginWithHead};
 ghost use Rattle.ndef_piece.specs.declared.head_reader.Step.TheVariants as steps;
 
@@ -33,7 +34,7 @@ pub enum Step {
 fn step_after(taken: &[u8]) -> Step
     requires { 0 < length taken.now }
     ensures more { length taken.now < size (slice_index taken.now 0) → result ≡ steps.More }
-    ensures whole { (f : Fields) → CanBeSpelled f → octets f ≡ taken.now
+    ensures whole { (f : HeadFields) → CanBeSpelled f → octets f ≡ taken.now
         → result ≡ steps.Head (head f) }
 {
     if taken.len() == size(taken[0]) {
@@ -68,18 +69,18 @@ pub struct HeadReader {
 }
 
 impl Model for HeadReader {
-    ghost use Rattle.ndef_piece.specs.Reading.{Reading};
+    ghost use Rattle.ndef_piece.specs.Machine.Reading.{Reading};
 
     ghost Value = { Reading };
 
-    ghost use Rattle.ndef_piece.specs.Inside.{fields, reading, IsConsistent};
-    ghost use Rattle.ndef_piece.specs.InsideLaws.{fields_are_told};
+    ghost use Rattle.ndef_piece.specs.Machine.Inside.{inside_fields, reading, IsConsistent};
+    ghost use Rattle.ndef_piece.specs.Machine.InsideLaws.{fields_are_told};
 
     ghost view = { reading };
 
     ghost invariant = { IsConsistent };
 
-    ghost inverse = { fields };
+    ghost inverse = { inside_fields };
 
     ghost inverse_ok = { fields_are_told };
 }
@@ -162,7 +163,7 @@ impl HeadReader {
     /// The bounds of the heads that go on, once there is an octet and where none is refused.
     pub fn bounds(&self) -> Option<Bounds>
         ensures exact { IfSome result (λ b. AreBounds self.now.spot self.now.octets b) }
-        ensures there { self.now.octets ≢ [] → IsViable self.now.spot self.now.octets
+        ensures there { self.now.octets ≢ [] → IsViableHead self.now.spot self.now.octets
             → IsSome result }
     {
         match self.answer {

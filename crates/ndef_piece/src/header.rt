@@ -1,7 +1,8 @@
 //! The header octet of a piece (NDEF 1.0, record layout).
 ghost use Rattle.std.specs.Prelude.{◌≡◌, ◌<◌, is_some};
-ghost use Rattle.ndef_value.specs.Wire.{code, header_octet, tnf_of};
-ghost use Rattle.ndef_piece.specs.Header.{is_set, size, tnf_number, width};
+ghost use Rattle.ndef_format.specs.Records.{code, header_octet, tnf_of};
+ghost use Rattle.ndef_format.specs.HeadReasons.{is_set, tnf_number, width};
+ghost use Rattle.ndef_piece.specs.Header.{size};
 
 use crate::Head;
 use ndef_value::Tnf;

@@ -1,13 +1,13 @@
 //! What holds of heads, pieces and messages, whoever reads or writes them.
 ghost use Rattle.ndef_piece.specs.Heads.{HeadsAreApart, HeadsHaveSizes, HeadersTell};
 ghost use Rattle.ndef_piece.specs.Conditions.{ConditionsAreInOrder};
-ghost use Rattle.ndef_piece.specs.Reading.{ConditionsAreExact, OneAnswer};
+ghost use Rattle.ndef_piece.specs.Machine.Reading.{ConditionsAreExact, OneAnswer};
 ghost use Rattle.ndef_piece.specs.Bounds.{BoundsOfFronts, BoundsOfHeads};
 ghost use Rattle.ndef_piece.specs.Pieces.{HeadsOfPieces, PiecesOfHeads, HeadsOfBytes, LengthsOfPieces};
 ghost use Rattle.ndef_piece.specs.Walk.{WalksAreMessages, WalksAreCut, WalksAreCounted, WalksCanEnd, RunsGoOn};
 ghost use Rattle.ndef_piece.specs.Field.{OneField, PiecesGoOn};
 ghost use Rattle.ndef_piece.specs.Fronts.{FrontsHaveSpots};
-ghost use Rattle.ndef_piece.specs.Rest.{RestsAreFlat, RestsEnd, RestsPastHeads, RestsWithinHeads, RestsCanFollow};
+ghost use Rattle.ndef_piece.specs.Rest.{RestsSpell, RestsEnd, RestsPastHeads, RestsWithinHeads, RestsCanFollow};
 
 /// No head's octets begin those of another, and each head is told by its octets, 3 to 7 of them, its
 /// type name format by the first. So only one answer to an octet is right.
@@ -68,7 +68,7 @@ pub fn messages_are_walks()
 /// The bytes that complete a message, from its start to its end: past a head they are the body of a
 /// piece and what completes the message after it, and within a head they go on as some head does.
 pub fn messages_are_read_by_heads()
-    ensures flat { RestsAreFlat }
+    ensures spelling { RestsSpell }
     ensures end { RestsEnd }
     ensures past { RestsPastHeads }
     ensures within { RestsWithinHeads }

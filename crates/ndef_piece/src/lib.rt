@@ -4,11 +4,11 @@
 //! Where to look:
 //!
 //! - `head_reader.rt`: reads a head. `write.rt`: writes one.
-//! - `conditions.rt`, `specs/Conditions.antt`: the conditions of the reasons 1 to 14.
-//! - `specs/Heads.antt`: which heads may stand at a spot. `bounds.rt`: which lengths they have.
+//! - `conditions.rt`: the conditions of the reasons 1 to 14. ndef_format's `specs/HeadReasons.antt` states them.
+//! - `specs/Heads.antt`: which octets are heads that may stand at a spot. `bounds.rt`: which lengths they have.
 //! - `whole.rt`: a whole piece, or a whole head, at the front of a slice. `standing.rt`: whether it may
 //!   stand at a spot.
-//! - `specs/Field.antt`: the field of the next octet of a message, and the spot of a piece.
+//! - `specs/Field.antt`: the field of the next octet follows from those before it. `specs/Machine/`: the states of a reader.
 //! - `specs/Walk.antt`, `specs/Rest.antt`: the pieces of a message one after another, and what is known
 //!   before each.
 #![tactic(auto)]
@@ -20,7 +20,6 @@ mod head_reader;
 mod header;
 mod laws;
 mod payload_length;
-mod spot;
 mod standing;
 mod whole;
 mod write;
@@ -33,6 +32,6 @@ pub use laws::{
     conditions_are_exact, fields_are_told, fronts_have_spots, heads_are_apart, heads_are_of_pieces,
     lengths_are_independent, messages_are_read_by_heads, messages_are_walks,
 };
-pub use spot::Spot;
+pub use ndef_format::Spot;
 pub use whole::{WholePiece, whole_piece};
 pub use write::write_head;

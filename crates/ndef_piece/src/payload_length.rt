@@ -1,7 +1,6 @@
 //! The octets of PAYLOAD_LENGTH, most significant first (NDEF 1.0, PAYLOAD_LENGTH).
 ghost use Rattle.std.specs.Prelude.{◌≡◌, ◌<◌, ◌≤◌, [], ◌∷◌, ◌++◌, length, ◌⊎◌};
-ghost use Rattle.ndef_piece.specs.Header.{width};
-ghost use Rattle.ndef_piece.specs.Conditions.{least_from};
+ghost use Rattle.ndef_format.specs.HeadReasons.{width, least_from};
 ghost use Rattle.ndef_piece.specs.Ranges.{greatest_from, length_front};
 
 use crate::header::{SHORT, is_set, width};

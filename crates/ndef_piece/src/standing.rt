@@ -1,8 +1,8 @@
 //! Whether a piece may stand at a spot, by its header octet and its lengths. Only a true answer tells something.
 ghost use Rattle.std.specs.Prelude.{◌≡◌, ◌≢◌, ◌≤◌, false, true, IsTrue};
-ghost use Rattle.ndef_value.specs.Wire.{HasShape, IsRead, tnf_of};
-ghost use Rattle.ndef_piece.specs.Header.{is_set, tnf_number};
-ghost use Rattle.ndef_piece.specs.Heads.{CanBeSpelled, MayStand};
+ghost use Rattle.ndef_format.specs.Records.{HasShape, IsRead, tnf_of};
+ghost use Rattle.ndef_format.specs.HeadReasons.{is_set, tnf_number};
+ghost use Rattle.ndef_format.specs.Positions.{CanBeSpelled, MayStand};
 ghost use Rattle.ndef_piece.specs.Whole.{fields_of};
 
 use crate::Spot;

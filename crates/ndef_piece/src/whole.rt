@@ -1,8 +1,8 @@
 //! A whole piece at the front of a slice, its parts left where they are.
 ghost use Rattle.std.specs.Prelude.{◌≡◌, ◌^◌, ◌<◌, ◌++◌, false, true, length, IfNone, IfSome, IsTrue, Some, None, [], if◌then◌else◌};
-ghost use Rattle.ndef_value.specs.Wire.{FitsForm, id_length_octets, payload_length_octets, tnf_of};
-ghost use Rattle.ndef_piece.specs.Header.{is_set, tnf_number, width};
-ghost use Rattle.ndef_piece.specs.Pieces.{Stands};
+ghost use Rattle.ndef_format.specs.Records.{FitsForm, id_length_octets, payload_length_octets, tnf_of};
+ghost use Rattle.ndef_format.specs.HeadReasons.{is_set, tnf_number, width};
+ghost use Rattle.ndef_format.specs.Positions.{Stands};
 ghost use Rattle.ndef_piece.specs.Whole.{BeginWithHead, BeginWithPiece, IsSplit, shown};
 
 use crate::header::{BEGIN, CHUNK, END, ID_THERE, SHORT, header_tnf, is_set, tnf_number};

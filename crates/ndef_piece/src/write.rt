@@ -1,8 +1,9 @@
 //! The head of a piece, written.
 ghost use Rattle.std.specs.Prelude.{◌≡◌, ◌≤◌, ◌++◌, length, drop};
-ghost use Rattle.ndef_value.specs.Wire.{octets, FitsForm};
-ghost use Rattle.ndef_piece.specs.Heads.{written_fields, MayStand, IsWhole};
-ghost use Rattle.ndef_piece.specs.declared.spot.Spot.{Spot};
+ghost use Rattle.ndef_format.specs.Records.{octets, FitsForm};
+ghost use Rattle.ndef_piece.specs.Heads.{written_fields, IsWholeHead};
+ghost use Rattle.ndef_format.specs.Positions.{MayStand};
+ghost use Rattle.ndef_format.specs.declared.spot.Spot.{Spot};
 
 use crate::Head;
 use crate::header::header_octet;
@@ -18,7 +19,7 @@ pub fn write_head(head: &Head, out: &mut [u8; 7]) -> usize
     ensures few { (3 ≤ result) × (result ≤ 7) }
     // Wherever the head may stand, these octets are read as it.
     ensures read_back { (spot : Spot) → MayStand spot (written_fields head.now)
-        → IsWhole spot (octets (written_fields head.now)) head.now }
+        → IsWholeHead spot (octets (written_fields head.now)) head.now }
 {
     out[0] = header_octet(head);
     out[1] = head.kind_length;

@@ -1,9 +1,12 @@
 -- How many bytes a message has, or a front of one.
 use Rattle.std.proofs.Common.{◌+◌, ◌*◌, ◌≤◌, ◌<◌, ◌^◌, ℕ, List, ◌++◌, map, take, length-append, length-take, length-take-le, Ok, arith, mul-le-mul_left}
-use Rattle.ndef_value.specs.Wire.{LimitValues, AreInRange, MessagesAreBounded, greatest_length, run_record}
-use Rattle.ndef_value.specs.declared.refusal.Refusal.{Refusal}
-use Rattle.ndef_lang.specs.Language.{Sets, Conditions}
-use Rattle.ndef_message.specs.Place.{Refuses}
+use Rattle.ndef_format.specs.Limits.{LimitValues, AreInRange, greatest_length}
+use Rattle.ndef_format.specs.Laws.{MessagesAreBounded}
+use Rattle.ndef_format.specs.Messages.{run_record}
+use Rattle.ndef_format.specs.declared.refusal.Refusal.{Refusal}
+use Rattle.ndef_format.specs.Payloads.{Sets}
+use Rattle.ndef_format.specs.Reasons.{Conditions}
+use Rattle.ndef_format.specs.Refusals.{Refuses}
 use Rattle.ndef_message.specs.Views.{Viewed, Views}
 
 -- so few that those of 10000 messages can be added up
@@ -23,11 +26,11 @@ refused_bounded bounded set holds limits bytes refusal r =
     let p = r.place in
     let front = take refusal.at bytes in
     let d = p.viable.1.1 in
-    omega (arith, p.within, bounded limits d.runs p.viable.1.0 (front ++ p.viable.0) d.flat d.within, length-append front p.viable.0, length-take refusal.at bytes)
+    omega (arith, p.within, bounded limits d.runs p.viable.1.0 (front ++ p.viable.0) d.spelling d.within, length-append front p.viable.0, length-take refusal.at bytes)
 
 -- what is viewed is one message
 pub viewed_bounded : MessagesAreBounded → (set : Sets) (holds : Conditions) (limits : LimitValues) (input : List ℕ) (v : Viewed) → Views set holds limits input (Ok v)
     → v.taken ≤ greatest_length limits
 viewed_bounded bounded set holds limits input v h =
     let d = h.1.0 in
-    omega (arith, bounded limits d.runs (map run_record v.runs) (take v.taken input) d.flat d.within, length-take-le v.taken input h.0)
+    omega (arith, bounded limits d.runs (map run_record v.runs) (take v.taken input) d.spelling d.within, length-take-le v.taken input h.0)

@@ -3,18 +3,19 @@ use Rattle.std.proofs.Common.{◌≡◌, ◌+◌, ◌*◌, ◌<◌, ◌≤◌, �
 use Rattle.std.specs.Io.KnownBytes.{Appends, Keeps}
 use Rattle.std.proofs.KnownBytes.{Appends-trans, Keeps-refl, Keeps-trans}
 use Rattle.std.proofs.lemmas.Bool.{false≢true}
-use Rattle.ndef_lang.specs.Language.{Sets, Conditions}
+use Rattle.ndef_format.specs.Payloads.{Sets}
+use Rattle.ndef_format.specs.Reasons.{Conditions}
 use Rattle.std.specs.Prelude.{IsErrAnd}
-use Rattle.ndef_value.specs.Wire.{AreInRange, LimitValues, greatest_length}
+use Rattle.ndef_format.specs.Limits.{AreInRange, LimitValues, greatest_length}
 use Rattle.ndef_message.specs.Sending.{Sent, MarksOf}
 use Rattle.ndef_message.specs.Sources.{Counts}
 use Rattle.ndef_message.specs.declared.message_reading.Read.{Read}
 use Rattle.ndef_message.specs.declared.sending.WriteFault.{WriteFault}
-use Rattle.ndef_tool.specs.Output.{AreBlocks, FitsPlace, IsBlock, IsBlockBy, IsOutput, bytes_of, ending_line, message_line, status_of}
+use Rattle.ndef_tool.specs.Output.{AreBlocks, FitsPlace, IsBlock, IsBlockBy, IsOutput, total_bytes, ending_line, message_line, status_of}
 use Rattle.ndef_tool.specs.Quoting.{Text}
-use Rattle.ndef_tool.specs.Runs.{Ends, status_after}
-use Rattle.ndef_tool.specs.Blocks.{text_of}
-use Rattle.ndef_tool.specs.Sessions.{Follow, GoesOut, Handles, HasTaken, IsSession, MayEnd, PrintsNext, Silences, Stops, TakesNext}
+use Rattle.ndef_tool.specs.Runs.{EndsCommand, status_after}
+use Rattle.ndef_tool.specs.Blocks.{block_text}
+use Rattle.ndef_tool.specs.Sessions.{AreInTurn, GoesOut, Handles, SessionHasTaken, IsSession, MayEnd, PrintsNext, Silences, Stops, TakesNext}
 use Rattle.ndef_tool.specs.declared.choice.Action.{Action}
 use Rattle.ndef_tool.specs.declared.choice.Action.TheVariants.{Show, Check, Encode}
 use Rattle.ndef_tool.specs.declared.choice.Choice.{Choice}
@@ -40,7 +41,7 @@ pub memory_taken : {X : Type 0} (taken_of : X → ℕ) (limits : LimitValues) (b
     → taken ≤ greatest_length limits → Counts before after taken → TakesNext taken_of limits before after r
 memory_taken taken_of limits before after (Ok x) taken h few counts = absurd h
 memory_taken taken_of limits before after (Err e) taken h few counts =
-    subst (λ x. HasTaken limits 0 before after x) (sym h) (taken, few, λ small. omega (arith, counts (omega arith)))
+    subst (λ x. SessionHasTaken limits 0 before after x) (sym h) (taken, few, λ small. omega (arith, counts (omega arith)))
 
 -- the line of a message that was checked
 pub check_printed : (choice : Choice) (number at : ℕ) (read : Read) (records taken : ℕ) (text : Text) → choice.action ≡ Check → text ≡ message_line number at records taken
@@ -51,7 +52,7 @@ check_printed choice number at read records taken text is e n t =
     subst (λ action. IsBlockBy action choice.limits.profile choice.hex number at read text) (sym is) line
 
 -- the place of a refusal behind at most 10000 messages can be counted
-pub fits_behind : (limits : LimitValues) (count at a b : ℕ) (ending : Ending) → AreInRange limits → count ≤ 10000 → at ≤ count * 2 ^ 49 → HasTaken limits 0 a b ending → FitsPlace at ending
+pub fits_behind : (limits : LimitValues) (count at a b : ℕ) (ending : Ending) → AreInRange limits → count ≤ 10000 → at ≤ count * 2 ^ 49 → SessionHasTaken limits 0 a b ending → FitsPlace at ending
 fits_behind limits count at a b (Refused r) range few room (n, (e, h), k) = omega (arith, e, h, greatest_small limits range)
 fits_behind limits count at a b Clean range few room t = tt
 fits_behind limits count at a b (Hex x) range few room t = tt
@@ -65,26 +66,26 @@ fits_behind limits count at a b TooLong range few room t = tt
 pub record SoFar (set : Sets) (holds : Conditions) (choice : Choice) (a b : Option (List ℕ)) (v w : Option (List ℕ)) (marked : Bool) (count at : ℕ) : Type 0 where
   pub reads : List Read
   pub number : count ≡ length reads
-  pub place : at ≡ bytes_of reads
-  pub follow : Follow set holds choice.limits a b reads
+  pub place : at ≡ total_bytes reads
+  pub follow : AreInTurn set holds choice.limits a b reads
   pub blocks : Text
   pub are_blocks : AreBlocks choice 1 0 reads blocks
   pub written : Appends v w blocks
   pub quiet : marked ≡ true → (blocks ≡ []) × Keeps v w
 
-block_behind : (choice : Choice) (count at : ℕ) (reads : List Read) (read : Read) (done text : Text) → count ≡ length reads → at ≡ bytes_of reads
+block_behind : (choice : Choice) (count at : ℕ) (reads : List Read) (read : Read) (done text : Text) → count ≡ length reads → at ≡ total_bytes reads
     → AreBlocks choice 1 0 reads done → IsBlock choice (count + 1) at read text → AreBlocks choice 1 0 (reads ++ read ∷ []) (done ++ text)
 block_behind choice count at reads read done text n p are is =
     let number : count + 1 ≡ 1 + length reads = omega arith in
-    let place : at ≡ 0 + bytes_of reads = omega arith in
+    let place : at ≡ 0 + total_bytes reads = omega arith in
     blocks_more choice 1 0 reads read done text are (rw (number, place) at is)
 
 -- one message more, and its block
 pub handled_more : (set : Sets) (holds : Conditions) (choice : Choice) (a b c : Option (List ℕ)) (v w x : Option (List ℕ)) (marked : Bool) (count at : ℕ) (failed : Bool) (printed : Printed)
-    → SoFar set holds choice a b v w marked count at → PrintsNext set holds choice count at b c failed (Ok printed) → Appends w x (text_of printed.block)
-    → (marked ≡ true → (text_of printed.block ≡ []) × Keeps w x) → SoFar set holds choice a c v x marked (count + 1) (at + printed.taken)
+    → SoFar set holds choice a b v w marked count at → PrintsNext set holds choice count at b c failed (Ok printed) → Appends w x (block_text printed.block)
+    → (marked ≡ true → (block_text printed.block ≡ []) × Keeps w x) → SoFar set holds choice a c v x marked (count + 1) (at + printed.taken)
 handled_more set holds choice a b c v w x marked count at failed printed s (read, next, is, e) sent still =
-    let text = text_of printed.block in
+    let text = block_text printed.block in
     record {
       reads = s.reads ++ read ∷ [];
       number = omega (arith, s.number, length-append s.reads (read ∷ []));
@@ -127,8 +128,8 @@ pub silent_of : (Old New : List Read → Ending → Type 0) (choice : Choice) (v
     → ((reads : List Read) → Old reads session.ending → New reads session.ending) → Silences Old choice v w failed session → Silences New choice v w failed session
 silent_of Old New choice v w failed session on s = record { keeps = s.keeps; mark = s.mark; ends = by_end s.ends }
   where
-    by_end : (session.ending ≡ Writing) ⊎ ((reads : List Read) × Old reads session.ending × (session.at ≡ bytes_of reads) × AreBlocks choice 1 0 reads [])
-        → (session.ending ≡ Writing) ⊎ ((reads : List Read) × New reads session.ending × (session.at ≡ bytes_of reads) × AreBlocks choice 1 0 reads [])
+    by_end : (session.ending ≡ Writing) ⊎ ((reads : List Read) × Old reads session.ending × (session.at ≡ total_bytes reads) × AreBlocks choice 1 0 reads [])
+        → (session.ending ≡ Writing) ⊎ ((reads : List Read) × New reads session.ending × (session.at ≡ total_bytes reads) × AreBlocks choice 1 0 reads [])
     by_end (inl e) = inl e
     by_end (inr e) = inr (e.0, on e.0 e.1, e.2, e.3)
 
@@ -140,10 +141,10 @@ may_write (Encode form size) = tt
 -- one message more, and its block, of which a front went out
 pub handled_in_part : (set : Sets) (holds : Conditions) (choice : Choice) (a b c : Option (List ℕ)) (v w x : Option (List ℕ)) (marked : Bool) (count at : ℕ) (printed : Printed)
     (source_failed failed old new : Bool) (f : WriteFault) → SoFar set holds choice a b v w marked count at → PrintsNext set holds choice count at b c failed (Ok printed)
-    → old ≡ false → Sent 0 w x (text_of printed.block) (Err f) → new ≡ true
+    → old ≡ false → Sent 0 w x (block_text printed.block) (Err f) → new ≡ true
     → Handles (IsSession choice.action set holds choice.limits a c source_failed new) choice v x new (record { at = at + printed.taken; ending = Writing })
 handled_in_part set holds choice a b c v w x marked count at printed source_failed failed old new f s (read, next, is, e) clear sent m =
-    let text = text_of printed.block in
+    let text = block_text printed.block in
     record {
       reads = s.reads ++ read ∷ [];
       is = record {
@@ -163,20 +164,20 @@ handled_in_part set holds choice a b c v w x marked count at printed source_fail
 -- the line of the ending behind them
 pub session_ends : (Old New : List Read → Ending → Type 0) (choice : Choice) (v w x : Option (List ℕ)) (middle new : Bool) (session : Session) (line : Text) (r : Result ℕ WriteFault) (result : Status)
     → ((reads : List Read) → (middle ≡ true → new ≡ true) → Old reads session.ending → New reads session.ending) → Handles Old choice v w middle session
-    → line ≡ ending_line choice.action session.at session.ending → Sent 0 w x line r → MarksOf middle new line r → Ends r (status_of session.ending) result
+    → line ≡ ending_line choice.action session.at session.ending → Sent 0 w x line r → MarksOf middle new line r → EndsCommand r (status_of session.ending) result
     → (reads : List Read) × (text : Text) × New reads session.ending × IsOutput choice reads session.ending text × GoesOut v x new text × (result ≡ status_after new (status_of session.ending))
 session_ends Old New choice v w x middle new session line r result on h e sent marks ends =
-    let same : line ≡ ending_line choice.action (bytes_of h.reads) session.ending = e ∙ ap (λ at. ending_line choice.action at session.ending) h.at in (
+    let same : line ≡ ending_line choice.action (total_bytes h.reads) session.ending = e ∙ ap (λ at. ending_line choice.action at session.ending) h.at in (
       h.reads,
-      h.blocks ++ ending_line choice.action (bytes_of h.reads) session.ending,
+      h.blocks ++ ending_line choice.action (total_bytes h.reads) session.ending,
       on h.reads (stays_failed middle new line r marks) h.is,
       (h.blocks, h.are_blocks, refl),
-      goes_to_end v w x middle new h.blocks choice.action (bytes_of h.reads) session.ending r h.mark h.written (rw same at sent) (rw same at marks),
+      goes_to_end v w x middle new h.blocks choice.action (total_bytes h.reads) session.ending r h.mark h.written (rw same at sent) (rw same at marks),
       ending_status middle new line session.ending r result h.mark marks ends,
     )
 
 -- into a sink that had failed before a text of some bytes fails
-pub failed_status : (old new : Bool) (text : Text) (r : Result ℕ WriteFault) (st result : Status) → old ≡ true → MarksOf old new text r → Ends r st result
+pub failed_status : (old new : Bool) (text : Text) (r : Result ℕ WriteFault) (st result : Status) → old ≡ true → MarksOf old new text r → EndsCommand r st result
     → ((text ≡ []) × (result ≡ st)) ⊎ (result ≡ status.Fault)
 failed_status old new text (Ok n) st result h m e = inl (still_out old new text n m h, e)
 failed_status old new text (Err f) st result h m e = inr e
@@ -184,13 +185,13 @@ failed_status old new text (Err f) st result h m e = inr e
 -- the line of the ending, which doesn't go out
 pub silent_ends : (Old New : List Read → Ending → Type 0) (choice : Choice) (v w x : Option (List ℕ)) (middle new : Bool) (session : Session) (line : Text) (r : Result ℕ WriteFault) (result : Status)
     → ((reads : List Read) → (middle ≡ true → new ≡ true) → Old reads session.ending → New reads session.ending) → Silences Old choice v w middle session
-    → line ≡ ending_line choice.action session.at session.ending → Keeps w x → MarksOf middle new line r → Ends r (status_of session.ending) result
+    → line ≡ ending_line choice.action session.at session.ending → Keeps w x → MarksOf middle new line r → EndsCommand r (status_of session.ending) result
     → Keeps v x × (new ≡ true)
     × ((result ≡ status.Fault) ⊎ ((reads : List Read) × New reads session.ending × IsOutput choice reads session.ending [] × (result ≡ status_of session.ending)))
 silent_ends Old New choice v w x middle new session line r result on s e kept marks ends =
     (Keeps-trans v w x s.keeps kept, stays_failed middle new line r marks s.mark, by_status s.ends (failed_status middle new line r (status_of session.ending) result s.mark marks ends))
   where
-    by_status : (session.ending ≡ Writing) ⊎ ((reads : List Read) × Old reads session.ending × (session.at ≡ bytes_of reads) × AreBlocks choice 1 0 reads [])
+    by_status : (session.ending ≡ Writing) ⊎ ((reads : List Read) × Old reads session.ending × (session.at ≡ total_bytes reads) × AreBlocks choice 1 0 reads [])
         → ((line ≡ []) × (result ≡ status_of session.ending)) ⊎ (result ≡ status.Fault)
         → (result ≡ status.Fault) ⊎ ((reads : List Read) × New reads session.ending × IsOutput choice reads session.ending [] × (result ≡ status_of session.ending))
     by_status h (inr f) = inl f

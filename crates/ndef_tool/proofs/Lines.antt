@@ -4,9 +4,9 @@ use Rattle.std.specs.Prelude.{OnOk, slice_get, Some, if◌then◌else◌}
 use Rattle.std.proofs.lemmas.List.Elements.{filter_more}
 use Rattle.std.proofs.lemmas.List.{take_more}
 use Rattle.std.proofs.lemmas.Option.{get_or_from_slice_get}
-use Rattle.ndef_value.specs.Wire.{Item}
-use Rattle.ndef_value.specs.declared.profile.Profile.{Profile}
-use Rattle.ndef_lang.specs.Kind.{kind_of}
+use Rattle.ndef_format.specs.Messages.{Item}
+use Rattle.ndef_format.specs.declared.profile.Profile.{Profile}
+use Rattle.ndef_format.specs.Kinds.{kind_of}
 use Rattle.ndef_types.specs.Links.{alternatives, is_alternative}
 use Rattle.ndef_types.specs.Posters.{StandForTexts}
 use Rattle.ndef_types.specs.Values.{TextValue}

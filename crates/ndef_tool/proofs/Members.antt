@@ -2,21 +2,22 @@
 use Rattle.std.proofs.Common.{ℕ, ◌+◌, ◌<◌, ◌≤◌, ◌^◌, List, [], ◌∷◌, length, drop, sym, subst, arith, inl, inr, length-drop, Option, Ok, Bool}
 use Rattle.std.proofs.lemmas.List.{take-append-drop}
 use Rattle.std.specs.List.{AllByRecursion}
-use Rattle.ndef_value.specs.Wire.{AreInRange, Item, LimitValues}
-use Rattle.ndef_value.specs.declared.profile.Profile.{Profile}
-use Rattle.ndef_value.specs.declared.reason.Reason.{Reason}
-use Rattle.ndef_value.specs.declared.refusal.Refusal.{Refusal}
-use Rattle.ndef_lang.specs.Kind.{kind_of}
+use Rattle.ndef_format.specs.Limits.{AreInRange, LimitValues}
+use Rattle.ndef_format.specs.Messages.{Item}
+use Rattle.ndef_format.specs.declared.profile.Profile.{Profile}
+use Rattle.ndef_format.specs.declared.reason.Reason.{Reason}
+use Rattle.ndef_format.specs.declared.refusal.Refusal.{Refusal}
+use Rattle.ndef_format.specs.Kinds.{kind_of}
 use Rattle.ndef_lang.specs.Place.{CanEnd}
-use Rattle.ndef_lang.specs.declared.kind.Kind.{Kind}
-use Rattle.ndef_lang.specs.declared.kind.Kind.TheVariants as kinds
-use Rattle.ndef_nest.specs.Nested.{IsNest, Nested}
-use Rattle.ndef_nest.specs.Typed.{IsTypedPayload}
-use Rattle.ndef_nest.specs.declared.table.Table.{Table}
-use Rattle.ndef_nest.specs.declared.table.Table.TheVariants as tables
-use Rattle.ndef_message.specs.Deep.{IsMember}
+use Rattle.ndef_format.specs.declared.kind.Kind.{Kind}
+use Rattle.ndef_format.specs.declared.kind.Kind.TheVariants as kinds
+use Rattle.ndef_format.specs.Nested.{IsNest, Nested}
+use Rattle.ndef_format.specs.Payloads.{IsTypedPayload}
+use Rattle.ndef_format.specs.declared.table.Table.{Table}
+use Rattle.ndef_format.specs.declared.table.Table.TheVariants as tables
+use Rattle.ndef_format.specs.Accepted.{IsMember}
 use Rattle.ndef_message.specs.declared.message_reading.Read.{Read}
-use Rattle.ndef_lang.specs.Language.{Conditions}
+use Rattle.ndef_format.specs.Reasons.{Conditions}
 use Rattle.ndef_types.specs.Decoding.{RefusesPayload}
 use Rattle.ndef_tool.specs.Sessions.{IsNext}
 use Rattle.ndef_tool.specs.Showing.{IsTyped}
@@ -39,7 +40,7 @@ nested_on table n profile s h d = (
   d.0,
   d.1,
   record {
-    flat = d.2.flat;
+    spelling = d.2.spelling;
     single = d.2.single;
     few = omega (arith, d.2.few);
     contents = d.2.contents;

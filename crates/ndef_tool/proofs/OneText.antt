@@ -3,29 +3,31 @@ use Rattle.std.proofs.Common.{◌≡◌, ℕ, ◌+◌, ◌<◌, zero, suc, get_o
 use Rattle.std.specs.Prelude.{◌==◌, codes, if◌then◌else◌, option_map, slice_get}
 use Rattle.std.specs.List.{AllByRecursion}
 use Rattle.std.proofs.lemmas.Option.{get_or_from_slice_get, slice_get_within}
-use Rattle.ndef_value.specs.declared.profile.Profile.{Profile}
-use Rattle.ndef_lang.specs.Carrier.{IsCarrier}
-use Rattle.ndef_lang.specs.Text.{IsText}
-use Rattle.ndef_lang.specs.declared.kind.Kind.{Kind}
-use Rattle.ndef_lang.specs.declared.kind.Kind.TheVariants as kinds
-use Rattle.ndef_nest.specs.Nested.{IsNest}
-use Rattle.ndef_nest.specs.Typed.{IsTypedPayload}
-use Rattle.ndef_nest.specs.declared.table.Table.TheVariants as tables
-use Rattle.ndef_types.specs.Contents.{IsFirst, IsFirstAt, IsOfKind, StandsForMessage}
+use Rattle.ndef_format.specs.declared.profile.Profile.{Profile}
+use Rattle.ndef_format.specs.Handovers.{IsCarrier}
+use Rattle.ndef_format.specs.Texts.{IsText}
+use Rattle.ndef_format.specs.declared.kind.Kind.{Kind}
+use Rattle.ndef_format.specs.declared.kind.Kind.TheVariants as kinds
+use Rattle.ndef_format.specs.Nested.{IsNest}
+use Rattle.ndef_format.specs.Payloads.{IsTypedPayload}
+use Rattle.ndef_format.specs.declared.table.Table.TheVariants as tables
+use Rattle.ndef_types.specs.Contents.{IsFirstOf, IsFirstAt, IsOfKind, StandsForMessage}
 use Rattle.ndef_types.specs.Decoding.{OneValue}
 use Rattle.ndef_types.specs.Handovers.{StandsForRequest, StandsForSelect}
 use Rattle.ndef_types.specs.Posters.{IsUriOf, Says, StandsForPoster, action_in, size_in}
-use Rattle.ndef_value.specs.Wire.{BeginsOnce, Item, OneMeaning, Piece, SpellAll, all_pieces}
-use Rattle.ndef_lang.specs.Kind.{kind_of}
+use Rattle.ndef_format.specs.Messages.{BeginsOnce, Item, SpellsPieces, all_pieces}
+use Rattle.ndef_format.specs.Laws.{OneMeaning}
+use Rattle.ndef_format.specs.Records.{Piece}
+use Rattle.ndef_format.specs.Kinds.{kind_of}
 use Rattle.ndef_message.specs.declared.message_reading.Read.{Read}
-use Rattle.ndef_types.specs.Links.{AreLinks, FindsLinks, HasId, IsHandover, IsIndexOf, LinksOf, StandsForLinks, alternatives, records_of}
+use Rattle.ndef_types.specs.Links.{AreLinks, FindsLinks, HasId, IsHandoverRecord, IsIndexOf, LinksOf, StandsForLinks, alternatives, records_of}
 use Rattle.ndef_types.specs.Values.{AcValue, StandForAuxiliary, StandForNames, StandsForAc, StandsForCarrier, StandsForText, StandsForUri, power_code}
 use Rattle.ndef_types.specs.declared.link.Link.{Link}
 use Rattle.ndef_types.specs.declared.power.Power.{Power}
 use Rattle.ndef_types.specs.declared.power.Power.TheVariants.{Inactive, Active, Activating, Unknown}
-use Rattle.ndef_tool.specs.Output.{AreBlocks, IsBlock, IsBlockBy, OneOutput, bytes_of, ending_line}
+use Rattle.ndef_tool.specs.Output.{AreBlocks, IsBlock, IsBlockBy, OneOutput, total_bytes, ending_line}
 use Rattle.ndef_tool.specs.Quoting.{Text}
-use Rattle.ndef_tool.specs.Showing.{AreRecordLines, IsRecordLine, IsTyped, Tells, TellsPoster, record_front, told_carrier, told_request, told_select, told_text, told_uri}
+use Rattle.ndef_tool.specs.Showing.{AreRecordLines, IsRecordLine, IsTyped, PrintsValue, TellsPoster, record_front, told_carrier, told_request, told_select, told_text, told_uri}
 use Rattle.ndef_tool.specs.declared.choice.Action.{Action}
 use Rattle.ndef_tool.specs.declared.choice.Action.TheVariants.{Show, Check, Encode}
 use Rattle.ndef_tool.specs.declared.choice.Choice.{Choice}
@@ -50,7 +52,7 @@ one_place P items k n i j f g =
     let b = not_before P items n k j i g f in
     omega (arith, a, b)
 
-one_first : (P : Item → Type 0) (items : List Item) (a b : Option Item) → IsFirst P items a → IsFirst P items b → a ≡ b
+one_first : (P : Item → Type 0) (items : List Item) (a b : Option Item) → IsFirstOf P items a → IsFirstOf P items b → a ≡ b
 one_first P items None None f g = refl
 one_first P items None (Some j) f (n, g) = absurd (all_at (λ (m : Item). P m → ⊥) items n j f g.at g.has)
 one_first P items (Some i) None (k, f) g = absurd (all_at (λ (m : Item). P m → ⊥) items k i g f.at f.has)
@@ -87,7 +89,7 @@ pub record ValuesAreOne : Type 0 where
   pub selects : (profile : Profile) → OneValue (IsNest tables.Select 65535 profile) (StandsForSelect profile)
   pub carriers : OneValue IsCarrier StandsForCarrier
 
-one_told : ValuesAreOne → (kind : Kind) (profile : Profile) (s : List ℕ) (a b : Text) → IsTypedPayload kind 65535 profile s → Tells kind profile s a → Tells kind profile s b → a ≡ b
+one_told : ValuesAreOne → (kind : Kind) (profile : Profile) (s : List ℕ) (a b : Text) → IsTypedPayload kind 65535 profile s → PrintsValue kind profile s a → PrintsValue kind profile s b → a ≡ b
 one_told one kinds.Text profile s a b h (v, p, e) (w, q, d) = e ∙ ap told_text (one.texts s v w h p q) ∙ sym d
 one_told one kinds.Uri profile s a b h (v, p, e) (w, q, d) = e ∙ ap told_uri (uri_of_payload s v w p q) ∙ sym d
 one_told one kinds.SmartPoster profile s a b h (v, p, e) (w, q, d) =
@@ -175,7 +177,7 @@ links_one outer (i ∷ items) (l ∷ a) (m ∷ b) p q =
 
 -- ---- messages
 
-some_bytes : (ps : List Piece) (s : List ℕ) → BeginsOnce ps → SpellAll ps s → s ≡ [] → ⊥
+some_bytes : (ps : List Piece) (s : List ℕ) → BeginsOnce ps → SpellsPieces ps s → s ≡ [] → ⊥
 some_bytes [] s b h e = absurd b
 some_bytes (p ∷ ps) s b (short, front, rest, join, spells, more) e =
     omega (arith, ap length e, ap length join, length-append front rest, ap length spells.spelled)
@@ -194,7 +196,7 @@ payload_links_one once profile outer (v ∷ s) a b (m, h, p) (n, k, q) =
 
 found_one : OneMeaning → (profile : Profile) (outer : List Item) (a b : List Link) → FindsLinks profile outer (Ok a) → FindsLinks profile outer (Ok b) → a ≡ b
 found_one once profile outer a b (i, f, p) (j, g, q) =
-    of_handover once profile outer j a b (subst (λ o. LinksOf profile outer o (Ok a)) (one_first IsHandover outer i j f g) p) q
+    of_handover once profile outer j a b (subst (λ o. LinksOf profile outer o (Ok a)) (one_first IsHandoverRecord outer i j f g) p) q
   where
     of_handover : OneMeaning → (profile : Profile) (outer : List Item) (o : Option Item) (a b : List Link) → LinksOf profile outer o (Ok a) → LinksOf profile outer o (Ok b) → a ≡ b
     of_handover once profile outer None a b p q = cc
@@ -224,4 +226,4 @@ one_run once one choice number at (r ∷ reads) a b typed (l, s, hl, hs, e) (m, 
 
 pub one_output : OneMeaning → ValuesAreOne → OneOutput
 one_output once one choice reads ending a b typed (l, hl, e) (m, hm, d) =
-    e ∙ ap (λ t. t ++ ending_line choice.action (bytes_of reads) ending) (one_run once one choice 1 0 reads l m typed hl hm) ∙ sym d
+    e ∙ ap (λ t. t ++ ending_line choice.action (total_bytes reads) ending) (one_run once one choice 1 0 reads l m typed hl hm) ∙ sym d

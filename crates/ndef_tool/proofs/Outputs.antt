@@ -7,9 +7,9 @@ use Rattle.std.proofs.KnownBytes.{Appends-nil, Appends-trans}
 use Rattle.ndef_message.specs.Sending.{Sent, MarksOf}
 use Rattle.ndef_message.specs.declared.message_reading.Read.{Read}
 use Rattle.ndef_message.specs.declared.sending.WriteFault.{WriteFault}
-use Rattle.ndef_tool.specs.Output.{AreBlocks, IsBlock, bytes_of, ending_line, status_of}
+use Rattle.ndef_tool.specs.Output.{AreBlocks, IsBlock, total_bytes, ending_line, status_of}
 use Rattle.ndef_tool.specs.Quoting.{Text}
-use Rattle.ndef_tool.specs.Runs.{Ends, status_after}
+use Rattle.ndef_tool.specs.Runs.{EndsCommand, status_after}
 use Rattle.ndef_tool.specs.Sessions.{GoesOut, is_writing}
 use Rattle.ndef_tool.specs.declared.choice.Action.{Action}
 use Rattle.ndef_tool.specs.declared.choice.Action.TheVariants.{Show, Check, Encode}
@@ -21,19 +21,19 @@ use Rattle.ndef_tool.specs.declared.ending.Status.TheVariants as status
 
 -- ---- one message more
 
-pub bytes_more : (reads : List Read) (read : Read) → bytes_of (reads ++ read ∷ []) ≡ bytes_of reads + read.taken
+pub bytes_more : (reads : List Read) (read : Read) → total_bytes (reads ++ read ∷ []) ≡ total_bytes reads + read.taken
 bytes_more [] read = omega arith
 bytes_more (r ∷ rs) read = let rest = bytes_more rs read in omega (arith, rest)
 
 pub blocks_more : (choice : Choice) (number at : ℕ) (reads : List Read) (read : Read) (done block : Text) → AreBlocks choice number at reads done
-    → IsBlock choice (number + length reads) (at + bytes_of reads) read block → AreBlocks choice number at (reads ++ read ∷ []) (done ++ block)
+    → IsBlock choice (number + length reads) (at + total_bytes reads) read block → AreBlocks choice number at (reads ++ read ∷ []) (done ++ block)
 blocks_more choice number at [] read done block are is =
     let n : number + 0 ≡ number = omega arith in
     let p : at + 0 ≡ at = omega arith in
     (block, [], rw (n, p) at is, refl, ap (λ t. t ++ block) are ∙ sym (append-nil block))
 blocks_more choice number at (r ∷ rs) read done block are is =
     let n : number + length (r ∷ rs) ≡ number + 1 + length rs = omega arith in
-    let p : at + (r.taken + bytes_of rs) ≡ at + r.taken + bytes_of rs = omega arith in (
+    let p : at + (r.taken + total_bytes rs) ≡ at + r.taken + total_bytes rs = omega arith in (
       are.0,
       are.1 ++ block,
       are.2,
@@ -102,12 +102,12 @@ goes_to_end a b c middle new done action base TooMany r is d s m =
 
 -- ---- the status
 
-pub usage_status : (old new : Bool) (text : Text) (r : Result ℕ WriteFault) (st result : Status) → old ≡ false → MarksOf old new text r → Ends r st result → result ≡ status_after new st
+pub usage_status : (old new : Bool) (text : Text) (r : Result ℕ WriteFault) (st result : Status) → old ≡ false → MarksOf old new text r → EndsCommand r st result → result ≡ status_after new st
 usage_status old new text (Ok n) st result clear m e = e ∙ ap (λ (failed : Bool). status_after failed st) (sym (m.0 ∙ clear))
 usage_status old new text (Err f) st result clear m e = e ∙ ap (λ (failed : Bool). status_after failed st) (sym m)
 
 pub ending_status : (middle new : Bool) (text : Text) (ending : Ending) (r : Result ℕ WriteFault) (result : Status) → middle ≡ is_writing ending → MarksOf middle new text r
-    → Ends r (status_of ending) result → result ≡ status_after new (status_of ending)
+    → EndsCommand r (status_of ending) result → result ≡ status_after new (status_of ending)
 ending_status middle new text Writing (Ok n) result is m e = e ∙ ap (λ (failed : Bool). status_after failed status.Fault) (sym (m.0 ∙ is))
 ending_status middle new text Writing (Err f) result is m e = e ∙ ap (λ (failed : Bool). status_after failed status.Fault) (sym m)
 ending_status middle new text Clean r result is m e = usage_status middle new text r _ result is m e

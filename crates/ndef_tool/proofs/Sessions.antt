@@ -4,10 +4,12 @@ use Rattle.std.proofs.lemmas.List.{take-append-drop}
 use Rattle.std.specs.Prelude.{◌≤◌, IsErrAnd}
 use Rattle.std.specs.Io.KnownBytes.{Keeps, Consumes}
 use Rattle.std.proofs.KnownBytes.{Keeps-refl}
-use Rattle.ndef_value.specs.Wire.{LimitValues, greatest_length, run_record}
-use Rattle.ndef_value.specs.declared.refusal.Refusal.{Refusal}
-use Rattle.ndef_lang.specs.Language.{Sets, Conditions}
-use Rattle.ndef_message.specs.Place.{Refuses}
+use Rattle.ndef_format.specs.Limits.{LimitValues, greatest_length}
+use Rattle.ndef_format.specs.Messages.{run_record}
+use Rattle.ndef_format.specs.declared.refusal.Refusal.{Refusal}
+use Rattle.ndef_format.specs.Payloads.{Sets}
+use Rattle.ndef_format.specs.Reasons.{Conditions}
+use Rattle.ndef_format.specs.Refusals.{Refuses}
 use Rattle.ndef_message.specs.Checkings.{ChecksFrom}
 use Rattle.ndef_message.specs.Readings.{ReadsFrom}
 use Rattle.ndef_message.specs.Sources.{Supply}
@@ -19,7 +21,7 @@ use Rattle.ndef_message.specs.declared.message_reading.Read.{Read}
 use Rattle.ndef_message.specs.declared.message_reading.ReadError.{ReadError}
 use Rattle.ndef_message.specs.declared.message_reading.ReadError.TheVariants as errors
 use Rattle.ndef_tool.specs.Inputs.{ReadsIn}
-use Rattle.ndef_tool.specs.Sessions.{Follow, IsNext, IsSession, Stops, ViewsNext}
+use Rattle.ndef_tool.specs.Sessions.{AreInTurn, IsNext, IsSession, Stops, ViewsNext}
 use Rattle.ndef_tool.specs.declared.choice.Action.{Action}
 use Rattle.ndef_tool.specs.declared.ending.Ending.{Ending}
 use Rattle.ndef_tool.specs.declared.ending.Ending.TheVariants.{Clean, Refused, Hex, Reading, Writing, Memory, TooMany, TooLong}
@@ -60,8 +62,8 @@ refused_bytes set holds limits input rest refusal r e =
     (input, ([], sym (append-nil input), λ _. refl), r, split)
 
 -- one message more
-pub follow_more : (set : Sets) (holds : Conditions) (limits : LimitValues) (a b c : Option (List ℕ)) (reads : List Read) (read : Read) → Follow set holds limits a b reads
-    → ReadsFrom set holds limits b c (Ok read) → Follow set holds limits a c (reads ++ read ∷ [])
+pub follow_more : (set : Sets) (holds : Conditions) (limits : LimitValues) (a b c : Option (List ℕ)) (reads : List Read) (read : Read) → AreInTurn set holds limits a b reads
+    → ReadsFrom set holds limits b c (Ok read) → AreInTurn set holds limits a c (reads ++ read ∷ [])
 follow_more set holds limits a b c [] read f h = (c, reads_kept set holds limits a b c (Ok read) f h, Keeps-refl c)
 follow_more set holds limits a b c (r ∷ rs) read f h = (f.0, f.1, follow_more set holds limits f.0 b c rs read f.2 h)
 

@@ -5,7 +5,7 @@ use Rattle.ndef_tool.specs.declared.block.Block.{Block}
 use Rattle.ndef_tool.specs.declared.block.Block.TheVariants.{Line, Bytes, Text as Digits}
 
 -- the bytes of a block
-abbrev pub text_of : Block → Text
-text_of (Line line) = line
-text_of (Bytes bytes) = bytes
-text_of (Digits text) = string_bytes text
+abbrev pub block_text : Block → Text
+block_text (Line line) = line
+block_text (Bytes bytes) = bytes
+block_text (Digits text) = string_bytes text

@@ -6,9 +6,9 @@ use Rattle.std.specs.Str.Parse.{digits_value, without_leading_plus}
 use Rattle.clap.specs.ValueTests.{accepts}
 use Rattle.clap.specs.declared.builder.value_parser.ValueParser.TheVariants as vp
 use Rattle.clap.specs.Words.{App, Kinds, Row, Text, first_of, one_of, fault_of, subcommand_of}
-use Rattle.ndef_value.specs.Wire.{LimitValues}
-use Rattle.ndef_value.specs.declared.profile.Profile.{Profile}
-use Rattle.ndef_value.specs.declared.profile.Profile.TheVariants.{Strict, Standard}
+use Rattle.ndef_format.specs.Limits.{LimitValues}
+use Rattle.ndef_format.specs.declared.profile.Profile.{Profile}
+use Rattle.ndef_format.specs.declared.profile.Profile.TheVariants.{Strict, Standard}
 use Rattle.ndef_message.specs.declared.form.Form.{Form}
 use Rattle.ndef_message.specs.declared.form.Form.TheVariants.{Short, Long}
 use Rattle.ndef_tool.specs.CommandLine.{ndef_app}
@@ -37,8 +37,8 @@ abbrev pub given_number : Text → ℕ → List Row → Option ℕ
 given_number id most rows = option_and_then (within most) (option_and_then number_in (one_of id rows))
 
 -- the same, or the usual one for an option that isn't given
-abbrev pub number_of : Text → ℕ → ℕ → List Row → Option ℕ
-number_of id most usual rows = option_map_or (λ _. given_number id most rows) (first_of id rows) (Some usual)
+abbrev pub number_or : Text → ℕ → ℕ → List Row → Option ℕ
+number_or id most usual rows = option_map_or (λ _. given_number id most rows) (first_of id rows) (Some usual)
 
 -- the size of chunks, or none where it isn't given
 abbrev pub chunk_of : List Row → Option (Option ℕ)
@@ -53,8 +53,8 @@ form_named name = if bytes_eq name (codes "short") then Some Short
     else (if bytes_eq name (codes "long") then Some Long else None)
 
 -- the form that is given, or the short one
-abbrev pub form_of : List Row → Option Form
-form_of rows = option_map_or form_named (first_of (codes "form") rows) (Some Short)
+abbrev pub chosen_form : List Row → Option Form
+chosen_form rows = option_map_or form_named (first_of (codes "form") rows) (Some Short)
 
 -- the profile of this name
 abbrev pub profile_named : Text → Option Profile
@@ -62,37 +62,37 @@ profile_named name = if bytes_eq name (codes "strict") then Some Strict
     else (if bytes_eq name (codes "standard") then Some Standard else None)
 
 -- the profile that is given, or the strict one
-abbrev pub profile_of : List Row → Option Profile
-profile_of rows = option_map_or profile_named (first_of (codes "profile") rows) (Some Strict)
+abbrev pub chosen_profile : List Row → Option Profile
+chosen_profile rows = option_map_or profile_named (first_of (codes "profile") rows) (Some Strict)
 
 -- ---- a choice
 
 -- the limits that are given
-abbrev pub limits_of : List Row → Option LimitValues
-limits_of rows =
+abbrev pub chosen_limits : List Row → Option LimitValues
+chosen_limits rows =
     option_and_then (λ payload.
     option_and_then (λ records.
     option_and_then (λ pieces.
     option_map (λ profile. record { payload = payload; records = records; pieces = pieces; profile = profile })
-    (profile_of rows))
-    (number_of (codes "pieces") 65535 4096 rows))
-    (number_of (codes "records") 65535 1024 rows))
-    (number_of (codes "payload") 4294967295 1048576 rows)
+    (chosen_profile rows))
+    (number_or (codes "pieces") 65535 4096 rows))
+    (number_or (codes "records") 65535 1024 rows))
+    (number_or (codes "payload") 4294967295 1048576 rows)
 
 -- what encode does
 abbrev pub encode_of : List Row → Option Action
-encode_of rows = option_and_then (λ form. option_map (λ chunk. Encode form chunk) (chunk_of rows)) (form_of rows)
+encode_of rows = option_and_then (λ form. option_map (λ chunk. Encode form chunk) (chunk_of rows)) (chosen_form rows)
 
 -- the action of a subcommand, with its options
-abbrev pub action_of : Text → List Row → Option Action
-action_of name rows = if bytes_eq name (codes "show") then Some Show
+abbrev pub chosen_action : Text → List Row → Option Action
+chosen_action name rows = if bytes_eq name (codes "show") then Some Show
     else (if bytes_eq name (codes "check") then Some Check
     else (if bytes_eq name (codes "encode") then encode_of rows else None))
 
 -- the choice of a subcommand, with its options
 abbrev pub choice_in : Text → List Row → Option Choice
 choice_in name rows =
-    option_and_then (λ action. option_map (λ limits. record { action = action; hex = hex_of rows; limits = limits }) (limits_of rows)) (action_of name rows)
+    option_and_then (λ action. option_map (λ limits. record { action = action; hex = hex_of rows; limits = limits }) (chosen_limits rows)) (chosen_action name rows)
 
 -- the choice of clap's matches
 abbrev pub chosen_of : Option (Text × List Row) → Option Choice

@@ -1,12 +1,13 @@
 -- The messages of an input, which may be hexadecimal text.
 use Rattle.std.specs.Prelude.{◌≡◌, ℕ, Bool, true, false, List, [], Option, Some, Result, Ok, Err}
-use Rattle.ndef_lang.specs.Language.{Sets, Conditions}
+use Rattle.ndef_format.specs.Payloads.{Sets}
+use Rattle.ndef_format.specs.Reasons.{Conditions}
 use Rattle.ndef_message.specs.Sources.{Supply}
 use Rattle.ndef_message.specs.declared.message_reading.Read.{Read}
-use Rattle.ndef_value.specs.Wire.{LimitValues}
+use Rattle.ndef_format.specs.Limits.{LimitValues}
 use Rattle.ndef_tool.specs.Hexadecimal.{IsInput}
-use Rattle.ndef_tool.specs.Output.{bytes_of}
-use Rattle.ndef_tool.specs.Sessions.{HasTaken, IsSession}
+use Rattle.ndef_tool.specs.Output.{total_bytes}
+use Rattle.ndef_tool.specs.Sessions.{SessionHasTaken, IsSession}
 use Rattle.ndef_tool.specs.declared.choice.Action.{Action}
 use Rattle.ndef_tool.specs.declared.ending.Ending.{Ending}
 
@@ -20,6 +21,6 @@ ReadsBytes action set holds limits sink_failed (Err why) reads ending = (reads �
 abbrev pub ReadsIn : (hex : Bool) → Action → Sets → Conditions → LimitValues → (before after : Supply) → (source_failed sink_failed : Bool) → List Read → Ending → Type 0
 ReadsIn false action set holds limits before after source_failed sink_failed reads ending =
     IsSession action set holds limits before.coming after.coming source_failed sink_failed reads ending
-    × HasTaken limits (bytes_of reads) before.taken after.taken ending
+    × SessionHasTaken limits (total_bytes reads) before.taken after.taken ending
 ReadsIn true action set holds limits before after source_failed sink_failed reads ending =
     (input : Result (List ℕ) Ending) × IsInput before after source_failed input × ReadsBytes action set holds limits sink_failed input reads ending

@@ -1,7 +1,7 @@
 -- What `show` prints of the links of a message.
 use Rattle.std.specs.Prelude.{◌≡◌, ◌+◌, ◌<◌, IfSome, ℕ, List, [], ◌∷◌, ◌++◌, codes, decimal, Option, None, Some, Ok}
-use Rattle.ndef_value.specs.Wire.{Item}
-use Rattle.ndef_value.specs.declared.profile.Profile.{Profile}
+use Rattle.ndef_format.specs.Messages.{Item}
+use Rattle.ndef_format.specs.declared.profile.Profile.{Profile}
 use Rattle.ndef_types.specs.Links.{FindsLinks}
 use Rattle.ndef_types.specs.declared.link.Link.{Link}
 use Rattle.ndef_types.specs.declared.power.Power.{Power}

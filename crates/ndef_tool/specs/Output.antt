@@ -2,14 +2,14 @@
 use Rattle.std.specs.Prelude.{◌≡◌, Bool, true, false, ◌+◌, ◌<◌, ◌^◌, ℕ, List, [], ◌∷◌, ◌++◌, length, codes, decimal, ⊤}
 use Rattle.std.specs.List.{AllByRecursion}
 use Rattle.hex.specs.Hex.{encode_lower}
-use Rattle.ndef_value.specs.Reason.{number_of, name_of}
-use Rattle.ndef_value.specs.declared.refusal.Refusal.{Refusal}
+use Rattle.ndef_format.specs.Reasons.{reason_number, reason_name}
+use Rattle.ndef_format.specs.declared.refusal.Refusal.{Refusal}
 use Rattle.ndef_message.specs.declared.message_reading.Read.{Read}
 use Rattle.ndef_message.specs.Written.{cut_octets}
 use Rattle.ndef_tool.specs.Quoting.{Text}
 use Rattle.ndef_tool.specs.Showing.{AreRecordLines, IsTyped}
 use Rattle.ndef_tool.specs.Linking.{AreLinkLines}
-use Rattle.ndef_value.specs.declared.profile.Profile.{Profile}
+use Rattle.ndef_format.specs.declared.profile.Profile.{Profile}
 use Rattle.ndef_tool.specs.declared.choice.Action.{Action}
 use Rattle.ndef_tool.specs.declared.choice.Action.TheVariants.{Show, Check, Encode}
 use Rattle.ndef_tool.specs.declared.choice.Choice.{Choice}
@@ -35,7 +35,7 @@ message_line number at records bytes =
 -- the place counts behind the bytes of the messages before
 abbrev pub refusal_line : ℕ → Refusal → Text
 refusal_line base r =
-    codes "refused at " ++ decimal (base + r.at) ++ codes ": " ++ decimal (number_of r.reason) ++ codes " " ++ name_of r.reason ++ codes "\n"
+    codes "refused at " ++ decimal (base + r.at) ++ codes ": " ++ decimal (reason_number r.reason) ++ codes " " ++ reason_name r.reason ++ codes "\n"
 
 -- for digits that aren't hexadecimal text
 abbrev pub hex_line : HexFault → Text
@@ -108,13 +108,13 @@ AreBlocks choice number at (read ∷ reads) text =
     (block : Text) × (rest : Text) × IsBlock choice number at read block × AreBlocks choice (number + 1) (at + read.taken) reads rest × (text ≡ block ++ rest)
 
 -- the bytes of all messages
-abbrev pub bytes_of : List Read → ℕ
-bytes_of [] = 0
-bytes_of (read ∷ reads) = read.taken + bytes_of reads
+abbrev pub total_bytes : List Read → ℕ
+total_bytes [] = 0
+total_bytes (read ∷ reads) = read.taken + total_bytes reads
 
 -- all that is printed
 abbrev pub IsOutput : Choice → List Read → Ending → Text → Type 0
-IsOutput choice reads ending text = (front : Text) × AreBlocks choice 1 0 reads front × (text ≡ front ++ ending_line choice.action (bytes_of reads) ending)
+IsOutput choice reads ending text = (front : Text) × AreBlocks choice 1 0 reads front × (text ≡ front ++ ending_line choice.action (total_bytes reads) ending)
 
 -- ---- a law
 

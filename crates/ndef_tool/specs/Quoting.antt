@@ -8,12 +8,12 @@ abbrev pub Text : Type 0
 Text = List ℕ
 
 -- printable ASCII, but for the quotation mark and the backslash
-abbrev pub is_plain : ℕ → Bool
-is_plain byte = nat_le 0x20 byte && nat_le byte 0x7e && not (byte == 0x22) && not (byte == 0x5c)
+abbrev pub is_plain_octet : ℕ → Bool
+is_plain_octet byte = nat_le 0x20 byte && nat_le byte 0x7e && not (byte == 0x22) && not (byte == 0x5c)
 
 -- such a byte as it is; any other as a backslash, an x and two lower-case hexadecimal digits
 abbrev pub quoted_byte : ℕ → Text
-quoted_byte byte = if is_plain byte then byte ∷ [] else codes "\\x" ++ encode_lower (byte ∷ [])
+quoted_byte byte = if is_plain_octet byte then byte ∷ [] else codes "\\x" ++ encode_lower (byte ∷ [])
 
 -- the bytes between quotation marks
 abbrev pub quoted : List ℕ → Text

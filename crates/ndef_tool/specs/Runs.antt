@@ -1,7 +1,8 @@
 -- The program: a function of what the words choose and what the input holds.
 use Rattle.std.specs.Prelude.{◌≡◌, ◌⊎◌, ℕ, Bool, true, false, List, [], Option, Result, Ok, Err}
 use Rattle.std.specs.Io.KnownBytes.{Keeps}
-use Rattle.ndef_lang.specs.Language.{Sets, Conditions}
+use Rattle.ndef_format.specs.Payloads.{Sets}
+use Rattle.ndef_format.specs.Reasons.{Conditions}
 use Rattle.ndef_message.specs.Sources.{Supply}
 use Rattle.ndef_message.specs.declared.message_reading.Read.{Read}
 use Rattle.ndef_tool.specs.Chosen.{Chooses}
@@ -44,6 +45,6 @@ IsSilent set holds words before after source_failed written_before written_after
     ⊎ ((chosen : Result Choice WordsError) × Chooses words chosen × Prints set holds before after source_failed sink_failed chosen [] result))
 
 -- the status, by what writing answered
-abbrev pub Ends : {E : Type 0} → Result ℕ E → Status → Status → Type 0
-Ends (Ok n) st result = result ≡ st
-Ends (Err e) st result = result ≡ status.Fault
+abbrev pub EndsCommand : {E : Type 0} → Result ℕ E → Status → Status → Type 0
+EndsCommand (Ok n) st result = result ≡ st
+EndsCommand (Err e) st result = result ≡ status.Fault

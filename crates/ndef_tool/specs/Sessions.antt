@@ -1,8 +1,9 @@
 -- The messages of a source, one after another, and how they end.
 use Rattle.std.specs.Prelude.{◌≡◌, ◌≢◌, ◌+◌, ◌<◌, ◌≤◌, ◌⊎◌, ℕ, Bool, true, false, List, [], ◌∷◌, length, take, drop, Option, None, Some, Result, Ok, Err, ⊤}
 use Rattle.std.specs.Io.KnownBytes.{Appends, Keeps, IsAtEnd}
-use Rattle.ndef_value.specs.Wire.{LimitValues, greatest_length}
-use Rattle.ndef_lang.specs.Language.{Sets, Conditions}
+use Rattle.ndef_format.specs.Limits.{LimitValues, greatest_length}
+use Rattle.ndef_format.specs.Payloads.{Sets}
+use Rattle.ndef_format.specs.Reasons.{Conditions}
 use Rattle.ndef_message.specs.Checkings.{ChecksFrom}
 use Rattle.ndef_message.specs.Readings.{ReadsFrom}
 use Rattle.ndef_message.specs.Sources.{Counts}
@@ -10,8 +11,8 @@ use Rattle.ndef_message.specs.Views.{Viewed, Views}
 use Rattle.ndef_message.specs.declared.message_checking.Checked.{Checked}
 use Rattle.ndef_message.specs.declared.message_reading.Read.{Read}
 use Rattle.ndef_message.specs.declared.message_reading.ReadError.TheVariants as errors
-use Rattle.ndef_tool.specs.Blocks.{text_of}
-use Rattle.ndef_tool.specs.Output.{AreBlocks, IsBlock, bytes_of}
+use Rattle.ndef_tool.specs.Blocks.{block_text}
+use Rattle.ndef_tool.specs.Output.{AreBlocks, IsBlock, total_bytes}
 use Rattle.ndef_tool.specs.Quoting.{Text}
 use Rattle.ndef_tool.specs.declared.choice.Action.{Action}
 use Rattle.ndef_tool.specs.declared.choice.Action.TheVariants.{Check}
@@ -27,10 +28,10 @@ IsOn None = ⊤
 IsOn (Some bytes) = bytes ≢ []
 
 -- each message is read from the bytes to come behind the one before
-abbrev pub Follow : Sets → Conditions → LimitValues → (before after : Option (List ℕ)) → List Read → Type 0
-Follow set holds limits before after [] = Keeps before after
-Follow set holds limits before after (read ∷ reads) =
-    (between : Option (List ℕ)) × ReadsFrom set holds limits before between (Ok read) × Follow set holds limits between after reads
+abbrev pub AreInTurn : Sets → Conditions → LimitValues → (before after : Option (List ℕ)) → List Read → Type 0
+AreInTurn set holds limits before after [] = Keeps before after
+AreInTurn set holds limits before after (read ∷ reads) =
+    (between : Option (List ℕ)) × ReadsFrom set holds limits before between (Ok read) × AreInTurn set holds limits between after reads
 
 -- why no message is handled behind so many: the input is at its end, or doesn't go on with a message, or is left after 10000; or something failed
 abbrev pub Stops : Sets → Conditions → LimitValues → (count : ℕ) → (before after : Option (List ℕ)) → (source_failed sink_failed : Bool) → Ending → Type 0
@@ -58,7 +59,7 @@ MayEnd _ _ = ⊤
 pub record IsSession (action : Action) (set : Sets) (holds : Conditions) (limits : LimitValues) (before after : Option (List ℕ)) (source_failed sink_failed : Bool) (reads : List Read) (ending : Ending) : Type 0 where
   pub few : length reads ≤ 10000
   pub between : Option (List ℕ)
-  pub follow : Follow set holds limits before between reads
+  pub follow : AreInTurn set holds limits before between reads
   pub stops : Stops set holds limits (length reads) between after source_failed sink_failed ending
   pub may : MayEnd action ending
 
@@ -72,8 +73,8 @@ TakesBehind limits Memory n = n ≤ greatest_length limits
 TakesBehind limits _ n = n ≡ 0
 
 -- in all, whether or not the source tells them, where the messages have so many
-abbrev pub HasTaken : LimitValues → (at : ℕ) → (before after : ℕ) → Ending → Type 0
-HasTaken limits at before after ending = (n : ℕ) × TakesBehind limits ending n × Counts before after (at + n)
+abbrev pub SessionHasTaken : LimitValues → (at : ℕ) → (before after : ℕ) → Ending → Type 0
+SessionHasTaken limits at before after ending = (n : ℕ) × TakesBehind limits ending n × Counts before after (at + n)
 
 -- ---- what goes out
 
@@ -91,7 +92,7 @@ is_writing _ = false
 pub record Handles (IsRead : List Read → Ending → Type 0) (choice : Choice) (written_before written_after : Option (List ℕ)) (sink_failed : Bool) (session : Session) : Type 0 where
   pub reads : List Read
   pub is : IsRead reads session.ending
-  pub at : session.at ≡ bytes_of reads
+  pub at : session.at ≡ total_bytes reads
   pub blocks : Text
   pub are_blocks : AreBlocks choice 1 0 reads blocks
   pub written : GoesOut written_before written_after sink_failed blocks
@@ -102,7 +103,7 @@ pub record Silences (IsRead : List Read → Ending → Type 0) (choice : Choice)
   pub keeps : Keeps written_before written_after
   pub mark : sink_failed ≡ true
   pub ends : (session.ending ≡ Writing)
-      ⊎ ((reads : List Read) × IsRead reads session.ending × (session.at ≡ bytes_of reads) × AreBlocks choice 1 0 reads [])
+      ⊎ ((reads : List Read) × IsRead reads session.ending × (session.at ≡ total_bytes reads) × AreBlocks choice 1 0 reads [])
 
 -- ---- step by step
 
@@ -143,12 +144,12 @@ ViewsNext set holds limits count before after (Err ending) =
 -- how many bytes of the next message are taken, of which `X` tells the number, or how many before the ending
 abbrev pub TakesNext : {X : Type 0} → (X → ℕ) → LimitValues → (before after : ℕ) → Result X Ending → Type 0
 TakesNext taken_of limits before after (Ok x) = (taken_of x ≤ greatest_length limits) × Counts before after (taken_of x)
-TakesNext taken_of limits before after (Err ending) = HasTaken limits 0 before after ending
+TakesNext taken_of limits before after (Err ending) = SessionHasTaken limits 0 before after ending
 
 -- all that is printed of the next message, of which this many bytes come before, or why there is none
 abbrev pub PrintsNext : Sets → Conditions → Choice → (count at : ℕ) → (before after : Option (List ℕ)) → Bool → Result Printed Ending → Type 0
 PrintsNext set holds choice count at before after failed (Ok printed) =
     (read : Read) × IsNext set holds choice.limits count before after failed (Ok read)
-    × IsBlock choice (count + 1) at read (text_of printed.block) × (printed.taken ≡ read.taken)
+    × IsBlock choice (count + 1) at read (block_text printed.block) × (printed.taken ≡ read.taken)
 PrintsNext set holds choice count at before after failed (Err ending) =
     Stops set holds choice.limits count before after failed false ending × MayEnd choice.action ending

@@ -1,12 +1,13 @@
 -- What `show` prints of the records of a message: the values for which their payloads stand.
 use Rattle.std.specs.Prelude.{◌≡◌, ◌+◌, ℕ, List, [], ◌∷◌, ◌++◌, length, codes, decimal, Option, None, Some, unwrap_or, encode_utf8_all}
-use Rattle.ndef_value.specs.Wire.{Item, code}
-use Rattle.ndef_value.specs.declared.profile.Profile.{Profile}
+use Rattle.ndef_format.specs.Messages.{Item}
+use Rattle.ndef_format.specs.Records.{code}
+use Rattle.ndef_format.specs.declared.profile.Profile.{Profile}
 use Rattle.ndef_value.specs.declared.limits.TheConstants.{MOST_RECORDS}
-use Rattle.ndef_lang.specs.Kind.{kind_of}
-use Rattle.ndef_lang.specs.declared.kind.Kind.{Kind}
-use Rattle.ndef_lang.specs.declared.kind.Kind.TheVariants as kinds
-use Rattle.ndef_nest.specs.Typed.{IsTypedPayload}
+use Rattle.ndef_format.specs.Kinds.{kind_of}
+use Rattle.ndef_format.specs.declared.kind.Kind.{Kind}
+use Rattle.ndef_format.specs.declared.kind.Kind.TheVariants as kinds
+use Rattle.ndef_format.specs.Payloads.{IsTypedPayload}
 use Rattle.ndef_types.specs.Handovers.{RequestValue, SelectValue, StandsForRequest, StandsForSelect}
 use Rattle.ndef_types.specs.Links.{alternatives}
 use Rattle.ndef_types.specs.Posters.{IsUriOf, Says, StandsForPoster, action_in, size_in, titles}
@@ -88,15 +89,21 @@ told_carrier v = codes " carrier format " ++ decimal v.format ++ codes " type " 
 -- ---- records
 
 -- what is printed of the value for which a payload of the kind stands
-abbrev pub Tells : Kind → Profile → List ℕ → Text → Type 0
-Tells kinds.Text profile payload text = (v : TextValue) × StandsForText payload v × (text ≡ told_text v)
-Tells kinds.Uri profile payload text = (uri : List ℕ) × StandsForUri payload uri × (text ≡ told_uri uri)
-Tells kinds.SmartPoster profile payload text =
+abbrev pub PrintsValue : Kind → Profile → List ℕ → Text → Type 0
+PrintsValue kinds.Text profile payload text = (v : TextValue) × StandsForText payload v × (text ≡ told_text v)
+PrintsValue kinds.Uri profile payload text = (uri : List ℕ) × StandsForUri payload uri × (text ≡ told_uri uri)
+PrintsValue kinds.SmartPoster profile payload text =
     (items : List Item) × StandsForPoster profile payload items × TellsPoster items text
-Tells kinds.Request profile payload text = (v : RequestValue) × StandsForRequest profile payload v × (text ≡ told_request v)
-Tells kinds.Select profile payload text = (v : SelectValue) × StandsForSelect profile payload v × (text ≡ told_select v)
-Tells kinds.Carrier profile payload text = (v : CarrierValue) × StandsForCarrier payload v × (text ≡ told_carrier v)
-Tells _ profile payload text = text ≡ codes " other"
+PrintsValue kinds.Request profile payload text = (v : RequestValue) × StandsForRequest profile payload v × (text ≡ told_request v)
+PrintsValue kinds.Select profile payload text = (v : SelectValue) × StandsForSelect profile payload v × (text ≡ told_select v)
+PrintsValue kinds.Carrier profile payload text = (v : CarrierValue) × StandsForCarrier payload v × (text ≡ told_carrier v)
+PrintsValue kinds.Other profile payload text = text ≡ codes " other"
+PrintsValue kinds.Action profile payload text = text ≡ codes " other"
+PrintsValue kinds.Size profile payload text = text ≡ codes " other"
+PrintsValue kinds.MediaType profile payload text = text ≡ codes " other"
+PrintsValue kinds.Alternative profile payload text = text ≡ codes " other"
+PrintsValue kinds.Collision profile payload text = text ≡ codes " other"
+PrintsValue kinds.Error profile payload text = text ≡ codes " other"
 
 -- the payload of a record is one of its type
 abbrev pub IsTyped : Profile → Item → Type 0
@@ -111,7 +118,7 @@ record_front number i =
 -- the line of a record
 abbrev pub IsRecordLine : Profile → ℕ → Item → Text → Type 0
 IsRecordLine profile number i line =
-    (told : Text) × Tells (kind_of i.tnf i.kind) profile i.payload told × (line ≡ record_front number i ++ told ++ codes "\n")
+    (told : Text) × PrintsValue (kind_of i.tnf i.kind) profile i.payload told × (line ≡ record_front number i ++ told ++ codes "\n")
 
 -- the lines of records, of which the first has this number
 abbrev pub AreRecordLines : Profile → ℕ → List Item → Text → Type 0

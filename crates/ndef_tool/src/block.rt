@@ -5,7 +5,7 @@ ghost use Rattle.std.specs.List.{AllByRecursion};
 ghost use Rattle.ndef_tool.specs.Output.{IsShown, message_line, shown_in};
 ghost use Rattle.ndef_tool.specs.Showing.{IsTyped};
 ghost use Rattle.ndef_tool.specs.Chosen.{HasSizeIfAny};
-ghost use Rattle.ndef_tool.specs.Blocks.{text_of};
+ghost use Rattle.ndef_tool.specs.Blocks.{block_text};
 
 use crate::hexadecimal::hexadecimal;
 use crate::line::Line;
@@ -27,7 +27,7 @@ pub enum Block {
 impl Block {
     /// Its bytes.
     pub fn as_slice(&self) -> &[u8]
-        ensures { result.now ≡ text_of self.now }
+        ensures { result.now ≡ block_text self.now }
     {
         match self {
             Block::Line(line) => line.as_slice(),
@@ -55,7 +55,7 @@ fn encode_by(
 
 /// The bytes as they are, or as hexadecimal digits.
 fn block_in(alloc: Global, hex: bool, bytes: Bytes) -> Result<Block, NoMemory>
-    ensures { IfOk result (λ block. text_of block ≡ shown_in hex bytes) }
+    ensures { IfOk result (λ block. block_text block ≡ shown_in hex bytes) }
 {
     if hex {
         return Ok(Block::Text(hexadecimal(alloc, &bytes)?));
@@ -65,7 +65,7 @@ fn block_in(alloc: Global, hex: bool, bytes: Bytes) -> Result<Block, NoMemory>
 
 /// What `check` prints of a message, with its number from 1 and its place in the input: its line.
 pub fn check_block(number: u64, at: u64, checked: Checked) -> Block
-    ensures { text_of result ≡ message_line number at checked.records checked.taken }
+    ensures { block_text result ≡ message_line number at checked.records checked.taken }
 {
     let records = u64::from(checked.records);
     Block::Line(message_line(number, at, records, checked.taken))
@@ -80,7 +80,7 @@ pub fn show_block(
     read: &Read,
 ) -> Result<Block, NoMemory>
     requires { AllByRecursion (IsTyped profile) read.now.message }
-    ensures { IfOk result (λ block. IsShown profile number at read.now (text_of block)) }
+    ensures { IfOk result (λ block. IsShown profile number at read.now (block_text block)) }
 {
     let records = read.message.len() as u64;
     let mut lines = Bytes::new(alloc);
@@ -99,7 +99,7 @@ pub fn encode_block(
     message: &Message,
 ) -> Result<Block, NoMemory>
     requires { HasSizeIfAny size }
-    ensures { IfOk result (λ block. text_of block ≡ shown_in hex (cut_octets form size message.now)) }
+    ensures { IfOk result (λ block. block_text block ≡ shown_in hex (cut_octets form size message.now)) }
 {
     let bytes = encode_by(alloc, message, form, size)?;
     block_in(alloc, hex, bytes)

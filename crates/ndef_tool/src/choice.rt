@@ -1,7 +1,7 @@
 //! What the words ask for.
 ghost use Rattle.std.specs.Prelude.{◌≡◌, ◌≤◌, ◌<◌, map, option_and_then, option_map, string_bytes, IfOk, IfSome};
 ghost use Rattle.clap.specs.Words.{first_of, one_of, rows_of, found_of, subcommand_rows_of};
-ghost use Rattle.ndef_tool.specs.Chosen.{Chooses, HasSize, HasSizeIfAny, action_of, choice_in, chosen_of, chunk_of, form_named, form_of, given_number, hex_of, limits_of, number_in, number_of, profile_named, profile_of, within};
+ghost use Rattle.ndef_tool.specs.Chosen.{Chooses, HasSize, HasSizeIfAny, chosen_action, choice_in, chosen_of, chunk_of, form_named, chosen_form, given_number, hex_of, chosen_limits, number_in, number_or, profile_named, chosen_profile, within};
 
 use crate::command::ndef_command;
 use clap::ArgMatches;
@@ -91,7 +91,7 @@ fn given(matches: &ArgMatches<'_>, id: &str, most: u32) -> Option<u32>
 fn number(matches: &ArgMatches<'_>, id: &str, most: u32, usual: u32) -> Option<u32>
     requires some { 1 ≤ usual }
     requires most { usual ≤ most }
-    ensures value { result ≡ number_of id.now most usual (rows_of (found_of matches.now)) }
+    ensures value { result ≡ number_or id.now most usual (rows_of (found_of matches.now)) }
     ensures range { IfSome result (λ n. (1 ≤ n) × (n ≤ most)) }
 {
     match text(matches, id) {
@@ -124,7 +124,7 @@ fn form_named(name: &str) -> Option<Form>
 
 /// The form of `--form`, or the short one where it is not given.
 fn form_given(matches: &ArgMatches<'_>) -> Option<Form>
-    ensures { result ≡ form_of (rows_of (found_of matches.now)) }
+    ensures { result ≡ chosen_form (rows_of (found_of matches.now)) }
 {
     match text(matches, "form") {
         Some(name) => form_named(name),
@@ -145,7 +145,7 @@ fn profile_named(name: &str) -> Option<Profile>
 
 /// The profile of `--profile`, or the strict one where it is not given.
 fn profile_given(matches: &ArgMatches<'_>) -> Option<Profile>
-    ensures { result ≡ profile_of (rows_of (found_of matches.now)) }
+    ensures { result ≡ chosen_profile (rows_of (found_of matches.now)) }
 {
     match text(matches, "profile") {
         Some(name) => profile_named(name),
@@ -155,7 +155,7 @@ fn profile_given(matches: &ArgMatches<'_>) -> Option<Profile>
 
 /// The limits that the options give.
 fn limits_given(matches: &ArgMatches<'_>) -> Option<Limits>
-    ensures { result ≡ limits_of (rows_of (found_of matches.now)) }
+    ensures { result ≡ chosen_limits (rows_of (found_of matches.now)) }
 {
     let payload = number(matches, "payload", 4294967295, 1048576)?;
     let records = number(matches, "records", 65535, 1024)?;
@@ -169,7 +169,7 @@ fn limits_given(matches: &ArgMatches<'_>) -> Option<Limits>
 
 /// What the subcommand of this name does.
 fn action_given(name: &str, matches: &ArgMatches<'_>) -> Option<Action>
-    ensures value { result ≡ action_of name.now (rows_of (found_of matches.now)) }
+    ensures value { result ≡ chosen_action name.now (rows_of (found_of matches.now)) }
     ensures some { IfSome result HasSize }
 {
     match name {

@@ -1,12 +1,12 @@
 //! What is printed of handover requests and selects.
 ghost use Rattle.std.specs.Prelude.{◌≡◌, ◌<◌, ◌^◌, ◌++◌, [], length, unwrap_or, OnOk};
 ghost use Rattle.ndef_value.specs.declared.limits.TheConstants.{MOST_RECORDS};
-ghost use Rattle.ndef_lang.specs.Kind.{kind_of};
-ghost use Rattle.ndef_lang.specs.declared.kind.Kind.TheVariants as kinds;
-ghost use Rattle.ndef_nest.specs.Nested.{IsNest};
-ghost use Rattle.ndef_nest.specs.declared.table.Table.TheVariants as tables;
+ghost use Rattle.ndef_format.specs.Kinds.{kind_of};
+ghost use Rattle.ndef_format.specs.declared.kind.Kind.TheVariants as kinds;
+ghost use Rattle.ndef_format.specs.Nested.{IsNest};
+ghost use Rattle.ndef_format.specs.declared.table.Table.TheVariants as tables;
 ghost use Rattle.ndef_types.specs.Links.{alternatives, is_alternative};
-ghost use Rattle.ndef_tool.specs.Showing.{Adds, Tells, told_request, told_select};
+ghost use Rattle.ndef_tool.specs.Showing.{Adds, PrintsValue, told_request, told_select};
 
 use crate::decimals::push_counted;
 use crate::kinds::kind_of;
@@ -58,7 +58,7 @@ pub fn push_request(
 ) -> Result<(), NoMemory>
     requires short { length payload.now < 2 ^ 32 }
     requires request { IsNest tables.Request MOST_RECORDS profile payload.now }
-    ensures { OnOk result (Adds line.old line.new (Tells kinds.Request profile payload.now)) }
+    ensures { OnOk result (Adds line.old line.new (PrintsValue kinds.Request profile payload.now)) }
 {
     match Request::decode_as(alloc, payload, profile) {
         Ok(request) => push_told_request(line, &request),
@@ -94,7 +94,7 @@ pub fn push_select(
 ) -> Result<(), NoMemory>
     requires short { length payload.now < 2 ^ 32 }
     requires select { IsNest tables.Select MOST_RECORDS profile payload.now }
-    ensures { OnOk result (Adds line.old line.new (Tells kinds.Select profile payload.now)) }
+    ensures { OnOk result (Adds line.old line.new (PrintsValue kinds.Select profile payload.now)) }
 {
     match Select::decode_as(alloc, payload, profile) {
         Ok(select) => push_told_select(line, &select),

@@ -1,6 +1,6 @@
 //! The kinds of records.
 ghost use Rattle.std.specs.Prelude.{◌≡◌};
-ghost use Rattle.ndef_lang.specs.Kind.{kind_of};
+ghost use Rattle.ndef_format.specs.Kinds.{kind_of};
 
 use ndef_lang::Kind;
 use ndef_value::Record;

@@ -1,10 +1,10 @@
 //! What is printed of smart posters.
 ghost use Rattle.std.specs.Prelude.{◌≡◌, ◌<◌, ◌^◌, ◌++◌, length, option_map, OnOk};
 ghost use Rattle.ndef_value.specs.declared.limits.TheConstants.{MOST_RECORDS};
-ghost use Rattle.ndef_lang.specs.declared.kind.Kind.TheVariants as kinds;
-ghost use Rattle.ndef_nest.specs.Nested.{IsNest};
-ghost use Rattle.ndef_nest.specs.declared.table.Table.TheVariants as tables;
-ghost use Rattle.ndef_tool.specs.Showing.{Adds, Tells, TellsPoster, action_name, media_name, poster_back, poster_front, size_name};
+ghost use Rattle.ndef_format.specs.declared.kind.Kind.TheVariants as kinds;
+ghost use Rattle.ndef_format.specs.Nested.{IsNest};
+ghost use Rattle.ndef_format.specs.declared.table.Table.TheVariants as tables;
+ghost use Rattle.ndef_tool.specs.Showing.{Adds, PrintsValue, TellsPoster, action_name, media_name, poster_back, poster_front, size_name};
 
 use crate::decimals::{push_counted, push_number};
 use crate::quoting::{push_named, push_quoted};
@@ -95,7 +95,7 @@ pub fn push_poster(
 ) -> Result<(), NoMemory>
     requires short { length payload.now < 2 ^ 32 }
     requires poster { IsNest tables.SmartPoster MOST_RECORDS profile payload.now }
-    ensures { OnOk result (Adds line.old line.new (Tells kinds.SmartPoster profile payload.now)) }
+    ensures { OnOk result (Adds line.old line.new (PrintsValue kinds.SmartPoster profile payload.now)) }
 {
     match SmartPoster::decode_as(alloc, payload, profile) {
         Ok(poster) => push_told_poster(alloc, line, &poster),

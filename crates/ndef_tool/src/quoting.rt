@@ -1,14 +1,14 @@
 //! Bytes between quotation marks.
 ghost use Rattle.std.specs.Prelude.{◌≡◌, ◌++◌, ◌∷◌, [], OnOk};
 ghost use Rattle.hex.specs.Hex.{encode_lower};
-ghost use Rattle.ndef_tool.specs.Quoting.{is_plain, quoted, quoted_byte};
+ghost use Rattle.ndef_tool.specs.Quoting.{is_plain_octet, quoted, quoted_byte};
 
 use ndef_value::{Bytes, NoMemory};
 
 /// Whether a byte stands between quotation marks as it is: printable ASCII, but for the quotation
 /// mark and the backslash.
 fn is_plain(byte: u8) -> bool
-    ensures { result ≡ is_plain byte }
+    ensures { result ≡ is_plain_octet byte }
 {
     0x20 <= byte && byte <= 0x7e && byte != 0x22 && byte != 0x5c
 }

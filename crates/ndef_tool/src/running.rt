@@ -2,7 +2,7 @@
 ghost use Rattle.std.specs.Prelude.{◌≡◌, false, true, map, string_bytes};
 ghost use Rattle.ndef_message.specs.Machine.Turns.{supply_of};
 ghost use Rattle.ndef_tool.specs.Output.{ending_line, status_of};
-ghost use Rattle.ndef_tool.specs.Runs.{Ends, IsSilent, Runs};
+ghost use Rattle.ndef_tool.specs.Runs.{EndsCommand, IsSilent, Runs};
 
 use crate::choice::{WordsError, choose};
 use crate::ending::{Ending, Status};
@@ -32,7 +32,7 @@ fn status_of(ending: Ending) -> Status
 
 /// The status, unless the last line couldn't be written.
 fn end(written: Result<u64, WriteFault>, status: Status) -> Status
-    ensures { Ends written status result }
+    ensures { EndsCommand written status result }
 {
     match written {
         Ok(_) => status,

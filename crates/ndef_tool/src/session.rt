@@ -3,12 +3,13 @@ ghost use Rattle.std.specs.Io.KnownBytes.{Keeps};
 ghost use Rattle.std.specs.Prelude.{◌≡◌, ◌≤◌, false, true};
 ghost use Rattle.ndef_message.specs.Sending.{MarksOf, Sent};
 ghost use Rattle.ndef_message.specs.Machine.Turns.{supply_of};
-ghost use Rattle.ndef_nest.specs.Typed.{IsTypedPayload, TypedReason};
-ghost use Rattle.ndef_tool.specs.Blocks.{text_of};
+ghost use Rattle.ndef_format.specs.Payloads.{IsTypedPayload};
+ghost use Rattle.ndef_format.specs.NestedReasons.{TypedReason};
+ghost use Rattle.ndef_tool.specs.Blocks.{block_text};
 ghost use Rattle.ndef_tool.specs.Chosen.{HasSize};
 ghost use Rattle.ndef_tool.specs.Inputs.{ReadsIn};
 ghost use Rattle.ndef_tool.specs.Output.{FitsPlace};
-ghost use Rattle.ndef_tool.specs.Sessions.{Handles, HasTaken, IsSession, PrintsNext, Silences, TakesNext};
+ghost use Rattle.ndef_tool.specs.Sessions.{Handles, SessionHasTaken, IsSession, PrintsNext, Silences, TakesNext};
 
 use crate::block::{Block, check_block, encode_block, show_block};
 use crate::choice::{Action, Choice};
@@ -80,8 +81,8 @@ fn print_next<R: Reading<Typed, S>, S>(
 
 /// Writes what is printed of a message.
 fn send_block<K: Sink>(block: Block, sink: &mut K) -> Result<u64, WriteFault>
-    ensures sent { Sent 0 (K.written sink.old) (K.written sink.new) (text_of block) result }
-    ensures mark { MarksOf (K.has_failed sink.old) (K.has_failed sink.new) (text_of block) result }
+    ensures sent { Sent 0 (K.written sink.old) (K.written sink.new) (block_text block) result }
+    ensures mark { MarksOf (K.has_failed sink.old) (K.has_failed sink.new) (block_text block) result }
     ensures silent { K.has_failed sink.old ≡ true → Keeps (K.written sink.old) (K.written sink.new) }
 {
     send(0, block.as_slice(), sink)
@@ -103,7 +104,7 @@ fn handle_messages<R: Reading<Typed, S>, S, K: Sink>(
         → Silences (IsSession choice.now.action IsTypedPayload TypedReason choice.now.limits
         (R.coming from.old) (R.coming from.new) (R.has_failed from.new) (K.has_failed sink.new))
         choice.now (K.written sink.old) (K.written sink.new) (K.has_failed sink.new) result }
-    ensures taken { HasTaken choice.now.limits result.at (R.taken from.old) (R.taken from.new) result.ending }
+    ensures taken { SessionHasTaken choice.now.limits result.at (R.taken from.old) (R.taken from.new) result.ending }
     ensures room { FitsPlace result.at result.ending }
 {
     choice.limits.profile();

@@ -1,8 +1,8 @@
 //! The lines of records.
 ghost use Rattle.std.specs.Prelude.{◌≡◌, ◌+◌, ◌<◌, ◌^◌, ◌++◌, length, OnOk};
 ghost use Rattle.std.specs.List.{AllByRecursion};
-ghost use Rattle.ndef_lang.specs.Kind.{kind_of};
-ghost use Rattle.ndef_tool.specs.Showing.{Adds, AreRecordLines, IsRecordLine, IsTyped, Tells, record_front};
+ghost use Rattle.ndef_format.specs.Kinds.{kind_of};
+ghost use Rattle.ndef_tool.specs.Showing.{Adds, AreRecordLines, IsRecordLine, IsTyped, PrintsValue, record_front};
 
 use crate::decimals::push_counted;
 use crate::handover_lines::{push_request, push_select};
@@ -23,7 +23,7 @@ fn push_told(
 ) -> Result<(), NoMemory>
     requires { IsTyped profile item.now }
     ensures { OnOk result (Adds line.old line.new
-        (Tells (kind_of item.now.tnf item.now.kind) profile item.now.payload)) }
+        (PrintsValue (kind_of item.now.tnf item.now.kind) profile item.now.payload)) }
 {
     let payload = item.payload();
     match kind_of(item) {
@@ -33,7 +33,13 @@ fn push_told(
         Kind::Request => push_request(alloc, line, profile, payload),
         Kind::Select => push_select(alloc, line, profile, payload),
         Kind::Carrier => push_carrier(alloc, line, profile, payload),
-        _ => line.extend(b" other"),
+        Kind::Other
+        | Kind::Action
+        | Kind::Size
+        | Kind::MediaType
+        | Kind::Alternative
+        | Kind::Collision
+        | Kind::Error => line.extend(b" other"),
     }
 }
 

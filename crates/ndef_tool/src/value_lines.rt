@@ -1,10 +1,10 @@
 //! What is printed of texts, URIs and handover carriers.
 ghost use Rattle.std.specs.Prelude.{◌≡◌, ◌<◌, ◌^◌, ◌++◌, length, OnOk};
-ghost use Rattle.ndef_lang.specs.Carrier.{IsCarrier};
-ghost use Rattle.ndef_lang.specs.Text.{IsText};
-ghost use Rattle.ndef_lang.specs.Uri.{IsUri};
-ghost use Rattle.ndef_lang.specs.declared.kind.Kind.TheVariants as kinds;
-ghost use Rattle.ndef_tool.specs.Showing.{Adds, Tells, encoding_name, told_carrier, told_text, told_uri};
+ghost use Rattle.ndef_format.specs.Handovers.{IsCarrier};
+ghost use Rattle.ndef_format.specs.Texts.{IsText};
+ghost use Rattle.ndef_format.specs.Uris.{IsUri};
+ghost use Rattle.ndef_format.specs.declared.kind.Kind.TheVariants as kinds;
+ghost use Rattle.ndef_tool.specs.Showing.{Adds, PrintsValue, encoding_name, told_carrier, told_text, told_uri};
 
 use crate::decimals::push_counted;
 use crate::quoting::push_named;
@@ -41,7 +41,7 @@ pub fn push_text(
 ) -> Result<(), NoMemory>
     requires short { length payload.now < 2 ^ 32 }
     requires text { IsText payload.now }
-    ensures { OnOk result (Adds line.old line.new (Tells kinds.Text profile payload.now)) }
+    ensures { OnOk result (Adds line.old line.new (PrintsValue kinds.Text profile payload.now)) }
 {
     match Text::decode(alloc, payload) {
         Ok(text) => push_told_text(line, &text),
@@ -66,7 +66,7 @@ pub fn push_uri(
 ) -> Result<(), NoMemory>
     requires short { length payload.now < 2 ^ 32 }
     requires uri { IsUri profile payload.now }
-    ensures { OnOk result (Adds line.old line.new (Tells kinds.Uri profile payload.now)) }
+    ensures { OnOk result (Adds line.old line.new (PrintsValue kinds.Uri profile payload.now)) }
 {
     match Uri::decode_as(alloc, payload, profile) {
         Ok(uri) => push_told_uri(line, &uri),
@@ -93,7 +93,7 @@ pub fn push_carrier(
 ) -> Result<(), NoMemory>
     requires short { length payload.now < 2 ^ 32 }
     requires carrier { IsCarrier payload.now }
-    ensures { OnOk result (Adds line.old line.new (Tells kinds.Carrier profile payload.now)) }
+    ensures { OnOk result (Adds line.old line.new (PrintsValue kinds.Carrier profile payload.now)) }
 {
     match Carrier::decode(alloc, payload) {
         Ok(carrier) => push_told_carrier(line, &carrier),

@@ -3,14 +3,14 @@ use Rattle.std.proofs.Common.{◌≡◌, ℕ, zero, suc, ◌%◌, ◌<◌, List,
 use Rattle.std.proofs.Math.Seq.{take-append_seam, drop-append_seam}
 use Rattle.std.proofs.lemmas.List.{length-take-le}
 use Rattle.std.specs.List.{AllByRecursion, flat_map}
-use Rattle.ndef_value.specs.Wire.{AreOctets}
-use Rattle.ndef_lang.specs.Alternative.{IsAlternative, AreReferences, AreAuxiliary}
-use Rattle.ndef_lang.specs.Language.{NoReason}
-use Rattle.ndef_lang.specs.Octets.{IsOctet}
-use Rattle.ndef_lang.specs.OctetLaws.{FieldParts, field_parts, field_of}
+use Rattle.ndef_format.specs.Records.{AreOctets}
+use Rattle.ndef_format.specs.Handovers.{IsAlternative, AreReferences, AreAuxiliary}
+use Rattle.ndef_format.specs.Reasons.{NoReason}
+use Rattle.ndef_format.specs.Octets.{IsOctet}
+use Rattle.ndef_lang.specs.OctetLaws.{FieldParts, field_parts, octets_field}
 use Rattle.ndef_types.specs.declared.power.Power.{Power}
 use Rattle.ndef_types.specs.declared.power.Power.TheVariants.{Inactive, Active, Activating, Unknown}
-use Rattle.ndef_types.specs.Decoding.{OneValue, EachHasValue, RoundTrips}
+use Rattle.ndef_types.specs.Decoding.{OneValue, EachHasValue, ValuesRoundTrip}
 use Rattle.ndef_types.specs.Values.{AcValue, IsAcValue, IsReference, StandsForAc, StandForAuxiliary, StandForNames, WritesAc, ac_payload, counted, power_code}
 use Rattle.ndef_types.proofs.RoundTripLemmas.{round_trip}
 
@@ -119,7 +119,7 @@ names_written (x ∷ names) rest h k =
     let later = names_written names rest h.1 k in
     let tail = flat_map counted names ++ rest in
     let e : (x ++ flat_map counted names) ++ rest ≡ x ++ tail = append_assoc x (flat_map counted names) rest in
-    rw e ((h.0.0, field_of IsOctet x tail (AreReferences (length names)) h.0.1 later.0), (take-append_seam x tail, rw drop-append_seam later.1))
+    rw e ((h.0.0, octets_field IsOctet x tail (AreReferences (length names)) h.0.1 later.0), (take-append_seam x tail, rw drop-append_seam later.1))
 
 power_small : (p : Power) → power_code p < 4
 power_small Inactive = omega arith
@@ -132,9 +132,9 @@ ac_written v payload h e =
     let later = names_written v.auxiliary v.rest h.auxiliary h.rest in
     let tail = length v.auxiliary ∷ (flat_map counted v.auxiliary ++ v.rest) in
     let small = power_small v.power in
-    let set : IsAlternative (ac_payload v) = (omega arith, (h.reference.0, field_of IsOctet v.reference tail AreAuxiliary h.reference.1 (h.few, later.0))) in
+    let set : IsAlternative (ac_payload v) = (omega arith, (h.reference.0, octets_field IsOctet v.reference tail AreAuxiliary h.reference.1 (h.few, later.0))) in
     let stands : StandsForAc (ac_payload v) v = (omega arith, take-append_seam v.reference tail, subst (λ d. StandForAuxiliary d v.auxiliary v.rest) (sym (drop-append_seam v.reference tail)) later.1) in
     rw e (set, stands)
 
-pub acs_round_trip : RoundTrips IsAlternative (λ s b. NoReason) StandsForAc IsAcValue WritesAc
+pub acs_round_trip : ValuesRoundTrip IsAlternative (λ s b. NoReason) StandsForAc IsAcValue WritesAc
 acs_round_trip = round_trip IsAlternative (λ s b. NoReason) StandsForAc IsAcValue WritesAc ac_written one_ac

@@ -1,7 +1,7 @@
 -- The payload of an alternative carrier, as it is read.
 use Rattle.std.proofs.Common.{◌≡◌, ℕ, zero, suc, ◌+◌, ◌%◌, ◌<◌, ◌≤◌, List, [], ◌∷◌, ◌++◌, length, take, drop, get_or, refl, sym, ap, subst, arith, append_assoc, append-nil}
-use Rattle.ndef_lang.specs.Alternative.{IsAlternative, AreReferences, AreAuxiliary}
-use Rattle.ndef_lang.specs.Octets.{IsOctet}
+use Rattle.ndef_format.specs.Handovers.{IsAlternative, AreReferences, AreAuxiliary}
+use Rattle.ndef_format.specs.Octets.{IsOctet}
 use Rattle.ndef_lang.specs.OctetLaws.{field_parts}
 use Rattle.ndef_types.specs.Values.{AcValue, StandsForAc, StandForAuxiliary, StandForNames, power_code}
 

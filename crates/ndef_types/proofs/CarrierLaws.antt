@@ -2,12 +2,12 @@
 use Rattle.std.proofs.Common.{◌≡◌, ℕ, ◌-◌, ◌%◌, ◌≤◌, List, [], ◌∷◌, length, take, drop, get_or, refl, sym, ◌∙◌, arith}
 use Rattle.std.proofs.Math.Seq.{take-append_seam, drop-append_seam}
 use Rattle.std.proofs.lemmas.List.{take_all, length-take-le}
-use Rattle.ndef_value.specs.Wire.{AreOctets}
-use Rattle.ndef_lang.specs.Carrier.{IsCarrier}
-use Rattle.ndef_lang.specs.Language.{NoReason}
-use Rattle.ndef_lang.specs.Octets.{IsOctet}
-use Rattle.ndef_lang.specs.OctetLaws.{field_parts, field_of}
-use Rattle.ndef_types.specs.Decoding.{OneValue, EachHasValue, RoundTrips}
+use Rattle.ndef_format.specs.Records.{AreOctets}
+use Rattle.ndef_format.specs.Handovers.{IsCarrier}
+use Rattle.ndef_format.specs.Reasons.{NoReason}
+use Rattle.ndef_format.specs.Octets.{IsOctet}
+use Rattle.ndef_lang.specs.OctetLaws.{field_parts, octets_field}
+use Rattle.ndef_types.specs.Decoding.{OneValue, EachHasValue, ValuesRoundTrip}
 use Rattle.ndef_types.specs.Values.{CarrierValue, IsCarrierValue, StandsForCarrier, WritesCarrier, carrier_payload}
 use Rattle.ndef_types.proofs.RoundTripLemmas.{round_trip}
 
@@ -45,9 +45,9 @@ each_carrier (format ∷ n ∷ s) h =
 
 written : (v : CarrierValue) (payload : List ℕ) → IsCarrierValue v → WritesCarrier v payload → IsCarrier payload × StandsForCarrier payload v
 written v payload h e =
-    let set : IsCarrier (carrier_payload v) = (omega (arith, h.format), (h.short, field_of IsOctet v.kind v.carried AreOctets h.kind h.carried)) in
+    let set : IsCarrier (carrier_payload v) = (omega (arith, h.format), (h.short, octets_field IsOctet v.kind v.carried AreOctets h.kind h.carried)) in
     let stands : StandsForCarrier (carrier_payload v) v = (omega (arith, h.format), take-append_seam v.kind v.carried, drop-append_seam v.kind v.carried) in
     rw e (set, stands)
 
-pub carriers_round_trip : RoundTrips IsCarrier (λ s b. NoReason) StandsForCarrier IsCarrierValue WritesCarrier
+pub carriers_round_trip : ValuesRoundTrip IsCarrier (λ s b. NoReason) StandsForCarrier IsCarrierValue WritesCarrier
 carriers_round_trip = round_trip IsCarrier (λ s b. NoReason) StandsForCarrier IsCarrierValue WritesCarrier written one_carrier

@@ -7,16 +7,16 @@ use Rattle.std.proofs.lemmas.List.{take_more, take_all}
 use Rattle.std.proofs.lemmas.List.Elements.{filter_more}
 use Rattle.std.proofs.lemmas.List.Sums.{sum_by-cons}
 use Rattle.std.proofs.lemmas.Option.{get_or_from_slice_get, slice_get-get_or, slice_get_read, slice_get_within}
-use Rattle.ndef_value.specs.Wire.{Item, AreItems}
-use Rattle.ndef_value.specs.declared.profile.Profile.TheVariants.{Strict}
-use Rattle.ndef_lang.specs.Leaf.{IsPayload}
-use Rattle.ndef_lang.specs.declared.kind.Kind.{Kind}
-use Rattle.ndef_lang.specs.declared.kind.Kind.TheVariants as kinds
-use Rattle.ndef_nest.specs.Nested.{HasContents, IsComplete, kind_in}
-use Rattle.ndef_nest.specs.declared.table.Table.{Table}
-use Rattle.ndef_nest.specs.declared.table.Table.TheVariants.{SmartPoster, Request}
+use Rattle.ndef_format.specs.Messages.{Item}
+use Rattle.ndef_format.specs.Canonical.{AreItems}
+use Rattle.ndef_format.specs.declared.profile.Profile.TheVariants.{Strict}
+use Rattle.ndef_format.specs.Nested.{IsPayload, HasContents, IsComplete, kind_in}
+use Rattle.ndef_format.specs.declared.kind.Kind.{Kind}
+use Rattle.ndef_format.specs.declared.kind.Kind.TheVariants as kinds
+use Rattle.ndef_format.specs.declared.table.Table.{Table}
+use Rattle.ndef_format.specs.declared.table.Table.TheVariants.{SmartPoster, Request}
 use Rattle.ndef_types.specs.ContentsLaws.{has_at, no_uris, not_uri, one_if_uri, uris}
-use Rattle.ndef_types.specs.Contents.{AreInOrder, IsFirst, IsFirstAt, IsInOrder, IsOfKind, Lack}
+use Rattle.ndef_types.specs.Contents.{AreInOrder, IsFirstOf, IsFirstAt, IsInOrder, IsOfKind, Lack}
 
 -- the record that a loop over them has reached
 pub reached : (items : List Item) (n : ℕ) (i : Item) → n < length items → i ≡ get_or items n i → slice_get items n ≡ Some i
@@ -70,7 +70,7 @@ request_in_order items records e are h =
 -- ---- the first record of a kind
 
 pub first_payload : {X : Type 0} (f : X → Item) (kind : Kind) (items : List Item) (result : Option X) → HasContents SmartPoster Strict items
-    → IsFirst (IsOfKind SmartPoster kind) items (option_map f result) → IfSome result (λ x. IsPayload kind Strict (f x).payload)
+    → IsFirstOf (IsOfKind SmartPoster kind) items (option_map f result) → IfSome result (λ x. IsPayload kind Strict (f x).payload)
 first_payload f kind items None h r = tt
 first_payload f kind items (Some x) h r =
     let m = has_at (λ i. IsPayload (kind_in SmartPoster i.tnf i.kind) Strict i.payload) items r.0 (f x) h.members r.1.at in

@@ -1,8 +1,8 @@
 -- A handover error payload stands for one error, and that which is written for an error stands for it.
 use Rattle.std.proofs.Common.{◌≡◌, ℕ, List, [], ◌∷◌, refl, sym, ◌∙◌}
-use Rattle.ndef_lang.specs.HandoverError.{IsError}
-use Rattle.ndef_lang.specs.Language.{NoReason}
-use Rattle.ndef_types.specs.Decoding.{OneValue, EachHasValue, RoundTrips}
+use Rattle.ndef_format.specs.Handovers.{IsError}
+use Rattle.ndef_format.specs.Reasons.{NoReason}
+use Rattle.ndef_types.specs.Decoding.{OneValue, EachHasValue, ValuesRoundTrip}
 use Rattle.ndef_types.specs.Values.{ErrorValue, IsErrorValue, StandsForError, WritesError, error_payload}
 use Rattle.ndef_types.proofs.RoundTripLemmas.{round_trip}
 
@@ -20,5 +20,5 @@ each_error (reason ∷ detail) h = (record { reason = reason; detail = detail },
 written : (v : ErrorValue) (payload : List ℕ) → IsErrorValue v → WritesError v payload → IsError payload × StandsForError payload v
 written v payload h e = (rw e h, e)
 
-pub errors_round_trip : RoundTrips IsError (λ s b. NoReason) StandsForError IsErrorValue WritesError
+pub errors_round_trip : ValuesRoundTrip IsError (λ s b. NoReason) StandsForError IsErrorValue WritesError
 errors_round_trip = round_trip IsError (λ s b. NoReason) StandsForError IsErrorValue WritesError written one_error

@@ -1,10 +1,10 @@
 -- Links, record by record.
 use Rattle.std.proofs.Common.{◌≡◌, ◌≢◌, ℕ, ◌+◌, false, List, [], ◌∷◌, ◌++◌, take, refl, ◌∙◌, ap, Some, append-nil}
 use Rattle.std.specs.Prelude.{slice_get, if◌then◌else◌}
-use Rattle.ndef_value.specs.Wire.{Item}
-use Rattle.ndef_lang.specs.Kind.{kind_of}
-use Rattle.ndef_lang.specs.declared.kind.Kind.{Kind}
-use Rattle.ndef_lang.specs.declared.kind.Kind.TheVariants as kinds
+use Rattle.ndef_format.specs.Messages.{Item}
+use Rattle.ndef_format.specs.Kinds.{kind_of}
+use Rattle.ndef_format.specs.declared.kind.Kind.{Kind}
+use Rattle.ndef_format.specs.declared.kind.Kind.TheVariants as kinds
 use Rattle.ndef_types.proofs.ContentsLemmas.{filter_grows}
 use Rattle.ndef_types.specs.Links.{IsIndexOf, AreLinks, alternatives, is_alternative}
 use Rattle.ndef_types.specs.Values.{StandsForAc}

@@ -1,24 +1,27 @@
 -- A nested message is a message of one piece a record, whatever its payloads.
 use Rattle.std.proofs.Common.{◌≡◌, ℕ, ◌≤◌, List, [], ◌∷◌, ◌++◌, length, map, refl, sym, subst, ◌<◌, ◌^◌, ◌∙◌, ap, arith, append-nil, suc, take, Ok, Err}
 use Rattle.std.specs.List.{AllByRecursion, flat_map}
-use Rattle.ndef_value.specs.Wire.{Item, Piece, Run, AreItems, IsItem, IsMessage, IsShaped, IsPiece, SpellAll, pieces, all_pieces, payload_of, run_record, LimitValues, AreOctets}
-use Rattle.ndef_value.specs.declared.profile.Profile.{Profile}
-use Rattle.ndef_lang.specs.Leaf.{IsPayload}
-use Rattle.ndef_lang.specs.LeafLaws.{payload_octets}
-use Rattle.ndef_lang.specs.Language.{Sets, Conditions}
-use Rattle.ndef_nest.specs.Conditions.{nested_limits}
-use Rattle.ndef_nest.specs.Nested.{Nested, IsNestedBy, kind_in}
-use Rattle.ndef_nest.specs.declared.table.Table.{Table}
-use Rattle.ndef_value.specs.declared.refusal.Refusal.{Refusal}
-use Rattle.ndef_message.specs.Views.{NeverRefused, OneView, Viewed, Views}
+use Rattle.ndef_format.specs.Messages.{Item, IsMessage, IsShaped, SpellsPieces, all_pieces, payload_of, run_record}
+use Rattle.ndef_format.specs.Records.{Piece, Run, IsPiece, pieces, AreOctets}
+use Rattle.ndef_format.specs.Canonical.{AreItems, IsItem}
+use Rattle.ndef_format.specs.Limits.{LimitValues}
+use Rattle.ndef_format.specs.declared.profile.Profile.{Profile}
+use Rattle.ndef_format.specs.Nested.{IsPayload, Nested, IsNestedBy, kind_in}
+use Rattle.ndef_lang.specs.Machine.LeafLaws.{payload_octets}
+use Rattle.ndef_format.specs.Payloads.{Sets}
+use Rattle.ndef_format.specs.Reasons.{Conditions}
+use Rattle.ndef_format.specs.NestedReasons.{nested_limits}
+use Rattle.ndef_format.specs.declared.table.Table.{Table}
+use Rattle.ndef_format.specs.declared.refusal.Refusal.{Refusal}
+use Rattle.ndef_message.specs.Views.{NeverRefusedInView, OneView, Viewed, Views}
 use Rattle.std.proofs.Math.Seq.{take-length}
-use Rattle.ndef_message.specs.Deep.{Deep, IsMember}
+use Rattle.ndef_format.specs.Accepted.{Accepted, IsMember}
 
 -- what every list of octets is in
 abbrev pub opaque : Sets
 opaque kind records profile s = AreOctets s
 
-are_pieces : (ps : List Piece) (bytes : List ℕ) → SpellAll ps bytes → AllByRecursion IsPiece ps
+are_pieces : (ps : List Piece) (bytes : List ℕ) → SpellsPieces ps bytes → AllByRecursion IsPiece ps
 are_pieces [] bytes h = tt
 are_pieces (p ∷ ps) bytes h = (h.4.piece, are_pieces ps h.2 h.5)
 
@@ -49,14 +52,14 @@ are_members : (table : Table) (profile : Profile) (items : List Item) → AllByR
 are_members table profile [] h = tt
 are_members table profile (i ∷ items) h = (payload_octets (kind_in table i.tnf i.kind) profile i.payload h.0, are_members table profile items h.1)
 
-pub nested_is_deep : (table : Table) (profile : Profile) (runs : List Run) (items : List Item) (bytes : List ℕ) → IsNestedBy table 65535 profile runs items bytes → Deep opaque (nested_limits 65535 profile) items bytes
+pub nested_is_deep : (table : Table) (profile : Profile) (runs : List Run) (items : List Item) (bytes : List ℕ) → IsNestedBy table 65535 profile runs items bytes → Accepted opaque (nested_limits 65535 profile) items bytes
 nested_is_deep table profile runs items bytes h = record {
   runs = runs;
-  flat = h.flat;
+  spelling = h.spelling;
   within = record {
-    few_records = omega (arith, h.few, map_length runs, ap length h.flat.message.items);
+    few_records = omega (arith, h.few, map_length runs, ap length h.spelling.message.items);
     few_pieces = few runs h.single;
-    small = small runs h.single (are_pieces (all_pieces runs) bytes h.flat.spelled);
+    small = small runs h.single (are_pieces (all_pieces runs) bytes h.spelling.spelled);
   };
   members = are_members table profile items h.contents.members;
 }
@@ -84,29 +87,29 @@ some profile (r ∷ runs) items h = omega (arith, ap length h.items)
 
 pub nested_items : (table : Table) (profile : Profile) (runs : List Run) (items : List Item) (bytes : List ℕ) → IsNestedBy table 65535 profile runs items bytes → AreItems items
 nested_items table profile runs items bytes h =
-    let m = h.flat.message in
+    let m = h.spelling.message in
     record {
       some = some profile runs items m;
       few = h.few;
-      each = subst (AllByRecursion IsItem) m.items (are_items runs h.single (are_pieces (all_pieces runs) bytes h.flat.spelled) (subst (AllByRecursion IsShaped) (sym m.items) m.shaped));
+      each = subst (AllByRecursion IsItem) m.items (are_items runs h.single (are_pieces (all_pieces runs) bytes h.spelling.spelled) (subst (AllByRecursion IsShaped) (sym m.items) m.shaped));
     }
 
 -- ---- what is seen
 
 whole_is_deep : (table : Table) (profile : Profile) (runs : List Run) (items : List Item) (bytes : List ℕ) → IsNestedBy table 65535 profile runs items bytes
-    → Deep opaque (nested_limits 65535 profile) items (take (length bytes) bytes)
+    → Accepted opaque (nested_limits 65535 profile) items (take (length bytes) bytes)
 whole_is_deep table profile runs items bytes h = rw take-length (nested_is_deep table profile runs items bytes h)
 
 pub is_seen : (holds : Conditions) (limits : LimitValues) (table : Table) (profile : Profile) (runs : List Run) (items : List Item) (bytes : List ℕ) (v : Viewed)
     → OneView opaque holds → limits ≡ nested_limits 65535 profile → IsNestedBy table 65535 profile runs items bytes → Views opaque holds limits bytes (Ok v) → map run_record v.runs ≡ items
 is_seen holds limits table profile runs items bytes v one l h r =
     let whole = whole_is_deep table profile runs items bytes h in
-    let deep : Deep opaque limits items (take (length bytes) bytes) = rw l whole in
-    sym (one limits bytes v items (length bytes) r (omega arith) deep).items_are
+    let accepted : Accepted opaque limits items (take (length bytes) bytes) = rw l whole in
+    sym (one limits bytes v items (length bytes) r (omega arith) accepted).items_are
 
 pub is_not_refused : (holds : Conditions) (limits : LimitValues) (table : Table) (profile : Profile) (bytes : List ℕ) (refusal : Refusal)
-    → NeverRefused opaque holds → limits ≡ nested_limits 65535 profile → Nested table 65535 profile bytes → Views opaque holds limits bytes (Err refusal) → ⊥
+    → NeverRefusedInView opaque holds → limits ≡ nested_limits 65535 profile → Nested table 65535 profile bytes → Views opaque holds limits bytes (Err refusal) → ⊥
 is_not_refused holds limits table profile bytes refusal never l h r =
     let whole = whole_is_deep table profile h.0 h.1 bytes h.2 in
-    let deep : Deep opaque limits h.1 (take (length bytes) bytes) = rw l whole in
-    never limits bytes refusal (length bytes) r (h.1, deep)
+    let accepted : Accepted opaque limits h.1 (take (length bytes) bytes) = rw l whole in
+    never limits bytes refusal (length bytes) r (h.1, accepted)

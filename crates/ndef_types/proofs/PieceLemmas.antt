@@ -3,8 +3,9 @@ use Rattle.std.proofs.Common.{◌≡◌, ℕ, ◌+◌, ◌-◌, ◌<◌, ◌≤�
 use Rattle.std.proofs.Math.ListN.{get_or-append}
 use Rattle.std.proofs.Math.Seq.{drop-append_seam}
 use Rattle.std.proofs.lemmas.List.{take_all, take_rest, take-append-le, get_or-drop, drop-drop}
-use Rattle.ndef_value.specs.declared.reason.Reason.{Reason}
-use Rattle.ndef_lang.specs.Language.{Follows, Reaches, PassesBetween, StepsAll, IsLowest}
+use Rattle.ndef_format.specs.declared.reason.Reason.{Reason}
+use Rattle.ndef_lang.specs.Language.{Continues, Reaches, PassesBetween, StepsAll}
+use Rattle.ndef_format.specs.Reasons.{IsLowest}
 use Rattle.ndef_lang.specs.Place.{IsRefused}
 use Rattle.ndef_lang.specs.StepLaws.{follows_more, rest, steps_on, take_parts}
 
@@ -16,7 +17,7 @@ nothing_behind octets (b ∷ more) e = absurd (omega (arith, e))
 steps_before : (old new : List ℕ → Type 0) (piece behind : List ℕ) (lo hi k : ℕ) → k < length piece → StepsAll old new piece lo hi k → StepsAll old new (piece ++ behind) lo hi k
 steps_before old new piece behind lo hi k l s = record {
   within = omega (arith, length-append piece behind);
-  stepped = subst (Follows old new) (sym (take-append-le (k + 1) piece behind (omega arith))) s.stepped;
+  stepped = subst (Continues old new) (sym (take-append-le (k + 1) piece behind (omega arith))) s.stepped;
   fits = subst (λ x. PassesBetween (λ r. old (x ++ r)) (lo - k) (hi - k)) (sym (take-append-le k piece behind (omega arith))) s.fits;
   refused = λ _. s.refused l;
 }
@@ -48,10 +49,10 @@ module _ (payload piece behind : List ℕ) (at left : ℕ) (counted : at + left 
   pub behind_piece : drop (at + length piece) payload ≡ behind
   behind_piece = sym (drop-drop (length piece) at payload) ∙ ap (drop (length piece)) split ∙ drop-append_seam piece behind
 
-  module _ (set mid new : List ℕ → Type 0) (stepped : Follows set mid (take at payload)) where
+  module _ (set mid new : List ℕ → Type 0) (stepped : Continues set mid (take at payload)) where
     -- all of the piece were stepped
-    pub stepped_behind : Follows mid new piece → Follows set new (take (at + length piece) payload)
-    stepped_behind f = subst (Follows set new) (sym taken_whole) (follows_more set mid new (take at payload) piece stepped f)
+    pub stepped_behind : Continues mid new piece → Continues set new (take (at + length piece) payload)
+    stepped_behind f = subst (Continues set new) (sym taken_whole) (follows_more set mid new (take at payload) piece stepped f)
 
     pub reached_behind : (old reached : List ℕ → Type 0) → Reaches old reached (take (length piece + 1) piece) → old (take at payload) → reached (take (at + length piece) payload)
     reached_behind old reached r o = subst reached (sym taken_whole) (subst (Reaches old reached) (take_all (length piece + 1) piece (omega arith)) r (take at payload) o)
@@ -72,7 +73,7 @@ module _ (payload piece behind : List ℕ) (at left : ℕ) (counted : at + left 
         (subst (λ b. IsLowest (holds (take (at + k) payload) b) reason) byte (subst (λ x. IsLowest (holds x (get_or piece k 0)) reason) front_is lowest))
 
 -- where no piece is left all were stepped
-pub all_in : (set new : List ℕ → Type 0) (payload : List ℕ) (at left : ℕ) → at + left ≡ length payload → drop at payload ≡ [] → Follows set new (take at payload) → PassesBetween new left left → set payload
+pub all_in : (set new : List ℕ → Type 0) (payload : List ℕ) (at left : ℕ) → at + left ≡ length payload → drop at payload ≡ [] → Continues set new (take at payload) → PassesBetween new left left → set payload
 all_in set new payload at left counted none stepped p =
     let n : left ≡ 0 = omega (arith, ap length none, length-drop at payload) in
     let e : take at payload ≡ payload = take_all at payload (omega arith) in

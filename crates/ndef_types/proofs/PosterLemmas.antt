@@ -4,15 +4,16 @@ use Rattle.std.specs.Prelude.{if◌then◌else◌, slice_get}
 use Rattle.std.specs.List.{AllByRecursion}
 use Rattle.std.proofs.lemmas.Bool.{cases_lt}
 use Rattle.std.proofs.lemmas.List.Sums.{sum_by-cons}
-use Rattle.ndef_value.specs.Wire.{AreItems, AreOctets, HasShape, IsItem, Item}
-use Rattle.ndef_value.specs.declared.profile.Profile.{Profile}
-use Rattle.ndef_value.specs.declared.profile.Profile.TheVariants.{Strict}
-use Rattle.ndef_lang.specs.declared.kind.Kind.{Kind}
-use Rattle.ndef_lang.specs.declared.kind.Kind.TheVariants as kinds
-use Rattle.ndef_lang.specs.Leaf.{IsPayload}
-use Rattle.ndef_lang.specs.Uri.{IsUri}
-use Rattle.ndef_nest.specs.Nested.{HasContents, kind_in, is_uri}
-use Rattle.ndef_nest.specs.declared.table.Table.TheVariants.{SmartPoster}
+use Rattle.ndef_format.specs.Canonical.{AreItems, IsItem}
+use Rattle.ndef_format.specs.Records.{AreOctets, HasShape}
+use Rattle.ndef_format.specs.Messages.{Item}
+use Rattle.ndef_format.specs.declared.profile.Profile.{Profile}
+use Rattle.ndef_format.specs.declared.profile.Profile.TheVariants.{Strict}
+use Rattle.ndef_format.specs.declared.kind.Kind.{Kind}
+use Rattle.ndef_format.specs.declared.kind.Kind.TheVariants as kinds
+use Rattle.ndef_format.specs.Nested.{IsPayload, HasContents, kind_in, is_uri}
+use Rattle.ndef_format.specs.Uris.{IsUri}
+use Rattle.ndef_format.specs.declared.table.Table.TheVariants.{SmartPoster}
 use Rattle.ndef_types.proofs.ContentsLemmas.{filter_grows}
 use Rattle.ndef_types.specs.ContentsLaws.{uris, one_if_uri}
 use Rattle.ndef_types.specs.Posters.{plain, plain_code, plain_payload, is_text, titles, StandForTexts}

@@ -4,13 +4,13 @@ use Rattle.std.proofs.lemmas.Bool.{le-leb, lt-leb}
 use Rattle.std.proofs.Math.Seq.{take-append_seam, drop-append_seam}
 use Rattle.std.proofs.lemmas.Str.{encodes_same}
 use Rattle.std.specs.Str.{all_scalars}
-use Rattle.ndef_lang.specs.Octets.{Octets}
-use Rattle.ndef_lang.specs.OctetLaws.{field_of}
-use Rattle.ndef_lang.specs.Text.{IsCodeOctet, IsText, IsTextIn, is_wide, TextReason}
-use Rattle.ndef_lang.specs.Utf16.{units_of, spelled, unmarked}
+use Rattle.ndef_format.specs.Octets.{Octets}
+use Rattle.ndef_lang.specs.OctetLaws.{octets_field}
+use Rattle.ndef_format.specs.Texts.{IsCodeOctet, IsText, IsTextIn, is_wide, units_of, spelled, unmarked}
+use Rattle.ndef_format.specs.PayloadReasons.{TextReason}
 use Rattle.ndef_types.specs.declared.encoding.Encoding.{Encoding}
 use Rattle.ndef_types.specs.declared.encoding.Encoding.TheVariants.{Utf8, Utf16}
-use Rattle.ndef_types.specs.Decoding.{OneValue, EachHasValue, RoundTrips}
+use Rattle.ndef_types.specs.Decoding.{OneValue, EachHasValue, ValuesRoundTrip}
 use Rattle.ndef_types.specs.Values.{TextValue, IsTextValue, StandsForText, SpellsText, WritesText, is_utf16, status_octet, text_octets, language_octets, encoded_octets}
 use Rattle.ndef_types.proofs.RoundTripLemmas.{round_trip}
 use Rattle.ndef_types.proofs.TextLemmas.{TextParts, text_parts, of_ascii}
@@ -59,7 +59,7 @@ written_at : (v : TextValue) (status : ℕ) → IsTextValue v → IsStatus v.enc
 written_at v status h s =
     let octets = text_octets v.encoding v.text in
     let front : Octets IsCodeOctet (length v.language) (IsTextIn (is_utf16 v.encoding)) (v.language ++ octets) =
-    field_of IsCodeOctet v.language octets (IsTextIn (is_utf16 v.encoding)) (of_ascii v.language h.language) (text_is_in v.encoding v.text h.text) in (
+    octets_field IsCodeOctet v.language octets (IsTextIn (is_utf16 v.encoding)) (of_ascii v.language h.language) (text_is_in v.encoding v.text h.text) in (
       (s.octet, s.free, rw (s.count, s.wide) front),
       record {
         encoding = s.wide;
@@ -72,7 +72,7 @@ written_at v status h s =
 written : (v : TextValue) (payload : List ℕ) → IsTextValue v → WritesText v payload → IsText payload × StandsForText payload v
 written v payload h e = rw e (written_at v _ h (is_status v.encoding (length v.language) h.short))
 
-pub texts_round_trip : RoundTrips IsText TextReason StandsForText IsTextValue WritesText
+pub texts_round_trip : ValuesRoundTrip IsText TextReason StandsForText IsTextValue WritesText
 texts_round_trip = round_trip IsText TextReason StandsForText IsTextValue WritesText written one_text
 
 -- ---- each payload has a value

@@ -6,9 +6,8 @@ use Rattle.std.proofs.lemmas.List.{length-take-le}
 use Rattle.std.specs.Prelude.{IsAscii, IsUtf8, IsTrue, nat_le, chars}
 use Rattle.std.specs.List.{AllByRecursion}
 use Rattle.ndef_lang.specs.OctetLaws.{field_parts}
-use Rattle.ndef_lang.specs.Text.{IsCodeOctet, IsText, IsTextIn, is_wide, code_length}
-use Rattle.ndef_lang.specs.Utf16.{spelled, units_of}
-use Rattle.ndef_lang.specs.Utf16Laws.{spelled_length}
+use Rattle.ndef_format.specs.Texts.{IsCodeOctet, IsText, IsTextIn, is_wide, code_length, spelled, units_of}
+use Rattle.ndef_lang.specs.Machine.Utf16Laws.{spelled_length}
 use Rattle.ndef_types.specs.declared.encoding.Encoding.{Encoding}
 use Rattle.ndef_types.specs.declared.encoding.Encoding.TheVariants.{Utf8, Utf16}
 use Rattle.ndef_types.specs.Values.{IsTextValue, text_octets, language_octets, encoded_octets}

@@ -4,10 +4,11 @@ use Rattle.std.proofs.Math.Seq.{take-append_seam, drop-append_seam}
 use Rattle.std.proofs.lemmas.Bool.{and_parts, ltb-true}
 use Rattle.std.proofs.lemmas.Str.{IsUtf8-from_ascii, IsUtf8-drop, IsUtf8-append, IsCharBoundary-from_take}
 use Rattle.std.specs.Prelude.{IsUtf8, IsAscii, ◌&&◌, nat_lt}
-use Rattle.ndef_value.specs.declared.profile.Profile.{Profile}
-use Rattle.ndef_value.specs.declared.profile.Profile.TheVariants.{Strict, Standard}
-use Rattle.ndef_lang.specs.Uri.{IsUri, IsReserved, UriReason}
-use Rattle.ndef_types.specs.Decoding.{OneValue, EachHasValue, OnePayload, RoundTrips, IsTooLong}
+use Rattle.ndef_format.specs.declared.profile.Profile.{Profile}
+use Rattle.ndef_format.specs.declared.profile.Profile.TheVariants.{Strict, Standard}
+use Rattle.ndef_format.specs.Uris.{IsUri, IsReserved}
+use Rattle.ndef_format.specs.PayloadReasons.{UriReason}
+use Rattle.ndef_types.specs.Decoding.{OneValue, EachHasValue, OnePayload, ValuesRoundTrip, IsTooLong}
 use Rattle.ndef_types.specs.Prefixes.{prefixes, prefix_of, IsLongest}
 use Rattle.ndef_types.proofs.PrefixLemmas.{has_longest, one_longest}
 use Rattle.ndef_types.specs.Values.{StandsForUri, WritesUri}
@@ -68,7 +69,7 @@ written : (profile : Profile) (uri payload : List ℕ) → IsUtf8 uri → Writes
 written profile uri [] u w = absurd w
 written profile uri (code ∷ rest) u w = ((omega (arith, w.0.known), free profile code w.0.known, rest_utf8 uri rest code u w.1), w.1)
 
-pub uris_round_trip : (profile : Profile) → RoundTrips (IsUri profile) (UriReason profile) StandsForUri IsUtf8 WritesUri
+pub uris_round_trip : (profile : Profile) → ValuesRoundTrip (IsUri profile) (UriReason profile) StandsForUri IsUtf8 WritesUri
 uris_round_trip profile = round_trip (IsUri profile) (UriReason profile) StandsForUri IsUtf8 WritesUri (written profile) (one_uri profile)
 
 -- ---- what is written

@@ -12,8 +12,8 @@ use Rattle.std.specs.Char.{len_utf8}
 use Rattle.std.specs.Char.Escape.{encode_utf16}
 use Rattle.std.specs.Char.Utf16.{utf16_chars, utf16_lossy_chars, has_unpaired_surrogate, lone_unit_char, surrogate_pair_char}
 use lib.Utf8.{scalar, scalars, scalar_cases, encode, encodes}
-use Rattle.ndef_lang.specs.Utf16.{units_of, spelled, unit_octets, unmarked, IsUtf16}
-use Rattle.ndef_lang.specs.Utf16Laws.{spelled_length}
+use Rattle.ndef_format.specs.Texts.{units_of, spelled, unit_octets, unmarked, IsUtf16}
+use Rattle.ndef_lang.specs.Machine.Utf16Laws.{spelled_length}
 use Rattle.ndef_types.specs.UnitLaws.{same_unit}
 
 -- ---- the characters of units

@@ -2,12 +2,13 @@
 use Rattle.std.proofs.Common.{◌≡◌, ◌⊎◌, inl, inr, suc, true, false, List, [], ◌∷◌, map, refl, Option, None, Some, Bool}
 use Rattle.std.specs.Prelude.{if◌then◌else◌}
 use Rattle.std.specs.List.{find}
-use Rattle.ndef_value.specs.Wire.{Item, Run, run_record}
-use Rattle.ndef_lang.specs.Kind.{kind_of}
-use Rattle.ndef_lang.specs.declared.kind.Kind.{Kind}
-use Rattle.ndef_lang.specs.declared.kind.Kind.TheVariants as kinds
-use Rattle.ndef_types.specs.Contents.{IsFirst}
-use Rattle.ndef_types.specs.Links.{IsHandover, is_handover}
+use Rattle.ndef_format.specs.Messages.{Item, run_record}
+use Rattle.ndef_format.specs.Records.{Run}
+use Rattle.ndef_format.specs.Kinds.{kind_of}
+use Rattle.ndef_format.specs.declared.kind.Kind.{Kind}
+use Rattle.ndef_format.specs.declared.kind.Kind.TheVariants as kinds
+use Rattle.ndef_types.specs.Contents.{IsFirstOf}
+use Rattle.ndef_types.specs.Links.{IsHandoverRecord, is_handover}
 
 -- the record of the run is a handover
 abbrev is_one : Run → Bool
@@ -30,9 +31,9 @@ found_of (Some r) = Some (run_record r)
 
 -- the first handover of some records
 abbrev IsFound : List Run → Option Run → Type 0
-IsFound runs found = IsFirst IsHandover (map run_record runs) (found_of found)
+IsFound runs found = IsFirstOf IsHandoverRecord (map run_record runs) (found_of found)
 
-first_later : (r : Run) (runs : List Run) (found : Option Run) → ¬ IsHandover (run_record r) → IsFound runs found → IsFound (r ∷ runs) found
+first_later : (r : Run) (runs : List Run) (found : Option Run) → ¬ IsHandoverRecord (run_record r) → IsFound runs found → IsFound (r ∷ runs) found
 first_later r runs None n f = (n, f)
 first_later r runs (Some q) n f = (suc f.0, record { at = f.1.at; has = f.1.has; before = (n, f.1.before) })
 
@@ -41,6 +42,6 @@ first_here r runs true e f = (0, record { at = refl; has = kinds_told _ e; befor
 first_here r runs false e f = first_later r runs (find is_one runs) (kinds_untold _ e) f
 
 -- what is found among the runs is the first handover
-pub first_found : (runs : List Run) → IsFirst IsHandover (map run_record runs) (found_of (find (λ r. is_handover (kind_of (run_record r).tnf (run_record r).kind)) runs))
+pub first_found : (runs : List Run) → IsFirstOf IsHandoverRecord (map run_record runs) (found_of (find (λ r. is_handover (kind_of (run_record r).tnf (run_record r).kind)) runs))
 first_found [] = tt
 first_found (r ∷ runs) = first_here r runs (is_one r) refl (first_found runs)

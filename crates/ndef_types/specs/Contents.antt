@@ -1,15 +1,15 @@
 -- The records of nested messages, one after another (NFC Forum, RTD Smart Poster 1.0 and Connection Handover 1.2).
 use Rattle.std.specs.Prelude.{◌≡◌, ◌<◌, ℕ, List, [], take, slice_get, Option, Some, None, ⊤}
 use Rattle.std.specs.List.{AllByRecursion}
-use Rattle.ndef_value.specs.Wire.{Item, Run, FlatBy}
-use Rattle.ndef_value.specs.declared.profile.Profile.{Profile}
-use Rattle.ndef_value.specs.declared.profile.Profile.TheVariants.{Strict}
-use Rattle.ndef_lang.specs.Leaf.{IsPayload}
-use Rattle.ndef_lang.specs.declared.kind.Kind.{Kind}
-use Rattle.ndef_lang.specs.declared.kind.Kind.TheVariants as kinds
-use Rattle.ndef_nest.specs.Nested.{kind_in}
-use Rattle.ndef_nest.specs.declared.table.Table.{Table}
-use Rattle.ndef_nest.specs.declared.table.Table.TheVariants.{SmartPoster, Request, Select}
+use Rattle.ndef_format.specs.Messages.{Item, SpellsBy}
+use Rattle.ndef_format.specs.Records.{Run}
+use Rattle.ndef_format.specs.declared.profile.Profile.{Profile}
+use Rattle.ndef_format.specs.declared.profile.Profile.TheVariants.{Strict}
+use Rattle.ndef_format.specs.Nested.{IsPayload, kind_in}
+use Rattle.ndef_format.specs.declared.kind.Kind.{Kind}
+use Rattle.ndef_format.specs.declared.kind.Kind.TheVariants as kinds
+use Rattle.ndef_format.specs.declared.table.Table.{Table}
+use Rattle.ndef_format.specs.declared.table.Table.TheVariants.{SmartPoster, Request, Select}
 
 -- ---- the first record with a property
 
@@ -24,9 +24,9 @@ pub record IsFirstAt (P : Item → Type 0) (items : List Item) (k : ℕ) (i : It
   pub before : Lack P (take k items)
 
 -- the first record that has it, if there is one
-abbrev pub IsFirst : (Item → Type 0) → List Item → Option Item → Type 0
-IsFirst P items None = Lack P items
-IsFirst P items (Some i) = (k : ℕ) × IsFirstAt P items k i
+abbrev pub IsFirstOf : (Item → Type 0) → List Item → Option Item → Type 0
+IsFirstOf P items None = Lack P items
+IsFirstOf P items (Some i) = (k : ℕ) × IsFirstAt P items k i
 
 -- RTD Smart Poster 1.0 and Connection Handover 1.2: the record is of the kind, in a nested message
 abbrev pub IsOfKind : Table → Kind → Item → Type 0
@@ -61,4 +61,4 @@ pub record IsFirstWrong (table : Table) (items : List Item) (index : ℕ) : Type
 -- NDEF 1.0: the bytes are the message; without bytes there is none
 abbrev pub StandsForMessage : Profile → List ℕ → Option (List Item) → Type 0
 StandsForMessage profile bytes None = bytes ≡ []
-StandsForMessage profile bytes (Some items) = (runs : List Run) × FlatBy profile runs items bytes
+StandsForMessage profile bytes (Some items) = (runs : List Run) × SpellsBy profile runs items bytes

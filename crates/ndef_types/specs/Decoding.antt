@@ -1,8 +1,8 @@
 -- What is answered of a payload that is decoded, and the laws of what payloads stand for.
 use Rattle.std.specs.Prelude.{◌≡◌, ◌^◌, ◌<◌, ◌≤◌, ◌⊎◌, ⊤, ℕ, List, length, Result, Ok, Err}
-use Rattle.ndef_value.specs.declared.reason.Reason.{Reason}
-use Rattle.ndef_value.specs.declared.reason.Reason.TheVariants.{DoesNotFit}
-use Rattle.ndef_value.specs.declared.refusal.Refusal.{Refusal}
+use Rattle.ndef_format.specs.declared.reason.Reason.{Reason}
+use Rattle.ndef_format.specs.declared.reason.Reason.TheVariants.{DoesNotFit}
+use Rattle.ndef_format.specs.declared.refusal.Refusal.{Refusal}
 use Rattle.ndef_lang.specs.Place.{IsRefused}
 use Rattle.ndef_types.specs.declared.error.DecodeError.{DecodeError}
 use Rattle.ndef_types.specs.declared.error.DecodeError.TheVariants as errors
@@ -32,10 +32,10 @@ RefusesPayload set holds payload refusal =
     ⊎ ((length payload < 2 ^ 32) × IsRefused set holds payload refusal.at refusal.reason)
 
 -- the payload is in the set, and stands for the value, unless memory is wanting; or it is refused
-abbrev pub Decodes : {V : Type 0} → Payloads → Reasons → Meaning V → List ℕ → Result V DecodeError → Type 0
-Decodes set holds stands payload (Ok value) = (length payload < 2 ^ 32) × set payload × stands payload value
-Decodes set holds stands payload (Err (errors.Refused refusal)) = RefusesPayload set holds payload refusal
-Decodes set holds stands payload (Err errors.NoMemory) = (length payload < 2 ^ 32) × set payload
+abbrev pub DecodesTo : {V : Type 0} → Payloads → Reasons → Meaning V → List ℕ → Result V DecodeError → Type 0
+DecodesTo set holds stands payload (Ok value) = (length payload < 2 ^ 32) × set payload × stands payload value
+DecodesTo set holds stands payload (Err (errors.Refused refusal)) = RefusesPayload set holds payload refusal
+DecodesTo set holds stands payload (Err errors.NoMemory) = (length payload < 2 ^ 32) × set payload
 
 -- NDEF 1.0, PAYLOAD_LENGTH: what is written for the value is longer than a payload
 abbrev pub IsTooLong : {V : Type 0} → Writing V → V → Type 0
@@ -44,16 +44,16 @@ IsTooLong written value = (payload : List ℕ) × written value payload × (2 ^ 
 -- ---- laws
 
 -- the value comes back, unless memory is wanting
-abbrev pub GivesBack : {V : Type 0} → V → Result V DecodeError → Type 0
-GivesBack value (Ok back) = back ≡ value
-GivesBack value (Err (errors.Refused refusal)) = ⊥
-GivesBack value (Err errors.NoMemory) = ⊤
+abbrev pub GivesValueBack : {V : Type 0} → V → Result V DecodeError → Type 0
+GivesValueBack value (Ok back) = back ≡ value
+GivesValueBack value (Err (errors.Refused refusal)) = ⊥
+GivesValueBack value (Err errors.NoMemory) = ⊤
 
 -- What was written for a value is decoded to it.
-abbrev pub RoundTrips : {V : Type 0} → Payloads → Reasons → Meaning V → (values : V → Type 0) → Writing V → Type 0
-RoundTrips {V} set holds stands values written =
+abbrev pub ValuesRoundTrip : {V : Type 0} → Payloads → Reasons → Meaning V → (values : V → Type 0) → Writing V → Type 0
+ValuesRoundTrip {V} set holds stands values written =
     (value : V) (payload : List ℕ) (result : Result V DecodeError) → values value → written value payload → length payload < 2 ^ 32
-    → Decodes set holds stands payload result → GivesBack value result
+    → DecodesTo set holds stands payload result → GivesValueBack value result
 
 -- A payload stands for at most one value.
 abbrev pub OneValue : {V : Type 0} → Payloads → Meaning V → Type 0

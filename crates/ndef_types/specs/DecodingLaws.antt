@@ -1,8 +1,8 @@
 -- A payload that is in the set isn't refused.
 use Rattle.std.proofs.Common.{ℕ, ◌+◌, ◌^◌, ◌<◌, ◌≤◌, List, length, drop, sym, subst, inl, inr, arith, length-drop}
 use Rattle.std.proofs.lemmas.List.{take-append-drop}
-use Rattle.ndef_value.specs.declared.reason.Reason.{Reason}
-use Rattle.ndef_value.specs.declared.refusal.Refusal.{Refusal}
+use Rattle.ndef_format.specs.declared.reason.Reason.{Reason}
+use Rattle.ndef_format.specs.declared.refusal.Refusal.{Refusal}
 use Rattle.ndef_lang.specs.Place.{CanEnd, IsRefused}
 use Rattle.ndef_types.specs.Decoding.{Payloads, Reasons, RefusesPayload}
 

@@ -1,11 +1,12 @@
 -- Handover requests and selects (NFC Forum, Connection Handover 1.2).
 use Rattle.std.specs.Prelude.{◌≡◌, ◌+◌, ◌<◌, ℕ, List, [], ◌∷◌, Option, Some, None, IfSome, Result, Ok, Err}
 use Rattle.std.specs.Int.{w16, from_be_bytes}
-use Rattle.ndef_value.specs.Wire.{Item, AreItems, canonical}
-use Rattle.ndef_value.specs.declared.profile.Profile.{Profile}
-use Rattle.ndef_value.specs.declared.profile.Profile.TheVariants.{Strict}
-use Rattle.ndef_nest.specs.Nested.{HasContents}
-use Rattle.ndef_nest.specs.declared.table.Table.TheVariants as tables
+use Rattle.ndef_format.specs.Messages.{Item}
+use Rattle.ndef_format.specs.Canonical.{AreItems, canonical}
+use Rattle.ndef_format.specs.declared.profile.Profile.{Profile}
+use Rattle.ndef_format.specs.declared.profile.Profile.TheVariants.{Strict}
+use Rattle.ndef_format.specs.Nested.{HasContents}
+use Rattle.ndef_format.specs.declared.table.Table.TheVariants as tables
 use Rattle.ndef_types.specs.Contents.{IsFirstWrong, StandsForMessage}
 use Rattle.ndef_types.specs.declared.not_handover.NotHandover.{NotHandover}
 

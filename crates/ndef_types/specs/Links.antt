@@ -1,14 +1,14 @@
 -- The links of a message: the alternative carriers of its handover, and the records that they refer to (NFC Forum, Connection Handover 1.2).
 use Rattle.std.specs.Prelude.{◌≡◌, ◌≢◌, ◌^◌, ◌<◌, ℕ, Bool, true, false, List, [], ◌∷◌, length, filter, Option, Some, None, ⊤, ◌⊎◌, Result, Ok, Err}
-use Rattle.ndef_value.specs.Wire.{Item}
-use Rattle.ndef_value.specs.declared.profile.Profile.{Profile}
+use Rattle.ndef_format.specs.Messages.{Item}
+use Rattle.ndef_format.specs.declared.profile.Profile.{Profile}
 use Rattle.ndef_value.specs.declared.limits.TheConstants.{MOST_RECORDS}
-use Rattle.ndef_lang.specs.Kind.{kind_of}
-use Rattle.ndef_lang.specs.declared.kind.Kind.{Kind}
-use Rattle.ndef_lang.specs.declared.kind.Kind.TheVariants as kinds
-use Rattle.ndef_nest.specs.Conditions.{NestReason}
-use Rattle.ndef_nest.specs.Nested.{IsNest, table_of}
-use Rattle.ndef_types.specs.Contents.{IsFirst, IsFirstAt, Lack, StandsForMessage}
+use Rattle.ndef_format.specs.Kinds.{kind_of}
+use Rattle.ndef_format.specs.declared.kind.Kind.{Kind}
+use Rattle.ndef_format.specs.declared.kind.Kind.TheVariants as kinds
+use Rattle.ndef_format.specs.NestedReasons.{NestReason}
+use Rattle.ndef_format.specs.Nested.{IsNest, table_of}
+use Rattle.ndef_types.specs.Contents.{IsFirstOf, IsFirstAt, Lack, StandsForMessage}
 use Rattle.ndef_types.specs.Decoding.{RefusesPayload}
 use Rattle.ndef_types.specs.Values.{StandsForAc}
 use Rattle.ndef_types.specs.declared.link.Link.{Link}
@@ -16,8 +16,8 @@ use Rattle.ndef_types.specs.declared.link.LinkError.{LinkError}
 use Rattle.ndef_types.specs.declared.link.LinkError.TheVariants as errors
 
 -- Connection Handover 1.2: the record is a handover request or select
-abbrev pub IsHandover : Item → Type 0
-IsHandover i = (kind_of i.tnf i.kind ≡ kinds.Request) ⊎ (kind_of i.tnf i.kind ≡ kinds.Select)
+abbrev pub IsHandoverRecord : Item → Type 0
+IsHandoverRecord i = (kind_of i.tnf i.kind ≡ kinds.Request) ⊎ (kind_of i.tnf i.kind ≡ kinds.Select)
 
 -- Connection Handover 1.2: a record of this kind is a handover request or select
 abbrev pub is_handover : Kind → Bool
@@ -70,4 +70,4 @@ LinksOf profile outer (Some i) (Err errors.NoMemory) = (length i.payload < 2 ^ 3
 
 -- Connection Handover 1.2: the links of a message are those of its first handover request or select
 abbrev pub FindsLinks : Profile → List Item → Result (List Link) LinkError → Type 0
-FindsLinks profile outer result = (i : Option Item) × IsFirst IsHandover outer i × LinksOf profile outer i result
+FindsLinks profile outer result = (i : Option Item) × IsFirstOf IsHandoverRecord outer i × LinksOf profile outer i result

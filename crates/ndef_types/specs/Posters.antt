@@ -1,14 +1,16 @@
 -- Smart posters (NFC Forum, RTD Smart Poster 1.0).
 use Rattle.std.specs.Prelude.{◌≡◌, ◌==◌, ◌⊎◌, ℕ, Bool, true, false, List, [], ◌∷◌, length, map, filter, ⊤, slice_index, option_map, nat_lt, Option, Some, Result, Ok, Err, if◌then◌else◌}
 use Rattle.std.specs.Int.{w32, from_be_bytes}
-use Rattle.ndef_value.specs.Wire.{Item, Run, FlatBy, AreItems, canonical}
-use Rattle.ndef_value.specs.declared.profile.Profile.{Profile}
-use Rattle.ndef_value.specs.declared.profile.Profile.TheVariants.{Strict}
-use Rattle.ndef_lang.specs.declared.kind.Kind.{Kind}
-use Rattle.ndef_lang.specs.declared.kind.Kind.TheVariants as kinds
-use Rattle.ndef_nest.specs.Nested.{HasContents, kind_in, is_uri}
-use Rattle.ndef_nest.specs.declared.table.Table.TheVariants.{SmartPoster}
-use Rattle.ndef_types.specs.Contents.{AreInOrder, IsFirst, IsFirstWrong, IsOfKind, Lack}
+use Rattle.ndef_format.specs.Messages.{Item, SpellsBy}
+use Rattle.ndef_format.specs.Records.{Run}
+use Rattle.ndef_format.specs.Canonical.{AreItems, canonical}
+use Rattle.ndef_format.specs.declared.profile.Profile.{Profile}
+use Rattle.ndef_format.specs.declared.profile.Profile.TheVariants.{Strict}
+use Rattle.ndef_format.specs.declared.kind.Kind.{Kind}
+use Rattle.ndef_format.specs.declared.kind.Kind.TheVariants as kinds
+use Rattle.ndef_format.specs.Nested.{HasContents, kind_in, is_uri}
+use Rattle.ndef_format.specs.declared.table.Table.TheVariants.{SmartPoster}
+use Rattle.ndef_types.specs.Contents.{AreInOrder, IsFirstOf, IsFirstWrong, IsOfKind, Lack}
 use Rattle.ndef_types.specs.Values.{TextValue, StandsForText, StandsForUri}
 use Rattle.ndef_types.specs.declared.action.Action.{Action}
 use Rattle.ndef_types.specs.declared.action.Action.TheVariants.{Do, Save, Open, Other}
@@ -36,7 +38,7 @@ plain i = record i { payload = if is_uri (kind_in SmartPoster i.tnf i.kind) then
 
 -- RTD Smart Poster 1.0: the payload is the message, but for reserved codes
 abbrev pub StandsForPoster : Profile → List ℕ → List Item → Type 0
-StandsForPoster profile payload items = (runs : List Run) × (read : List Item) × FlatBy profile runs read payload × (items ≡ map plain read)
+StandsForPoster profile payload items = (runs : List Run) × (read : List Item) × SpellsBy profile runs read payload × (items ≡ map plain read)
 
 -- NDEF 1.0: the payload that is written is the canonical spelling
 abbrev pub WritesPoster : List Item → List ℕ → Type 0
@@ -59,7 +61,7 @@ MakesPoster items (Err fault) = (fault.message ≡ items) × (IsFirstWrong Smart
 
 -- RTD Smart Poster 1.0: what the first record of the kind says, if there is one
 abbrev pub Says : {V : Type 0} → Kind → (Item → V) → List Item → Option V → Type 0
-Says kind value items result = (i : Option Item) × IsFirst (IsOfKind SmartPoster kind) items i × (result ≡ option_map value i)
+Says kind value items result = (i : Option Item) × IsFirstOf (IsOfKind SmartPoster kind) items i × (result ≡ option_map value i)
 
 -- RTD Smart Poster 1.0, recommended action record: do, save for later, open for editing
 abbrev pub action_of : ℕ → Action
@@ -75,7 +77,7 @@ size_in i = from_be_bytes w32 i.payload
 
 -- RTD Smart Poster 1.0, URI record: that for which its payload stands
 abbrev pub IsUriOf : List Item → List ℕ → Type 0
-IsUriOf items uri = (i : Item) × IsFirst (IsOfKind SmartPoster kinds.Uri) items (Some i) × StandsForUri i.payload uri
+IsUriOf items uri = (i : Item) × IsFirstOf (IsOfKind SmartPoster kinds.Uri) items (Some i) × StandsForUri i.payload uri
 
 -- the kind is that of a text
 abbrev pub is_text : Kind → Bool

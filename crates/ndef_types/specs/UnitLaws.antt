@@ -5,7 +5,7 @@ use Rattle.std.proofs.lemmas.List.{take_more, flat_map_more}
 use Rattle.std.proofs.lemmas.Grind.{flat_map-append}
 use Rattle.std.specs.Int.{w16, to_be_bytes}
 use Rattle.std.specs.Char.Escape.{encode_utf16}
-use Rattle.ndef_lang.specs.Utf16.{units_of, spelled, unit_octets}
+use Rattle.ndef_format.specs.Texts.{units_of, spelled, unit_octets}
 
 pub same_unit : (u v : ℕ) → u / 256 ≡ v / 256 → u % 256 ≡ v % 256 → u ≡ v
 same_unit u v p q = omega arith

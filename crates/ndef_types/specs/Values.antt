@@ -2,11 +2,10 @@
 use Rattle.std.specs.Prelude.{◌≡◌, ℕ, zero, suc, ◌+◌, ◌%◌, ◌<◌, ◌≤◌, Bool, true, false, List, [], ◌∷◌, ◌++◌, length, take, drop, slice_index, IsAscii, encode_utf8_all}
 use Rattle.std.specs.List.{AllByRecursion, flat_map}
 use Rattle.std.specs.Str.{all_scalars}
-use Rattle.ndef_value.specs.Wire.{AreOctets}
-use Rattle.ndef_lang.specs.Octets.{IsOctet}
-use Rattle.ndef_lang.specs.HandoverError.{IsErrorData}
-use Rattle.ndef_lang.specs.Text.{is_wide, code_length}
-use Rattle.ndef_lang.specs.Utf16.{units_of, spelled, unmarked}
+use Rattle.ndef_format.specs.Records.{AreOctets}
+use Rattle.ndef_format.specs.Octets.{IsOctet}
+use Rattle.ndef_format.specs.Handovers.{IsErrorData}
+use Rattle.ndef_format.specs.Texts.{is_wide, code_length, units_of, spelled, unmarked}
 use Rattle.ndef_types.specs.Prefixes.{prefix_of, IsLongest}
 use Rattle.ndef_types.specs.declared.power.Power.{Power}
 use Rattle.ndef_types.specs.declared.power.Power.TheVariants.{Inactive, Active, Activating, Unknown}

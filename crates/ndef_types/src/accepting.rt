@@ -1,6 +1,6 @@
 //! Whether a payload is in the set of its type (NDEF 1.0, PAYLOAD_LENGTH; the sets are ndef_lang's).
 ghost use Rattle.std.specs.Prelude.{◌^◌, ◌<◌, length, OnOk, IfErr};
-ghost use Rattle.ndef_value.specs.Wire.{run_record};
+ghost use Rattle.ndef_format.specs.Messages.{run_record};
 ghost use Rattle.ndef_value.specs.declared.limits.TheConstants.{MOST_RECORDS};
 ghost use Rattle.ndef_types.specs.Decoding.{RefusesPayload};
 

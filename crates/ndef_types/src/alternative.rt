@@ -1,9 +1,9 @@
 //! Alternative carriers.
 ghost use Rattle.std.specs.Prelude.{◌≡◌, ◌<◌, ◌≤◌, ◌^◌, ◌↔◌, ◌++◌, length, slice_get, option_map, IsTrue, IfOk, IsErrOf, OnOk};
 ghost use Rattle.std.specs.List.{AllByRecursion, flat_map};
-ghost use Rattle.ndef_lang.specs.Alternative.{IsAlternative, AreAuxiliary, AreReferences};
-ghost use Rattle.ndef_lang.specs.Language.{NoReason};
-ghost use Rattle.ndef_types.specs.Decoding.{Decodes};
+ghost use Rattle.ndef_format.specs.Handovers.{IsAlternative, AreAuxiliary, AreReferences};
+ghost use Rattle.ndef_format.specs.Reasons.{NoReason};
+ghost use Rattle.ndef_types.specs.Decoding.{DecodesTo};
 ghost use Rattle.ndef_types.specs.Equality.{ac_eq, ac_hash};
 ghost use Rattle.ndef_types.specs.EqualityLaws.{ac_alike, ac_equiv, ac_per};
 ghost use Rattle.ndef_types.specs.Values.{StandsForAc, StandForAuxiliary, StandForNames, IsAcValue, IsReference, ac_payload, counted};
@@ -177,7 +177,7 @@ impl Ac {
     /// of the two low bits of the first byte, whose other bits are ignored. `Refused` where the payload
     /// isn't in the set of its type or is longer than a payload may be, else `NoMemory`.
     pub fn decode(alloc: Global, payload: &[u8]) -> Result<Ac, DecodeError>
-        ensures { Decodes IsAlternative (λ s b. NoReason) StandsForAc payload.now result }
+        ensures { DecodesTo IsAlternative (λ s b. NoReason) StandsForAc payload.now result }
     {
         accept::<AcLang>(Kind::Alternative, Profile::Strict, payload)?;
         Ok(read_ac(alloc, payload)?)

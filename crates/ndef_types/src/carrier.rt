@@ -1,8 +1,8 @@
 //! Handover carriers.
 ghost use Rattle.std.specs.Prelude.{◌≡◌, ◌<◌, ◌≤◌, ◌^◌, ◌↔◌, length, IfOk, IsErrOf};
-ghost use Rattle.ndef_lang.specs.Carrier.{IsCarrier};
-ghost use Rattle.ndef_lang.specs.Language.{NoReason};
-ghost use Rattle.ndef_types.specs.Decoding.{Decodes};
+ghost use Rattle.ndef_format.specs.Handovers.{IsCarrier};
+ghost use Rattle.ndef_format.specs.Reasons.{NoReason};
+ghost use Rattle.ndef_types.specs.Decoding.{DecodesTo};
 ghost use Rattle.ndef_types.specs.Values.{StandsForCarrier, IsCarrierValue, carrier_payload};
 
 use crate::accepting::{MOST, accept};
@@ -68,7 +68,7 @@ impl Carrier {
     /// three low bits of the first byte, whose other bits are ignored. `Refused` where the payload isn't
     /// in the set of its type or is longer than a payload may be, else `NoMemory`.
     pub fn decode(alloc: Global, payload: &[u8]) -> Result<Carrier, DecodeError>
-        ensures { Decodes IsCarrier (λ s b. NoReason) StandsForCarrier payload.now result }
+        ensures { DecodesTo IsCarrier (λ s b. NoReason) StandsForCarrier payload.now result }
     {
         accept::<HcLang>(Kind::Carrier, Profile::Strict, payload)?;
         Ok(read_carrier(alloc, payload)?)

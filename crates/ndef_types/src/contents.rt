@@ -1,6 +1,6 @@
 //! The records of nested messages.
 ghost use Rattle.std.specs.Prelude.{◌≡◌, ◌↔◌, length, option_map, IsTrue, MatchOption};
-ghost use Rattle.ndef_types.specs.Contents.{AreInOrder, IsFirst, IsFirstWrong, IsInOrder, IsOfKind, MayFollow};
+ghost use Rattle.ndef_types.specs.Contents.{AreInOrder, IsFirstOf, IsFirstWrong, IsInOrder, IsOfKind, MayFollow};
 
 use ndef_lang::{Kind, Leaf, refusal_of};
 use ndef_nest::Table;
@@ -15,7 +15,7 @@ pub fn is_kind(kind: Kind, other: Kind) -> bool
 
 /// The first record of a kind in a nested message.
 pub(crate) fn first_of(table: Table, records: &[Record], kind: Kind) -> Option<&Record>
-    ensures { IsFirst (IsOfKind table kind) records.now (option_map (λ r. r.now) result) }
+    ensures { IsFirstOf (IsOfKind table kind) records.now (option_map (λ r. r.now) result) }
 {
     for item in records {
         if is_kind(table.kind(item.tnf(), item.kind()), kind) {

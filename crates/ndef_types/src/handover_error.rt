@@ -1,9 +1,9 @@
 //! Handover errors.
 ghost use Rattle.std.specs.Prelude.{◌≡◌, ◌≤◌, ◌^◌, ◌↔◌, length, IsTrue, IfOk, IsErrOf};
-ghost use Rattle.ndef_lang.specs.HandoverError.{IsError, IsErrorData};
-ghost use Rattle.ndef_lang.specs.Language.{NoReason};
+ghost use Rattle.ndef_format.specs.Handovers.{IsError, IsErrorData};
+ghost use Rattle.ndef_format.specs.Reasons.{NoReason};
 ghost use Rattle.ndef_types.specs.declared.handover_error.DetailError.TheVariants as errors;
-ghost use Rattle.ndef_types.specs.Decoding.{Decodes};
+ghost use Rattle.ndef_types.specs.Decoding.{DecodesTo};
 ghost use Rattle.ndef_types.specs.Values.{StandsForError, IsErrorValue, error_payload};
 
 use crate::accepting::{MOST, accept};
@@ -80,7 +80,7 @@ impl HandoverError {
     /// The error for which the payload of an error record stands. `Refused` where the payload isn't in
     /// the set of its type or is longer than a payload may be, else `NoMemory`.
     pub fn decode(alloc: Global, payload: &[u8]) -> Result<HandoverError, DecodeError>
-        ensures { Decodes IsError (λ s b. NoReason) StandsForError payload.now result }
+        ensures { DecodesTo IsError (λ s b. NoReason) StandsForError payload.now result }
     {
         accept::<ErrLang>(Kind::Error, Profile::Strict, payload)?;
         let [reason, detail @ ..] = payload else {

@@ -1,13 +1,12 @@
 //! Laws of the definitions: what was written for a value is decoded to it, and which values are equal.
 ghost use Rattle.std.specs.Prelude.{IsUtf8};
-ghost use Rattle.ndef_value.specs.declared.profile.Profile.{Profile};
-ghost use Rattle.ndef_lang.specs.Alternative.{IsAlternative};
-ghost use Rattle.ndef_lang.specs.Carrier.{IsCarrier};
-ghost use Rattle.ndef_lang.specs.HandoverError.{IsError};
-ghost use Rattle.ndef_lang.specs.Language.{NoReason};
-ghost use Rattle.ndef_lang.specs.Text.{IsText, TextReason};
-ghost use Rattle.ndef_lang.specs.Uri.{IsUri, UriReason};
-ghost use Rattle.ndef_types.specs.Decoding.{OneValue, EachHasValue, OnePayload, RoundTrips};
+ghost use Rattle.ndef_format.specs.declared.profile.Profile.{Profile};
+ghost use Rattle.ndef_format.specs.Handovers.{IsAlternative, IsCarrier, IsError};
+ghost use Rattle.ndef_format.specs.Reasons.{NoReason};
+ghost use Rattle.ndef_format.specs.Texts.{IsText};
+ghost use Rattle.ndef_format.specs.PayloadReasons.{TextReason, UriReason};
+ghost use Rattle.ndef_format.specs.Uris.{IsUri};
+ghost use Rattle.ndef_types.specs.Decoding.{OneValue, EachHasValue, OnePayload, ValuesRoundTrip};
 ghost use Rattle.ndef_types.specs.Equality.{EqualAlternativesAreSame, EqualTextsAreSame};
 ghost use Rattle.ndef_types.specs.Values.{StandsForText, IsTextValue, WritesText, StandsForUri, WritesUri, StandsForError, IsErrorValue, WritesError, StandsForCarrier, IsCarrierValue, WritesCarrier, StandsForAc, IsAcValue, WritesAc};
 
@@ -16,7 +15,7 @@ ghost use Rattle.ndef_types.specs.Values.{StandsForText, IsTextValue, WritesText
 pub fn texts_are_exact()
     ensures one { OneValue IsText StandsForText }
     ensures each { EachHasValue IsText StandsForText IsTextValue }
-    ensures round_trip { RoundTrips IsText TextReason StandsForText IsTextValue WritesText }
+    ensures round_trip { ValuesRoundTrip IsText TextReason StandsForText IsTextValue WritesText }
 {}
 
 /// A payload of a URI record stands for one URI, and what `Uri::encode` writes is decoded, for either
@@ -26,7 +25,7 @@ pub fn uris_are_exact()
     ensures each { (profile : Profile) → EachHasValue (IsUri profile) StandsForUri IsUtf8 }
     ensures payload { OnePayload IsUtf8 WritesUri }
     ensures round_trip { (profile : Profile) →
-        RoundTrips (IsUri profile) (UriReason profile) StandsForUri IsUtf8 WritesUri }
+        ValuesRoundTrip (IsUri profile) (UriReason profile) StandsForUri IsUtf8 WritesUri }
 {}
 
 /// A payload of a handover error record stands for one error, and what `HandoverError::encode` writes
@@ -34,7 +33,7 @@ pub fn uris_are_exact()
 pub fn errors_are_exact()
     ensures one { OneValue IsError StandsForError }
     ensures each { EachHasValue IsError StandsForError IsErrorValue }
-    ensures round_trip { RoundTrips IsError (λ s b. NoReason) StandsForError IsErrorValue WritesError }
+    ensures round_trip { ValuesRoundTrip IsError (λ s b. NoReason) StandsForError IsErrorValue WritesError }
 {}
 
 /// A payload of a handover carrier record stands for one carrier, and what `Carrier::encode` writes is
@@ -42,7 +41,7 @@ pub fn errors_are_exact()
 pub fn carriers_are_exact()
     ensures one { OneValue IsCarrier StandsForCarrier }
     ensures each { EachHasValue IsCarrier StandsForCarrier IsCarrierValue }
-    ensures round_trip { RoundTrips IsCarrier (λ s b. NoReason) StandsForCarrier IsCarrierValue WritesCarrier }
+    ensures round_trip { ValuesRoundTrip IsCarrier (λ s b. NoReason) StandsForCarrier IsCarrierValue WritesCarrier }
 {}
 
 /// A payload of an alternative carrier record stands for one value, and what `Ac::encode` writes is
@@ -50,7 +49,7 @@ pub fn carriers_are_exact()
 pub fn alternatives_are_exact()
     ensures one { OneValue IsAlternative StandsForAc }
     ensures each { EachHasValue IsAlternative StandsForAc IsAcValue }
-    ensures round_trip { RoundTrips IsAlternative (λ s b. NoReason) StandsForAc IsAcValue WritesAc }
+    ensures round_trip { ValuesRoundTrip IsAlternative (λ s b. NoReason) StandsForAc IsAcValue WritesAc }
 {}
 
 /// Texts and alternative carriers are equal, by `==`, exactly where all their parts are the same.

@@ -3,18 +3,18 @@ ghost use Rattle.std.specs.Iterator.Adapters.{IterYieldsInOrder, IterYieldsInRev
 ghost use Rattle.std.specs.Prelude.{◌≡◌, ◌≢◌, ◌<◌, ◌^◌, ◌++◌, ◌∷◌, ◌↔◌, ◌⊎◌, [], Some, length, map, slice_get, option_map, IfOk, IsTrue, OnOk};
 ghost use Rattle.std.specs.Slice.Iter.{iter_rest};
 ghost use Rattle.std.specs.List.{AllByRecursion, find};
-ghost use Rattle.ndef_value.specs.Wire.{run_record};
-ghost use Rattle.ndef_value.specs.declared.profile.Profile.TheVariants.{Strict};
+ghost use Rattle.ndef_format.specs.Messages.{run_record};
+ghost use Rattle.ndef_format.specs.declared.profile.Profile.TheVariants.{Strict};
 ghost use Rattle.ndef_value.specs.declared.limits.TheConstants.{MOST_RECORDS};
-ghost use Rattle.ndef_lang.specs.Alternative.{IsAlternative};
-ghost use Rattle.ndef_lang.specs.Kind.{kind_of};
-ghost use Rattle.ndef_lang.specs.declared.kind.Kind.TheVariants as kinds;
-ghost use Rattle.ndef_nest.specs.Nested.{IsNest};
-ghost use Rattle.ndef_nest.specs.declared.table.Table.{Table};
-ghost use Rattle.ndef_nest.specs.declared.table.Table.TheVariants.{SmartPoster};
-ghost use Rattle.ndef_types.specs.Contents.{IsFirst};
+ghost use Rattle.ndef_format.specs.Handovers.{IsAlternative};
+ghost use Rattle.ndef_format.specs.Kinds.{kind_of};
+ghost use Rattle.ndef_format.specs.declared.kind.Kind.TheVariants as kinds;
+ghost use Rattle.ndef_format.specs.Nested.{IsNest};
+ghost use Rattle.ndef_format.specs.declared.table.Table.{Table};
+ghost use Rattle.ndef_format.specs.declared.table.Table.TheVariants.{SmartPoster};
+ghost use Rattle.ndef_types.specs.Contents.{IsFirstOf};
 ghost use Rattle.ndef_types.specs.declared.link.LinkError.TheVariants as errors;
-ghost use Rattle.ndef_types.specs.Links.{AreLinks, FindsLinks, IsHandover, IsIndexOf, LinksOf, StandsForLinks, alternatives, is_handover};
+ghost use Rattle.ndef_types.specs.Links.{AreLinks, FindsLinks, IsHandoverRecord, IsIndexOf, LinksOf, StandsForLinks, alternatives, is_handover};
 
 use crate::Ac;
 use crate::accepting::{accept, accept_item};
@@ -194,7 +194,7 @@ fn read_links(
 
 /// Whether a record is a handover request or select.
 fn is_handover(item: &Record) -> bool
-    ensures { IsTrue result ↔ IsHandover item.now }
+    ensures { IsTrue result ↔ IsHandoverRecord item.now }
 {
     let kind = Kind::of(item.tnf(), item.kind());
     is_kind(kind, Kind::Request) || is_kind(kind, Kind::Select)
@@ -202,7 +202,7 @@ fn is_handover(item: &Record) -> bool
 
 /// The first handover request or select.
 fn first_handover(records: &[Record]) -> Option<&Record>
-    ensures { IsFirst IsHandover records.now (option_map (λ r. r.now) result) }
+    ensures { IsFirstOf IsHandoverRecord records.now (option_map (λ r. r.now) result) }
 {
     for item in records {
         if is_handover(item) {
@@ -219,7 +219,7 @@ fn links_of_handover(
     handover: &Record,
     profile: Profile,
 ) -> Result<Links, LinkError>
-    requires { IsHandover handover.now }
+    requires { IsHandoverRecord handover.now }
     ensures { LinksOf profile outer.now (Some handover.now) result }
 {
     let kind = Kind::of(handover.tnf(), handover.kind());

@@ -1,10 +1,10 @@
 //! Laws of the values that hold messages: what was written for a value is decoded to it.
-ghost use Rattle.ndef_value.specs.declared.profile.Profile.{Profile};
+ghost use Rattle.ndef_format.specs.declared.profile.Profile.{Profile};
 ghost use Rattle.ndef_value.specs.declared.limits.TheConstants.{MOST_RECORDS};
-ghost use Rattle.ndef_nest.specs.Conditions.{NestReason};
-ghost use Rattle.ndef_nest.specs.Nested.{IsNest};
-ghost use Rattle.ndef_nest.specs.declared.table.Table.TheVariants.{SmartPoster, Request, Select};
-ghost use Rattle.ndef_types.specs.Decoding.{EachHasValue, OneValue, RoundTrips};
+ghost use Rattle.ndef_format.specs.NestedReasons.{NestReason};
+ghost use Rattle.ndef_format.specs.Nested.{IsNest};
+ghost use Rattle.ndef_format.specs.declared.table.Table.TheVariants.{SmartPoster, Request, Select};
+ghost use Rattle.ndef_types.specs.Decoding.{EachHasValue, OneValue, ValuesRoundTrip};
 ghost use Rattle.ndef_types.specs.Handovers.{IsRequestValue, IsSelectValue, StandsForRequest, StandsForSelect, WritesRequest, WritesSelect};
 ghost use Rattle.ndef_types.specs.Posters.{IsPosterValue, StandsForPoster, WritesPoster};
 
@@ -18,7 +18,7 @@ pub fn posters_are_exact()
     ensures each { (profile : Profile) →
         EachHasValue (IsNest SmartPoster MOST_RECORDS profile) (StandsForPoster profile) IsPosterValue }
     ensures round_trip { (profile : Profile) →
-        RoundTrips (IsNest SmartPoster MOST_RECORDS profile) (NestReason SmartPoster MOST_RECORDS profile)
+        ValuesRoundTrip (IsNest SmartPoster MOST_RECORDS profile) (NestReason SmartPoster MOST_RECORDS profile)
         (StandsForPoster profile) IsPosterValue WritesPoster }
 {
     one_meaning();
@@ -33,7 +33,7 @@ pub fn requests_are_exact()
     ensures each { (profile : Profile) →
         EachHasValue (IsNest Request MOST_RECORDS profile) (StandsForRequest profile) IsRequestValue }
     ensures round_trip { (profile : Profile) →
-        RoundTrips (IsNest Request MOST_RECORDS profile) (NestReason Request MOST_RECORDS profile)
+        ValuesRoundTrip (IsNest Request MOST_RECORDS profile) (NestReason Request MOST_RECORDS profile)
         (StandsForRequest profile) IsRequestValue WritesRequest }
 {
     one_meaning();
@@ -48,7 +48,7 @@ pub fn selects_are_exact()
     ensures each { (profile : Profile) →
         EachHasValue (IsNest Select MOST_RECORDS profile) (StandsForSelect profile) IsSelectValue }
     ensures round_trip { (profile : Profile) →
-        RoundTrips (IsNest Select MOST_RECORDS profile) (NestReason Select MOST_RECORDS profile)
+        ValuesRoundTrip (IsNest Select MOST_RECORDS profile) (NestReason Select MOST_RECORDS profile)
         (StandsForSelect profile) IsSelectValue WritesSelect }
 {
     one_meaning();

@@ -1,10 +1,10 @@
 //! Messages within payloads.
 ghost use Rattle.std.specs.Prelude.{◌≡◌, ◌+◌, ◌^◌, ◌≤◌, ◌↔◌, ◌∷◌, ◌⊎◌, [], Some, length, IfOk, IfSome, IsErrOf};
-ghost use Rattle.ndef_value.specs.Wire.{canonical};
+ghost use Rattle.ndef_format.specs.Canonical.{canonical};
 ghost use Rattle.ndef_value.specs.declared.limits.TheConstants.{MOST_RECORDS};
-ghost use Rattle.ndef_nest.specs.Conditions.{nested_limits};
-ghost use Rattle.ndef_nest.specs.Nested.{HasContents, Nested};
-ghost use Rattle.ndef_nest.specs.declared.table.Table.{Table};
+ghost use Rattle.ndef_format.specs.NestedReasons.{nested_limits};
+ghost use Rattle.ndef_format.specs.Nested.{HasContents, Nested};
+ghost use Rattle.ndef_format.specs.declared.table.Table.{Table};
 ghost use Rattle.ndef_types.specs.Contents.{StandsForMessage};
 
 use crate::EncodeError;

@@ -1,12 +1,12 @@
 //! Handover requests.
 ghost use Rattle.std.specs.Prelude.{◌≡◌, ◌<◌, ◌≤◌, ◌+◌, ◌^◌, ◌↔◌, length, IfOk, IsErrOf, MatchOption};
-ghost use Rattle.ndef_value.specs.Wire.{canonical};
-ghost use Rattle.ndef_value.specs.declared.profile.Profile.TheVariants.{Strict};
+ghost use Rattle.ndef_format.specs.Canonical.{canonical};
+ghost use Rattle.ndef_format.specs.declared.profile.Profile.TheVariants.{Strict};
 ghost use Rattle.ndef_value.specs.declared.limits.TheConstants.{MOST_RECORDS};
-ghost use Rattle.ndef_nest.specs.Conditions.{NestReason};
-ghost use Rattle.ndef_nest.specs.Nested.{HasContents, IsNest};
-ghost use Rattle.ndef_nest.specs.declared.table.Table.TheVariants as tables;
-ghost use Rattle.ndef_types.specs.Decoding.{Decodes};
+ghost use Rattle.ndef_format.specs.NestedReasons.{NestReason};
+ghost use Rattle.ndef_format.specs.Nested.{HasContents, IsNest};
+ghost use Rattle.ndef_format.specs.declared.table.Table.TheVariants as tables;
+ghost use Rattle.ndef_types.specs.Decoding.{DecodesTo};
 ghost use Rattle.ndef_types.specs.Handovers.{IsCollisionOf, MakesRequest, StandsForRequest, WritesRequest};
 
 use crate::accepting::accept;
@@ -30,9 +30,9 @@ pub struct Request {
 
 impl Model for Request {
     ghost use Rattle.std.specs.Prelude.{◌<◌};
-    ghost use Rattle.ndef_value.specs.declared.profile.Profile.TheVariants.{Strict};
-    ghost use Rattle.ndef_nest.specs.Nested.{HasContents};
-    ghost use Rattle.ndef_nest.specs.declared.table.Table.TheVariants as tables;
+    ghost use Rattle.ndef_format.specs.declared.profile.Profile.TheVariants.{Strict};
+    ghost use Rattle.ndef_format.specs.Nested.{HasContents};
+    ghost use Rattle.ndef_format.specs.declared.table.Table.TheVariants as tables;
     ghost use Rattle.ndef_types.specs.Handovers.{RequestValue};
 
     ghost Value = { RequestValue };
@@ -77,7 +77,7 @@ impl Request {
     /// payload is `Refused` at the first byte after which no payload of its length is one. Else
     /// `NoMemory`.
     pub fn decode(alloc: Global, payload: &[u8]) -> Result<Request, DecodeError>
-        ensures { Decodes (IsNest tables.Request MOST_RECORDS Strict) (NestReason tables.Request MOST_RECORDS Strict)
+        ensures { DecodesTo (IsNest tables.Request MOST_RECORDS Strict) (NestReason tables.Request MOST_RECORDS Strict)
             (StandsForRequest Strict) payload.now result }
     {
         Request::decode_as(alloc, payload, Profile::Strict)
@@ -90,7 +90,7 @@ impl Request {
         payload: &[u8],
         profile: Profile,
     ) -> Result<Request, DecodeError>
-        ensures { Decodes (IsNest tables.Request MOST_RECORDS profile) (NestReason tables.Request MOST_RECORDS profile)
+        ensures { DecodesTo (IsNest tables.Request MOST_RECORDS profile) (NestReason tables.Request MOST_RECORDS profile)
             (StandsForRequest profile) payload.now result }
     {
         accept::<Nest>(Kind::Request, profile, payload)?;

@@ -1,11 +1,11 @@
 //! Handover selects.
 ghost use Rattle.std.specs.Prelude.{◌≡◌, ◌+◌, ◌^◌, ◌<◌, ◌≤◌, ◌↔◌, length, IfOk, IsErrOf, IfSome, option_map};
-ghost use Rattle.ndef_value.specs.declared.profile.Profile.TheVariants.{Strict};
+ghost use Rattle.ndef_format.specs.declared.profile.Profile.TheVariants.{Strict};
 ghost use Rattle.ndef_value.specs.declared.limits.TheConstants.{MOST_RECORDS};
-ghost use Rattle.ndef_nest.specs.Conditions.{NestReason};
-ghost use Rattle.ndef_nest.specs.Nested.{HasContents, IsNest};
-ghost use Rattle.ndef_nest.specs.declared.table.Table.TheVariants as tables;
-ghost use Rattle.ndef_types.specs.Decoding.{Decodes};
+ghost use Rattle.ndef_format.specs.NestedReasons.{NestReason};
+ghost use Rattle.ndef_format.specs.Nested.{HasContents, IsNest};
+ghost use Rattle.ndef_format.specs.declared.table.Table.TheVariants as tables;
+ghost use Rattle.ndef_types.specs.Decoding.{DecodesTo};
 ghost use Rattle.ndef_types.specs.Handovers.{MakesSelect, StandsForSelect, WritesSelect, canonical_or_none};
 
 use crate::accepting::accept;
@@ -28,9 +28,9 @@ pub struct Select {
 
 impl Model for Select {
     ghost use Rattle.std.specs.Prelude.{◌<◌, IfSome};
-    ghost use Rattle.ndef_value.specs.declared.profile.Profile.TheVariants.{Strict};
-    ghost use Rattle.ndef_nest.specs.Nested.{HasContents};
-    ghost use Rattle.ndef_nest.specs.declared.table.Table.TheVariants as tables;
+    ghost use Rattle.ndef_format.specs.declared.profile.Profile.TheVariants.{Strict};
+    ghost use Rattle.ndef_format.specs.Nested.{HasContents};
+    ghost use Rattle.ndef_format.specs.declared.table.Table.TheVariants as tables;
     ghost use Rattle.ndef_types.specs.Handovers.{SelectValue};
 
     ghost Value = { SelectValue };
@@ -85,7 +85,7 @@ impl Select {
     /// other payload is `Refused` at the first byte after which no payload of its length is one. Else
     /// `NoMemory`.
     pub fn decode(alloc: Global, payload: &[u8]) -> Result<Select, DecodeError>
-        ensures { Decodes (IsNest tables.Select MOST_RECORDS Strict) (NestReason tables.Select MOST_RECORDS Strict)
+        ensures { DecodesTo (IsNest tables.Select MOST_RECORDS Strict) (NestReason tables.Select MOST_RECORDS Strict)
             (StandsForSelect Strict) payload.now result }
     {
         Select::decode_as(alloc, payload, Profile::Strict)
@@ -94,7 +94,7 @@ impl Select {
     /// The select for which the payload of a Handover Select record stands, as a reader of the
     /// profile takes it. Refusals as for `decode`.
     pub fn decode_as(alloc: Global, payload: &[u8], profile: Profile) -> Result<Select, DecodeError>
-        ensures { Decodes (IsNest tables.Select MOST_RECORDS profile) (NestReason tables.Select MOST_RECORDS profile)
+        ensures { DecodesTo (IsNest tables.Select MOST_RECORDS profile) (NestReason tables.Select MOST_RECORDS profile)
             (StandsForSelect profile) payload.now result }
     {
         accept::<Nest>(Kind::Select, profile, payload)?;

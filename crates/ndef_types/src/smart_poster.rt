@@ -1,15 +1,14 @@
 //! Smart posters.
 ghost use Rattle.std.specs.Prelude.{◌≡◌, ◌≤◌, ◌^◌, ◌↔◌, ◌⊎◌, length, map, option_map, IfOk, IfSome, IsErrOf, MatchOption};
-ghost use Rattle.ndef_value.specs.Wire.{canonical};
-ghost use Rattle.ndef_value.specs.declared.profile.Profile.TheVariants.{Strict};
+ghost use Rattle.ndef_format.specs.Canonical.{canonical};
+ghost use Rattle.ndef_format.specs.declared.profile.Profile.TheVariants.{Strict};
 ghost use Rattle.ndef_value.specs.declared.limits.TheConstants.{MOST_RECORDS};
-ghost use Rattle.ndef_lang.specs.Leaf.{IsPayload};
-ghost use Rattle.ndef_lang.specs.declared.kind.Kind.TheVariants as kinds;
-ghost use Rattle.ndef_nest.specs.Conditions.{NestReason};
-ghost use Rattle.ndef_nest.specs.Nested.{HasContents, IsNest};
-ghost use Rattle.ndef_nest.specs.declared.table.Table.TheVariants as tables;
-ghost use Rattle.ndef_types.specs.Contents.{IsFirst, IsFirstWrong, IsOfKind};
-ghost use Rattle.ndef_types.specs.Decoding.{Decodes};
+ghost use Rattle.ndef_format.specs.Nested.{IsPayload, HasContents, IsNest};
+ghost use Rattle.ndef_format.specs.declared.kind.Kind.TheVariants as kinds;
+ghost use Rattle.ndef_format.specs.NestedReasons.{NestReason};
+ghost use Rattle.ndef_format.specs.declared.table.Table.TheVariants as tables;
+ghost use Rattle.ndef_types.specs.Contents.{IsFirstOf, IsFirstWrong, IsOfKind};
+ghost use Rattle.ndef_types.specs.Decoding.{DecodesTo};
 ghost use Rattle.ndef_types.specs.Posters.{IsUriOf, LacksUri, MakesPoster, Says, StandForTexts, StandsForPoster, WritesPoster, action_in, plain, size_in, titles};
 
 use crate::accepting::{MOST, accept};
@@ -35,10 +34,10 @@ pub struct SmartPoster {
 
 impl Model for SmartPoster {
     ghost use Rattle.std.specs.Prelude.{List};
-    ghost use Rattle.ndef_value.specs.Wire.{Item};
-    ghost use Rattle.ndef_value.specs.declared.profile.Profile.TheVariants.{Strict};
-    ghost use Rattle.ndef_nest.specs.Nested.{HasContents};
-    ghost use Rattle.ndef_nest.specs.declared.table.Table.TheVariants as tables;
+    ghost use Rattle.ndef_format.specs.Messages.{Item};
+    ghost use Rattle.ndef_format.specs.declared.profile.Profile.TheVariants.{Strict};
+    ghost use Rattle.ndef_format.specs.Nested.{HasContents};
+    ghost use Rattle.ndef_format.specs.declared.table.Table.TheVariants as tables;
 
     ghost Value = { List Item };
 
@@ -141,7 +140,7 @@ fn read_poster(alloc: Global, payload: &[u8], profile: Profile) -> Result<SmartP
 impl SmartPoster {
     /// The first record of a kind.
     fn first(&self, kind: Kind) -> Option<&Record>
-        ensures first { IsFirst (IsOfKind tables.SmartPoster kind) self.now (option_map (λ r. r.now) result) }
+        ensures first { IsFirstOf (IsOfKind tables.SmartPoster kind) self.now (option_map (λ r. r.now) result) }
         ensures payload { IfSome result (λ r. IsPayload kind Strict r.now.payload) }
         ensures contents { HasContents tables.SmartPoster Strict self.now }
     {
@@ -162,7 +161,7 @@ impl SmartPoster {
     /// a message of at most 65535 records, each in one piece. Any other payload is `Refused` at the first
     /// byte after which no payload of its length is one. Else `NoMemory`.
     pub fn decode(alloc: Global, payload: &[u8]) -> Result<SmartPoster, DecodeError>
-        ensures { Decodes (IsNest tables.SmartPoster MOST_RECORDS Strict)
+        ensures { DecodesTo (IsNest tables.SmartPoster MOST_RECORDS Strict)
             (NestReason tables.SmartPoster MOST_RECORDS Strict) (StandsForPoster Strict) payload.now result }
     {
         SmartPoster::decode_as(alloc, payload, Profile::Strict)
@@ -175,7 +174,7 @@ impl SmartPoster {
         payload: &[u8],
         profile: Profile,
     ) -> Result<SmartPoster, DecodeError>
-        ensures { Decodes (IsNest tables.SmartPoster MOST_RECORDS profile)
+        ensures { DecodesTo (IsNest tables.SmartPoster MOST_RECORDS profile)
             (NestReason tables.SmartPoster MOST_RECORDS profile) (StandsForPoster profile) payload.now result }
     {
         accept::<Nest>(Kind::SmartPoster, profile, payload)?;

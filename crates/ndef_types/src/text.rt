@@ -2,9 +2,10 @@
 ghost use Rattle.std.specs.Prelude.{◌≡◌, ◌<◌, ◌≤◌, ◌^◌, ◌++◌, ◌↔◌, length, chars, encode_utf8_all, string_bytes, IsAscii, IsUtf8, IfOk, OnOk, IsErrOf, IsTrue};
 ghost use Rattle.ndef_types.specs.Equality.{text_eq, text_hash};
 ghost use Rattle.ndef_types.specs.EqualityLaws.{text_alike, text_equiv, text_per};
-ghost use Rattle.ndef_lang.specs.Text.{IsText, IsTextIn, TextReason, is_wide};
+ghost use Rattle.ndef_format.specs.Texts.{IsText, IsTextIn, is_wide};
+ghost use Rattle.ndef_format.specs.PayloadReasons.{TextReason};
 ghost use Rattle.ndef_types.specs.declared.text.TextError.TheVariants as errors;
-ghost use Rattle.ndef_types.specs.Decoding.{Decodes};
+ghost use Rattle.ndef_types.specs.Decoding.{DecodesTo};
 ghost use Rattle.ndef_types.specs.Values.{StandsForText, SpellsText, IsTextValue, is_utf16, language_octets, encoded_octets, status_octet, text_octets, text_payload};
 
 use crate::accepting::{MOST, accept};
@@ -189,7 +190,7 @@ impl Text {
     /// text. `Refused` where the payload isn't in the set of its type or is longer than a payload may
     /// be, else `NoMemory`.
     pub fn decode(alloc: Global, payload: &[u8]) -> Result<Text, DecodeError>
-        ensures { Decodes IsText TextReason StandsForText payload.now result }
+        ensures { DecodesTo IsText TextReason StandsForText payload.now result }
     {
         accept::<TextLang>(Kind::Text, Profile::Strict, payload)?;
         Ok(read_text(alloc, payload)?)

@@ -5,9 +5,10 @@ ghost use Rattle.std.specs.Cmp.Lexicographic.{nat_list_eq_equiv, pointwise};
 ghost use Rattle.std.specs.Cmp.Rules.{hashing};
 ghost use Rattle.std.specs.Hash as fed;
 ghost use Rattle.std.specs.Prelude.{◌≡◌, ◌==◌, ◌<◌, ◌≤◌, ◌^◌, ◌↔◌, ℕ, List, length, IsTrue, IsUtf8, IfOk, IsErrOf};
-ghost use Rattle.ndef_lang.specs.Uri.{IsUri, UriReason};
-ghost use Rattle.ndef_value.specs.declared.profile.Profile.TheVariants.{Strict};
-ghost use Rattle.ndef_types.specs.Decoding.{Decodes, IsTooLong};
+ghost use Rattle.ndef_format.specs.Uris.{IsUri};
+ghost use Rattle.ndef_format.specs.PayloadReasons.{UriReason};
+ghost use Rattle.ndef_format.specs.declared.profile.Profile.TheVariants.{Strict};
+ghost use Rattle.ndef_types.specs.Decoding.{DecodesTo, IsTooLong};
 ghost use Rattle.ndef_types.specs.Values.{StandsForUri, WritesUri};
 
 use crate::accepting::{MOST, accept};
@@ -60,7 +61,7 @@ impl Uri {
     /// the code and the rest. `Refused` where the payload isn't in the set of its type or is longer than
     /// a payload may be, else `NoMemory`.
     pub fn decode(alloc: Global, payload: &[u8]) -> Result<Uri, DecodeError>
-        ensures { Decodes (IsUri Strict) (UriReason Strict) StandsForUri payload.now result }
+        ensures { DecodesTo (IsUri Strict) (UriReason Strict) StandsForUri payload.now result }
     {
         Uri::decode_as(alloc, payload, Profile::Strict)
     }
@@ -68,7 +69,7 @@ impl Uri {
     /// The URI for which the payload of a URI record stands, as a reader of the profile takes it: under
     /// `Standard` a reserved code is read as 0, which stands for no prefix. Refusals as for `decode`.
     pub fn decode_as(alloc: Global, payload: &[u8], profile: Profile) -> Result<Uri, DecodeError>
-        ensures { Decodes (IsUri profile) (UriReason profile) StandsForUri payload.now result }
+        ensures { DecodesTo (IsUri profile) (UriReason profile) StandsForUri payload.now result }
     {
         accept::<UriLang>(Kind::Uri, profile, payload)?;
         Ok(read_uri(alloc, payload, profile)?)

@@ -4,8 +4,10 @@ use Rattle.std.specs.Prelude.{unwrap_or}
 use Rattle.std.specs.Option.{option_map}
 use Rattle.std.specs.List.{AllByRecursion}
 use Rattle.std.proofs.Math.Nat.{mul-le-mul_right}
-use Rattle.ndef_value.specs.Wire.{payload_length_octets, id_length_octets, octets, fields, body, Piece, Spells, Run, Follow, IsRun, all_pieces, pieces, payload_of, SpellAll, MessagesAreBounded}
-use Rattle.ndef_value.specs.declared.profile.Profile.{Profile}
+use Rattle.ndef_format.specs.Records.{payload_length_octets, id_length_octets, octets, fields, body, Piece, SpellsPiece, Run, Follow, IsRun, pieces}
+use Rattle.ndef_format.specs.Messages.{all_pieces, payload_of, SpellsPieces}
+use Rattle.ndef_format.specs.Laws.{MessagesAreBounded}
+use Rattle.ndef_format.specs.declared.profile.Profile.{Profile}
 
 length_octets_few : (short : Bool) (n : ℕ) → length (payload_length_octets short n) ≤ 4
 length_octets_few true n = omega arith
@@ -16,7 +18,7 @@ id_octet None = omega arith
 id_octet (Some n) = omega arith
 
 -- the octets of a piece beside its payload
-piece_length : (p : Piece) (short : Bool) (bytes : List ℕ) → Spells p short bytes
+piece_length : (p : Piece) (short : Bool) (bytes : List ℕ) → SpellsPiece p short bytes
     → length bytes ≤ 7 + length p.kind + length (unwrap_or p.id []) + length p.payload
 piece_length p short bytes s =
     let head = length-append (payload_length_octets short (length p.payload)) (id_length_octets (option_map length p.id)) in
@@ -29,7 +31,7 @@ piece_length p short bytes s =
     omega arith
 
 -- a piece without type and id has a head of at most six octets
-later_length : (p : Piece) (short : Bool) (bytes : List ℕ) → p.kind ≡ [] → p.id ≡ None → Spells p short bytes → length bytes ≤ 6 + length p.payload
+later_length : (p : Piece) (short : Bool) (bytes : List ℕ) → p.kind ≡ [] → p.id ≡ None → SpellsPiece p short bytes → length bytes ≤ 6 + length p.payload
 later_length p short bytes k i s =
     let head = length-append (payload_length_octets short (length p.payload)) (id_length_octets (option_map length p.id)) in
     let some = length_octets_few short (length p.payload) in
@@ -43,14 +45,14 @@ later_length p short bytes k i s =
     omega arith
 
 -- the pieces of two lists, spelled one list after the other
-split : (ps qs : List Piece) (bytes : List ℕ) → SpellAll (ps ++ qs) bytes
-    → (front rest : List ℕ) × (bytes ≡ front ++ rest) × SpellAll ps front × SpellAll qs rest
+split : (ps qs : List Piece) (bytes : List ℕ) → SpellsPieces (ps ++ qs) bytes
+    → (front rest : List ℕ) × (bytes ≡ front ++ rest) × SpellsPieces ps front × SpellsPieces qs rest
 split [] qs bytes s = ([], bytes, refl, refl, s)
 split (p ∷ ps) qs bytes s =
     let w = split ps qs s.2 s.5 in
     (s.1 ++ w.0, w.1, s.3 ∙ ap (λ z. s.1 ++ z) w.2 ∙ sym (append_assoc s.1 w.0 w.1), (s.0, s.1, w.0, refl, s.4, w.3), w.4)
 
-later_lengths : (chunked : Bool) (ps : List Piece) (bytes : List ℕ) → Follow chunked ps → SpellAll ps bytes
+later_lengths : (chunked : Bool) (ps : List Piece) (bytes : List ℕ) → Follow chunked ps → SpellsPieces ps bytes
     → length bytes ≤ 6 * length ps + length (payload_of ps)
 later_lengths chunked [] bytes f s = let e = ap length s in omega arith
 later_lengths chunked (p ∷ ps) bytes f s =
@@ -60,7 +62,7 @@ later_lengths chunked (p ∷ ps) bytes f s =
     let all = length-append p.payload (payload_of ps) in
     omega arith
 
-run_length : (profile : Profile) (r : Run) (bytes : List ℕ) → IsRun profile r → SpellAll (pieces r) bytes
+run_length : (profile : Profile) (r : Run) (bytes : List ℕ) → IsRun profile r → SpellsPieces (pieces r) bytes
     → length bytes ≤ 6 * length (pieces r) + 511 + length (payload_of (pieces r))
 run_length profile r bytes i s =
     let here = piece_length r.initial s.0 s.1 s.4 in
@@ -76,7 +78,7 @@ one_more a b n size h k = omega arith
 
 runs_length : (profile : Profile) (most size : ℕ) (rs : List Run) (bytes : List ℕ) → AllByRecursion (IsRun profile) rs
     → AllByRecursion (λ r. length (pieces r) ≤ most) rs → AllByRecursion (λ r. length (payload_of (pieces r)) ≤ size) rs
-    → SpellAll (all_pieces rs) bytes → length bytes ≤ length rs * (6 * most + 511 + size)
+    → SpellsPieces (all_pieces rs) bytes → length bytes ≤ length rs * (6 * most + 511 + size)
 runs_length profile most size [] bytes i p n s = let e = ap length s in omega arith
 runs_length profile most size (r ∷ rs) bytes i p n s =
     let w = split (pieces r) (all_pieces rs) bytes s in

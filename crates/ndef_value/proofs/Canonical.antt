@@ -5,9 +5,12 @@ use Rattle.std.specs.List.{flat_map, AllByRecursion}
 use Rattle.std.proofs.lemmas.List.{append-nil}
 use Rattle.std.proofs.lemmas.Bool.{ltb-true}
 use Rattle.ndef_value.specs.TnfLaws.{same_tnf, code_below, read_code, changed_code}
-use Rattle.ndef_value.specs.Wire.{code, Piece, IsPiece, octets, fields, body, FitsForm, SpellAll, Run, IsRun, run_record, Item, IsItem, IsShaped, BeginsOnce, EndsOnce, all_pieces, AreOctets, written_id, whole_piece, whole_pieces, is_nil, canonical, CanonicalIsFlat}
-use Rattle.ndef_value.specs.declared.tnf.Tnf.{Tnf}
-use Rattle.ndef_value.specs.declared.profile.Profile.{Profile}
+use Rattle.ndef_format.specs.Records.{code, Piece, IsPiece, octets, fields, body, FitsForm, Run, IsRun, AreOctets}
+use Rattle.ndef_format.specs.Messages.{SpellsPieces, run_record, Item, IsShaped, BeginsOnce, EndsOnce, all_pieces}
+use Rattle.ndef_format.specs.Canonical.{IsItem, written_id, whole_piece, whole_pieces, is_nil, canonical}
+use Rattle.ndef_format.specs.Laws.{CanonicalSpells}
+use Rattle.ndef_format.specs.declared.tnf.Tnf.{Tnf}
+use Rattle.ndef_format.specs.declared.profile.Profile.{Profile}
 
 same_id : (id : List ℕ) → unwrap_or (written_id id) [] ≡ id
 same_id [] = refl
@@ -81,7 +84,7 @@ is_piece first last m i =
     }
 
 spelled : (first : Bool) (m : List Item) → AllByRecursion IsItem m
-    → SpellAll (whole_pieces first m) (flat_map (λ p. octets (fields p (nat_lt (length p.payload) 256)) ++ body p) (whole_pieces first m))
+    → SpellsPieces (whole_pieces first m) (flat_map (λ p. octets (fields p (nat_lt (length p.payload) 256)) ++ body p) (whole_pieces first m))
 spelled first [] a = refl
 spelled first (m ∷ ms) a =
     let p = whole_piece first (is_nil ms) m in (
@@ -93,7 +96,7 @@ spelled first (m ∷ ms) a =
       spelled false ms a.1,
     )
 
-pub canonical_is_flat : CanonicalIsFlat
+pub canonical_is_flat : CanonicalSpells
 canonical_is_flat profile m e a = record {
   message = record {
     each_run = runs profile true m a;
@@ -102,5 +105,5 @@ canonical_is_flat profile m e a = record {
     begins = subst BeginsOnce (sym (alone (whole_pieces true m))) (begins m e);
     ends = subst EndsOnce (sym (alone (whole_pieces true m))) (ends true m e);
   };
-  spelled = subst (λ ps. SpellAll ps (canonical m)) (sym (alone (whole_pieces true m))) (spelled true m a);
+  spelled = subst (λ ps. SpellsPieces ps (canonical m)) (sym (alone (whole_pieces true m))) (spelled true m a);
 }

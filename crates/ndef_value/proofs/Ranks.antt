@@ -1,8 +1,8 @@
 -- The order of the reasons.
 use Rattle.std.proofs.Common.{◌≡◌, ℕ, zero, suc, List, [], ◌∷◌, refl, sym, ◌∙◌, ap}
-use Rattle.ndef_value.specs.Reason.{rank_of, RanksAreApart}
-use Rattle.ndef_value.specs.declared.reason.Reason.{Reason}
-use Rattle.ndef_value.specs.declared.reason.Reason.TheVariants.{ReservedTnf, BeginMissing, BeginAgain, UnchangedOutside, ChangedInside, IdInside, ChunkAtEnd, ChunkOfEmpty, TooManyPieces, TooManyRecords, TypeNotEmpty, TypeEmpty, EmptyNotEmpty, PayloadTooLarge, TextBit, Language, Utf8, Utf16, UriCode, UriMissing, UriAgain, Version, CollisionMissing, DoesNotFit, EndOfInput}
+use Rattle.ndef_format.specs.Reasons.{rank_of, RanksAreApart}
+use Rattle.ndef_format.specs.declared.reason.Reason.{Reason}
+use Rattle.ndef_format.specs.declared.reason.Reason.TheVariants.{ReservedTnf, BeginMissing, BeginAgain, UnchangedOutside, ChangedInside, IdInside, ChunkAtEnd, ChunkOfEmpty, TooManyPieces, TooManyRecords, TypeNotEmpty, TypeEmpty, EmptyNotEmpty, PayloadTooLarge, TextBit, Language, Utf8, Utf16, UriCode, UriMissing, UriAgain, Version, CollisionMissing, DoesNotFit, EndOfInput}
 
 -- the reason at a place of a list
 reason_at : List Reason → ℕ → Reason

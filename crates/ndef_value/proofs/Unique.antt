@@ -7,9 +7,11 @@ use Rattle.std.specs.Int.{w32, to_be_bytes}
 use Rattle.std.proofs.lemmas.List.{append-nil}
 use Rattle.ndef_value.specs.PieceLaws.{same_body, same_fields, follow_once, same_run}
 use Rattle.ndef_value.specs.TnfLaws.{read_by_all}
-use Rattle.ndef_value.specs.Wire.{bit, header_octet, payload_length_octets, id_length_octets, octets, fields, body, Piece, Spells, Run, IsRun, all_pieces, run_record, EndsOnce, SpellAll, OneMeaning, StrictIsRead}
-use Rattle.ndef_value.specs.declared.profile.Profile.{Profile}
-use Rattle.ndef_value.specs.declared.profile.Profile.TheVariants.{Strict}
+use Rattle.ndef_format.specs.Records.{bit, header_octet, payload_length_octets, id_length_octets, octets, fields, body, Piece, SpellsPiece, Run, IsRun}
+use Rattle.ndef_format.specs.Messages.{all_pieces, run_record, EndsOnce, SpellsPieces}
+use Rattle.ndef_format.specs.Laws.{OneMeaning, StrictIsRead}
+use Rattle.ndef_format.specs.declared.profile.Profile.{Profile}
+use Rattle.ndef_format.specs.declared.profile.Profile.TheVariants.{Strict}
 
 -- ---- the header octet
 bit_small : (b : Bool) → bit b < 2
@@ -65,7 +67,7 @@ laid : (h k : ℕ) (l i b x : List ℕ) → ((h ∷ k ∷ (l ++ i)) ++ b) ++ x �
 laid h k l i b x = simp append_assoc
 
 -- two spelled pieces at the front of the same bytes are one
-piece_once : (p q : Piece) (s t : Bool) (f g x y : List ℕ) → Spells p s f → Spells q t g → f ++ x ≡ g ++ y → (p ≡ q) × (x ≡ y)
+piece_once : (p q : Piece) (s t : Bool) (f g x y : List ℕ) → SpellsPiece p s f → SpellsPiece q t g → f ++ x ≡ g ++ y → (p ≡ q) × (x ≡ y)
 piece_once p q s t f g x y a b e =
     let behind = λ (p : Piece) (s : Bool) (x : List ℕ). payload_length_octets s (length p.payload) ++ (id_length_octets (option_map length p.id) ++ (body p ++ x)) in
     let lay = λ (p : Piece) (s : Bool) (x : List ℕ). header_octet p.first p.last p.chunked s (is_some (option_map length p.id)) p.tnf ∷ length p.kind ∷ behind p s x in
@@ -84,14 +86,14 @@ clash : (x : Bool) → x ≡ true → x ≡ false → ⊥
 clash true e f = cc
 clash false e f = cc
 
-first_once : (p q : Piece) (ps qs : List Piece) (f g x y : List ℕ) (s : SpellAll (p ∷ ps) f) (t : SpellAll (q ∷ qs) g) → f ++ x ≡ g ++ y
+first_once : (p q : Piece) (ps qs : List Piece) (f g x y : List ℕ) (s : SpellsPieces (p ∷ ps) f) (t : SpellsPieces (q ∷ qs) g) → f ++ x ≡ g ++ y
     → (p ≡ q) × (s.2 ++ x ≡ t.2 ++ y)
 first_once p q ps qs f g x y s t e =
     piece_once p q s.0 t.0 s.1 t.1 (s.2 ++ x) (t.2 ++ y) s.4 t.4
     (sym (append_assoc s.1 s.2 x) ∙ ap (λ z. z ++ x) (sym s.3) ∙ e ∙ ap (λ z. z ++ y) t.3 ∙ append_assoc t.1 t.2 y)
 
 -- two spelled lists of pieces at the front of the same bytes are one, if each ends with its only last piece
-pieces_once : (ps qs : List Piece) (f g x y : List ℕ) → EndsOnce ps → EndsOnce qs → SpellAll ps f → SpellAll qs g → f ++ x ≡ g ++ y → (ps ≡ qs) × (x ≡ y)
+pieces_once : (ps qs : List Piece) (f g x y : List ℕ) → EndsOnce ps → EndsOnce qs → SpellsPieces ps f → SpellsPieces qs g → f ++ x ≡ g ++ y → (ps ≡ qs) × (x ≡ y)
 pieces_once [] qs f g x y a b s t e = absurd a
 pieces_once (p ∷ ps) [] f g x y a b s t e = absurd b
 pieces_once (p ∷ []) (q ∷ []) f g x y a b s t e =

@@ -2,8 +2,5 @@ pub mod ListLaws
 pub mod SliceLaws
 pub mod PieceLaws
 pub mod TnfLaws
-pub mod Wire
 pub mod Message
-pub mod Reason
 pub mod Record
-pub mod Shown

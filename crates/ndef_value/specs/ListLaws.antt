@@ -1,7 +1,7 @@
 -- Lists that begin alike, and lists of octets.
 use Rattle.std.proofs.Common.{◌≡◌, ℕ, zero, suc, ◌≤◌, ◌⊎◌, inl, inr, refl, sym, subst, arith, List, [], ◌∷◌, ◌++◌, length, take, drop}
 use Rattle.std.proofs.lemmas.List.{take-append-drop}
-use Rattle.ndef_value.specs.Wire.{AreOctets}
+use Rattle.ndef_format.specs.Records.{AreOctets}
 
 -- one list ends inside the other, or at its end
 pub split_append : (p q l r : List ℕ) → p ++ q ≡ l ++ r

@@ -4,7 +4,7 @@ use Rattle.std.specs.Prelude.{unwrap_or}
 use Rattle.std.specs.Option.{option_map}
 use Rattle.std.proofs.lemmas.Bool.{false≢true}
 use Rattle.ndef_value.specs.ListLaws.{cut_alike}
-use Rattle.ndef_value.specs.Wire.{Fields, Piece, Run, Follow, fields, body}
+use Rattle.ndef_format.specs.Records.{HeadFields, Piece, Run, Follow, fields, body}
 
 -- ids of one length are told by their octets
 same_id : (i j : Option (List ℕ)) → option_map length i ≡ option_map length j → unwrap_or i [] ≡ unwrap_or j [] → i ≡ j
@@ -28,7 +28,7 @@ same_parts : (a a' b b' c c' : Bool) (t t' : ℕ) (k k' : List ℕ) (i i' : Opti
     → make a b c t k i n ≡ make a' b' c' t' k' i' n'
 same_parts a a' b b' c c' t t' k k' i i' n n' e1 e2 e3 e4 e5 e6 e7 = rw (e1, e2, e3, e4, e5, e6, e7) refl
 
-abbrev tell : Bool → Bool → Bool → Bool → ℕ → ℕ → ℕ → Option ℕ → Fields
+abbrev tell : Bool → Bool → Bool → Bool → ℕ → ℕ → ℕ → Option ℕ → HeadFields
 tell first last chunked short tnf kind payload id =
     record { first = first; last = last; chunked = chunked; short = short; tnf = tnf; kind_length = kind; payload_length = payload; id_length = id }
 

@@ -1,7 +1,7 @@
 -- What a slice's pattern or range leaves of a list, and its octets.
 use Rattle.std.proofs.Common.{◌≡◌, ℕ, zero, suc, ◌-◌, ◌<◌, ◌≤◌, List, [], ◌∷◌, length, get_or, take, drop, sym, subst, ap, arith, length-drop, Fits, w8}
 use Rattle.std.proofs.lemmas.List.{take_all}
-use Rattle.ndef_value.specs.Wire.{AreOctets}
+use Rattle.ndef_format.specs.Records.{AreOctets}
 
 -- a list is octets where each of its elements is one
 pub each_octet : (s : List ℕ) → ((k : ℕ) → Fits w8 (get_or s k 0)) → AreOctets s

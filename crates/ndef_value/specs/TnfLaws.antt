@@ -1,10 +1,10 @@
 -- The numbers of type name formats.
 use Rattle.std.proofs.Common.{◌≡◌, ◌≢◌, ℕ, zero, suc, ◌<◌, refl, sym, ◌∙◌, ap, arith}
-use Rattle.ndef_value.specs.Wire.{code, tnf_of, IsRead}
-use Rattle.ndef_value.specs.declared.profile.Profile.{Profile}
-use Rattle.ndef_value.specs.declared.profile.Profile.TheVariants.{Strict, Standard}
-use Rattle.ndef_value.specs.declared.tnf.Tnf.{Tnf}
-use Rattle.ndef_value.specs.declared.tnf.Tnf.TheVariants.{Empty, WellKnown, Media, AbsoluteUri, External, Unknown, Unchanged}
+use Rattle.ndef_format.specs.Records.{code, tnf_of, IsRead}
+use Rattle.ndef_format.specs.declared.profile.Profile.{Profile}
+use Rattle.ndef_format.specs.declared.profile.Profile.TheVariants.{Strict, Standard}
+use Rattle.ndef_format.specs.declared.tnf.Tnf.{Tnf}
+use Rattle.ndef_format.specs.declared.tnf.Tnf.TheVariants.{Empty, WellKnown, Media, AbsoluteUri, External, Unknown, Unchanged}
 
 pub same_tnf : (t : Tnf) → tnf_of (code t) ≡ t
 same_tnf Empty = refl

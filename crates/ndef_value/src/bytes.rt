@@ -5,7 +5,7 @@ ghost use Rattle.std.specs.Cmp.Lexicographic.{nat_list_eq_equiv, pointwise};
 ghost use Rattle.std.specs.Cmp.Rules.{hashing};
 ghost use Rattle.std.specs.Hash as fed;
 ghost use Rattle.std.specs.Prelude.{◌≡◌, ◌==◌, ◌↔◌, [], ◌++◌, IsTrue, IfOk, OnOk, OnErr};
-ghost use Rattle.ndef_value.specs.Wire.{AreOctets};
+ghost use Rattle.ndef_format.specs.Records.{AreOctets};
 
 use crate::NoMemory;
 use std::alloc::Global;
@@ -20,7 +20,7 @@ pub struct Bytes {
 
 impl Model for Bytes {
     ghost use Rattle.std.specs.Prelude.{List, ℕ};
-    ghost use Rattle.ndef_value.specs.Wire.{AreOctets};
+    ghost use Rattle.ndef_format.specs.Records.{AreOctets};
 
     ghost Value = { List ℕ };
 

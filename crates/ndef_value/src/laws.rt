@@ -1,6 +1,6 @@
 //! What holds of the format, whoever reads or writes it.
-ghost use Rattle.ndef_value.specs.Reason.{RanksAreApart};
-ghost use Rattle.ndef_value.specs.Wire.{OneMeaning, StrictIsRead, CanonicalIsFlat, MessagesAreBounded};
+ghost use Rattle.ndef_format.specs.Reasons.{RanksAreApart};
+ghost use Rattle.ndef_format.specs.Laws.{OneMeaning, StrictIsRead, CanonicalSpells, MessagesAreBounded};
 
 /// Bytes that begin with the spelling of a message are the spelling of no other message, with other
 /// bytes after it: a byte string spells at most one message, and no spelling begins another. What a
@@ -12,7 +12,7 @@ pub fn one_meaning()
 
 /// The canonical spelling of some records spells them.
 pub fn canonical_is_a_spelling()
-    ensures { CanonicalIsFlat }
+    ensures { CanonicalSpells }
 {}
 
 /// A message within the limits has at most so many bytes.

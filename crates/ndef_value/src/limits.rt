@@ -1,6 +1,6 @@
 //! How large a message may be, and who reads it.
 ghost use Rattle.std.specs.Prelude.{◌≡◌, IfOk, IsOk, ◌↔◌};
-ghost use Rattle.ndef_value.specs.Wire.{LimitValues, AreInRange, strict_limits, usual_limits};
+ghost use Rattle.ndef_format.specs.Limits.{LimitValues, AreInRange, strict_limits, usual_limits};
 
 use crate::Profile;
 use std::marker::Model;
@@ -27,7 +27,7 @@ pub struct Limits {
 }
 
 impl Model for Limits {
-    ghost use Rattle.ndef_value.specs.Wire.{LimitValues, AreInRange};
+    ghost use Rattle.ndef_format.specs.Limits.{LimitValues, AreInRange};
 
     ghost Value = { LimitValues };
 

@@ -9,8 +9,9 @@ ghost use Rattle.std.specs.Slice.Iter.{iter_rest};
 ghost use Rattle.ndef_value.specs.contracts.record.RecordEq.TheImpl.Laws as equiv;
 ghost use Rattle.ndef_value.specs.contracts.record.RecordHash.TheImpl.Laws as hashed;
 ghost use Rattle.ndef_value.specs.contracts.record.RecordPartialEq.TheImpl.Laws as per;
-ghost use Rattle.ndef_value.specs.Wire.{Item, IsItem, AreItems};
-ghost use Rattle.ndef_value.specs.Message.{Gives};
+ghost use Rattle.ndef_format.specs.Messages.{Item};
+ghost use Rattle.ndef_format.specs.Canonical.{IsItem, AreItems};
+ghost use Rattle.ndef_value.specs.Message.{GivesMessage};
 
 use crate::{MOST_RECORDS, Record};
 use std::hash::{Hash, Hasher};
@@ -26,7 +27,8 @@ pub struct Message {
 
 impl Model for Message {
     ghost use Rattle.std.specs.Prelude.{List};
-    ghost use Rattle.ndef_value.specs.Wire.{Item, AreItems};
+    ghost use Rattle.ndef_format.specs.Messages.{Item};
+    ghost use Rattle.ndef_format.specs.Canonical.{AreItems};
 
     ghost Value = { List Item };
 
@@ -59,7 +61,7 @@ impl Message {
     /// A message of the records, in their order; the records back where there are none or more than
     /// 65535. It takes no memory.
     pub fn new(records: Vec<Record>) -> Result<Message, MessageError>
-        ensures { Gives records.items result }
+        ensures { GivesMessage records.items result }
     {
         if records.is_empty() {
             return Err(MessageError::NoRecords(records));

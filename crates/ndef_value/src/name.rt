@@ -6,7 +6,7 @@ ghost use Rattle.std.specs.Cmp.Rules.{hashing};
 ghost use Rattle.std.specs.Hash as fed;
 ghost use Rattle.std.specs.Prelude.{◌≡◌, ◌==◌, ◌+◌, ◌<◌, ◌≤◌, ◌↔◌, [], ◌∷◌, ◌++◌, length, IsTrue, IsOk, IfOk, OnOk, OnErr, IsErrOf};
 ghost use Rattle.ndef_value.specs.declared.name.NameError.TheVariants as errors;
-ghost use Rattle.ndef_value.specs.Wire.{AreOctets};
+ghost use Rattle.ndef_format.specs.Records.{AreOctets};
 
 use crate::NoMemory;
 use smallvec::SmallVec;
@@ -27,7 +27,7 @@ pub struct Name {
 
 impl Model for Name {
     ghost use Rattle.std.specs.Prelude.{List, ℕ, ◌≤◌, length};
-    ghost use Rattle.ndef_value.specs.Wire.{AreOctets};
+    ghost use Rattle.ndef_format.specs.Records.{AreOctets};
 
     ghost Value = { List ℕ };
 

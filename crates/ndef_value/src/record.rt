@@ -2,7 +2,8 @@
 ghost use Rattle.std.specs.Prelude.{◌≡◌, ◌↔◌, IfOk, IsErrOf, IsTrue};
 ghost use Rattle.ndef_value.specs.declared.record.RecordError.TheVariants as errors;
 ghost use Rattle.ndef_value.specs.Record.{record_error};
-ghost use Rattle.ndef_value.specs.Wire.{IsShaped, HasLengths, IsItem};
+ghost use Rattle.ndef_format.specs.Messages.{IsShaped};
+ghost use Rattle.ndef_format.specs.Canonical.{HasLengths, IsItem};
 
 use crate::{Bytes, MOST_PAYLOAD, Name, NameError, NoMemory, Tnf};
 use std::alloc::Global;
@@ -23,7 +24,8 @@ pub struct Record {
 }
 
 impl Model for Record {
-    ghost use Rattle.ndef_value.specs.Wire.{Item, IsItem};
+    ghost use Rattle.ndef_format.specs.Messages.{Item};
+    ghost use Rattle.ndef_format.specs.Canonical.{IsItem};
 
     ghost Value = { Item };
 

@@ -1,19 +1,22 @@
 -- Whole records at the front of some bytes, seen at once.
 use Rattle.std.specs.Prelude.{◌≡◌, ◌-◌, ◌<◌, ◌≤◌, ℕ, Bool, true, false, List, [], ◌∷◌, ◌++◌, length, take, None, if◌then◌else◌}
 use Rattle.std.specs.List.{AllByRecursion}
-use Rattle.ndef_value.specs.Wire.{Piece, Item, LimitValues, AreOctets, SpellAll, tnf_of}
-use Rattle.ndef_lang.specs.Language.{Sets, AllPass, AllReach}
+use Rattle.ndef_format.specs.Records.{Piece, AreOctets, tnf_of}
+use Rattle.ndef_format.specs.Messages.{Item, SpellsPieces}
+use Rattle.ndef_format.specs.Limits.{LimitValues}
+use Rattle.ndef_format.specs.Payloads.{Sets}
+use Rattle.ndef_lang.specs.Language.{AllPass, AllReach}
 use Rattle.ndef_lang.specs.declared.language.Language.{Ghosts}
-use Rattle.ndef_piece.specs.Header.{is_set, tnf_number}
-use Rattle.ndef_piece.specs.Heads.{IsOpen}
-use Rattle.ndef_piece.specs.Pieces as pieces
+use Rattle.ndef_format.specs.HeadReasons.{is_set, tnf_number}
+use Rattle.ndef_format.specs.Positions.{IsOpen}
+use Rattle.ndef_format.specs.Positions as pieces
 use Rattle.ndef_piece.specs.Walk.{Before, inside, outside, Walked}
 use Rattle.ndef_piece.specs.Whole.{IsSplit, shown}
 use Rattle.ndef_piece.specs.declared.head_reader.Step.TheVariants as steps
 use Rattle.ndef_piece.specs.declared.whole.WholePiece.{WholePiece}
-use Rattle.ndef_message.specs.Deep.{IsMember}
+use Rattle.ndef_format.specs.Accepted.{IsMember}
 use Rattle.ndef_message.specs.Feed.{Fronts}
-use Rattle.ndef_message.specs.Machine.Points.{Point, IsBetween}
+use Rattle.ndef_message.specs.Machine.Points.{Point, IsBetweenRecords}
 use Rattle.ndef_message.specs.Machine.State.{numbers, spot_of}
 use Rattle.ndef_message.specs.declared.phase.Place.{Place}
 use Rattle.ndef_message.specs.declared.phase.Phase.TheVariants as phases
@@ -36,7 +39,7 @@ pub record BeginsWith (set : Sets) (limits : LimitValues) (place : Place) (bytes
 -- records may still end then; these records have come, each with a payload of its kind
 pub record EndsRecords (set : Sets) (limits : LimitValues) (c : Before) (items : List Item) (left : ℕ) (last : Bool) (bytes : List ℕ) : Type 0 where
   pub pieces : List Piece
-  pub spelled : SpellAll pieces bytes
+  pub spelled : SpellsPieces pieces bytes
   pub walked : Walked limits c pieces items (outside limits false last left)
   pub members : AllByRecursion (IsMember set limits) items
 
@@ -46,7 +49,7 @@ EndsRecord set limits place last bytes = (c : Before) → place ≡ numbers c �
     → (item : Item) × EndsRecords set limits c (item ∷ []) (c.records - 1) last bytes
 
 -- one record has come, by so many of the bytes
-pub record IsRecord (set : Sets) (limits : LimitValues) (place : Place) (bytes : List ℕ) (taken : ℕ) (last : Bool) : Type 0 where
+pub record IsTakenRecord (set : Sets) (limits : LimitValues) (place : Place) (bytes : List ℕ) (taken : ℕ) (last : Bool) : Type 0 where
   pub some : 0 < taken
   pub within : taken ≤ length bytes
   pub outer : place.inside ≡ false
@@ -61,12 +64,12 @@ pub record Comes (set : Sets) (limits : LimitValues) (c : Before) (bytes : List 
   pub some : 0 < length bytes → there ≡ outside limits false last there.records
   pub pieces : List Piece
   pub items : List Item
-  pub spelled : SpellAll pieces bytes
+  pub spelled : SpellsPieces pieces bytes
   pub walked : Walked limits c pieces items there
   pub members : AllByRecursion (IsMember set limits) items
 
 -- records have come, by so many of the bytes
-pub record AreRecords (set : Sets) (limits : LimitValues) (place : Place) (bytes : List ℕ) (taken : ℕ) (place' : Place) (last : Bool) : Type 0 where
+pub record AreTakenRecords (set : Sets) (limits : LimitValues) (place : Place) (bytes : List ℕ) (taken : ℕ) (place' : Place) (last : Bool) : Type 0 where
   pub within : taken ≤ length bytes
   pub comes : (c : Before) → place ≡ numbers c → c.begun ≡ None → c.over ≡ false → Comes set limits c (take taken bytes) place' last
 
@@ -81,7 +84,7 @@ pub record EndsRun (limits : LimitValues) (records pieces room : ℕ) (m : Item)
   pub later : List Piece
   pub payload : List ℕ
   pub octets : AreOctets payload
-  pub spelled : SpellAll later bytes
+  pub spelled : SpellsPieces later bytes
   pub walked : Walked limits (inside records pieces room m) later (with_payload m payload ∷ []) (outside limits false last (records - 1))
 
 -- NDEF 1.0, chunked payloads: the bytes end the run that is open at the place
@@ -89,7 +92,7 @@ abbrev pub IsRunEnd : LimitValues → Place → List ℕ → Bool → Type 0
 IsRunEnd limits place bytes last = (records pieces room : ℕ) (m : Item) → place ≡ numbers (inside records pieces room m) → EndsRun limits records pieces room m bytes last
 
 -- an open run as far as it has come, with the bytes to come
-pub record GoesOn (limits : LimitValues) (records pieces room : ℕ) (m : Item) (place : Place) (bytes rest : List ℕ) : Type 0 where
+pub record RunGoesOn (limits : LimitValues) (records pieces room : ℕ) (m : Item) (place : Place) (bytes rest : List ℕ) : Type 0 where
   pub later : List Piece
   pub payload : List ℕ
   pub front : List ℕ
@@ -98,12 +101,12 @@ pub record GoesOn (limits : LimitValues) (records pieces room : ℕ) (m : Item) 
   pub place_is : place ≡ numbers (inside records pieces_left room_left (with_payload m payload))
   pub joined : bytes ≡ front ++ rest
   pub octets : AreOctets payload
-  pub spelled : SpellAll later front
+  pub spelled : SpellsPieces later front
   pub walked : Walked limits (inside records pieces room m) later [] (inside records pieces_left room_left (with_payload m payload))
 
 -- NDEF 1.0, chunked payloads: the bytes are pieces that the run open at the place goes on by, up to this place
 abbrev pub AreChunks : LimitValues → Place → List ℕ → Place → Type 0
-AreChunks limits place bytes place' = (records pieces room : ℕ) (m : Item) → place ≡ numbers (inside records pieces room m) → GoesOn limits records pieces room m place' bytes []
+AreChunks limits place bytes place' = (records pieces room : ℕ) (m : Item) → place ≡ numbers (inside records pieces room m) → RunGoesOn limits records pieces room m place' bytes []
 
 -- ---- a checker between records
 
@@ -142,4 +145,4 @@ pub record IsBehindChunks {L : Type 0} (limits : LimitValues) (old new : State L
 
 -- the bytes end these records, and no record is begun
 abbrev pub LeadsBetween : Fronts Point → List ℕ → List Item → Type 0
-LeadsBetween reached bytes given = (next : Point) × IsBetween next × reached bytes given next
+LeadsBetween reached bytes given = (next : Point) × IsBetweenRecords next × reached bytes given next

@@ -1,5 +1,5 @@
 -- What a checker shows.
-use Rattle.ndef_value.specs.Wire.{LimitValues}
+use Rattle.ndef_format.specs.Limits.{LimitValues}
 use Rattle.ndef_lang.specs.declared.language.Language.{Ghosts}
 use Rattle.ndef_message.specs.Machine.Points.{Point}
 use Rattle.ndef_message.specs.Feed.{Fronts}

@@ -1,10 +1,12 @@
 -- What led to a decoder, and what it answers to octets of one field.
 use Rattle.std.specs.Prelude.{◌≡◌, ◌+◌, ℕ, List, ◌∷◌, [], ◌++◌, length, Option, Some, None}
-use Rattle.ndef_value.specs.Wire.{Item, LimitValues}
-use Rattle.ndef_lang.specs.Language.{Sets, Conditions}
+use Rattle.ndef_format.specs.Messages.{Item}
+use Rattle.ndef_format.specs.Limits.{LimitValues}
+use Rattle.ndef_format.specs.Payloads.{Sets}
+use Rattle.ndef_format.specs.Reasons.{Conditions}
 use Rattle.ndef_lang.specs.declared.language.Language.{Ghosts}
 use Rattle.ndef_message.specs.Decoding.{EndsThere, Wants}
-use Rattle.ndef_message.specs.Deep.{IsDeep, IsViable}
+use Rattle.ndef_format.specs.Accepted.{IsAccepted, IsViable}
 use Rattle.ndef_message.specs.Feed.{Fronts}
 use Rattle.ndef_message.specs.Machine.Points.{Point, IsAtPoint, opened_at}
 use Rattle.ndef_message.specs.Machine.Checkers.{CheckerReached}
@@ -38,7 +40,7 @@ pub record Failed (set : Sets) (limits : LimitValues) (place : ℕ) (bytes : Lis
   pub place_is : place ≡ length bytes
   pub at : IsAtPoint limits bytes given point
   pub viable : IsViable set limits bytes
-  pub unended : ¬ IsDeep set limits bytes
+  pub unended : ¬ IsAccepted set limits bytes
 
 -- these bytes led to a checker and to what is kept of the open record; or memory was refused at a place
 abbrev pub DecoderKnows : {L : Type 0} {language : Ghosts L} → Checker L language → (failed : Option ℕ) (open_record : Opened) → Fronts Point

@@ -1,6 +1,6 @@
 -- What a decoder shows.
 use Rattle.std.specs.Prelude.{Bool, is_some}
-use Rattle.ndef_value.specs.Wire.{LimitValues}
+use Rattle.ndef_format.specs.Limits.{LimitValues}
 use Rattle.ndef_lang.specs.declared.language.Language.{Ghosts}
 use Rattle.ndef_message.specs.Machine.Points.{Point}
 use Rattle.ndef_message.specs.Machine.DecoderState.{DecoderKnows}

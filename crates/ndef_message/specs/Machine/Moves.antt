@@ -1,7 +1,9 @@
 -- From one point of a message to the next, octets after octets.
 use Rattle.std.specs.Prelude.{◌≡◌, ◌+◌, ◌≤◌, ℕ, nat_lt, List, [], ◌++◌, length, unwrap_or, ◌⊎◌, if◌then◌else◌}
-use Rattle.ndef_value.specs.Wire.{Item, Fields, octets, LimitValues}
-use Rattle.ndef_piece.specs.Heads.{MayStand}
+use Rattle.ndef_format.specs.Messages.{Item}
+use Rattle.ndef_format.specs.Records.{HeadFields, octets}
+use Rattle.ndef_format.specs.Limits.{LimitValues}
+use Rattle.ndef_format.specs.Positions.{MayStand}
 use Rattle.ndef_piece.specs.Walk.{Before, spot, ending_record, after}
 use Rattle.ndef_message.specs.Machine.Points.{Point, InHead, InType, InId, InPayload, AtEnd, piece}
 
@@ -10,21 +12,21 @@ abbrev pub point_after : Before → Point
 point_after c = if c.over then AtEnd c else InHead c []
 
 -- the records ended, and the next point, where the head and these parts of a piece have come
-abbrev pub given_next : LimitValues → List Item → Before → Fields → (kind id payload : List ℕ) → List Item
+abbrev pub given_next : LimitValues → List Item → Before → HeadFields → (kind id payload : List ℕ) → List Item
 given_next limits given c f kind id payload =
     if nat_lt (length kind) f.kind_length then given
     else (if nat_lt (length id) (unwrap_or f.id_length 0) then given
     else (if nat_lt (length payload) f.payload_length then given else given ++ ending_record c (piece f kind id payload)))
 
 -- NDEF 1.0, record layout: the point behind these parts of a piece
-abbrev pub point_next : LimitValues → Before → Fields → (kind id payload : List ℕ) → Point
+abbrev pub point_next : LimitValues → Before → HeadFields → (kind id payload : List ℕ) → Point
 point_next limits c f kind id payload =
     if nat_lt (length kind) f.kind_length then InType c f kind
     else (if nat_lt (length id) (unwrap_or f.id_length 0) then InId c f kind id
     else (if nat_lt (length payload) f.payload_length then InPayload c f kind id payload else point_after (after limits c (piece f kind id payload))))
 
 -- these are the records ended and the point then
-abbrev pub GoesTo : LimitValues → List Item → Before → Fields → (kind id payload : List ℕ) → List Item → Point → Type 0
+abbrev pub GoesTo : LimitValues → List Item → Before → HeadFields → (kind id payload : List ℕ) → List Item → Point → Type 0
 GoesTo limits given c f kind id payload given' point' = (given' ≡ given_next limits given c f kind id payload) × (point' ≡ point_next limits c f kind id payload)
 
 -- the point behind these octets more of its field
@@ -38,7 +40,7 @@ point_with (AtEnd c) t = AtEnd c
 -- NDEF 1.0, record layout: the records ended and the point, after these octets of a field
 abbrev pub Moves : LimitValues → List Item → Point → List ℕ → List Item → Point → Type 0
 Moves limits given (InHead c xs) t given' point' =
-    ((given' ≡ given) × (point' ≡ InHead c (xs ++ t))) ⊎ ((f : Fields) × MayStand (spot limits.profile c) f × (octets f ≡ xs ++ t) × GoesTo limits given c f [] [] [] given' point')
+    ((given' ≡ given) × (point' ≡ InHead c (xs ++ t))) ⊎ ((f : HeadFields) × MayStand (spot limits.profile c) f × (octets f ≡ xs ++ t) × GoesTo limits given c f [] [] [] given' point')
 Moves limits given (InType c f kind) t given' point' = (length kind + length t ≤ f.kind_length) × GoesTo limits given c f (kind ++ t) [] [] given' point'
 Moves limits given (InId c f kind id) t given' point' = (length id + length t ≤ unwrap_or f.id_length 0) × GoesTo limits given c f kind (id ++ t) [] given' point'
 Moves limits given (InPayload c f kind id payload) t given' point' =

@@ -1,15 +1,15 @@
 -- What is kept of the open record, behind octets of one field.
 use Rattle.std.specs.Prelude.{◌+◌, ◌<◌, ◌≤◌, ℕ, List, ◌++◌, length, Option, Some, None, unwrap_or, ⊤, ◌⊎◌}
-use Rattle.ndef_value.specs.Wire.{Item}
-use Rattle.ndef_value.specs.declared.tnf.Tnf.{Tnf}
-use Rattle.ndef_value.specs.declared.tnf.Tnf.TheVariants.{Unknown}
+use Rattle.ndef_format.specs.Messages.{Item}
+use Rattle.ndef_format.specs.declared.tnf.Tnf.{Tnf}
+use Rattle.ndef_format.specs.declared.tnf.Tnf.TheVariants.{Unknown}
 use Rattle.ndef_message.specs.Opened.{Opened, header_tnf}
 use Rattle.ndef_message.specs.declared.phase.Phase.{Phase}
 use Rattle.ndef_message.specs.declared.phase.Phase.TheVariants as phases
 
 -- the record that has come
-abbrev pub item_of : Opened → Item
-item_of o = record { tnf = unwrap_or o.tnf Unknown; kind = o.kind; id = o.id; payload = o.payload }
+abbrev pub opened_item : Opened → Item
+opened_item o = record { tnf = unwrap_or o.tnf Unknown; kind = o.kind; id = o.id; payload = o.payload }
 
 -- the type name format, once the first octet of a head has come
 abbrev pub tnf_after : Option Tnf → List ℕ → Option Tnf

@@ -1,8 +1,9 @@
 -- What the payload of the open record can still be.
 use Rattle.std.specs.Prelude.{◌+◌, ◌-◌, ℕ, Bool, List, ◌++◌, if◌then◌else◌}
-use Rattle.ndef_value.specs.Wire.{Item, LimitValues}
-use Rattle.ndef_lang.specs.Kind.{kind_of}
-use Rattle.ndef_lang.specs.Language.{Sets}
+use Rattle.ndef_format.specs.Messages.{Item}
+use Rattle.ndef_format.specs.Limits.{LimitValues}
+use Rattle.ndef_format.specs.Kinds.{kind_of}
+use Rattle.ndef_format.specs.Payloads.{Sets}
 
 -- the octets that complete the payload of a record
 abbrev pub completes : Sets → LimitValues → Item → List ℕ → Type 0

@@ -2,9 +2,11 @@
 use Rattle.std.specs.Prelude.{◌≡◌, ℕ, zero, suc, ◌+◌, ◌-◌, ◌^◌, ◌<◌, ◌≤◌, Bool, true, false, List, [], ◌∷◌, length, take, drop, slice_index, Option, Some, None, unwrap_or, if◌then◌else◌}
 use Rattle.std.specs.Int.{w32, from_be_bytes}
 use Rattle.std.specs.List.{AllByRecursion}
-use Rattle.ndef_value.specs.Wire.{Fields, Piece, SpellAll, Run, pieces, all_pieces, Follow, run_record, payload_of, IsShaped}
-use Rattle.ndef_value.specs.declared.profile.Profile.{Profile}
-use Rattle.ndef_piece.specs.Header.{is_set, tnf_number, size}
+use Rattle.ndef_format.specs.Records.{HeadFields, Piece, Run, pieces, Follow}
+use Rattle.ndef_format.specs.Messages.{SpellsPieces, all_pieces, run_record, payload_of, IsShaped}
+use Rattle.ndef_format.specs.declared.profile.Profile.{Profile}
+use Rattle.ndef_format.specs.HeadReasons.{is_set, tnf_number}
+use Rattle.ndef_piece.specs.Header.{size}
 use Rattle.ndef_message.specs.Machine.Points.{piece}
 use Rattle.ndef_message.specs.Views.{Viewed}
 
@@ -22,7 +24,7 @@ id_length_at true true bytes = Some (slice_index bytes 3)
 id_length_at true false bytes = Some (slice_index bytes 6)
 
 -- NDEF 1.0, record layout: the head at the front, which begins with this header octet
-abbrev pub fields_with : ℕ → List ℕ → Fields
+abbrev pub fields_with : ℕ → List ℕ → HeadFields
 fields_with header bytes = record {
   first = is_set 7 header;
   last = is_set 6 header;
@@ -35,7 +37,7 @@ fields_with header bytes = record {
 }
 
 -- NDEF 1.0, record layout: the piece with this head, and this behind the head
-abbrev pub piece_with : Fields → List ℕ → Piece
+abbrev pub piece_with : HeadFields → List ℕ → Piece
 piece_with f body =
     piece f (take f.kind_length body) (take (unwrap_or f.id_length 0) (drop f.kind_length body))
     (take f.payload_length (drop (unwrap_or f.id_length 0) (drop f.kind_length body)))
@@ -45,7 +47,7 @@ unfoldable pub piece_at : List ℕ → Piece
 piece_at bytes = piece_with (fields_with (slice_index bytes 0) bytes) (drop (size (slice_index bytes 0)) bytes)
 
 -- NDEF 1.0, record layout: the octets behind the head
-abbrev pub body_size : Fields → ℕ
+abbrev pub body_size : HeadFields → ℕ
 body_size f = f.kind_length + (unwrap_or f.id_length 0 + f.payload_length)
 
 -- NDEF 1.0, record layout: the octets of the piece at the front
@@ -87,10 +89,10 @@ viewed_of bytes profile = record { taken = length bytes; runs = runs_of (pieces_
 
 -- the bytes are those of whole pieces
 abbrev pub ArePieces : List ℕ → Type 0
-ArePieces bytes = (ps : List Piece) × SpellAll ps bytes
+ArePieces bytes = (ps : List Piece) × SpellsPieces ps bytes
 
 -- NDEF 1.0, chunked payloads: a run of a message, with as long a payload as one piece can have
-pub record IsRecord (r : Run) : Type 0 where
+pub record IsSeenRecord (r : Run) : Type 0 where
   pub follow : Follow r.initial.chunked r.later
   pub shaped : IsShaped (run_record r)
   pub small : length (payload_of (pieces r)) < 2 ^ 32
@@ -98,15 +100,15 @@ pub record IsRecord (r : Run) : Type 0 where
 -- the bytes are those of one run, with so long a payload
 pub record AreRun (bytes : List ℕ) (size : ℕ) : Type 0 where
   pub run : Run
-  pub spelled : SpellAll (pieces run) bytes
-  pub read : IsRecord run
+  pub spelled : SpellsPieces (pieces run) bytes
+  pub read : IsSeenRecord run
   pub size_is : size ≡ length (payload_of (pieces run))
 
 -- the bytes are those of whole runs
 pub record AreRuns (bytes : List ℕ) : Type 0 where
   pub runs : List Run
-  pub spelled : SpellAll (all_pieces runs) bytes
-  pub read : AllByRecursion IsRecord runs
+  pub spelled : SpellsPieces (all_pieces runs) bytes
+  pub read : AllByRecursion IsSeenRecord runs
 
 -- the bytes are those of a message of so many records
 pub record AreChecked (bytes : List ℕ) (records : ℕ) : Type 0 where

@@ -5,22 +5,21 @@ use Rattle.std.specs.Option.{option_map}
 use Rattle.std.specs.List.{AllByRecursion}
 use Rattle.std.proofs.lemmas.Nat.{from_be_bytes-to_be_bytes_4}
 use Rattle.ndef_value.specs.ListLaws.{cut_alike}
-use Rattle.ndef_value.specs.Wire.{Fields, Piece, Spells, SpellAll, Run, pieces, all_pieces, Follow, IsRun, FlatBy, Item, fields, octets, body, payload_length_octets, id_length_octets}
-use Rattle.ndef_value.specs.declared.profile.Profile.{Profile}
-use Rattle.ndef_piece.specs.Header.{is_set, size}
-use Rattle.ndef_piece.specs.HeaderLaws.{header, parts, octets_size}
-use Rattle.ndef_piece.specs.Heads.{CanBeSpelled}
+use Rattle.ndef_format.specs.Records.{HeadFields, Piece, SpellsPiece, Run, pieces, Follow, IsRun, fields, octets, body, payload_length_octets, id_length_octets}
+use Rattle.ndef_format.specs.Messages.{SpellsPieces, all_pieces, SpellsBy, Item}
+use Rattle.ndef_format.specs.declared.profile.Profile.{Profile}
+use Rattle.ndef_format.specs.HeadReasons.{is_set}
+use Rattle.ndef_piece.specs.Header.{size}
+use Rattle.ndef_piece.specs.HeaderLaws.{header, header_parts, octets_size}
+use Rattle.ndef_format.specs.Positions.{CanBeSpelled}
 use Rattle.ndef_piece.specs.Whole.{IsSplit, BeginWithPiece}
 use Rattle.ndef_message.specs.Machine.Points.{piece, id_of}
-use Rattle.ndef_message.specs.Machine.Seen.{payload_length_at, id_length_at, fields_with, piece_with, piece_at, body_size, size_at, pieces_from, pieces_of, begin_run, runs_of, run_of, IsRecord}
+use Rattle.ndef_message.specs.Machine.Seen.{payload_length_at, id_length_at, fields_with, piece_with, piece_at, body_size, size_at, pieces_from, pieces_of, begin_run, runs_of, run_of, IsSeenRecord}
+use Rattle.ndef_piece.specs.HeaderLaws.{id_count}
 
 -- ---- the parts of a piece
-pub id_count : (o : Option (List ℕ)) → unwrap_or (option_map length o) 0 ≡ length (unwrap_or o [])
-id_count None = refl
-id_count (Some xs) = refl
-
 -- the head of a piece
-pub piece_head : (p : Piece) (short : Bool) (bytes : List ℕ) → Spells p short bytes → CanBeSpelled (fields p short)
+pub piece_head : (p : Piece) (short : Bool) (bytes : List ℕ) → SpellsPiece p short bytes → CanBeSpelled (fields p short)
 piece_head p short bytes s = record { tnf = s.piece.tnf; kind = s.piece.kind_length; payload = s.piece.payload_length; form = s.form; id = rw (id_count p.id) s.piece.id_length }
 
 pub body_length : (p : Piece) → length (body p) ≡ length p.kind + length (unwrap_or p.id []) + length p.payload
@@ -40,9 +39,9 @@ id_told false n None h k z = refl
 id_told false n (Some d) h k z = refl
 
 -- the octets of a head tell it, whatever follows
-head_told : (f : Fields) (z : List ℕ) → CanBeSpelled f → fields_with (header f) (octets f ++ z) ≡ f
+head_told : (f : HeadFields) (z : List ℕ) → CanBeSpelled f → fields_with (header f) (octets f ++ z) ≡ f
 head_told f z l =
-    let p = parts f l.tnf in
+    let p = header_parts f l.tnf in
     let n : payload_length_at (is_set 4 (header f)) (octets f ++ z) ≡ f.payload_length =
     ap (λ s. payload_length_at s (octets f ++ z)) p.short ∙ payload_told f.short f.payload_length f.id_length (header f) f.kind_length z l.payload in
     let i : id_length_at (is_set 3 (header f)) (is_set 4 (header f)) (octets f ++ z) ≡ f.id_length =
@@ -65,7 +64,7 @@ abbrev behind_head : Piece → List ℕ → List ℕ
 behind_head p rest = p.kind ++ (unwrap_or p.id [] ++ (p.payload ++ rest))
 
 -- its head, and what follows it
-head_first : (p : Piece) (short : Bool) (front rest : List ℕ) → Spells p short front → front ++ rest ≡ octets (fields p short) ++ behind_head p rest
+head_first : (p : Piece) (short : Bool) (front rest : List ℕ) → SpellsPiece p short front → front ++ rest ≡ octets (fields p short) ++ behind_head p rest
 head_first p short front rest s =
     ap (λ x. x ++ rest) s.spelled
     ∙ append_assoc (octets (fields p short)) (body p) rest
@@ -91,7 +90,7 @@ parts_told p short rest =
     (ap (take (length p.payload)) d2 ∙ take_at p.payload rest _ refl)
 
 -- a piece is told by its octets, whatever follows
-piece_told : (p : Piece) (short : Bool) (front rest : List ℕ) → Spells p short front → piece_at (front ++ rest) ≡ p
+piece_told : (p : Piece) (short : Bool) (front rest : List ℕ) → SpellsPiece p short front → piece_at (front ++ rest) ≡ p
 unfolding piece_at
 piece_told p short front rest s =
     let f = fields p short in
@@ -101,7 +100,7 @@ piece_told p short front rest s =
     ap piece_at (head_first p short front rest s) ∙ ap₂ piece_with (head_told f z l) behind ∙ parts_told p short rest
 
 -- how many octets a piece has is told by them, whatever follows
-size_told : (p : Piece) (short : Bool) (front rest : List ℕ) → Spells p short front → size_at (front ++ rest) ≡ length front
+size_told : (p : Piece) (short : Bool) (front rest : List ℕ) → SpellsPiece p short front → size_at (front ++ rest) ≡ length front
 unfolding size_at
 size_told p short front rest s =
     let f = fields p short in
@@ -121,7 +120,7 @@ same_split p q s t x y bytes a b =
     let n : length a.front ≡ length b.front = sym (size_told p s a.front x a.spells) ∙ ap size_at e ∙ size_told q t b.front y b.spells in
     (sym (piece_told p s a.front x a.spells) ∙ ap piece_at e ∙ piece_told q t b.front y b.spells, (cut_alike a.front b.front x y n e).1)
 
-front_is_some : (p : Piece) (short : Bool) (front : List ℕ) → Spells p short front → 0 < length front
+front_is_some : (p : Piece) (short : Bool) (front : List ℕ) → SpellsPiece p short front → 0 < length front
 front_is_some p short front s = let e = ap length s.spelled in omega (arith, e)
 
 -- ---- lists of pieces
@@ -140,7 +139,7 @@ pieces_step [] h n = absurd (omega (arith, h))
 pieces_step (b ∷ bytes) h n =
     ap (λ ps. piece_at (b ∷ bytes) ∷ ps) (pieces_skip (size_at (b ∷ bytes) - 1) bytes ∙ ap pieces_of (sym (drop_one (size_at (b ∷ bytes)) b bytes n)))
 
-first_told : (p : Piece) (short : Bool) (front rest : List ℕ) → Spells p short front → pieces_of (front ++ rest) ≡ p ∷ pieces_of rest
+first_told : (p : Piece) (short : Bool) (front rest : List ℕ) → SpellsPiece p short front → pieces_of (front ++ rest) ≡ p ∷ pieces_of rest
 first_told p short front rest s =
     let some = front_is_some p short front s in
     let n = size_told p short front rest s in
@@ -148,7 +147,7 @@ first_told p short front rest s =
     pieces_step (front ++ rest) (omega (arith, some, k)) (omega (arith, some, n))
     ∙ ap₂ (λ q r. q ∷ pieces_of r) (piece_told p short front rest s) (drop_at front rest _ (sym n))
 
-pub pieces_told : (ps : List Piece) (bytes : List ℕ) → SpellAll ps bytes → pieces_of bytes ≡ ps
+pub pieces_told : (ps : List Piece) (bytes : List ℕ) → SpellsPieces ps bytes → pieces_of bytes ≡ ps
 pieces_told [] bytes e = ap pieces_of e
 pieces_told (p ∷ ps) bytes (short, front, rest, e, s, more) =
     ap pieces_of e ∙ first_told p short front rest s ∙ ap (λ qs. p ∷ qs) (pieces_told ps rest more)
@@ -166,7 +165,7 @@ pub runs_told : (rs : List Run) → AllByRecursion (λ r. Follow r.initial.chunk
 runs_told [] h = refl
 runs_told (r ∷ rs) h = run_told r.initial r.later (all_pieces rs) h.0 ∙ ap (λ x. r ∷ x) (runs_told rs h.1)
 
-pub follow_of_read : (rs : List Run) → AllByRecursion IsRecord rs → AllByRecursion (λ r. Follow r.initial.chunked r.later) rs
+pub follow_of_read : (rs : List Run) → AllByRecursion IsSeenRecord rs → AllByRecursion (λ r. Follow r.initial.chunked r.later) rs
 follow_of_read [] h = tt
 follow_of_read (r ∷ rs) h = (h.0.follow, follow_of_read rs h.1)
 
@@ -175,11 +174,11 @@ follow_of_run profile [] h = tt
 follow_of_run profile (r ∷ rs) h = (h.0.follow, follow_of_run profile rs h.1)
 
 -- the runs of a message are told by its bytes
-pub flat_told : (profile : Profile) (rs : List Run) (items : List Item) (bytes : List ℕ) → FlatBy profile rs items bytes → runs_of (pieces_of bytes) ≡ rs
+pub flat_told : (profile : Profile) (rs : List Run) (items : List Item) (bytes : List ℕ) → SpellsBy profile rs items bytes → runs_of (pieces_of bytes) ≡ rs
 flat_told profile rs items bytes f = ap runs_of (pieces_told (all_pieces rs) bytes f.spelled) ∙ runs_told rs (follow_of_run profile rs f.message.each_run)
 
 -- a run of some bytes is told by them
-pub run_is : (r : Run) (bytes : List ℕ) → SpellAll (pieces r) bytes → run_of bytes ≡ r
+pub run_is : (r : Run) (bytes : List ℕ) → SpellsPieces (pieces r) bytes → run_of bytes ≡ r
 run_is r bytes (short, front, rest, e, s, more) =
     let n = size_told r.initial short front rest s in
     ap run_of e ∙ ap₂ (λ p ps. record { initial = p; later = ps }) (piece_told r.initial short front rest s)
@@ -192,13 +191,13 @@ pub record First (p : Piece) (ps : List Piece) (bytes : List ℕ) : Type 0 where
   pub short : Bool
   pub rest : List ℕ
   pub split : IsSplit p short rest bytes
-  pub more : SpellAll ps rest
+  pub more : SpellsPieces ps rest
 
-pub first_of : (p : Piece) (ps : List Piece) (bytes : List ℕ) → SpellAll (p ∷ ps) bytes → First p ps bytes
+pub first_of : (p : Piece) (ps : List Piece) (bytes : List ℕ) → SpellsPieces (p ∷ ps) bytes → First p ps bytes
 first_of p ps bytes (short, front, rest, e, s, more) =
     record { short = short; rest = rest; split = record { front = front; spells = s; joined = e }; more = more }
 
-pub first_of_some : (ps : List Piece) (bytes : List ℕ) → 0 < length bytes → SpellAll ps bytes → (p : Piece) × (later : List Piece) × First p later bytes
+pub first_of_some : (ps : List Piece) (bytes : List ℕ) → 0 < length bytes → SpellsPieces ps bytes → (p : Piece) × (later : List Piece) × First p later bytes
 first_of_some [] bytes n e = absurd (let h = ap length e in omega (arith, n, h))
 first_of_some (p ∷ ps) bytes n s = (p, ps, first_of p ps bytes s)
 

@@ -1,24 +1,27 @@
 -- What the fields of a checker say of the bytes that led there.
 use Rattle.std.specs.Prelude.{◌≡◌, ◌≢◌, ◌+◌, ◌-◌, ◌≤◌, ◌==◌, ◌||◌, nat_lt, ℕ, Bool, true, false, List, [], ◌∷◌, ◌++◌, length, Option, Some, None, is_some, unwrap_or, ⊤, ◌⊎◌, ◌↔◌, if◌then◌else◌}
-use Rattle.ndef_value.specs.Wire.{Item, Piece, Fields, octets, LimitValues, SpellAll, tnf_of}
-use Rattle.ndef_value.specs.declared.profile.Profile.{Profile}
-use Rattle.ndef_value.specs.declared.reason.Reason.{Reason}
-use Rattle.ndef_value.specs.declared.refusal.Refusal.{Refusal}
-use Rattle.ndef_lang.specs.declared.kind.Kind.TheVariants.{Other}
+use Rattle.ndef_format.specs.Messages.{Item, SpellsPieces}
+use Rattle.ndef_format.specs.Records.{Piece, HeadFields, octets, tnf_of}
+use Rattle.ndef_format.specs.Limits.{LimitValues}
+use Rattle.ndef_format.specs.declared.profile.Profile.{Profile}
+use Rattle.ndef_format.specs.declared.reason.Reason.{Reason}
+use Rattle.ndef_format.specs.declared.refusal.Refusal.{Refusal}
+use Rattle.ndef_format.specs.declared.kind.Kind.TheVariants.{Other}
 use Rattle.ndef_lang.specs.declared.kind.KindReader.{KindReader}
-use Rattle.ndef_lang.specs.Kind.{kind_of, kind_after, missing_of}
+use Rattle.ndef_format.specs.Kinds.{kind_of}
+use Rattle.ndef_lang.specs.Machine.Kind.{kind_after, missing_of}
 use Rattle.ndef_lang.specs.Language.{PassesBetween}
 use Rattle.ndef_lang.specs.declared.language.Language.{Ghosts}
 use Rattle.ndef_piece.specs.declared.head.Head.{Head}
-use Rattle.ndef_piece.specs.declared.spot.Spot.{Spot}
+use Rattle.ndef_format.specs.declared.spot.Spot.{Spot}
 use Rattle.ndef_piece.specs.declared.head_reader.Step.TheVariants as steps
 use Rattle.ndef_piece.specs.declared.bounds.Bounds.{Bounds}
 use Rattle.ndef_piece.specs.Heads as heads
-use Rattle.ndef_piece.specs.Heads.{head, Begins, MayStand}
+use Rattle.ndef_piece.specs.Heads.{head, BeginsHead}
+use Rattle.ndef_format.specs.Positions.{MayStand, record_so_far}
 use Rattle.ndef_piece.specs.Walk.{Before, start, spot, Walked}
-use Rattle.ndef_message.specs.Deep.{IsViable}
-use Rattle.ndef_message.specs.Opened.{record_so_far}
-use Rattle.ndef_message.specs.Machine.Points.{Point, InHead, InType, InId, InPayload, AtEnd, part_octets, IsPart, IsAtPoint, IsReasonAt}
+use Rattle.ndef_format.specs.Accepted.{IsViable}
+use Rattle.ndef_message.specs.Machine.Points.{Point, InHead, InType, InId, InPayload, AtEnd, part_octets, IsPartAt, IsAtPoint, IsReasonAt}
 use Rattle.ndef_message.specs.Machine.Moves.{Moves, given_next, point_next, point_with}
 use Rattle.ndef_message.specs.Machine.Payload.{completes, most_left}
 use Rattle.ndef_message.specs.declared.phase.Place.{Place}
@@ -69,11 +72,11 @@ greatest_of b room = if b.chunked || nat_lt room b.payload.1 then room else b.pa
 
 -- the payload can be completed by the piece of some head that goes on after these octets
 abbrev pub SomeHead : (List ℕ → Type 0) → Spot → List ℕ → Type 0
-SomeHead pass spot xs = (f : Fields) × Begins spot xs f × PassesBetween pass f.payload_length (most_left f.chunked spot.room f.payload_length f.payload_length)
+SomeHead pass spot xs = (f : HeadFields) × BeginsHead spot xs f × PassesBetween pass f.payload_length (most_left f.chunked spot.room f.payload_length f.payload_length)
 
 -- the reader stands within a head that can go on
 abbrev pub IsWithinHead : {L : Type 0} → State L → Type 0
-IsWithinHead state = (state.reader.octets ≢ []) × (state.reader.spot.room ≡ state.place.room) × heads.IsViable state.reader.spot state.reader.octets
+IsWithinHead state = (state.reader.octets ≢ []) × (state.reader.spot.room ≡ state.place.room) × heads.IsViableHead state.reader.spot state.reader.octets
 
 -- the payload of an open run can be completed by the piece of a head that goes on so
 abbrev pub CanGoOn : {L : Type 0} (language : Ghosts L) → State L → Type 0
@@ -90,7 +93,7 @@ SpeaksIf language limits payload None = ⊤
 SpeaksIf language limits payload (Some m) = Speaks language limits payload m
 
 -- the reader of a type's name has read these octets
-pub record Reads (reader : KindReader) (f : Fields) (kind : List ℕ) (left : ℕ) : Type 0 where
+pub record Reads (reader : KindReader) (f : HeadFields) (kind : List ℕ) (left : ℕ) : Type 0 where
   pub missing : missing_of reader ≡ left
   pub kinds : (more : List ℕ) → kind_after reader more ≡ (if length more == left then kind_of (tnf_of f.tnf) (kind ++ more) else Other)
 
@@ -132,7 +135,7 @@ module _ {L : Type 0} (language : Ghosts L) (limits : LimitValues) (state : Stat
   Reached bytes given point = Stands bytes given point ⊎ Stopped bytes given point
 
   -- these bytes led behind these parts of a piece
-  abbrev pub StandsBehind : List ℕ → List Item → Before → Fields → (kind id payload : List ℕ) → Type 0
+  abbrev pub StandsBehind : List ℕ → List Item → Before → HeadFields → (kind id payload : List ℕ) → Type 0
   StandsBehind bytes given c f kind id payload = Stands bytes (given_next limits given c f kind id payload) (point_next limits c f kind id payload)
 
   -- after octets of the field behind these bytes: all of them lead on, or the last of them was refused
@@ -142,13 +145,13 @@ module _ {L : Type 0} (language : Ghosts L) (limits : LimitValues) (state : Stat
       ⊎ ((s : List ℕ) × (b : ℕ) × (t ≡ s ++ b ∷ []) × Stopped (bytes ++ t) given (point_with point s))
 
   -- where so much is left of the id and the payload of a piece with this head
-  pub record InBody (h : Head) (id_left left : ℕ) (bytes : List ℕ) (given : List Item) (c : Before) (f : Fields) (kind id payload : List ℕ) : Type 0 where
+  pub record InBody (h : Head) (id_left left : ℕ) (bytes : List ℕ) (given : List Item) (c : Before) (f : HeadFields) (kind id payload : List ℕ) : Type 0 where
     pub pieces : List Piece
     pub done : List ℕ
     pub walked : Walked limits (start limits) pieces given c
-    pub spelled : SpellAll pieces done
+    pub spelled : SpellsPieces pieces done
     pub split : bytes ≡ done ++ part_octets f kind id payload
-    pub part : IsPart limits c f kind id payload
+    pub part : IsPartAt limits c f kind id payload
     pub head_is : h ≡ head f
     pub kind_whole : length kind ≡ f.kind_length
     pub id_left_is : id_left ≡ unwrap_or f.id_length 0 - length id
@@ -164,18 +167,18 @@ module _ {L : Type 0} (language : Ghosts L) (limits : LimitValues) (state : Stat
     pub bytes : List ℕ
     pub given : List Item
     pub before : Before
-    pub fields : Fields
+    pub fields : HeadFields
     pub kind : List ℕ
     pub id : List ℕ
     pub payload : List ℕ
     pub body : InBody h id_left left bytes given before fields kind id payload
 
   -- behind a whole head
-  pub record WholeHead (h : Head) (bytes : List ℕ) (given : List Item) (c : Before) (f : Fields) : Type 0 where
+  pub record WholeHead (h : Head) (bytes : List ℕ) (given : List Item) (c : Before) (f : HeadFields) : Type 0 where
     pub pieces : List Piece
     pub done : List ℕ
     pub walked : Walked limits (start limits) pieces given c
-    pub spelled : SpellAll pieces done
+    pub spelled : SpellsPieces pieces done
     pub split : bytes ≡ done ++ octets f
     pub goes_on : c.over ≡ false
     pub stands : MayStand (spot limits.profile c) f
@@ -188,7 +191,7 @@ module _ {L : Type 0} (language : Ghosts L) (limits : LimitValues) (state : Stat
     pub bytes : List ℕ
     pub given : List Item
     pub before : Before
-    pub fields : Fields
+    pub fields : HeadFields
     pub whole : WholeHead h bytes given before fields
 
 -- an octet came after these bytes, and this is its reason if it is refused

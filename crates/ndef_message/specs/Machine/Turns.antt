@@ -1,12 +1,14 @@
 -- What is read and checked of a source, turn by turn.
 use Rattle.std.specs.Prelude.{◌≡◌, ◌<◌, ◌≤◌, ◌-◌, ℕ, Bool, true, false, List, [], ◌++◌, length, take, IfSome}
-use Rattle.ndef_value.specs.Wire.{Item, LimitValues}
-use Rattle.ndef_lang.specs.Language.{Sets, Conditions}
+use Rattle.ndef_format.specs.Messages.{Item}
+use Rattle.ndef_format.specs.Limits.{LimitValues}
+use Rattle.ndef_format.specs.Payloads.{Sets}
+use Rattle.ndef_format.specs.Reasons.{Conditions}
 use Rattle.ndef_message.specs.Decoding.{Decodes}
-use Rattle.ndef_message.specs.Deep.{IsDeep, IsViable}
+use Rattle.ndef_format.specs.Accepted.{IsAccepted, IsViable}
 use Rattle.ndef_message.specs.Feed.{Fronts, Leads}
 use Rattle.ndef_message.specs.Machine.Points.{Point}
-use Rattle.ndef_message.specs.Place.{Refuses}
+use Rattle.ndef_format.specs.Refusals.{Refuses}
 use Rattle.ndef_message.specs.Sources.{Gave, Supply, supply}
 use Rattle.ndef_message.specs.declared.message_checking.Look.{Look}
 use Rattle.ndef_message.specs.declared.message_checking.Look.TheVariants as looks
@@ -41,9 +43,9 @@ Looked set holds limits new before after failed front given point looks.End =
     (failed ≡ false) × Gave before after [] × IfSome before.coming (λ input. input ≡ []) × new front given point
 Looked set holds limits new before after failed front given point looks.More =
     (failed ≡ false) × (bytes : List ℕ) × (0 < length bytes) × Gave before after bytes
-    × IsViable set limits (front ++ bytes) × (¬ IsDeep set limits (front ++ bytes)) × Leads new (front ++ bytes)
+    × IsViable set limits (front ++ bytes) × (¬ IsAccepted set limits (front ++ bytes)) × Leads new (front ++ bytes)
 Looked set holds limits new before after failed front given point looks.Done =
-    (failed ≡ false) × (bytes : List ℕ) × Gave before after bytes × IsDeep set limits (front ++ bytes) × Leads new (front ++ bytes)
+    (failed ≡ false) × (bytes : List ℕ) × Gave before after bytes × IsAccepted set limits (front ++ bytes) × Leads new (front ++ bytes)
 Looked set holds limits new before after failed front given point (looks.Refused refusal) =
     (failed ≡ false) × (bytes : List ℕ) × Shown before after bytes (refusal.at - length front)
     × (refusal.at < length (front ++ bytes)) × Refuses set holds limits (front ++ bytes) refusal

@@ -1,6 +1,7 @@
 -- The pieces that are written, by where they stand.
 use Rattle.std.specs.Prelude.{ℕ, List, ◌&&◌, not}
-use Rattle.ndef_value.specs.Wire.{Item, Piece}
+use Rattle.ndef_format.specs.Messages.{Item}
+use Rattle.ndef_format.specs.Records.{Piece}
 use Rattle.ndef_message.specs.Cut.{first_piece}
 use Rattle.ndef_message.specs.declared.writing.Standing.{Standing}
 

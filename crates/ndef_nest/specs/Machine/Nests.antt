@@ -1,16 +1,16 @@
 -- What completes the payload that a nest reads, and how many octets do.
 use Rattle.std.specs.Prelude.{◌≡◌, ℕ, ◌^◌, ◌<◌, ◌≤◌, Bool, List, [], ◌∷◌, ◌↔◌, ◌⊎◌}
-use Rattle.ndef_piece.specs.declared.spot.Spot.{Spot}
-use Rattle.ndef_lang.specs.declared.kind.Kind.{Kind}
-use Rattle.ndef_value.specs.Wire.{AreOctets}
-use Rattle.ndef_value.specs.declared.profile.Profile.{Profile}
-use Rattle.ndef_value.specs.declared.reason.Reason.{Reason}
+use Rattle.ndef_format.specs.declared.spot.Spot.{Spot}
+use Rattle.ndef_format.specs.declared.kind.Kind.{Kind}
+use Rattle.ndef_format.specs.Records.{AreOctets}
+use Rattle.ndef_format.specs.declared.profile.Profile.{Profile}
+use Rattle.ndef_format.specs.declared.reason.Reason.{Reason}
 use Rattle.ndef_nest.specs.declared.nest.Nest.{Nest}
 use Rattle.ndef_nest.specs.declared.phase.Phase.TheVariants as phases
-use Rattle.ndef_nest.specs.declared.table.Table.TheVariants.{Select}
-use Rattle.ndef_nest.specs.Nested.{table_of}
-use Rattle.ndef_nest.specs.Machine.Demands.{spot}
-use Rattle.ndef_nest.specs.Machine.Phases.{Completes, fits, head_span, is_first, span_of}
+use Rattle.ndef_format.specs.declared.table.Table.TheVariants.{Select}
+use Rattle.ndef_format.specs.Nested.{table_of}
+use Rattle.ndef_nest.specs.Machine.Demands.{nested_spot}
+use Rattle.ndef_nest.specs.Machine.Phases.{Completes, fits, head_span, is_first_octet, span_of}
 use Rattle.ndef_nest.specs.Machine.Reached.{HasCome, IsReached}
 use Rattle.ndef_nest.specs.Machine.Spans.{PassesAt, IsSpan}
 
@@ -31,7 +31,7 @@ nest_head_span n = head_span n.context n.reader.spot.first n.reader.octets
 
 -- where a record would stand that begins with the next octet
 abbrev pub nest_spot : Nest → Spot
-nest_spot n = spot n.context.profile (is_first n.phase n.reader.spot.first) n.context.records
+nest_spot n = nested_spot n.context.profile (is_first_octet n.phase n.reader.spot.first) n.context.records
 
 -- the reason of the octet taken last
 abbrev pub nest_told : Nest → Reason

@@ -1,6 +1,6 @@
 use Rattle.std.proofs.Common.{refl}
-use Rattle.ndef_lang.specs.Alternative.{IsAlternative}
-use Rattle.ndef_lang.specs.Language.{NoReason}
+use Rattle.ndef_format.specs.Handovers.{IsAlternative}
+use Rattle.ndef_format.specs.Reasons.{NoReason}
 use Rattle.ndef_types.specs.DecodingLaws.{set_not_refused}
 use Rattle.ndef_c.proofs.alternative.ndef_reference.Goals as goal
 

@@ -32,7 +32,7 @@ use denote.Triple.Clauses.{lasts}
 use denote.Triple.Spec.{triple_of}
 use denote.Triple.Table.{framed}
 use denote.Triple.Walked.{Stays, walk_of, says, stay_dropped, Goes-dropped, stay_ref, Goes-ref, ends_at}
-use Rattle.ndef_c.specs.Feeding.{Answers, IsFed}
+use Rattle.ndef_c.specs.Feeding.{AnswersFed, IsFed}
 use Rattle.ndef_c.specs.declared.feeding.NdefChecker.{NdefChecker}
 use Rattle.ndef_c.specs.declared.checking.NdefChecked.{NdefChecked}
 use Rattle.ndef_c.specs.declared.limits.NdefLimits.{NdefLimits}
@@ -99,7 +99,7 @@ ndef_feed_spec 𝓤 𝓛 𝓜 𝓡 wired =
     use1 𝓛 (later (some (λ (r : ℕ). ((‵ (flft (α ∷ []) full_share) ⊛ ‵ (flft κ0 q0) ⊛ ‵ (flft (β ∷ []) full_share) ⊛ ‵ ftrue) ⊛ ‵ (u32.own_val r (v ∷ []))) ⊛
     some (λ (ws : NdefChecker × (Unit {0} × (NdefChecked × Unit {0}))). ‵ (lasts g.ended z.0.0 z.0.3 ws)
     ⊛ raw (fact 𝓤 ((limits : NdefLimits) (front : List ℕ) → IsFed h (record { limits = limits; bytes = front })
-    → IsFed ws.0 (record { limits = limits; bytes = front ++ bytes.now }) × Answers limits (front ++ bytes.now) r out.now ws.1.1.0)))))) (id⊢ 𝓤 _) $
+    → IsFed ws.0 (record { limits = limits; bytes = front ++ bytes.now }) × AnswersFed limits (front ++ bytes.now) r out.now ws.1.1.0)))))) (id⊢ 𝓤 _) $
     await ! tt $ pick ! (λ r. split ! $ split ! $ split ! $ lft_end ! tt $ move ! (1 ∷ []) $ split ! $ move ! (1 ∷ []) $ split ! $ lft_end ! tt $
     -- [β is over; nothing; the token of 0; α is over; the result; the last values; what the lenders keep]
     move ! (4 ∷ []) $ peeks ! u32 (Is u32) (shows 𝓛 u32) r (v ∷ []) (λ is. lands_as ! refl refl ((uint_Lawful 𝓛 w32).typed r _ is).0 $

@@ -1,7 +1,7 @@
 use Rattle.std.proofs.Common.{sym, true≢false}
-use Rattle.ndef_value.specs.declared.profile.Profile.TheVariants.{Standard}
-use Rattle.ndef_nest.specs.Conditions.{NestReason}
-use Rattle.ndef_nest.specs.Nested.{IsNest, table_of}
+use Rattle.ndef_format.specs.declared.profile.Profile.TheVariants.{Standard}
+use Rattle.ndef_format.specs.NestedReasons.{NestReason}
+use Rattle.ndef_format.specs.Nested.{IsNest, table_of}
 use Rattle.ndef_types.specs.DecodingLaws.{set_not_refused}
 use Rattle.ndef_c.proofs.handover.is_nest.Goals as goal
 

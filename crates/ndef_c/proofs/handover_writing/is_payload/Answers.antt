@@ -1,6 +1,6 @@
 use Rattle.std.proofs.Common.{length}
 use Rattle.std.proofs.lemmas.Bool.{eq-eqb, eqb-true}
-use Rattle.ndef_value.specs.declared.profile.Profile.TheVariants.{Strict}
+use Rattle.ndef_format.specs.declared.profile.Profile.TheVariants.{Strict}
 use Rattle.ndef_c.proofs.Stepped.{all_stepped, behind_octet, stepped_all}
 use Rattle.ndef_c.proofs.handover_writing.is_payload.Goals as goal
 

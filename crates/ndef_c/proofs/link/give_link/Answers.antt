@@ -1,6 +1,6 @@
 use Rattle.std.proofs.Common.{length, length-drop, refl, sym, ◌∙◌, ap, subst, arith, get_or}
-use Rattle.ndef_value.specs.declared.profile.Profile.TheVariants.{Standard}
-use Rattle.ndef_lang.specs.Alternative.{IsAlternative}
+use Rattle.ndef_format.specs.declared.profile.Profile.TheVariants.{Standard}
+use Rattle.ndef_format.specs.Handovers.{IsAlternative}
 use Rattle.ndef_c.specs.Nested.{MayBeInPieces}
 use Rattle.ndef_types.specs.Values.{StandsForAc}
 use Rattle.ndef_c.proofs.Alternatives.{ac_at}

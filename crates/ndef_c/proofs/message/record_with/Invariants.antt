@@ -1,6 +1,7 @@
 use Rattle.std.proofs.Common.{◌≡◌, ◌+◌, ◌≤◌, ℕ, List, length, drop}
 use Rattle.std.specs.Prelude.{map}
-use Rattle.ndef_value.specs.Wire.{Run, run_record}
+use Rattle.ndef_format.specs.Records.{Run}
+use Rattle.ndef_format.specs.Messages.{run_record}
 use Rattle.ndef_types.specs.Contents.{Lack}
 use Rattle.ndef_types.specs.Links.{HasId}
 use Rattle.ndef_c.specs.Links.{BeginsWithRuns, LieBetween}

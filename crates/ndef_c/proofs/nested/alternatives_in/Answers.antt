@@ -1,5 +1,5 @@
 use Rattle.std.proofs.Common.{◌≡◌, ◌++◌, ◌∷◌, [], length, length-append, refl, sym, ◌∙◌, ap, arith}
-use Rattle.ndef_lang.specs.Kind.{kind_of}
+use Rattle.ndef_format.specs.Kinds.{kind_of}
 use Rattle.ndef_message.specs.WrittenLaws.{some_left}
 use Rattle.ndef_piece.specs.Whole.{shown}
 use Rattle.ndef_types.specs.Links.{alternatives, is_alternative}

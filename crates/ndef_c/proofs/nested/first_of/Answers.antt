@@ -1,6 +1,6 @@
 use Rattle.std.proofs.Common.{◌≡◌, ◌+◌, ◌++◌, ◌∷◌, [], length, refl, sym, ◌∙◌, ap, subst, true≢false}
 use Rattle.ndef_message.specs.WrittenLaws.{some_left}
-use Rattle.ndef_nest.specs.Nested.{kind_in}
+use Rattle.ndef_format.specs.Nested.{kind_in}
 use Rattle.ndef_types.specs.Contents.{IsOfKind, Lack}
 use Rattle.ndef_piece.specs.Whole.{IsSplit, shown}
 use Rattle.ndef_c.proofs.Ahead.{all_done, ahead_in, behind_piece, empty_rest, first_is, found_of, lack_on, piece_ahead, reached}

@@ -1,6 +1,6 @@
 use Rattle.std.proofs.Common.{◌++◌, [], length, length-append, refl, sym, ◌∙◌, ap, arith}
 use Rattle.ndef_piece.specs.Whole.{shown}
-use Rattle.ndef_value.specs.Wire.{run_record}
+use Rattle.ndef_format.specs.Messages.{run_record}
 use Rattle.ndef_c.proofs.Copied.{copying_at, next_is, part_fits, copied_on, copied_all}
 use Rattle.ndef_c.proofs.Followed.{one_record}
 use Rattle.ndef_c.proofs.Puts.{put_on, put_all}

@@ -1,7 +1,8 @@
 use Rattle.std.proofs.Common.{◌≡◌, ℕ, List, length}
-use Rattle.ndef_value.specs.Wire.{Run, run_record}
+use Rattle.ndef_format.specs.Records.{Run}
+use Rattle.ndef_format.specs.Messages.{run_record}
 use Rattle.ndef_c.specs.Rooms.{IsPut}
-use Rattle.ndef_c.specs.Walks.{BeginsWith}
+use Rattle.ndef_c.specs.Walks.{BeginsWithRun}
 use Rattle.ndef_c.proofs.Copied.{Copying}
 use Rattle.ndef_c.proofs.payload.copy_pieces.Given as goal
 
@@ -9,7 +10,7 @@ abbrev pub invariant-loop-piece : goal.invariant-loop-piece
 invariant-loop-piece l = record {
   run : Run;
   end : List ℕ;
-  begins : BeginsWith run end l.bytes;
+  begins : BeginsWithRun run end l.bytes;
   done : List ℕ;
   copying : Copying (run_record run).payload end l.rest done;
   put : IsPut 0 done l.fn.room l.room;

@@ -1,6 +1,6 @@
 use Rattle.std.proofs.Common.{length, refl, ap, subst, arith}
-use Rattle.ndef_value.specs.Wire.{run_record}
-use Rattle.ndef_c.specs.Walks.{BeginsWith}
+use Rattle.ndef_format.specs.Messages.{run_record}
+use Rattle.ndef_c.specs.Walks.{BeginsWithRun}
 use Rattle.ndef_c.proofs.payload.ndef_payload.Goals as goal
 
 pub copy_pieces-requires-clause-room : goal.copy_pieces-requires-clause-room
@@ -19,7 +19,7 @@ returns-clause-payload c = λ _.
     record {
       run = x.run;
       rest = c.in-Some.found.rest.now;
-      begins = subst (BeginsWith x.run c.in-Some.found.rest.now) c.split_at.ensures.back x.begins;
+      begins = subst (BeginsWithRun x.run c.in-Some.found.rest.now) c.split_at.ensures.back x.begins;
       gives = record {
         count_is = x.payload;
         fits = λ _. (refl, c.copy_pieces.ensures x.run _ x.begins);

@@ -1,5 +1,5 @@
 use Rattle.std.proofs.Common.{None, Some, get_or, length, refl, ◌∙◌, ap, arith}
-use Rattle.ndef_lang.specs.declared.kind.Kind.TheVariants as kinds
+use Rattle.ndef_format.specs.declared.kind.Kind.TheVariants as kinds
 use Rattle.ndef_types.specs.Posters.{action_of}
 use Rattle.ndef_c.proofs.Posters.{first_has, in_pieces}
 use Rattle.ndef_c.proofs.poster.action_of.Goals as goal

@@ -1,6 +1,6 @@
 use Rattle.std.proofs.Common.{None, Some, length, refl, ◌∙◌, ap}
 use Rattle.std.specs.Int.{w32, from_be_bytes}
-use Rattle.ndef_lang.specs.declared.kind.Kind.TheVariants as kinds
+use Rattle.ndef_format.specs.declared.kind.Kind.TheVariants as kinds
 use Rattle.ndef_c.proofs.Posters.{first_has, in_pieces}
 use Rattle.ndef_c.proofs.poster.size_of.Goals as goal
 

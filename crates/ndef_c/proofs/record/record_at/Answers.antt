@@ -1,8 +1,9 @@
 use Rattle.std.proofs.Common.{◌≡◌, [], ◌≤◌, ◌-◌, length, drop, refl, sym, ◌∙◌, ap, subst, arith}
-use Rattle.ndef_value.specs.Wire.{bit, code, tnf_of, run_record}
-use Rattle.ndef_piece.specs.Header.{is_set}
+use Rattle.ndef_format.specs.Records.{bit, code, tnf_of}
+use Rattle.ndef_format.specs.Messages.{run_record}
+use Rattle.ndef_format.specs.HeadReasons.{is_set}
 use Rattle.std.specs.Prelude.{unwrap_or}
-use Rattle.ndef_c.specs.Walks.{BeginsWith, Lies}
+use Rattle.ndef_c.specs.Walks.{BeginsWithRun, Lies}
 use Rattle.ndef_c.proofs.Places.{ends, shown_parts, byte_is_bit, lie_in, id_is, none_beyond}
 use Rattle.ndef_c.proofs.record.record_at.Goals as goal
 
@@ -10,7 +11,7 @@ pub returns-then-at-bytes-clause-none : goal.returns-then-at-bytes-clause-none
 returns-then-at-bytes-clause-none c = none_beyond c.args.bytes.now c.args.at (omega arith)
 
 pub returns-in_default-clause-none : goal.returns-in_default-clause-none
-returns-in_default-clause-none c = λ h. c.in_default.ensures.none (h.0, h.1, subst (BeginsWith h.0 h.1) (sym c.split_at.ensures.back) h.2)
+returns-in_default-clause-none c = λ h. c.in_default.ensures.none (h.0, h.1, subst (BeginsWithRun h.0 h.1) (sym c.split_at.ensures.back) h.2)
 
 pub returns-clause-some : goal.returns-clause-some
 returns-clause-some c =
@@ -28,7 +29,7 @@ returns-clause-some c =
     let part : f.payload.now ≡ x.run.initial.payload = ap (λ q. q.payload) x.initial in
     record {
       run = x.run;
-      begins = subst (BeginsWith x.run (drop (length bytes - length run.rest.now) bytes)) behind (subst (λ y. BeginsWith x.run y c.split_at.result.1.now) (sym e.rest_is) x.begins);
+      begins = subst (BeginsWithRun x.run (drop (length bytes - length run.rest.now) bytes)) behind (subst (λ y. BeginsWithRun x.run y c.split_at.result.1.now) (sym e.rest_is) x.begins);
       at_is = refl;
       onward = e.onward;
       within = omega arith;

@@ -1,7 +1,7 @@
 use Rattle.std.proofs.Common.{◌∙◌, ap, length}
 use Rattle.std.specs.Int.{w16, from_be_bytes}
-use Rattle.ndef_lang.specs.declared.kind.Kind.TheVariants as kinds
-use Rattle.ndef_nest.specs.declared.table.Table.TheVariants as tables
+use Rattle.ndef_format.specs.declared.kind.Kind.TheVariants as kinds
+use Rattle.ndef_format.specs.declared.table.Table.TheVariants as tables
 use Rattle.ndef_c.proofs.Handovers.{collision_first, first_has, some_collision}
 use Rattle.ndef_c.proofs.request.collision_of.Goals as goal
 

@@ -1,7 +1,7 @@
 use Rattle.std.proofs.Common.{subst}
-use Rattle.ndef_nest.specs.Conditions.{NestReason}
-use Rattle.ndef_nest.specs.Nested.{IsNest}
-use Rattle.ndef_nest.specs.declared.table.Table.TheVariants.{Request}
+use Rattle.ndef_format.specs.NestedReasons.{NestReason}
+use Rattle.ndef_format.specs.Nested.{IsNest}
+use Rattle.ndef_format.specs.declared.table.Table.TheVariants.{Request}
 use Rattle.ndef_types.specs.Decoding.{RefusesPayload}
 use Rattle.ndef_c.proofs.request.ndef_request.Goals as goal
 

@@ -1,5 +1,5 @@
 use Rattle.std.proofs.Common.{true≢false, refl, sym, subst, ◌∙◌, arith}
-use Rattle.ndef_value.specs.Wire.{IsLater}
+use Rattle.ndef_format.specs.Records.{IsLater}
 use Rattle.ndef_piece.specs.Whole.{shown}
 use Rattle.ndef_c.proofs.Followed.{begins_with, begins_with_piece, from_piece, goes_on, is_read, reading_at, reading_on, same_split, split_size}
 use Rattle.ndef_c.proofs.run.first_run.Goals as goal

@@ -1,6 +1,6 @@
 use Rattle.std.proofs.Common.{◌+◌, ◌-◌, None, Some, drop, length, length-drop, get_or, refl, sym, ◌∙◌, ap, subst, arith}
-use Rattle.ndef_lang.specs.declared.kind.Kind.TheVariants as kinds
-use Rattle.ndef_nest.specs.declared.table.Table.TheVariants as tables
+use Rattle.ndef_format.specs.declared.kind.Kind.TheVariants as kinds
+use Rattle.ndef_format.specs.declared.table.Table.TheVariants as tables
 use Rattle.ndef_c.specs.Nested.{MayBeInPieces}
 use Rattle.ndef_c.specs.Walks.{Lies}
 use Rattle.ndef_c.proofs.Handovers.{error_some, error_told, first_has, select_nest}

@@ -1,7 +1,7 @@
 use Rattle.std.proofs.Common.{◌+◌, ◌∷◌, [], ◌++◌, false, length, length-append, refl, sym, arith}
 use Rattle.std.specs.Prelude.{chars}
-use Rattle.ndef_lang.specs.Utf16.{spelled, units_of}
-use Rattle.ndef_lang.specs.Utf16Laws.{spelled_length}
+use Rattle.ndef_format.specs.Texts.{spelled, units_of}
+use Rattle.ndef_lang.specs.Machine.Utf16Laws.{spelled_length}
 use Rattle.ndef_c.proofs.Puts.{gives_put, no_room, put_on}
 use Rattle.ndef_c.proofs.Texts.{utf16_size}
 use Rattle.ndef_c.proofs.text.write_utf16.Goals as goal

@@ -1,5 +1,6 @@
 use Rattle.std.proofs.Common.{subst}
-use Rattle.ndef_lang.specs.Uri.{IsUri, UriReason}
+use Rattle.ndef_format.specs.Uris.{IsUri}
+use Rattle.ndef_format.specs.PayloadReasons.{UriReason}
 use Rattle.ndef_types.specs.Decoding.{RefusesPayload}
 use Rattle.ndef_c.proofs.uri.ndef_uri.Goals as goal
 

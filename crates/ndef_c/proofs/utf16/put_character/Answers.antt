@@ -1,6 +1,6 @@
 use Rattle.std.proofs.Common.{◌<◌, ◌++◌, [], refl, false, get_or, length, length-append, take, sym, ◌∙◌, ap, subst, arith}
 use Rattle.std.specs.Char.Escape.{encode_utf16}
-use Rattle.ndef_lang.specs.Utf16.{spelled}
+use Rattle.ndef_format.specs.Texts.{spelled}
 use Rattle.ndef_types.specs.UnitLaws.{spelled_more, small_units}
 use Rattle.ndef_c.specs.Rooms.{IsPut}
 use Rattle.ndef_c.proofs.Puts.{put_on}

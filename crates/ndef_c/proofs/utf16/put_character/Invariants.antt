@@ -1,6 +1,6 @@
 use Rattle.std.proofs.Common.{◌≡◌, ◌+◌, false, length, take}
 use Rattle.std.specs.Char.Escape.{encode_utf16}
-use Rattle.ndef_lang.specs.Utf16.{spelled}
+use Rattle.ndef_format.specs.Texts.{spelled}
 use Rattle.ndef_c.specs.Rooms.{IsPut}
 use Rattle.ndef_c.proofs.utf16.put_character.Given as goal
 

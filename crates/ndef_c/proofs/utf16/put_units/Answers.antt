@@ -4,7 +4,7 @@ use Rattle.std.proofs.lemmas.Iterator.Consumers.{YieldsList-end}
 use Rattle.std.proofs.lemmas.Str.{chars_past_char, IsUtf8-past_char}
 use Rattle.std.specs.Str.Iter.{chars_rest}
 use Rattle.std.specs.Char.Escape.{encode_utf16}
-use Rattle.ndef_lang.specs.Utf16.{units_of, spelled}
+use Rattle.ndef_format.specs.Texts.{units_of, spelled}
 use Rattle.ndef_types.specs.UnitLaws.{text_more}
 use Rattle.ndef_c.specs.Rooms.{IsPut}
 use Rattle.ndef_c.proofs.Characters.{units_fit}

@@ -1,7 +1,7 @@
 use Rattle.std.proofs.Common.{◌≡◌, ◌+◌, ◌++◌, false, length}
 use Rattle.std.specs.Prelude.{IsUtf8, chars}
 use Rattle.std.specs.Str.Iter.{chars_rest}
-use Rattle.ndef_lang.specs.Utf16.{units_of, spelled}
+use Rattle.ndef_format.specs.Texts.{units_of, spelled}
 use Rattle.ndef_c.specs.Rooms.{IsPut}
 use Rattle.ndef_c.proofs.utf16.put_units.Given as goal
 

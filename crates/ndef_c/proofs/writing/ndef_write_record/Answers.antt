@@ -1,5 +1,5 @@
 use Rattle.std.proofs.Common.{◌≡◌, ◌∙◌, ap}
-use Rattle.ndef_value.specs.Wire.{Item}
+use Rattle.ndef_format.specs.Messages.{Item}
 use Rattle.ndef_c.specs.Writes.{octets_by, asked, asked_octets}
 use Rattle.ndef_c.proofs.Puts.{gives_put}
 use Rattle.ndef_c.proofs.Records.{asked_by}

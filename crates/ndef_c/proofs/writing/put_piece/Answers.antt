@@ -1,5 +1,5 @@
 use Rattle.std.proofs.Common.{◌≡◌, ◌+◌, ◌++◌, length, length-append, take, sym, ◌∙◌, ap, subst, arith, take_at}
-use Rattle.ndef_value.specs.Wire.{octets}
+use Rattle.ndef_format.specs.Records.{octets}
 use Rattle.ndef_piece.specs.Heads.{written_fields}
 use Rattle.ndef_c.specs.Rooms.{IsPut}
 use Rattle.ndef_c.proofs.Puts.{put_on}

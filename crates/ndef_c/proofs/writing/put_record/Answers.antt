@@ -3,7 +3,7 @@ use Rattle.ndef_message.specs.WrittenLaws.{some_left, later-end}
 use Rattle.ndef_c.specs.Rooms.{IsPut}
 use Rattle.ndef_c.specs.Writes.{item_of, octets_by, piece_octets}
 use Rattle.ndef_c.proofs.Puts.{put_on}
-use Rattle.ndef_value.specs.Wire.{Item}
+use Rattle.ndef_format.specs.Messages.{Item}
 use Rattle.ndef_c.proofs.Records.{left_octets, first_octets, later_octets, in_lengths}
 use Rattle.ndef_c.proofs.writing.put_record.Goals as goal
 

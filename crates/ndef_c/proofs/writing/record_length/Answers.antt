@@ -1,6 +1,6 @@
 use Rattle.std.proofs.Common.{◌+◌, ◌<◌, [], length, length-take, length-drop, sym, ◌∙◌, ap, arith}
 use Rattle.ndef_message.specs.WrittenLaws.{some_left}
-use Rattle.ndef_value.specs.Wire.{Item}
+use Rattle.ndef_format.specs.Messages.{Item}
 use Rattle.ndef_c.specs.Writes.{item_of, octets_by, piece_octets}
 use Rattle.ndef_c.proofs.Records.{left_octets, first_octets, later_octets, none_is_left, in_lengths}
 use Rattle.ndef_c.proofs.writing.record_length.Goals as goal

@@ -1,5 +1,5 @@
 use Rattle.std.proofs.Common.{◌∙◌, sym, ap, subst, take}
-use Rattle.ndef_piece.specs.Field.{IsAt}
+use Rattle.ndef_format.specs.Positions.{IsAt}
 use Rattle.ndef_fields.proofs.Befores.{all_but_last}
 use Rattle.ndef_fields.proofs.before.before_last.Goals as goal
 

@@ -1,6 +1,6 @@
 use Rattle.std.proofs.Common.{◌≡◌, ◌∙◌}
 use Rattle.ndef_value.specs.SliceLaws.{cut_two}
-use Rattle.ndef_piece.specs.Field.{spot_after}
+use Rattle.ndef_format.specs.Positions.{spot_after}
 use Rattle.ndef_fields.specs.declared.name.FieldName.TheVariants as names
 use Rattle.ndef_fields.proofs.Befores.{head_before, left_is}
 use Rattle.ndef_fields.proofs.Proper.{none_there, one_there, named_first, named_second}

@@ -1,4 +1,4 @@
-use Rattle.ndef_piece.specs.Header.{is_set}
+use Rattle.ndef_format.specs.HeadReasons.{is_set}
 use Rattle.ndef_piece.specs.Whole.{shown}
 use Rattle.ndef_fields.proofs.Proper.{kept, over}
 use Rattle.ndef_fields.proofs.Wholes.{whole_first, whole_last, whole_more}

@@ -1,5 +1,5 @@
 use Rattle.std.proofs.Common.{◌<◌, subst, length}
-use Rattle.ndef_lang.specs.Kind.{kind_of}
+use Rattle.ndef_format.specs.Kinds.{kind_of}
 use Rattle.ndef_fields.specs.Befores.{IsFieldBefore}
 use Rattle.ndef_fields.specs.Lasts.{IsPayloadLast, kind_there}
 use Rattle.ndef_fields.proofs.Lasts.{outer_head, outer_payload}

@@ -1,5 +1,5 @@
 use Rattle.std.proofs.Common.{◌<◌, ◌∙◌, ℕ, ap, subst, length}
-use Rattle.ndef_nest.specs.Nested.{kind_in}
+use Rattle.ndef_format.specs.Nested.{kind_in}
 use Rattle.ndef_fields.specs.Befores.{IsFieldBefore}
 use Rattle.ndef_fields.specs.Lasts.{EndsIn}
 use Rattle.ndef_fields.specs.Payloads.{stage_of}

@@ -1,7 +1,7 @@
 use Rattle.std.proofs.Common.{◌-◌, length, subst, arith}
 use Rattle.std.specs.List.{AllByRecursion}
 use Rattle.ndef_value.specs.SliceLaws.{behind_drop}
-use Rattle.ndef_lang.specs.Text.{IsCodeOctet}
+use Rattle.ndef_format.specs.Texts.{IsCodeOctet}
 use Rattle.ndef_lang.proofs.AsciiLemmas.{ascii_ends}
 use Rattle.ndef_lang.proofs.ascii.is_ascii.Goals as goal
 

@@ -1,5 +1,5 @@
-use Rattle.ndef_value.specs.Wire.{AreOctets}
-use Rattle.ndef_lang.specs.Language.{NoReason}
+use Rattle.ndef_format.specs.Records.{AreOctets}
+use Rattle.ndef_format.specs.Reasons.{NoReason}
 use Rattle.ndef_lang.proofs.PlaceLemmas.{no_refusal}
 use Rattle.ndef_lang.proofs.laws.opaque_payloads.Goals as goal
 

@@ -1,6 +1,6 @@
 use Rattle.std.proofs.Common.{suc, ◌+◌, take, subst, arith}
-use Rattle.ndef_lang.specs.Language.{Follows}
-use Rattle.ndef_lang.specs.Utf16.{SpelledRest}
+use Rattle.ndef_lang.specs.Language.{Continues}
+use Rattle.ndef_lang.specs.Machine.Utf16.{SpelledRest}
 use Rattle.ndef_lang.proofs.Utf16Whole.{follows_unit, front_whole}
 use Rattle.ndef_lang.proofs.utf16.whole_front.Goals as goal
 
@@ -18,7 +18,7 @@ loop-at-preserved-then-not-open c =
       even = (suc units.0, omega arith);
       follows = follows;
       front = front_whole c.args.little c.args.paired bytes (at + 2) (suc units.0) (omega arith) (omega arith)
-          (subst (λ v. Follows (SpelledRest c.args.little c.args.paired) (SpelledRest c.args.little v) (take (at + 2) bytes)) c.if-not-open.true follows);
+          (subst (λ v. Continues (SpelledRest c.args.little c.args.paired) (SpelledRest c.args.little v) (take (at + 2) bytes)) c.if-not-open.true follows);
     }
 
 pub loop-at-preserved : goal.loop-at-preserved

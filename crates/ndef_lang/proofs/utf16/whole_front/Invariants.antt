@@ -1,13 +1,13 @@
 use Rattle.std.proofs.Common.{◌≡◌, ℕ, ◌-◌, ◌*◌, ◌≤◌, length, take}
-use Rattle.ndef_lang.specs.Language.{Follows, StepsFront}
-use Rattle.ndef_lang.specs.Utf16.{SpelledRest}
+use Rattle.ndef_lang.specs.Language.{Continues, StepsFront}
+use Rattle.ndef_lang.specs.Machine.Utf16.{SpelledRest}
 use Rattle.ndef_lang.proofs.utf16.whole_front.Given as goal
 
 abbrev pub invariant-loop-at : goal.invariant-loop-at
 invariant-loop-at l = record {
   within : l.at ≤ length l.bytes;
   even : (m : ℕ) × (l.at ≡ 2 * m);
-  follows : Follows (SpelledRest l.little l.paired) (SpelledRest l.little l.open) (take l.at l.bytes);
+  follows : Continues (SpelledRest l.little l.paired) (SpelledRest l.little l.open) (take l.at l.bytes);
   front : StepsFront (SpelledRest l.little l.paired) (SpelledRest l.little l.front.0) l.bytes l.front.1;
 }
 

@@ -1,5 +1,5 @@
 use Rattle.std.proofs.Common.{◌≡◌, map, string_bytes, sym, subst, rules, Err}
-use Rattle.ndef_making.specs.Asked.{SaidAll, part_in, part_of}
+use Rattle.ndef_making.specs.Asked.{SaidAll, part_in, asked_part}
 use Rattle.ndef_making.proofs.Lists.{said_more}
 use Rattle.ndef_making.proofs.Messages.{said_whole, say_fails}
 use Rattle.ndef_making.proofs.parts.say_all.Goals as goal
@@ -13,7 +13,7 @@ returns-in_err-say c =
 
 pub loop-part-preserved : goal.loop-part-preserved
 loop-part-preserved c =
-    said_more (λ part. part_in (map string_bytes part.now)) part_of c.args.parts.now c.loop-part.part-index c.part-item.result c.loop-part.said.items c.in_ok-say.field-0
+    said_more (λ part. part_in (map string_bytes part.now)) asked_part c.args.parts.now c.loop-part.part-index c.part-item.result c.loop-part.said.items c.in_ok-say.field-0
     c.push.new.self.items c.loop-part-test.true c.part-item.is c.in_ok-say.ensures c.loop-part.invariant c.in_ok-push.ensures.items
 
 pub returns : goal.returns

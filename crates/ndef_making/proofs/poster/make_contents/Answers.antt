@@ -1,5 +1,5 @@
 use Rattle.std.proofs.Common.{◌≡◌, ◌+◌, List, [], sym, subst, rules, Err, get_or, map, take}
-use Rattle.ndef_value.specs.Wire.{Item}
+use Rattle.ndef_format.specs.Messages.{Item}
 use Rattle.ndef_making.specs.Posters.{MakesContent, content_of}
 use Rattle.ndef_making.specs.Records.{AreAnsweredBy, AreMadeBy}
 use Rattle.ndef_making.specs.declared.poster.Property.TheVariants.{Uri}

@@ -1,5 +1,5 @@
 use Rattle.std.proofs.Common.{refl, ap, arith}
-use Rattle.ndef_piece.specs.Header.{is_set}
+use Rattle.ndef_format.specs.HeadReasons.{is_set}
 use Rattle.ndef_piece.specs.Whole.{shown}
 use Rattle.ndef_message.proofs.Accepting.{run_start, run_on, split_shorter}
 use Rattle.ndef_message.proofs.OpenRuns.{run_cut}

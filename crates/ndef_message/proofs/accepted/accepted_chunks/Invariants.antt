@@ -1,7 +1,7 @@
 use Rattle.std.proofs.Common.{◌≡◌, ◌<◌, ◌≤◌, true, false, ℕ, length}
-use Rattle.ndef_value.specs.Wire.{Item}
+use Rattle.ndef_format.specs.Messages.{Item}
 use Rattle.ndef_piece.specs.Walk.{inside}
-use Rattle.ndef_message.specs.Machine.Accepted.{GoesOn}
+use Rattle.ndef_message.specs.Machine.Accepted.{RunGoesOn}
 use Rattle.ndef_message.specs.Machine.State.{numbers}
 use Rattle.ndef_message.proofs.accepted.accepted_chunks.Given as goal
 
@@ -10,7 +10,7 @@ invariant-loop-piece l = record {
   shorter : length l.rest ≤ length l.bytes;
   going_on : l.found.inside ≡ true;
   later : length l.rest < length l.bytes → l.found.first ≡ false;
-  goes_on : (records pieces room : ℕ) (m : Item) → l.fn.place ≡ numbers (inside records pieces room m) → GoesOn l.limits records pieces room m l.found l.bytes l.rest;
+  goes_on : (records pieces room : ℕ) (m : Item) → l.fn.place ≡ numbers (inside records pieces room m) → RunGoesOn l.limits records pieces room m l.found l.bytes l.rest;
 }
 
 abbrev pub decreases-loop-piece : goal.decreases-loop-piece

@@ -1,10 +1,10 @@
 use Rattle.std.proofs.Common.{◌≡◌, ℕ, List, true, false, sym, ◌∙◌, ap, subst, refl}
-use Rattle.ndef_value.specs.Wire.{AreOctets, tnf_of}
-use Rattle.ndef_lang.specs.Kind.{kind_of}
-use Rattle.ndef_piece.specs.Header.{is_set}
-use Rattle.ndef_piece.specs.Pieces as pieces
+use Rattle.ndef_format.specs.Records.{AreOctets, tnf_of}
+use Rattle.ndef_format.specs.Kinds.{kind_of}
+use Rattle.ndef_format.specs.HeadReasons.{is_set}
+use Rattle.ndef_format.specs.Positions as pieces
 use Rattle.ndef_piece.specs.Whole.{shown}
-use Rattle.ndef_message.specs.Machine.Accepted.{BeginsWith, IsRecord}
+use Rattle.ndef_message.specs.Machine.Accepted.{BeginsWith, IsTakenRecord}
 use Rattle.ndef_message.specs.Machine.State.{spot_of}
 use Rattle.ndef_message.proofs.Accepting.{record_from, run_from}
 use Rattle.ndef_message.proofs.accepted.accepted_record.Goals as goal
@@ -36,4 +36,4 @@ returns-then-not-is_chunked g c =
     let yes = c.if-not-is_record.false in
     let found = c.in_ok-piece.ensures in
     let begins : BeginsWith set l place c.args.bytes.now c.in_ok-piece.piece = record { outer = is.outer yes; split = found.piece; no_id = found.no_id; stands = is.stands yes; one = is.one yes; member = is.member yes } in
-    subst (IsRecord set l place c.args.bytes.now _) (sym c.is_last.ensures) (record_from set l place c.args.bytes.now c.in_ok-piece.piece _ begins refl)
+    subst (IsTakenRecord set l place c.args.bytes.now _) (sym c.is_last.ensures) (record_from set l place c.args.bytes.now c.in_ok-piece.piece _ begins refl)

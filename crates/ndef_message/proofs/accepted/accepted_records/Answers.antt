@@ -1,5 +1,5 @@
 use Rattle.std.proofs.Common.{◌+◌, ap, subst}
-use Rattle.ndef_message.specs.Machine.Accepted.{AreRecords}
+use Rattle.ndef_message.specs.Machine.Accepted.{AreTakenRecords}
 use Rattle.ndef_message.proofs.Accepting.{records_start, records_on}
 use Rattle.ndef_message.proofs.accepted.accepted_records.Goals as goal
 
@@ -11,7 +11,7 @@ loop-at-preserved g c =
     let l = c.args.limits.now in
     let set = g.L.Language.set in
     record {
-      records = subst (AreRecords set l c.args.place c.args.bytes.now (c.loop-at.at + c.in-Some.taken) c.behind_record-found.result) c.if-last.false
+      records = subst (AreTakenRecords set l c.args.place c.args.bytes.now (c.loop-at.at + c.in-Some.taken) c.behind_record-found.result) c.if-last.false
           (records_on set l c.args.place c.loop-at.found c.behind_record-found.result c.args.bytes.now c.loop-at.at c.in-Some.taken c.in-Some.last c.loop-at.invariant.records c.in-Some.ensures c.behind_record-found.ensures);
       out = λ h. ap (λ x. x.inside) c.behind_record-found.ensures;
     }
@@ -20,5 +20,5 @@ pub returns-then-last-clause-records : goal.returns-then-last-clause-records
 returns-then-last-clause-records g c =
     let l = c.args.limits.now in
     let set = g.L.Language.set in
-    subst (AreRecords set l c.args.place c.args.bytes.now (c.loop-at.at + c.in-Some.taken) c.behind_record-found.result) c.if-last.true
+    subst (AreTakenRecords set l c.args.place c.args.bytes.now (c.loop-at.at + c.in-Some.taken) c.behind_record-found.result) c.if-last.true
     (records_on set l c.args.place c.loop-at.found c.behind_record-found.result c.args.bytes.now c.loop-at.at c.in-Some.taken c.in-Some.last c.loop-at.invariant.records c.in-Some.ensures c.behind_record-found.ensures)

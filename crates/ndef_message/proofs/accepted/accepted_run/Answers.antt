@@ -1,6 +1,6 @@
 use Rattle.std.proofs.Common.{◌≡◌, true, false, sym, ◌∙◌, ap, subst, refl, length, ◌-◌, take, arith}
-use Rattle.ndef_piece.specs.Header.{is_set}
-use Rattle.ndef_piece.specs.Pieces as pieces
+use Rattle.ndef_format.specs.HeadReasons.{is_set}
+use Rattle.ndef_format.specs.Positions as pieces
 use Rattle.ndef_piece.specs.Whole.{shown}
 use Rattle.ndef_message.specs.Machine.Accepted.{EndsRun}
 use Rattle.ndef_message.specs.Machine.State.{spot_of}

@@ -1,6 +1,6 @@
 use Rattle.std.proofs.Common.{sym, ◌∙◌, ap, subst}
-use Rattle.ndef_lang.specs.Kind.{kind_of}
-use Rattle.ndef_piece.specs.Pieces as pieces
+use Rattle.ndef_format.specs.Kinds.{kind_of}
+use Rattle.ndef_format.specs.Positions as pieces
 use Rattle.ndef_piece.specs.Whole.{shown}
 use Rattle.ndef_message.specs.Machine.State.{spot_of}
 use Rattle.ndef_message.proofs.Accepting.{member_at}

@@ -1,5 +1,5 @@
 use Rattle.std.proofs.Common.{sym, ◌∙◌, ap, subst}
-use Rattle.ndef_piece.specs.Pieces as pieces
+use Rattle.ndef_format.specs.Positions as pieces
 use Rattle.ndef_piece.specs.Whole.{shown}
 use Rattle.ndef_message.specs.Machine.State.{spot_of}
 use Rattle.ndef_message.proofs.accepted.whole_chunk.Goals as goal

@@ -9,4 +9,4 @@ pub returns-clause-whole : goal.returns-clause-whole
 returns-clause-whole g c =
     let laws = c.format_laws.ensures in
     let s = c.args.checker.now in
-    λ front given point x deep. deep_given laws.laws g.L.Language s.limits laws.range s.state front given point deep x.1
+    λ front given point x accepted. deep_given laws.laws g.L.Language s.limits laws.range s.state front given point accepted x.1

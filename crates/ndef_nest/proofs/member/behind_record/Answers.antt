@@ -1,8 +1,8 @@
 use Rattle.std.proofs.Common.{◌∙◌, ap, subst}
-use Rattle.ndef_piece.specs.Header.{is_set}
-use Rattle.ndef_piece.specs.Pieces.{Stands}
+use Rattle.ndef_format.specs.HeadReasons.{is_set}
+use Rattle.ndef_format.specs.Positions.{Stands}
 use Rattle.ndef_piece.specs.Whole.{piece_of}
-use Rattle.ndef_nest.specs.Nested.{kind_in}
+use Rattle.ndef_format.specs.Nested.{kind_in}
 use Rattle.ndef_nest.specs.Machine.Demands.{Tail, Later}
 use Rattle.ndef_nest.proofs.Members.{record_from}
 use Rattle.ndef_nest.proofs.member.behind_record.Goals as goal

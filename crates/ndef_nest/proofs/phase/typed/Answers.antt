@@ -1,6 +1,6 @@
 use Rattle.std.proofs.Common.{◌≡◌, ◌++◌, ◌∙◌, sym, ap}
 use Rattle.ndef_lang.specs.StepLaws.{octets_each}
-use Rattle.ndef_nest.specs.Nested.{checked, kind_in}
+use Rattle.ndef_format.specs.Nested.{checked, kind_in}
 use Rattle.ndef_nest.proofs.Steps.{chain}
 use Rattle.ndef_nest.proofs.WholeHeads.{type_completes, type_comes}
 use Rattle.ndef_nest.proofs.phase.typed.Goals as goal

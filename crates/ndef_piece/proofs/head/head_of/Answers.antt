@@ -1,7 +1,7 @@
 use Rattle.std.proofs.Common.{refl, ◌∙◌, ap}
-use Rattle.ndef_piece.specs.Conditions.{least_from}
+use Rattle.ndef_format.specs.HeadReasons.{least_from}
 use Rattle.ndef_piece.specs.Ranges.{length_front}
-use Rattle.ndef_value.specs.Wire.{tnf_of}
+use Rattle.ndef_format.specs.Records.{tnf_of}
 use Rattle.ndef_piece.proofs.ReadBack.{read_back}
 use Rattle.ndef_piece.proofs.head.head_of.Goals as goal
 

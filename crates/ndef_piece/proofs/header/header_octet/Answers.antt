@@ -1,7 +1,7 @@
 use Rattle.std.proofs.Common.{◌<◌, arith, ap, ◌∙◌}
 use Rattle.std.specs.Prelude.{is_some}
 use mir.Val.{bool_byte}
-use Rattle.ndef_value.specs.Wire.{bit, code}
+use Rattle.ndef_format.specs.Records.{bit, code}
 use Rattle.ndef_piece.specs.HeaderLaws.{bit_below}
 use Rattle.ndef_piece.proofs.HeaderOctet.{flags_or, byte_bit}
 use Rattle.ndef_piece.proofs.header.header_octet.Goals as goal

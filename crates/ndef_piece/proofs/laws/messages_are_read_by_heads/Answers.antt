@@ -2,4 +2,4 @@ use Rattle.ndef_piece.proofs.Remainders.{rests_are_flat, rests_end, rests_past_h
 use Rattle.ndef_piece.proofs.laws.messages_are_read_by_heads.Goals as goal
 
 pub returns : goal.returns
-returns c = record { flat = rests_are_flat; end = rests_end; past = rests_past_heads; within = rests_within_heads; follow = rests_can_follow }
+returns c = record { spelling = rests_are_flat; end = rests_end; past = rests_past_heads; within = rests_within_heads; follow = rests_can_follow }

@@ -1,5 +1,5 @@
 use Rattle.std.proofs.Common.{◌≡◌, ◌<◌, ◌∙◌, sym, arith, length, true, false}
-use Rattle.ndef_lang.specs.Kind.{kind_of}
+use Rattle.ndef_format.specs.Kinds.{kind_of}
 use Rattle.ndef_types.specs.Links.{is_alternative}
 use Rattle.ndef_tool.proofs.Lines.{counted_on, counted_off}
 use Rattle.ndef_tool.proofs.handover_lines.count_of.Goals as goal

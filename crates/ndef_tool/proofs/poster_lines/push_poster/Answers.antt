@@ -1,6 +1,6 @@
-use Rattle.ndef_nest.specs.Conditions.{NestReason}
-use Rattle.ndef_nest.specs.Nested.{IsNest}
-use Rattle.ndef_nest.specs.declared.table.Table.TheVariants as tables
+use Rattle.ndef_format.specs.NestedReasons.{NestReason}
+use Rattle.ndef_format.specs.Nested.{IsNest}
+use Rattle.ndef_format.specs.declared.table.Table.TheVariants as tables
 use Rattle.ndef_tool.proofs.Lines.{on_ok}
 use Rattle.ndef_tool.proofs.Members.{never_refused}
 use Rattle.ndef_tool.proofs.poster_lines.push_poster.Goals as goal

@@ -1,6 +1,7 @@
 use Rattle.std.proofs.Common.{◌∙◌, [], Ok, Err, refl, inl, inr}
 use Rattle.std.proofs.KnownBytes.{Appends-nil, Keeps-refl}
-use Rattle.ndef_nest.specs.Typed.{IsTypedPayload, TypedReason}
+use Rattle.ndef_format.specs.Payloads.{IsTypedPayload}
+use Rattle.ndef_format.specs.NestedReasons.{TypedReason}
 use Rattle.ndef_tool.specs.Output.{status_of, usage_line}
 use Rattle.ndef_tool.specs.declared.choice.WordsError.TheVariants.{Usage, NoMemory}
 use Rattle.ndef_tool.specs.declared.ending.Status.TheVariants as status

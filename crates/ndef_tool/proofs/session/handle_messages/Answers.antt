@@ -1,6 +1,7 @@
 use Rattle.std.proofs.Common.{◌∙◌, arith, inl, refl}
 use Rattle.std.proofs.KnownBytes.{Keeps-trans}
-use Rattle.ndef_nest.specs.Typed.{IsTypedPayload, TypedReason}
+use Rattle.ndef_format.specs.Payloads.{IsTypedPayload}
+use Rattle.ndef_format.specs.NestedReasons.{TypedReason}
 use Rattle.ndef_tool.proofs.Bounded.{greatest_small}
 use Rattle.ndef_tool.proofs.Handling.{counts_more, fits_behind, handled_more, handled_in_part, silent_end, still_out}
 use Rattle.ndef_tool.proofs.session.handle_messages.Goals as goal

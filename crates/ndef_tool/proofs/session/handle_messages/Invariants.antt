@@ -1,5 +1,6 @@
 use Rattle.std.proofs.Common.{◌≡◌, ◌≤◌, ◌-◌, ◌*◌, ◌^◌}
-use Rattle.ndef_nest.specs.Typed.{IsTypedPayload, TypedReason}
+use Rattle.ndef_format.specs.Payloads.{IsTypedPayload}
+use Rattle.ndef_format.specs.NestedReasons.{TypedReason}
 use Rattle.ndef_message.specs.Sources.{Counts}
 use Rattle.ndef_tool.proofs.Handling.{SoFar}
 use Rattle.ndef_tool.proofs.session.handle_messages.Given as goal

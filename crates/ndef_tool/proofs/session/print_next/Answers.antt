@@ -1,6 +1,7 @@
 use Rattle.std.proofs.Common.{sym, subst}
 use Rattle.std.specs.List.{AllByRecursion}
-use Rattle.ndef_nest.specs.Typed.{IsTypedPayload, TypedReason}
+use Rattle.ndef_format.specs.Payloads.{IsTypedPayload}
+use Rattle.ndef_format.specs.NestedReasons.{TypedReason}
 use Rattle.ndef_tool.specs.Showing.{IsTyped}
 use Rattle.ndef_tool.proofs.Handling.{check_printed, memory_taken}
 use Rattle.ndef_tool.proofs.Members.{next_typed}

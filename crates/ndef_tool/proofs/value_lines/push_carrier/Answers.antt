@@ -1,5 +1,5 @@
-use Rattle.ndef_lang.specs.Carrier.{IsCarrier}
-use Rattle.ndef_lang.specs.Language.{NoReason}
+use Rattle.ndef_format.specs.Handovers.{IsCarrier}
+use Rattle.ndef_format.specs.Reasons.{NoReason}
 use Rattle.ndef_tool.proofs.Members.{never_refused}
 use Rattle.ndef_tool.proofs.value_lines.push_carrier.Goals as goal
 

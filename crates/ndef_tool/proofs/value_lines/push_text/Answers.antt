@@ -1,4 +1,5 @@
-use Rattle.ndef_lang.specs.Text.{IsText, TextReason}
+use Rattle.ndef_format.specs.Texts.{IsText}
+use Rattle.ndef_format.specs.PayloadReasons.{TextReason}
 use Rattle.ndef_tool.proofs.Members.{never_refused}
 use Rattle.ndef_tool.proofs.value_lines.push_text.Goals as goal
 

@@ -1,4 +1,5 @@
-use Rattle.ndef_lang.specs.Uri.{IsUri, UriReason}
+use Rattle.ndef_format.specs.Uris.{IsUri}
+use Rattle.ndef_format.specs.PayloadReasons.{UriReason}
 use Rattle.ndef_tool.proofs.Members.{never_refused}
 use Rattle.ndef_tool.proofs.value_lines.push_uri.Goals as goal
 

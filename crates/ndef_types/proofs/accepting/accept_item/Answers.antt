@@ -1,7 +1,7 @@
 use Rattle.std.proofs.Common.{◌≡◌, ◌+◌, ◌-◌, ◌∙◌, length, take, drop, sym, ap, subst, inr, arith}
 use Rattle.std.specs.List.{concat}
-use Rattle.ndef_value.specs.Wire.{run_record}
-use Rattle.ndef_lang.specs.Language.{Follows, Reaches, PassesBetween}
+use Rattle.ndef_format.specs.Messages.{run_record}
+use Rattle.ndef_lang.specs.Language.{Continues, Reaches, PassesBetween}
 use Rattle.ndef_lang.specs.StepLaws.{steps_done}
 use Rattle.ndef_types.proofs.PieceLemmas as lemmas
 use Rattle.ndef_types.proofs.accepting.accept_item.Goals as goal
@@ -67,7 +67,7 @@ loop-piece-preserved g c =
     record {
       counted = omega arith;
       rest = subst (λ n. drop (l.at + n) payload ≡ behind) (sym e) (lemmas.behind_piece payload piece behind l.at l.left counted split);
-      stepped = subst (λ n. Follows set new (take (l.at + n) payload)) (sym e)
+      stepped = subst (λ n. Continues set new (take (l.at + n) payload)) (sym e)
           (lemmas.stepped_behind payload piece behind l.at l.left counted split set (L.future l.state) new l.invariant.stepped done.0);
       reached = subst (λ n. reached (take (l.at + n) payload)) (sym e)
           (lemmas.reached_behind payload piece behind l.at l.left counted split set (L.future l.state) new l.invariant.stepped old_reached reached reaches l.invariant.reached);

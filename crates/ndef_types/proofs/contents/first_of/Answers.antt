@@ -1,5 +1,5 @@
 use Rattle.std.proofs.Common.{◌≡◌, ◌∙◌, sym, refl}
-use Rattle.ndef_nest.specs.Nested.{kind_in}
+use Rattle.ndef_format.specs.Nested.{kind_in}
 use Rattle.ndef_types.specs.Contents.{IsOfKind}
 use Rattle.ndef_types.proofs.ContentsLemmas.{reached, lack_more, lack_all}
 use Rattle.ndef_types.proofs.contents.first_of.Goals as goal

@@ -1,6 +1,6 @@
 use Rattle.std.proofs.Common.{rules, sym, refl, true, false, Bool, ◌≡◌, ◌∙◌}
 use denote.Enum.Bare.{same_true, same_false}
-use Rattle.ndef_lang.specs.contracts.kind.Kind.{the_type}
+use Rattle.ndef_format.specs.contracts.kind.Kind.{the_type}
 use Rattle.ndef_types.proofs.contents.is_kind.Goals as goal
 
 not_false : (b : Bool) → (b ≡ false → ⊥) → b ≡ true

@@ -1,6 +1,6 @@
 use Rattle.std.proofs.Common.{sym, subst, refl, ◌≡◌, ◌∙◌}
 use Rattle.std.proofs.lemmas.List.{take_all}
-use Rattle.ndef_lang.specs.Kind.{kind_of}
+use Rattle.ndef_format.specs.Kinds.{kind_of}
 use Rattle.ndef_types.specs.Links.{AreLinks, IsIndexOf, alternatives}
 use Rattle.ndef_types.specs.Values.{StandsForAc}
 use Rattle.ndef_types.proofs.ContentsLemmas.{reached}

@@ -1,5 +1,5 @@
 use Rattle.std.proofs.Common.{◌∙◌}
-use Rattle.ndef_lang.specs.Kind.{kind_of}
+use Rattle.ndef_format.specs.Kinds.{kind_of}
 use Rattle.ndef_types.proofs.HandoverLemmas.{refused_links}
 use Rattle.ndef_types.proofs.link.links_of_handover.Goals as goal
 

@@ -1,10 +1,10 @@
 use Rattle.std.proofs.Common.{sym, subst, ◌⊎◌, ◌≡◌, [], Some, drop}
 use Rattle.std.specs.Prelude.{IfSome}
 use Rattle.std.specs.List.{AllByRecursion}
-use Rattle.ndef_lang.specs.Alternative.{IsAlternative}
-use Rattle.ndef_lang.specs.Kind.{kind_of}
-use Rattle.ndef_lang.specs.declared.kind.Kind.TheVariants as kinds
-use Rattle.ndef_nest.specs.Nested.{HasContents, Nested}
+use Rattle.ndef_format.specs.Handovers.{IsAlternative}
+use Rattle.ndef_format.specs.Kinds.{kind_of}
+use Rattle.ndef_format.specs.declared.kind.Kind.TheVariants as kinds
+use Rattle.ndef_format.specs.Nested.{HasContents, Nested}
 use Rattle.ndef_types.specs.Contents.{StandsForMessage}
 use Rattle.ndef_types.specs.Links.{AreLinks, StandsForLinks, alternatives}
 use Rattle.ndef_types.proofs.HandoverLemmas.{handover_parts, has_alternatives, links_stand}

@@ -1,7 +1,7 @@
 use Rattle.std.proofs.Common.{◌≡◌}
 use Rattle.std.specs.List.{find}
-use Rattle.ndef_value.specs.Wire.{run_record}
-use Rattle.ndef_lang.specs.Kind.{kind_of}
+use Rattle.ndef_format.specs.Messages.{run_record}
+use Rattle.ndef_format.specs.Kinds.{kind_of}
 use Rattle.ndef_types.specs.Links.{is_handover}
 use Rattle.ndef_types.proofs.link.viewed_handover.Given as goal
 

@@ -1,6 +1,6 @@
 use Rattle.std.proofs.Common.{rules, sym, subst, arith}
-use Rattle.ndef_nest.specs.Nested.{Nested}
-use Rattle.ndef_nest.specs.declared.table.Table.TheVariants.{Request}
+use Rattle.ndef_format.specs.Nested.{Nested}
+use Rattle.ndef_format.specs.declared.table.Table.TheVariants.{Request}
 use Rattle.ndef_types.proofs.HandoverLemmas.{request_parts}
 use Rattle.ndef_types.proofs.request.read_request.Goals as goal
 

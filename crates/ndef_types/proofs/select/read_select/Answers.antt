@@ -1,6 +1,6 @@
 use Rattle.std.proofs.Common.{rules, sym, subst, arith, ◌⊎◌, ◌≡◌, []}
-use Rattle.ndef_nest.specs.Nested.{Nested}
-use Rattle.ndef_nest.specs.declared.table.Table.TheVariants.{Select}
+use Rattle.ndef_format.specs.Nested.{Nested}
+use Rattle.ndef_format.specs.declared.table.Table.TheVariants.{Select}
 use Rattle.ndef_types.proofs.HandoverLemmas.{handover_parts, selected_strict}
 use Rattle.ndef_types.proofs.select.read_select.Goals as goal
 

@@ -1,6 +1,6 @@
 use Rattle.std.proofs.Common.{rules, sym, subst}
-use Rattle.ndef_nest.specs.Nested.{HasContents}
-use Rattle.ndef_nest.specs.declared.table.Table.TheVariants.{SmartPoster}
+use Rattle.ndef_format.specs.Nested.{HasContents}
+use Rattle.ndef_format.specs.declared.table.Table.TheVariants.{SmartPoster}
 use Rattle.ndef_types.proofs.PosterLemmas.{strict_is_plain}
 use Rattle.ndef_types.proofs.smart_poster.plain_for.Goals as goal
 

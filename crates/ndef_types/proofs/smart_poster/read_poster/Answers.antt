@@ -1,7 +1,7 @@
 use Rattle.std.proofs.Common.{sym, subst}
-use Rattle.ndef_value.specs.declared.profile.Profile.TheVariants.{Strict}
-use Rattle.ndef_nest.specs.Nested.{HasContents}
-use Rattle.ndef_nest.specs.declared.table.Table.TheVariants.{SmartPoster}
+use Rattle.ndef_format.specs.declared.profile.Profile.TheVariants.{Strict}
+use Rattle.ndef_format.specs.Nested.{HasContents}
+use Rattle.ndef_format.specs.declared.table.Table.TheVariants.{SmartPoster}
 use Rattle.ndef_types.proofs.PosterLemmas.{plain_is_strict}
 use Rattle.ndef_types.proofs.smart_poster.read_poster.Goals as goal
 

@@ -1,6 +1,6 @@
 use Rattle.std.proofs.Common.{subst, sym, ◌∙◌}
 use Rattle.std.proofs.lemmas.Str.{IsUtf8-string_bytes, IsUtf8-from_ascii, scalars-chars}
-use Rattle.ndef_lang.specs.Text.{IsTextIn}
+use Rattle.ndef_format.specs.Texts.{IsTextIn}
 use Rattle.ndef_types.specs.Values.{encoded_octets}
 use Rattle.ndef_types.proofs.TextLemmas.{is_text_value, text_parts}
 use Rattle.ndef_types.proofs.text.read_text.Goals as goal

@@ -1,7 +1,7 @@
 use Rattle.std.proofs.Common.{◌+◌, length, take}
-use Rattle.ndef_lang.specs.Fixed.{CompletesFixed}
-use Rattle.ndef_lang.specs.FixedLaws.{fixed_all, fixed_fits}
-use Rattle.ndef_lang.specs.Octets.{AreOctetsOf}
+use Rattle.ndef_lang.specs.Machine.Fixed.{CompletesFixed}
+use Rattle.ndef_lang.specs.Machine.FixedLaws.{fixed_all, fixed_fits}
+use Rattle.ndef_format.specs.Octets.{AreOctetsOf}
 use Rattle.ndef_lang.specs.StepLaws.{octets_each, follows_more}
 use Rattle.ndef_lang.proofs.fixed.FixedLanguage.step_all.Goals as goal
 

@@ -1,5 +1,5 @@
 use Rattle.std.proofs.Common.{◌≡◌, ℕ, ◌+◌, List, ◌++◌, drop}
-use Rattle.ndef_lang.specs.Kind.{kind_after, missing_of}
+use Rattle.ndef_lang.specs.Machine.Kind.{kind_after, missing_of}
 use Rattle.ndef_lang.proofs.kind.KindReader.step_all.Given as goal
 
 abbrev pub invariant-loop-octet : goal.invariant-loop-octet

@@ -1,7 +1,7 @@
 use Rattle.std.proofs.Common.{subst, sym, take}
 use Rattle.ndef_lang.specs.Language.{StepsFront}
-use Rattle.ndef_lang.specs.Text.{CompletesText}
-use Rattle.ndef_lang.specs.Utf16.{CompletesUtf16}
+use Rattle.ndef_lang.specs.Machine.Text.{CompletesText}
+use Rattle.ndef_lang.specs.Machine.Utf16.{CompletesUtf16}
 use Rattle.ndef_lang.proofs.TextLemmas.{utf16_reached}
 use Rattle.ndef_lang.proofs.text.TextLang.take_front.Goals as goal
 

@@ -1,14 +1,15 @@
 use Rattle.std.proofs.Common.{◌≡◌, ◌+◌, ◌-◌, ◌<◌, ◌∙◌, sym, subst, arith, ◌++◌, length, take}
-use Rattle.ndef_value.specs.declared.profile.Profile.TheVariants.{Strict}
-use Rattle.ndef_lang.specs.declared.kind.Kind.TheVariants.{Other}
+use Rattle.ndef_format.specs.declared.profile.Profile.TheVariants.{Strict}
+use Rattle.ndef_format.specs.declared.kind.Kind.TheVariants.{Other}
 use Rattle.ndef_lang.specs.LengthLaws.{lengths_fit}
 use Rattle.ndef_lang.specs.Lengths.{meets}
-use Rattle.ndef_lang.specs.Language.{Follows, Reaches}
+use Rattle.ndef_lang.specs.Language.{Continues, Reaches}
 use Rattle.ndef_lang.specs.StepLaws.{rest, follows_none, reaches_none, passes_none, follows_take, reaches_take, steps_refused, follows_rest, reaches_rest, front_passes, steps_through, all_reached, steps_on, reaches_on, reason_on, rest_length}
-use Rattle.ndef_lang.specs.Utf8.{CompletesUtf8}
+use Rattle.ndef_lang.specs.Machine.Utf8.{CompletesUtf8}
 use Rattle.ndef_lang.specs.declared.text.TextLang.TheVariants.{InUtf8}
-use Rattle.ndef_lang.specs.Text.{CompletesText, TextReached, TextReason, text_lengths}
-use Rattle.ndef_lang.specs.TextLaws.{are_text_lengths}
+use Rattle.ndef_lang.specs.Machine.Text.{CompletesText, TextReached, text_lengths}
+use Rattle.ndef_format.specs.PayloadReasons.{TextReason}
+use Rattle.ndef_lang.specs.Machine.TextLaws.{are_text_lengths}
 use Rattle.ndef_lang.proofs.PlaceLemmas.{not_true}
 use Rattle.ndef_lang.proofs.TextLemmas.{utf8_reached, utf8_all_text_reason}
 use Rattle.ndef_lang.proofs.text.TextLangLanguage.step_all.Goals as goal
@@ -66,7 +67,7 @@ pub returns-in-InUtf8-clause-steps : goal.returns-in-InUtf8-clause-steps
 returns-in-InUtf8-clause-steps c =
     let inv = c.loop-at.invariant in
     let at = c.loop-at.at in
-    let follows : Follows (CompletesText c.args.self.now) (CompletesUtf8 c.in-InUtf8.text) (take at c.args.bytes.now) = subst (λ x. Follows (CompletesText c.args.self.now) (CompletesText x) (take at c.args.bytes.now)) c.in-InUtf8.is inv.follows in
+    let follows : Continues (CompletesText c.args.self.now) (CompletesUtf8 c.in-InUtf8.text) (take at c.args.bytes.now) = subst (λ x. Continues (CompletesText c.args.self.now) (CompletesText x) (take at c.args.bytes.now)) c.in-InUtf8.is inv.follows in
     steps_on (CompletesText c.args.self.now) (CompletesUtf8 c.in-InUtf8.text) (CompletesUtf8 c.take-more.new.self) c.args.bytes.now c.args.lo c.args.hi at c.take-more.result (omega arith) follows c.take-more.ensures
 
 pub returns-in-InUtf8-clause-reached : goal.returns-in-InUtf8-clause-reached

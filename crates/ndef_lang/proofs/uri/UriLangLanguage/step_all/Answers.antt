@@ -1,13 +1,14 @@
 use Rattle.std.proofs.Common.{◌+◌, ◌-◌, ◌∙◌, sym, subst, arith, ◌++◌, take}
-use Rattle.ndef_lang.specs.declared.kind.Kind.TheVariants.{Other}
+use Rattle.ndef_format.specs.declared.kind.Kind.TheVariants.{Other}
 use Rattle.ndef_lang.specs.LengthLaws.{lengths_fit}
 use Rattle.ndef_lang.specs.Lengths.{meets}
-use Rattle.ndef_lang.specs.Language.{Follows, Reaches}
+use Rattle.ndef_lang.specs.Language.{Continues, Reaches}
 use Rattle.ndef_lang.specs.StepLaws.{rest, follows_none, reaches_none, passes_none, follows_take, reaches_take, steps_refused, steps_on, reaches_on, reason_on, rest_length}
-use Rattle.ndef_lang.specs.Utf8.{CompletesUtf8}
+use Rattle.ndef_lang.specs.Machine.Utf8.{CompletesUtf8}
 use Rattle.ndef_lang.specs.declared.uri.UriLang.TheVariants.{Rest}
-use Rattle.ndef_lang.specs.Uri.{CompletesUri, UriReached, UriReason, uri_lengths}
-use Rattle.ndef_lang.specs.UriLaws.{are_uri_lengths}
+use Rattle.ndef_lang.specs.Machine.Uri.{CompletesUri, UriReached, uri_lengths}
+use Rattle.ndef_format.specs.PayloadReasons.{UriReason}
+use Rattle.ndef_lang.specs.Machine.UriLaws.{are_uri_lengths}
 use Rattle.ndef_lang.proofs.PlaceLemmas.{not_true}
 use Rattle.ndef_lang.proofs.UriLemmas.{rest_reached, rest_all_reason}
 use Rattle.ndef_lang.proofs.uri.UriLangLanguage.step_all.Goals as goal
@@ -48,7 +49,7 @@ pub returns-in-Rest-clause-steps : goal.returns-in-Rest-clause-steps
 returns-in-Rest-clause-steps c =
     let inv = c.loop-at.invariant in
     let at = c.loop-at.at in
-    let follows : Follows (CompletesUri c.args.self.now) (CompletesUtf8 c.in-Rest.text) (take at c.args.bytes.now) = subst (λ x. Follows (CompletesUri c.args.self.now) (CompletesUri x) (take at c.args.bytes.now)) c.in-Rest.is inv.follows in
+    let follows : Continues (CompletesUri c.args.self.now) (CompletesUtf8 c.in-Rest.text) (take at c.args.bytes.now) = subst (λ x. Continues (CompletesUri c.args.self.now) (CompletesUri x) (take at c.args.bytes.now)) c.in-Rest.is inv.follows in
     steps_on (CompletesUri c.args.self.now) (CompletesUtf8 c.in-Rest.text) (CompletesUtf8 c.take-more.new.self) c.args.bytes.now c.args.lo c.args.hi at c.take-more.result (omega arith) follows c.take-more.ensures
 
 pub returns-in-Rest-clause-reached : goal.returns-in-Rest-clause-reached

@@ -1,6 +1,6 @@
 use Rattle.std.proofs.Common.{subst, sym}
 use Rattle.ndef_lang.specs.Language.{StepsFront}
-use Rattle.ndef_lang.specs.Utf16.{CompletesUtf16, SpelledRest}
+use Rattle.ndef_lang.specs.Machine.Utf16.{CompletesUtf16, SpelledRest}
 use Rattle.ndef_lang.proofs.utf16.Utf16State.take_front.Goals as goal
 
 pub returns : goal.returns

@@ -1,5 +1,5 @@
 use Rattle.std.proofs.Common.{◌≡◌, length, refl, sym, ◌∙◌, subst, arith}
-use Rattle.ndef_value.specs.Wire.{AreInRange}
+use Rattle.ndef_format.specs.Limits.{AreInRange}
 use Rattle.ndef_lang.specs.StepLaws.{rest_length}
 use Rattle.ndef_message.specs.Machine.Checkers.{CheckerReached}
 use Rattle.ndef_message.proofs.Feeding as feeding

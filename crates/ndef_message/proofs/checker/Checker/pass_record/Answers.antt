@@ -1,6 +1,6 @@
 use Rattle.std.proofs.Common.{◌≡◌, ◌+◌, ◌-◌, ◌≤◌, ◌^◌, ◌++◌, suc, ap, length, take, None, refl, arith}
 use Rattle.std.proofs.Math.Logic.{∥∥₁_map}
-use Rattle.ndef_piece.specs.Header.{is_set}
+use Rattle.ndef_format.specs.HeadReasons.{is_set}
 use Rattle.ndef_piece.specs.Whole.{shown}
 use Rattle.ndef_message.specs.Machine.State.{answer_of}
 use Rattle.ndef_message.proofs.Accepting.{record_passed, split_shorter, taken_bounded, taken_knows}

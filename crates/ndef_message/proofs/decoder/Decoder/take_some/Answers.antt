@@ -3,7 +3,7 @@ use Rattle.std.proofs.Math.Logic.{∥∥₁_map}
 use Rattle.ndef_value.specs.ListLaws.{octets_taken}
 use Rattle.ndef_lang.specs.StepLaws.{octets_each}
 use Rattle.ndef_message.specs.Opened.{Opened}
-use Rattle.ndef_message.specs.Machine.Open.{item_of, opened_after, HasRoom, WantsMemory}
+use Rattle.ndef_message.specs.Machine.Open.{opened_item, opened_after, HasRoom, WantsMemory}
 use Rattle.ndef_message.proofs.Decoded as decoded
 use Rattle.ndef_message.proofs.Somewhere as somewhere
 use Rattle.ndef_message.proofs.Taking as taking
@@ -148,5 +148,5 @@ returns g c =
       going = λ h. cc;
       refused = λ refusal h. cc;
       takes = λ front given point was.
-          rw counted (taking.whole_known laws.laws s.checker c.step-count.new.self step.limits laws.range c.requires.unfailed c.requires.going s.begun t (octets_taken c.step-count.result c.args.bytes.now (octets_each _ c.type_inv.bytes)) (taking.some_taken c.args.bytes.now c.step-count.result step.most step.some) step.onward front given point was c.in_default-after.not-Refused c.records-ended.ensures c.records.ensures kept c.if-records-ended.false (c.record.ensures ∙ ap item_of c.replace-begun.ensures.value) (sym c.is_done.ensures) c.replace-begun.new.dest (c.replace-begun.ensures.after ∙ c.new-2.ensures));
+          rw counted (taking.whole_known laws.laws s.checker c.step-count.new.self step.limits laws.range c.requires.unfailed c.requires.going s.begun t (octets_taken c.step-count.result c.args.bytes.now (octets_each _ c.type_inv.bytes)) (taking.some_taken c.args.bytes.now c.step-count.result step.most step.some) step.onward front given point was c.in_default-after.not-Refused c.records-ended.ensures c.records.ensures kept c.if-records-ended.false (c.record.ensures ∙ ap opened_item c.replace-begun.ensures.value) (sym c.is_done.ensures) c.replace-begun.new.dest (c.replace-begun.ensures.after ∙ c.new-2.ensures));
     }

@@ -1,5 +1,5 @@
 use Rattle.std.proofs.Common.{rules, ◌<◌, ◌∷◌, length, sym, ◌∙◌, ap, ap₂, subst}
-use Rattle.ndef_value.specs.Wire.{SpellAll}
+use Rattle.ndef_format.specs.Messages.{SpellsPieces}
 use Rattle.ndef_message.specs.Machine.Seen.{pieces_of}
 use Rattle.ndef_message.specs.Views.{payloads}
 use Rattle.ndef_message.specs.Machine.SeenLaws.{begins, first_of_some, first_shown, told_behind}
@@ -15,7 +15,7 @@ invariant_of-self c =
     let some : 0 < length c.self.inside.bytes.now = search rules in
     let f = first_of_some _ _ some c.self.invariant.1 in
     let w = first_shown f.2 _ _ _ c.first_piece-piece.ensures.piece in
-    (f.1, subst (SpellAll f.1) (sym w.1) f.2.more)
+    (f.1, subst (SpellsPieces f.1) (sym w.1) f.2.more)
 
 pub returns-clause-steps : goal.returns-clause-steps
 returns-clause-steps c =

@@ -1,6 +1,6 @@
 use Rattle.std.proofs.Common.{refl, ◌∙◌, ap, sym, subst, []}
 use Rattle.std.specs.Prelude.{if◌then◌else◌}
-use Rattle.ndef_piece.specs.Heads.{IsOpen}
+use Rattle.ndef_format.specs.Positions.{IsOpen}
 use Rattle.ndef_piece.specs.declared.head_reader.Step.TheVariants as steps
 use Rattle.ndef_message.specs.Machine.State.{spot_of}
 use Rattle.ndef_message.specs.declared.phase.Phase.TheVariants as phases

@@ -1,5 +1,5 @@
 use Rattle.std.proofs.Common.{refl, sym, ◌∙◌, ap, subst, []}
-use Rattle.ndef_piece.specs.Heads.{IsOpen}
+use Rattle.ndef_format.specs.Positions.{IsOpen}
 use Rattle.ndef_piece.specs.declared.head_reader.Step.TheVariants as steps
 use Rattle.ndef_message.specs.Machine.State.{spot_of}
 use Rattle.ndef_message.proofs.state.State.go_behind_chunks.Goals as goal

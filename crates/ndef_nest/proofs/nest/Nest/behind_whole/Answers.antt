@@ -1,8 +1,8 @@
 use Rattle.std.specs.Prelude.{◌||◌, nat_lt}
 use Rattle.std.proofs.Common.{◌+◌, ◌-◌, ◌≡◌, ◌++◌, ◌∙◌, true, [], take, drop, ap, sym, subst, arith}
-use Rattle.ndef_lang.specs.Language.{Follows, Reaches}
+use Rattle.ndef_lang.specs.Language.{Continues, Reaches}
 use Rattle.ndef_nest.specs.Machine.Nests.{come, future}
-use Rattle.ndef_nest.specs.Machine.Phases.{CompletesHeaded, fewer, is_first}
+use Rattle.ndef_nest.specs.Machine.Phases.{CompletesHeaded, fewer, is_first_octet}
 use Rattle.ndef_nest.specs.Machine.Reached.{IsHeaded}
 use Rattle.ndef_nest.specs.Machine.SpanLaws.{nest_fits_exactly}
 use Rattle.ndef_nest.proofs.Reaching.{reached_on}
@@ -25,7 +25,7 @@ returns-then-fits-clause-steps c =
     front_taken (future n) (future next) bytes c.args.lo c.args.hi (count + more) c.if-whole-bytes.true
     (both_follow (future n) (CompletesHeaded (fewer x) head) (future next) bytes count more
     (head_completes c.heads_are_apart.ensures.apart x n.reader.spot.first n.reader.octets n.phase bytes head count between some c.in_ok-head.ensures.begins)
-    (subst (λ k. Follows (CompletesHeaded k head) (future next) (take (count + more - count) (drop count bytes))) c.fewer-context.ensures c.behind_type-named.ensures.future))
+    (subst (λ k. Continues (CompletesHeaded k head) (future next) (take (count + more - count) (drop count bytes))) c.fewer-context.ensures c.behind_type-named.ensures.future))
     ((nest_fits_exactly next (c.args.lo - (count + more)) (c.args.hi - (count + more)) (omega arith)).0 (sym c.fits.ensures ∙ c.if-fits.true))
 
 pub returns-then-fits-clause-reached : goal.returns-then-fits-clause-reached
@@ -58,7 +58,7 @@ behind_head-next-requires-clause-followed c =
     let some = between_some x n.reader.spot.first n.reader.octets n.phase c.in_ok-head.ensures.between n.sound in
     let at = c.in_ok-head.ensures.begins in
     subst (λ k. head.last || nat_lt 0 k.records ≡ true) (sym c.fewer-context.ensures)
-    (head_followed x.profile (is_first n.phase n.reader.spot.first) x.records (take c.in_ok-head.count c.args.bytes.now) head some at.whole)
+    (head_followed x.profile (is_first_octet n.phase n.reader.spot.first) x.records (take c.in_ok-head.count c.args.bytes.now) head some at.whole)
 
 pub returns-then-fits-2-clause-steps : goal.returns-then-fits-2-clause-steps
 returns-then-fits-2-clause-steps c =
@@ -74,7 +74,7 @@ returns-then-fits-2-clause-steps c =
     let small = c.requires.small in
     let next = c.behind_head-next.result in
     let before = head_completes c.heads_are_apart.ensures.apart x n.reader.spot.first n.reader.octets n.phase bytes head count between some at in
-    let behind = subst (λ k. Follows (CompletesHeaded k head) (future next) []) c.fewer-context.ensures c.behind_head-next.ensures.future in
+    let behind = subst (λ k. Continues (CompletesHeaded k head) (future next) []) c.fewer-context.ensures c.behind_head-next.ensures.future in
     front_taken (future n) (future next) bytes c.args.lo c.args.hi count within (λ r. chain (behind r) (before r))
     ((nest_fits_exactly next (c.args.lo - count) (c.args.hi - count) (omega arith)).0 (sym c.fits-2.ensures ∙ c.if-fits-2.true))
 

@@ -1,7 +1,7 @@
 use Rattle.std.proofs.Common.{◌-◌, ◌++◌, take, arith}
 use Rattle.ndef_lang.specs.StepLaws.{rest, rest_length, follows_none, reaches_none, passes_none, steps_on, reaches_on, reason_on, all_reached}
-use Rattle.ndef_nest.specs.Conditions.{NestReason}
-use Rattle.ndef_nest.specs.Nested.{table_of}
+use Rattle.ndef_format.specs.NestedReasons.{NestReason}
+use Rattle.ndef_format.specs.Nested.{table_of}
 use Rattle.ndef_nest.specs.Machine.Nests.{future, reached}
 use Rattle.ndef_nest.specs.Machine.SpanLaws.{nest_fits_exactly}
 use Rattle.ndef_nest.proofs.Slices.{steps_front, reaches_front, reason_front, run_on, run_reached}

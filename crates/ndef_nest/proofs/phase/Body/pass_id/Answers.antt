@@ -1,5 +1,5 @@
 use Rattle.std.proofs.Common.{◌++◌}
-use Rattle.ndef_lang.specs.Leaf.{CompletesLeaf}
+use Rattle.ndef_lang.specs.Machine.Leaf.{CompletesLeaf}
 use Rattle.ndef_lang.specs.StepLaws.{octets_each}
 use Rattle.ndef_nest.specs.Machine.Demands.{Later, Tail}
 use Rattle.ndef_nest.proofs.Ids.{ids_taken}

@@ -1,7 +1,7 @@
 use Rattle.std.proofs.Common.{◌≡◌, ◌+◌, ◌-◌, ◌++◌, length, take, sym, subst, arith, length-take}
 use Rattle.ndef_value.specs.ListLaws.{octets_taken}
 use Rattle.ndef_lang.specs.Language.{PassesBetween, StepsAll}
-use Rattle.ndef_lang.specs.Leaf.{CompletesLeaf}
+use Rattle.ndef_lang.specs.Machine.Leaf.{CompletesLeaf}
 use Rattle.ndef_lang.specs.StepLaws.{octets_each}
 use Rattle.ndef_nest.specs.Machine.Demands.{IsBody, Later, Tail}
 use Rattle.ndef_nest.proofs.Slices.{body_steps, steps_as, payload_come}

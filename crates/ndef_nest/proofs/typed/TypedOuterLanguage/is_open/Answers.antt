@@ -1,11 +1,11 @@
 use Rattle.std.proofs.Common.{rules}
-use Rattle.ndef_nest.specs.Machine.Payloads.{leaf_of}
+use Rattle.ndef_format.specs.Kinds.{outer_kind}
 use Rattle.ndef_nest.proofs.typed.TypedOuterLanguage.is_open.Goals as goal
 
 pub returns-in-Leaf-clause-reached : goal.returns-in-Leaf-clause-reached
 returns-in-Leaf-clause-reached c h octets are kind records profile s x =
     let y = rw c.in-Leaf.is at x in
-    rw c.in-Leaf.is (y.0, c.is_open.ensures.reached h octets are (leaf_of kind) records profile s y.1)
+    rw c.in-Leaf.is (y.0, c.is_open.ensures.reached h octets are (outer_kind kind) records profile s y.1)
 
 pub returns-in-Nest-clause-future : goal.returns-in-Nest-clause-future
 returns-in-Nest-clause-future c = search rules

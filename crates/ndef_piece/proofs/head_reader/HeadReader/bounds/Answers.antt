@@ -1,8 +1,8 @@
 use Rattle.std.proofs.Common.{subst, take}
 use Rattle.std.specs.Prelude.{IfSome}
 use Rattle.ndef_piece.specs.Bounds.{AreBounds}
-use Rattle.ndef_piece.specs.Inside.{reading}
-use Rattle.ndef_piece.specs.Reading.{IsSound}
+use Rattle.ndef_piece.specs.Machine.Inside.{reading}
+use Rattle.ndef_piece.specs.Machine.Reading.{IsSound}
 use Rattle.ndef_piece.proofs.Boxes.{open_fits, bounds_open, bounds_whole}
 use Rattle.ndef_piece.proofs.head_reader.HeadReader.bounds.Goals as goal
 

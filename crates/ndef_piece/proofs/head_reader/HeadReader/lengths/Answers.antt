@@ -1,6 +1,6 @@
 use Rattle.std.proofs.Common.{subst}
 use Rattle.ndef_piece.specs.Heads.{IsRange}
-use Rattle.ndef_piece.specs.Inside.{reading}
+use Rattle.ndef_piece.specs.Machine.Inside.{reading}
 use Rattle.ndef_piece.proofs.Steps.{lengths_open, lengths_whole}
 use Rattle.ndef_piece.proofs.head_reader.HeadReader.lengths.Goals as goal
 

@@ -1,8 +1,8 @@
 use Rattle.std.proofs.Common.{rules, ◌++◌, ◌∷◌, [], arith, ◌∙◌, ap, subst, take, length, ◌<◌, ◌+◌}
 use Rattle.std.proofs.lemmas.List.{length-take, take_more_set}
-use Rattle.ndef_piece.specs.Heads.{IsOpen}
-use Rattle.ndef_piece.specs.Inside.{reading}
-use Rattle.ndef_piece.specs.Reading.{IsSound}
+use Rattle.ndef_format.specs.Positions.{IsOpen}
+use Rattle.ndef_piece.specs.Machine.Inside.{reading}
+use Rattle.ndef_piece.specs.Machine.Reading.{IsSound}
 use Rattle.ndef_piece.proofs.Padding.{zeros_kept}
 use Rattle.ndef_piece.proofs.Steps.{open_short, sound_answer, same_reading}
 use Rattle.ndef_piece.proofs.head_reader.HeadReader.step.Goals as goal

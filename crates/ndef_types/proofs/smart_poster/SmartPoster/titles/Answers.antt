@@ -1,7 +1,7 @@
 use Rattle.std.proofs.Common.{sym, subst, refl, ◌≡◌, ◌∙◌}
 use Rattle.std.proofs.lemmas.List.{take_all}
-use Rattle.ndef_nest.specs.Nested.{kind_in}
-use Rattle.ndef_nest.specs.declared.table.Table.TheVariants.{SmartPoster}
+use Rattle.ndef_format.specs.Nested.{kind_in}
+use Rattle.ndef_format.specs.declared.table.Table.TheVariants.{SmartPoster}
 use Rattle.ndef_types.specs.Posters.{titles, StandForTexts}
 use Rattle.ndef_types.specs.Values.{StandsForText}
 use Rattle.ndef_types.proofs.ContentsLemmas.{reached}

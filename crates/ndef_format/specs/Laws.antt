@@ -1,0 +1,58 @@
+-- What holds of the format.
+use Rattle.std.specs.Prelude.{◌≡◌, ℕ, ◌+◌, List, [], ◌++◌, ◌≢◌, true, map, ◌≤◌, length, take, ◌<◌}
+use Rattle.std.specs.List.{AllByRecursion}
+use Rattle.ndef_format.specs.Messages.{Item, Spells, SpellsBy}
+use Rattle.ndef_format.specs.Canonical.{IsItem, whole_pieces, canonical}
+use Rattle.ndef_format.specs.Records.{Run}
+use Rattle.ndef_format.specs.Limits.{LimitValues, IsWithin, greatest_length}
+use Rattle.ndef_format.specs.Payloads.{Sets}
+use Rattle.ndef_format.specs.Refusals.{IsPlace, Refuses}
+use Rattle.ndef_format.specs.Accepted.{IsAccepted}
+use Rattle.ndef_format.specs.Reasons.{Conditions}
+use Rattle.ndef_format.specs.declared.profile.Profile.{Profile}
+use Rattle.ndef_format.specs.declared.profile.Profile.TheVariants.{Strict}
+use Rattle.ndef_format.specs.declared.refusal.Refusal.{Refusal}
+
+-- ---- messages and their spellings
+
+-- Bytes that begin with the spelling of a message spell no other message, nor that one and more, whoever reads them.
+abbrev pub OneMeaning : Type 0
+OneMeaning = (p q : Profile) (m n : List Item) (front whole rest : List ℕ)
+    → Spells p m front → Spells q n whole → whole ≡ front ++ rest → (m ≡ n) × (rest ≡ [])
+
+-- What a strict reader takes as a message, each reader does, as the same message.
+abbrev pub StrictIsRead : Type 0
+StrictIsRead = (profile : Profile) (m : List Item) (bytes : List ℕ) → Spells Strict m bytes → Spells profile m bytes
+
+-- The canonical spelling of some records is one, and each of its runs is one piece.
+abbrev pub CanonicalSpells : Type 0
+CanonicalSpells = (profile : Profile) (m : List Item) → m ≢ [] → AllByRecursion IsItem m
+    → SpellsBy profile (map (λ p. record { initial = p; later = [] }) (whole_pieces true m)) m (canonical m)
+
+-- A message within the limits is at most as long as they tell.
+abbrev pub MessagesAreBounded : Type 0
+MessagesAreBounded = (limits : LimitValues) (runs : List Run) (m : List Item) (bytes : List ℕ)
+    → SpellsBy limits.profile runs m bytes → IsWithin limits runs → length bytes ≤ greatest_length limits
+
+-- ---- refusals
+
+-- There is at most one place.
+abbrev pub OnePlace : Sets → Type 0
+OnePlace set = (limits : LimitValues) (bytes : List ℕ) (p q : ℕ)
+    → IsPlace set limits bytes p → IsPlace set limits bytes q → p ≡ q
+
+-- Where there is a place no bytes at the front are a message.
+abbrev pub NoPrefixIsAccepted : Sets → Type 0
+NoPrefixIsAccepted set = (limits : LimitValues) (bytes : List ℕ) (place count : ℕ)
+    → IsPlace set limits bytes place → ¬ IsAccepted set limits (take count bytes)
+
+-- Bytes are refused at one place, for one reason.
+abbrev pub OneRefusal : Sets → Conditions → Type 0
+OneRefusal set holds = (limits : LimitValues) (bytes : List ℕ) (refusal other : Refusal)
+    → Refuses set holds limits bytes refusal → Refuses set holds limits bytes other → refusal ≡ other
+
+-- What is refused, and why, follows from the bytes up to the refused one, whatever is behind it.
+abbrev pub RefusalsAreLocal : Sets → Conditions → Type 0
+RefusalsAreLocal set holds = (limits : LimitValues) (bytes other : List ℕ) (refusal : Refusal)
+    → refusal.at < length bytes → refusal.at < length other → take (refusal.at + 1) bytes ≡ take (refusal.at + 1) other
+    → Refuses set holds limits bytes refusal → Refuses set holds limits other refusal

@@ -1,0 +1,26 @@
+-- The format, in the order in which it can be read.
+
+-- what is accepted
+pub mod Records
+pub mod Messages
+pub mod Limits
+pub mod Kinds
+pub mod Octets
+pub mod Texts
+pub mod Uris
+pub mod Handovers
+pub mod Nested
+pub mod Payloads
+pub mod Accepted
+-- what is written
+pub mod Canonical
+-- where and why other bytes are refused
+pub mod Positions
+pub mod Reasons
+pub mod HeadReasons
+pub mod PayloadReasons
+pub mod NestedReasons
+pub mod Refusals
+-- what is printed, and what holds of all this
+pub mod Shown
+pub mod Laws

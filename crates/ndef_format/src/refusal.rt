@@ -1,0 +1,29 @@
+//! Where bytes are refused, and why.
+ghost use Rattle.std.specs.Prelude.{Some};
+ghost use Rattle.ndef_format.specs.Shown.{refusal_text};
+
+use crate::Reason;
+use std::error::Error;
+use std::fmt;
+
+/// The first byte that can't stand where it stands, or the end of input that came too early.
+#[derive(Clone, Copy, Debug, PartialEq, Eq, Hash)]
+pub struct Refusal {
+    /// The place, in bytes from 0 at the start of what is read: of the message, or of the payload.
+    pub at: u64,
+    /// Why that byte is refused.
+    pub reason: Reason,
+}
+
+/// The place, and the number and the name of the reason, as `refused at 11: 24 EndOfInput`.
+impl fmt::Display for Refusal {
+    ghost output = { λ refusal. Some (refusal_text refusal.at refusal.reason) };
+
+    fn fmt<W: fmt::Write>(&self, f: &mut fmt::Formatter<W>) -> fmt::Result {
+        let at = self.at;
+        let reason = self.reason;
+        write!(f, "refused at {at}: {reason}")
+    }
+}
+
+impl Error for Refusal {}

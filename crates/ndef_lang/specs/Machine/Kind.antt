@@ -1,0 +1,45 @@
+-- Which kinds of payload the types of records name.
+use Rattle.std.specs.Prelude.{◌≡◌, ℕ, ◌==◌, List, [], ◌∷◌, ◌++◌, length, codes, if◌then◌else◌}
+use Rattle.ndef_format.specs.declared.kind.Kind.{Kind}
+use Rattle.ndef_format.specs.declared.kind.Kind.TheVariants.{Other, Collision, Error}
+use Rattle.ndef_lang.specs.declared.kind.Front.{Front}
+use Rattle.ndef_lang.specs.declared.kind.Front.TheVariants as fronts
+use Rattle.ndef_lang.specs.declared.kind.KindReader.{KindReader}
+use Rattle.ndef_format.specs.Kinds.{names, named}
+
+-- ---- a name that is half read
+
+-- the kind, if no octet follows
+abbrev pub ended : Kind → List ℕ → Kind
+ended kind [] = kind
+ended kind (b ∷ more) = Other
+
+-- the kind of the name that begins so and goes on by these octets
+abbrev pub continued : Front → List ℕ → Kind
+continued fronts.Nothing more = named names more
+continued fronts.Poster more = named names (codes "S" ++ more)
+continued fronts.Handover more = named names (codes "H" ++ more)
+continued fronts.ActionOrAlternative more = named names (codes "a" ++ more)
+continued fronts.AlternativeOrAction more = named names (codes "ac" ++ more)
+continued fronts.Collision more = named names (codes "c" ++ more)
+continued fronts.Error more = named names (codes "e" ++ more)
+continued fronts.SecondOfError more = named names (codes "er" ++ more)
+continued (fronts.Whole kind) more = ended kind more
+
+-- how many octets are missing of the name
+abbrev pub missing_of : KindReader → ℕ
+missing_of reader = reader.missing
+
+-- which octets of it have come
+abbrev pub front_of : KindReader → Front
+front_of reader = reader.front
+
+-- the kind of the name, if just these octets are missing of it; else Other
+abbrev pub kind_after : KindReader → List ℕ → Kind
+kind_after reader more = if length more == missing_of reader then continued (front_of reader) more else Other
+
+-- ---- laws
+
+-- A half-read name that a 0 octet is still to come of is of no kind.
+abbrev pub ZerosAreOther : Type 0
+ZerosAreOther = (reader : KindReader) (front back : List ℕ) → kind_after reader (front ++ 0 ∷ back) ≡ Other

@@ -1,5 +1,0 @@
-use Rattle.std.proofs.Common.{rules}
-use Rattle.ndef_nest.proofs.table.Table.kind.Goals as goal
-
-pub returns : goal.returns
-returns c = search rules

@@ -1,5 +1,0 @@
-use Rattle.std.proofs.Common.{rules}
-use Rattle.ndef_value.proofs.reason.Reason.rank.Goals as goal
-
-pub returns-in-CollisionMissing-clause-value : goal.returns-in-CollisionMissing-clause-value
-returns-in-CollisionMissing-clause-value c = search rules

@@ -1,5 +1,0 @@
-use Rattle.std.proofs.Common.{rules}
-use Rattle.ndef_value.proofs.reason.Reason.text.Goals as goal
-
-pub returns-in-DoesNotFit-clause-value : goal.returns-in-DoesNotFit-clause-value
-returns-in-DoesNotFit-clause-value c = search rules

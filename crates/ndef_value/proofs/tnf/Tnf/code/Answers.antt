@@ -1,5 +1,0 @@
-use Rattle.std.proofs.Common.{rules}
-use Rattle.ndef_value.proofs.tnf.Tnf.code.Goals as goal
-
-pub returns-in-Unchanged-clause-value : goal.returns-in-Unchanged-clause-value
-returns-in-Unchanged-clause-value c = search rules
