@@ -35,6 +35,9 @@ def broken_links(top, page):
         file = (page.parent / path).resolve() if path else page
         if not file.exists():
             yield f'{target}: no such file'
+        elif re.fullmatch(r'L\d+', anchor):
+            if int(anchor[1:]) > file.read_text().count('\n'):
+                yield f'{target}: no such line'
         elif anchor and anchor not in anchors(file):
             yield f'{target}: no such heading'
 
