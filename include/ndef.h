@@ -9,7 +9,9 @@
  *
  * The caller must keep these rules:
  *   - A pointer that comes with a length points to that many bytes (or elements). Where the length is 0, the pointer
- *     may have any value, NULL too. Any other pointer points to one value of its type, and is not NULL.
+ *     may have any value, NULL too. Any other pointer points to memory for one value of its type.
+ *   - No other pointer is NULL. The library does not test for that: NULL with a length above 0, or NULL for a struct or
+ *     a count, reads or writes memory at a low address, which ends the program on most systems.
  *   - What a call writes (`out`, `count`, `why`, a room, a checker) overlaps none of its other arguments.
  *   - The ndef_checker that ndef_feed is given holds what ndef_begin or ndef_feed left in it, or is a copy of one
  *     that does. Only one call at a time uses it.
@@ -18,7 +20,8 @@
  *
  * Most calls return an ndef_status. With NDEF_BAD_ARGUMENT and NDEF_END the call has written nothing (but
  * ndef_begin has written its checker); with NDEF_NO_ROOM it has written *count alone. What `out`, `count`, `why`
- * and a room held before the call does not matter, so they need not be initialized.
+ * and a room held before the call does not matter: nothing need have been written there, so a variable without a value
+ * and fresh memory of malloc serve.
  *
  * A room is memory of the caller, `size` bytes long, to which a call writes bytes. The call puts the number of
  * bytes it wrote into *count. Where the room is too small, the answer is NDEF_NO_ROOM and *count has the size that
@@ -28,6 +31,11 @@
 
 #include <stddef.h>
 #include <stdint.h>
+
+/* The version of this header. */
+#define NDEF_VERSION_MAJOR 0
+#define NDEF_VERSION_MINOR 1
+#define NDEF_VERSION_PATCH 0
 
 /* A length, or the place of a byte counted from 0. It has 64 bits on every machine, since the library is compiled
  * so. Where size_t has 64 bits it is size_t; elsewhere it is uint64_t, with the library's alignment of 8 bytes. */
@@ -54,42 +62,95 @@ enum ndef_status {
 
 /* Why a byte is refused. ndef_reason_name gives the name of each as text. */
 enum ndef_reason {
-    NDEF_RESERVED_TNF = 1,
-    NDEF_BEGIN_MISSING = 2,
-    NDEF_BEGIN_AGAIN = 3,
-    NDEF_UNCHANGED_OUTSIDE = 4,
-    NDEF_CHANGED_INSIDE = 5,
-    NDEF_ID_INSIDE = 6,
-    NDEF_CHUNK_AT_END = 7,
-    NDEF_CHUNK_OF_EMPTY = 8,
-    NDEF_TOO_MANY_PIECES = 9,
-    NDEF_TOO_MANY_RECORDS = 10,
-    NDEF_TYPE_NOT_EMPTY = 11,
-    NDEF_TYPE_EMPTY = 12,
-    NDEF_EMPTY_NOT_EMPTY = 13,
-    NDEF_PAYLOAD_TOO_LARGE = 14,
-    NDEF_TEXT_BIT = 15,
-    NDEF_LANGUAGE = 16,
-    NDEF_UTF8 = 17,
-    NDEF_UTF16 = 18,
-    NDEF_URI_CODE = 19,
-    NDEF_URI_MISSING = 20,
-    NDEF_URI_AGAIN = 21,
-    NDEF_VERSION = 22,
-    NDEF_DOES_NOT_FIT = 23,
-    NDEF_END_OF_INPUT = 24,
-    NDEF_COLLISION_MISSING = 25
+    NDEF_REASON_RESERVED_TNF = 1,
+    NDEF_REASON_BEGIN_MISSING = 2,
+    NDEF_REASON_BEGIN_AGAIN = 3,
+    NDEF_REASON_UNCHANGED_OUTSIDE = 4,
+    NDEF_REASON_CHANGED_INSIDE = 5,
+    NDEF_REASON_ID_INSIDE = 6,
+    NDEF_REASON_CHUNK_AT_END = 7,
+    NDEF_REASON_CHUNK_OF_EMPTY = 8,
+    NDEF_REASON_TOO_MANY_PIECES = 9,
+    NDEF_REASON_TOO_MANY_RECORDS = 10,
+    NDEF_REASON_TYPE_NOT_EMPTY = 11,
+    NDEF_REASON_TYPE_EMPTY = 12,
+    NDEF_REASON_EMPTY_NOT_EMPTY = 13,
+    NDEF_REASON_PAYLOAD_TOO_LARGE = 14,
+    NDEF_REASON_TEXT_BIT = 15,
+    NDEF_REASON_LANGUAGE = 16,
+    NDEF_REASON_UTF8 = 17,
+    NDEF_REASON_UTF16 = 18,
+    NDEF_REASON_URI_CODE = 19,
+    NDEF_REASON_URI_MISSING = 20,
+    NDEF_REASON_URI_AGAIN = 21,
+    NDEF_REASON_VERSION = 22,
+    NDEF_REASON_DOES_NOT_FIT = 23,
+    NDEF_REASON_END_OF_INPUT = 24,
+    NDEF_REASON_COLLISION_MISSING = 25
 };
+
+/* The list of reasons, for tables of your own: NDEF_REASONS(X) is X(number, name, text) for each, without a separator.
+ * NDEF_REASON_ and the name make the constant; the text is what ndef_reason_name writes. So a table of texts is
+ *     #define TEXT(number, name, text) [number] = text,
+ *     static const char *const texts[] = { NDEF_REASONS(TEXT) }; */
+#define NDEF_REASONS(X) \
+    X(1, RESERVED_TNF, "ReservedTnf") X(2, BEGIN_MISSING, "BeginMissing") X(3, BEGIN_AGAIN, "BeginAgain") \
+    X(4, UNCHANGED_OUTSIDE, "UnchangedOutside") X(5, CHANGED_INSIDE, "ChangedInside") X(6, ID_INSIDE, "IdInside") \
+    X(7, CHUNK_AT_END, "ChunkAtEnd") X(8, CHUNK_OF_EMPTY, "ChunkOfEmpty") X(9, TOO_MANY_PIECES, "TooManyPieces") \
+    X(10, TOO_MANY_RECORDS, "TooManyRecords") X(11, TYPE_NOT_EMPTY, "TypeNotEmpty") X(12, TYPE_EMPTY, "TypeEmpty") \
+    X(13, EMPTY_NOT_EMPTY, "EmptyNotEmpty") X(14, PAYLOAD_TOO_LARGE, "PayloadTooLarge") X(15, TEXT_BIT, "TextBit") \
+    X(16, LANGUAGE, "Language") X(17, UTF8, "Utf8") X(18, UTF16, "Utf16") X(19, URI_CODE, "UriCode") \
+    X(20, URI_MISSING, "UriMissing") X(21, URI_AGAIN, "UriAgain") X(22, VERSION, "Version") \
+    X(23, DOES_NOT_FIT, "DoesNotFit") X(24, END_OF_INPUT, "EndOfInput") X(25, COLLISION_MISSING, "CollisionMissing")
 
 /* The type name format of a record (TNF, NDEF 1.0, 3.2.6). */
 enum ndef_tnf {
-    NDEF_EMPTY = 0,
-    NDEF_WELL_KNOWN = 1,
-    NDEF_MEDIA = 2,
-    NDEF_ABSOLUTE_URI = 3,
-    NDEF_EXTERNAL = 4,
-    NDEF_UNKNOWN = 5 /* with NDEF_STANDARD the reserved 7 is read as this too */
+    NDEF_TNF_EMPTY = 0,
+    NDEF_TNF_WELL_KNOWN = 1,
+    NDEF_TNF_MEDIA = 2,
+    NDEF_TNF_ABSOLUTE_URI = 3,
+    NDEF_TNF_EXTERNAL = 4,
+    NDEF_TNF_UNKNOWN = 5 /* with NDEF_STANDARD the reserved 7 is read as this too */
 };
+
+/* The names that version 0.1 had for the reasons, the type name formats and the flags of ndef_writing. They are there
+ * where NDEF_OLD_NAMES is defined before this header is included, and go with the next version. */
+#ifdef NDEF_OLD_NAMES
+#define NDEF_RESERVED_TNF NDEF_REASON_RESERVED_TNF
+#define NDEF_BEGIN_MISSING NDEF_REASON_BEGIN_MISSING
+#define NDEF_BEGIN_AGAIN NDEF_REASON_BEGIN_AGAIN
+#define NDEF_UNCHANGED_OUTSIDE NDEF_REASON_UNCHANGED_OUTSIDE
+#define NDEF_CHANGED_INSIDE NDEF_REASON_CHANGED_INSIDE
+#define NDEF_ID_INSIDE NDEF_REASON_ID_INSIDE
+#define NDEF_CHUNK_AT_END NDEF_REASON_CHUNK_AT_END
+#define NDEF_CHUNK_OF_EMPTY NDEF_REASON_CHUNK_OF_EMPTY
+#define NDEF_TOO_MANY_PIECES NDEF_REASON_TOO_MANY_PIECES
+#define NDEF_TOO_MANY_RECORDS NDEF_REASON_TOO_MANY_RECORDS
+#define NDEF_TYPE_NOT_EMPTY NDEF_REASON_TYPE_NOT_EMPTY
+#define NDEF_TYPE_EMPTY NDEF_REASON_TYPE_EMPTY
+#define NDEF_EMPTY_NOT_EMPTY NDEF_REASON_EMPTY_NOT_EMPTY
+#define NDEF_PAYLOAD_TOO_LARGE NDEF_REASON_PAYLOAD_TOO_LARGE
+#define NDEF_TEXT_BIT NDEF_REASON_TEXT_BIT
+#define NDEF_LANGUAGE NDEF_REASON_LANGUAGE
+#define NDEF_UTF8 NDEF_REASON_UTF8
+#define NDEF_UTF16 NDEF_REASON_UTF16
+#define NDEF_URI_CODE NDEF_REASON_URI_CODE
+#define NDEF_URI_MISSING NDEF_REASON_URI_MISSING
+#define NDEF_URI_AGAIN NDEF_REASON_URI_AGAIN
+#define NDEF_VERSION NDEF_REASON_VERSION
+#define NDEF_DOES_NOT_FIT NDEF_REASON_DOES_NOT_FIT
+#define NDEF_END_OF_INPUT NDEF_REASON_END_OF_INPUT
+#define NDEF_COLLISION_MISSING NDEF_REASON_COLLISION_MISSING
+#define NDEF_EMPTY NDEF_TNF_EMPTY
+#define NDEF_WELL_KNOWN NDEF_TNF_WELL_KNOWN
+#define NDEF_MEDIA NDEF_TNF_MEDIA
+#define NDEF_ABSOLUTE_URI NDEF_TNF_ABSOLUTE_URI
+#define NDEF_EXTERNAL NDEF_TNF_EXTERNAL
+#define NDEF_UNKNOWN NDEF_TNF_UNKNOWN
+#define NDEF_FIRST NDEF_WRITE_FIRST
+#define NDEF_LAST NDEF_WRITE_LAST
+#define NDEF_LONG NDEF_WRITE_LONG
+#endif
 
 /* ---- check */
 
@@ -116,8 +177,8 @@ typedef struct ndef_checked {
 /* Checks that the bytes begin with a message. Other bytes may follow it.
  * NDEF_OK: the first out->place bytes are a message of out->records records.
  * NDEF_REFUSED: no message begins with the bytes up to and including the one at out->place, for the reason in
- *   out->reason. If out->place is `length`, the reason is NDEF_END_OF_INPUT: the bytes begin a message, and more
- *   must follow. Where the bytes arrive in parts, use ndef_feed, which looks at each part once.
+ *   out->reason. If out->place is `length`, the reason is NDEF_REASON_END_OF_INPUT: the bytes begin a message, and
+ *   more must follow. Where the bytes arrive in parts, use ndef_feed, which looks at each part once.
  * NDEF_BAD_ARGUMENT: a limit is out of range, or an unknown flag is set. */
 uint32_t ndef_check(const uint8_t *bytes, ndef_size length, const ndef_limits *limits, ndef_checked *out);
 
@@ -138,7 +199,7 @@ uint32_t ndef_begin(const ndef_limits *limits, ndef_checker *checker);
  * NDEF_OK: the first out->place bytes are a message. NDEF_REFUSED: out has the place and the reason. After either,
  *   every later feed gives the same answer.
  * NDEF_MORE: the bytes begin a message, and more must follow. out->place is the number of bytes fed, out->reason is
- *   NDEF_END_OF_INPUT. Feeding 0 bytes gives this answer again.
+ *   NDEF_REASON_END_OF_INPUT. Feeding 0 bytes gives this answer again.
  * NDEF_BAD_ARGUMENT: ndef_begin answered so. */
 uint32_t ndef_feed(ndef_checker *checker, const uint8_t *bytes, ndef_size length, ndef_checked *out);
 
@@ -178,21 +239,21 @@ uint32_t ndef_payload(const uint8_t *bytes, ndef_size length, ndef_size at, uint
 
 /* How a record is written.
  *   tnf    an ndef_tnf
- *   flags  NDEF_FIRST: it is the first record of its message. NDEF_LAST: it is the last. NDEF_LONG: write the
- *          payload length in four bytes even where one would do.
+ *   flags  NDEF_WRITE_FIRST: it is the first record of its message. NDEF_WRITE_LAST: it is the last.
+ *          NDEF_WRITE_LONG: write the payload length in four bytes even where one would do.
  *   chunk  the payload bytes of each chunk but the last; 0: don't chunk the record */
 typedef struct ndef_writing {
     uint32_t tnf, flags, chunk;
 } ndef_writing;
-enum { NDEF_FIRST = 1, NDEF_LAST = 2, NDEF_LONG = 4 };
+enum { NDEF_WRITE_FIRST = 1, NDEF_WRITE_LAST = 2, NDEF_WRITE_LONG = 4 };
 
 /* Writes a record to the room. With an id of length 0 the record gets no id. Records written one behind the other,
- * the first with NDEF_FIRST and the last with NDEF_LAST, are a message.
+ * the first with NDEF_WRITE_FIRST and the last with NDEF_WRITE_LAST, are a message.
  * NDEF_OK, NDEF_NO_ROOM.
  * NDEF_BAD_ARGUMENT: tnf is above 5; an unknown flag is set; the type or the id has more than 255 bytes; the
- *   payload has more than 4294967295 bytes; tnf is NDEF_UNKNOWN and the type is not empty; tnf is NDEF_WELL_KNOWN,
- *   NDEF_MEDIA, NDEF_ABSOLUTE_URI or NDEF_EXTERNAL and the type is empty; tnf is NDEF_EMPTY and the type, id or
- *   payload is not empty. */
+ *   payload has more than 4294967295 bytes; tnf is NDEF_TNF_UNKNOWN and the type is not empty; tnf is
+ *   NDEF_TNF_WELL_KNOWN, NDEF_TNF_MEDIA, NDEF_TNF_ABSOLUTE_URI or NDEF_TNF_EXTERNAL and the type is empty; tnf is
+ *   NDEF_TNF_EMPTY and the type, id or payload is not empty. */
 uint32_t ndef_write_record(const uint8_t *type, ndef_size type_length, const uint8_t *id, ndef_size id_length,
                            const uint8_t *payload, ndef_size payload_length, const ndef_writing *how,
                            uint8_t *room, ndef_size size, ndef_size *count);

@@ -36,7 +36,7 @@ static void poster(void) { static ndef_poster_parts to; ndef_poster(given, given
 static void error(void) { static ndef_error_parts to; ndef_error(given, given_length, &to, &out); }
 static void write_record(void) {
     static ndef_writing how;
-    how.tnf = NDEF_WELL_KNOWN, how.flags = flags, how.chunk = flags & 1 ? 3 : 0;
+    how.tnf = NDEF_TNF_WELL_KNOWN, how.flags = flags, how.chunk = flags & 1 ? 3 : 0;
     ndef_write_record((const uint8_t *)"T", 1, given, 0, given, given_length, &how, room, sizeof room, &count);
 }
 static void write_uri(void) { ndef_write_uri(given, given_length, room, sizeof room, &count); }
@@ -105,7 +105,7 @@ static void copy(uint8_t *to, const uint8_t *from, ndef_size length) {
 /* A text of some length, in UTF-8 or UTF-16, as a message. */
 static ndef_size long_text(ndef_size length, int is_utf16) {
     static const char mixed[] = "a\xc3\xa9\xe2\x82\xac\xf0\x9f\x98\x80zz";
-    const ndef_writing how = { NDEF_WELL_KNOWN, NDEF_FIRST | NDEF_LAST, 0 };
+    const ndef_writing how = { NDEF_TNF_WELL_KNOWN, NDEF_WRITE_FIRST | NDEF_WRITE_LAST, 0 };
     ndef_size end = 0;
     payload[end++] = is_utf16 ? 0x82 : 0x02;
     payload[end++] = 'e';

@@ -244,7 +244,7 @@ static ndef_size changed(uint8_t *bytes, ndef_size length) {
 static ndef_size within_a_record(uint8_t *bytes, ndef_size length) {
     static const char *const types[] = { "T", "U", "Sp", "Hr", "Hs", "Hc", "ac", "err" };
     const char *type = types[below(8)];
-    const ndef_writing how = { NDEF_WELL_KNOWN, NDEF_FIRST | NDEF_LAST | (below(3) ? 0 : NDEF_LONG), below(4) ? 0 : 1 + below(9) };
+    const ndef_writing how = { NDEF_TNF_WELL_KNOWN, NDEF_WRITE_FIRST | NDEF_WRITE_LAST | (below(3) ? 0 : NDEF_WRITE_LONG), below(4) ? 0 : 1 + below(9) };
     ndef_size type_length = 1, count = 0;
     while (type[type_length]) type_length++;
     if (ndef_write_record((const uint8_t *)type, type_length, bytes, 0, bytes, length, &how, room, MOST, &count) != NDEF_OK) return length;

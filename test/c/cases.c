@@ -68,7 +68,7 @@ static int is_record(const char *text, const ndef_record *record, const uint8_t 
     if (count != length || ndef_payload(whole, record->end, record->at, payload, length, &count) != NDEF_OK) return 0;
     if (memcmp(payload, told, length)) return 0;
     if (record->pieces == 1 && (record->part_length != length || memcmp(whole + record->payload_at, told, length))) return 0;
-    ndef_writing how = { tnf, (*end == 0 ? (uint32_t)NDEF_FIRST : 0) | (record->last ? (uint32_t)NDEF_LAST : 0), 0 };
+    ndef_writing how = { tnf, (*end == 0 ? (uint32_t)NDEF_WRITE_FIRST : 0) | (record->last ? (uint32_t)NDEF_WRITE_LAST : 0), 0 };
     if (ndef_write_record(bytes + record->type_at, record->type_length, bytes + record->id_at, record->id_length, payload,
                           length, &how, written + *end, sizeof written - *end, &count) != NDEF_OK) return 0;
     *end += count;
@@ -136,7 +136,7 @@ static int is_answered(char *limit_words, const char *profile, int opaque, ndef_
     if (sscanf(answer, "accepted %llu", &place) == 1)
         return status == NDEF_OK && checked.place == place && checked.reason == 0 && are_records(records, &limits, &checked);
     if (sscanf(answer, "refused %llu %u", &place, &reason) != 2 && sscanf(answer, "more %llu", &place) == 1)
-        reason = NDEF_END_OF_INPUT;
+        reason = NDEF_REASON_END_OF_INPUT;
     return status == NDEF_REFUSED && checked.place == place && checked.reason == reason && checked.records == 0;
 }
 

@@ -30,7 +30,7 @@ static void checks(void) {
     expect(ndef_check(message, sizeof message, &usual, &told) == NDEF_OK, "the message is refused");
     expect(told.place == 44 && told.records == 2 && told.reason == 0, "the message is told otherwise");
     expect(ndef_check(message, 23, &usual, &told) == NDEF_REFUSED, "a front of the message is taken");
-    expect(told.place == 23 && told.records == 0 && told.reason == NDEF_END_OF_INPUT, "a front of the message is told otherwise");
+    expect(told.place == 23 && told.records == 0 && told.reason == NDEF_REASON_END_OF_INPUT, "a front of the message is told otherwise");
 }
 
 static void records(void) {
@@ -40,12 +40,12 @@ static void records(void) {
     expect(told.at == 6 && told.end == 44, "the record lies elsewhere");
     expect(told.type_at == 10 && told.type_length == 5 && told.id_at == 15 && told.id_length == 7, "the type or the id lies elsewhere");
     expect(told.payload_at == 22 && told.part_length == 9 && told.payload_length == 16 && told.pieces == 3, "the payload lies elsewhere");
-    expect(told.tnf == NDEF_MEDIA && told.last == 1, "the record is another one");
+    expect(told.tnf == NDEF_TNF_MEDIA && told.last == 1, "the record is another one");
     memset(&told, 0x77, sizeof told);
     expect(ndef_record_at(message, sizeof message, 0, &told) == NDEF_OK, "the first record isn't there");
     expect(told.at == 0 && told.end == 6 && told.type_at == 3 && told.type_length == 1, "the first record lies elsewhere");
     expect(told.id_at == 4 && told.id_length == 0 && told.payload_at == 4 && told.part_length == 2, "an id of no bytes lies elsewhere");
-    expect(told.payload_length == 2 && told.pieces == 1 && told.tnf == NDEF_WELL_KNOWN && told.last == 0, "the first record is another one");
+    expect(told.payload_length == 2 && told.pieces == 1 && told.tnf == NDEF_TNF_WELL_KNOWN && told.last == 0, "the first record is another one");
 }
 
 static void texts(void) {

@@ -39,13 +39,13 @@ static int is_written(const ndef_writing *how, const char *type, const char *id,
     if (ndef_write_record((const uint8_t *)type, strlen(type), (const uint8_t *)id, strlen(id), payload, length, how, room, sizeof room,
                           &count) != NDEF_OK) return 0;
     if (count != to->count || memcmp(room, to->bytes, count)) return 0;
-    if ((how->flags & 3) != (NDEF_FIRST | NDEF_LAST)) return 1;
+    if ((how->flags & 3) != (NDEF_WRITE_FIRST | NDEF_WRITE_LAST)) return 1;
     return ndef_check(room, count, &limits, &checked) == NDEF_OK && checked.place == count && checked.records == 1;
 }
 
 static void whole(void) {
-    const ndef_writing unknown = { NDEF_UNKNOWN, NDEF_FIRST | NDEF_LAST, 0 };
-    const ndef_writing in_long_form = { NDEF_UNKNOWN, NDEF_FIRST | NDEF_LAST | NDEF_LONG, 0 };
+    const ndef_writing unknown = { NDEF_TNF_UNKNOWN, NDEF_WRITE_FIRST | NDEF_WRITE_LAST, 0 };
+    const ndef_writing in_long_form = { NDEF_TNF_UNKNOWN, NDEF_WRITE_FIRST | NDEF_WRITE_LAST | NDEF_WRITE_LONG, 0 };
     expected short_254 = { { 0 }, 0 }, short_255 = { { 0 }, 0 }, long_256 = { { 0 }, 0 }, long_255 = { { 0 }, 0 }, long_none = { { 0 }, 0 };
     add_piece(&short_254, "\xd5\0\xfe", 3, 0, 254);
     expect(is_written(&unknown, "", "", 254, &short_254), "254 payload bytes have another head");
@@ -60,9 +60,9 @@ static void whole(void) {
 }
 
 static void pieces(void) {
-    const ndef_writing by_255 = { NDEF_MEDIA, NDEF_FIRST | NDEF_LAST, 255 };
-    const ndef_writing by_256 = { NDEF_UNKNOWN, NDEF_FIRST | NDEF_LAST, 256 };
-    const ndef_writing by_3 = { NDEF_EXTERNAL, NDEF_FIRST | NDEF_LAST | NDEF_LONG, 3 };
+    const ndef_writing by_255 = { NDEF_TNF_MEDIA, NDEF_WRITE_FIRST | NDEF_WRITE_LAST, 255 };
+    const ndef_writing by_256 = { NDEF_TNF_UNKNOWN, NDEF_WRITE_FIRST | NDEF_WRITE_LAST, 256 };
+    const ndef_writing by_3 = { NDEF_TNF_EXTERNAL, NDEF_WRITE_FIRST | NDEF_WRITE_LAST | NDEF_WRITE_LONG, 3 };
     expected in_255 = { { 0 }, 0 }, in_256 = { { 0 }, 0 }, in_3 = { { 0 }, 0 };
     add_piece(&in_255, "\xba\3\xff\1a/bx", 8, 0, 255);
     add_piece(&in_255, "\x36\0\xff", 3, 255, 255);
@@ -82,14 +82,14 @@ static void flags(void) {
     static const char *const heads[8] = { "\x12\3\1", "\x92\3\1", "\x52\3\1", "\xd2\3\1", "\x02\3\0\0\0\1", "\x82\3\0\0\0\1",
                                           "\x42\3\0\0\0\1", "\xc2\3\0\0\0\1" };
     for (uint32_t flag = 0; flag < 8; flag++) {
-        const ndef_writing how = { NDEF_MEDIA, flag, 0 };
+        const ndef_writing how = { NDEF_TNF_MEDIA, flag, 0 };
         expected one = { { 0 }, 0 };
         add(&one, heads[flag], flag < 4 ? 3 : 6);
         add(&one, "a/b", 3);
         add_piece(&one, "", 0, 0, 1);
         expect(is_written(&how, "a/b", "", 1, &one), "a flag gives another head");
     }
-    const ndef_writing unknown_flag = { NDEF_MEDIA, 8, 0 };
+    const ndef_writing unknown_flag = { NDEF_TNF_MEDIA, 8, 0 };
     size_t count = 77;
     expect(ndef_write_record((const uint8_t *)"a", 1, payload, 0, payload, 0, &unknown_flag, room, sizeof room, &count) == NDEF_BAD_ARGUMENT
            && count == 77, "an unknown flag is taken");

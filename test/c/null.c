@@ -56,7 +56,7 @@ static void reading_calls(int way, const uint8_t *none, uint8_t *room) {
 }
 
 static void writing_calls(int way, const uint8_t *none, const ndef_part *no_parts, uint8_t *room, ndef_size size) {
-    const ndef_writing how = { NDEF_UNKNOWN, NDEF_FIRST | NDEF_LAST, 0 };
+    const ndef_writing how = { NDEF_TNF_UNKNOWN, NDEF_WRITE_FIRST | NDEF_WRITE_LAST, 0 };
     const ndef_part empty = { 0, 0 };
     answer(way, ndef_write_record(none, 0, none, 0, none, 0, &how, room, size, &count));
     answer(way, ndef_write_uri(none, 0, room, size, &count));

@@ -30,11 +30,11 @@ static void uris(void) {
     expect(is(room, count, "\x23x", 2), "the longest prefix isn't taken");
     expect(ndef_write_uri((const uint8_t *)"\xff", 1, room, sizeof room, &count) == NDEF_BAD_ARGUMENT, "no UTF-8 is written");
     expect(ndef_uri((const uint8_t *)"\x24" "a", 2, 0, back, sizeof back, &length, &why) == NDEF_REFUSED, "a reserved code is read");
-    expect(why.place == 0 && why.reason == NDEF_URI_CODE && why.records == 0, "a reserved code is refused otherwise");
+    expect(why.place == 0 && why.reason == NDEF_REASON_URI_CODE && why.records == 0, "a reserved code is refused otherwise");
     expect(ndef_uri((const uint8_t *)"\x24" "a", 2, NDEF_STANDARD, back, sizeof back, &length, &why) == NDEF_OK, "the standard reads no reserved code");
     expect(is(back, length, "a", 1), "a reserved code has a prefix");
     expect(ndef_uri((const uint8_t *)"", 0, 0, back, sizeof back, &length, &why) == NDEF_REFUSED, "nothing is a URI");
-    expect(why.place == 0 && why.reason == NDEF_DOES_NOT_FIT, "nothing is refused otherwise");
+    expect(why.place == 0 && why.reason == NDEF_REASON_DOES_NOT_FIT, "nothing is refused otherwise");
     expect(ndef_uri(room, count, 2, back, sizeof back, &length, &why) == NDEF_BAD_ARGUMENT, "an unknown flag is taken");
 }
 
@@ -54,8 +54,8 @@ static void texts(void) {
     expect(ndef_text((const uint8_t *)"\x80\xfe\xff\0a", 5, &parts, &why) == NDEF_OK, "UTF-16 isn't read");
     expect(parts.language_length == 0 && parts.text_at == 1 && parts.text_length == 4 && parts.utf16 == 1, "UTF-16 lies elsewhere");
     expect(ndef_text((const uint8_t *)"\x40", 1, &parts, &why) == NDEF_REFUSED, "a reserved bit is read");
-    expect(why.place == 0 && why.reason == NDEF_TEXT_BIT && parts.utf16 == 1, "a reserved bit is refused otherwise");
-    expect(ndef_text((const uint8_t *)"\x02" "en\xff", 4, &parts, &why) == NDEF_REFUSED && why.place == 3 && why.reason == NDEF_UTF8,
+    expect(why.place == 0 && why.reason == NDEF_REASON_TEXT_BIT && parts.utf16 == 1, "a reserved bit is refused otherwise");
+    expect(ndef_text((const uint8_t *)"\x02" "en\xff", 4, &parts, &why) == NDEF_REFUSED && why.place == 3 && why.reason == NDEF_REASON_UTF8,
            "no UTF-8 is read");
     expect(ndef_write_text((const uint8_t *)"\xc3\xa9", 2, hello, 5, 0, room, sizeof room, &count) == NDEF_BAD_ARGUMENT, "no ASCII is written");
     expect(ndef_write_text(room, 64, hello, 5, 0, room, 0, &count) == NDEF_BAD_ARGUMENT, "a long language code is written");
@@ -92,7 +92,7 @@ static void conversions(void) {
     count = 77;
     expect(ndef_text_in_utf8((const uint8_t *)"\x80\xdc\0", 3, room, sizeof room, &count, &why) == NDEF_REFUSED && count == 77,
            "half a pair is read");
-    expect(why.place == 1 && why.reason == NDEF_UTF16 && why.records == 0, "half a pair is refused otherwise");
+    expect(why.place == 1 && why.reason == NDEF_REASON_UTF16 && why.records == 0, "half a pair is refused otherwise");
     expect(ndef_write_text(language, 2, (const uint8_t *)narrow, 10, NDEF_AS_UTF16, room, 14, &count) == NDEF_NO_ROOM && count == 15,
            "UTF-16 needs another length");
     expect(ndef_write_text(language, 2, (const uint8_t *)narrow, 10, NDEF_AS_UTF16, room, sizeof room, &count) == NDEF_OK, "UTF-16 isn't written");
@@ -118,7 +118,7 @@ static void carriers(void) {
            && parts.data_at == 2 && parts.data_length == 0, "an empty carrier isn't read");
     parts.format = 7;
     expect(ndef_carrier((const uint8_t *)"\x01\x03" "ab", 4, &parts, &why) == NDEF_REFUSED && parts.format == 7, "a type beyond the end is read");
-    expect(why.place == 1 && why.reason == NDEF_DOES_NOT_FIT && why.records == 0, "a type beyond the end is refused otherwise");
+    expect(why.place == 1 && why.reason == NDEF_REASON_DOES_NOT_FIT && why.records == 0, "a type beyond the end is refused otherwise");
     expect(ndef_write_carrier(8, type, 10, data, 3, room, sizeof room, &count) == NDEF_BAD_ARGUMENT, "a format of four bits is written");
     uint8_t longest[256] = { 0 };
     expect(ndef_write_carrier(2, longest, 256, data, 3, room, 0, &count) == NDEF_BAD_ARGUMENT, "a long type is written");
@@ -143,7 +143,7 @@ static void alternatives(void) {
            "the least alternative carrier isn't read");
     parts.power = 7;
     expect(ndef_alternative((const uint8_t *)"\x01\x01" "0", 3, &parts, &why) == NDEF_REFUSED && parts.power == 7, "no count is read");
-    expect(why.place == 1 && why.reason == NDEF_DOES_NOT_FIT && why.records == 0, "no count is refused otherwise");
+    expect(why.place == 1 && why.reason == NDEF_REASON_DOES_NOT_FIT && why.records == 0, "no count is refused otherwise");
 }
 
 /* Version 1.2, "ac" to "0", "err" 1 with 5, "ac" to nothing, "ac" to "zz", "ac" to "b" */
@@ -163,7 +163,7 @@ static void handovers(void) {
     request.minor = 77;
     expect(ndef_request(request_payload, 1, 0, &request, &why) == NDEF_REFUSED && request.minor == 77, "a request has no message");
     expect(ndef_request((const uint8_t *)"\x12\xd0\0\0\0\0\0\0", 8, 0, &request, &why) == NDEF_REFUSED && why.place == 1
-           && why.reason == NDEF_COLLISION_MISSING && why.records == 0, "a request with no random number is refused otherwise");
+           && why.reason == NDEF_REASON_COLLISION_MISSING && why.records == 0, "a request with no random number is refused otherwise");
     expect(ndef_request(request_payload, 1, 2, &request, &why) == NDEF_BAD_ARGUMENT, "an unknown flag is taken");
 
     expect(ndef_select(select_payload, sizeof select_payload, 0, &parts, &why) == NDEF_OK && why.place == 1, "a select isn't read");
@@ -173,9 +173,9 @@ static void handovers(void) {
     expect(!parts.carriers && !parts.has_error && !parts.error && !parts.detail_at && !parts.detail_length, "the least select says something");
     parts.minor = 77;
     expect(ndef_select((const uint8_t *)"\x20", 1, 0, &parts, &why) == NDEF_REFUSED && parts.minor == 77, "version 2 is read");
-    expect(why.place == 0 && why.reason == NDEF_VERSION && why.records == 0, "version 2 is refused otherwise");
+    expect(why.place == 0 && why.reason == NDEF_REASON_VERSION && why.records == 0, "version 2 is refused otherwise");
     const uint8_t *reserved = (const uint8_t *)"\x12\xd7\0\0";
-    expect(ndef_select(reserved, 4, 0, &parts, &why) == NDEF_REFUSED && why.place == 1 && why.reason == NDEF_RESERVED_TNF, "a reserved type is read");
+    expect(ndef_select(reserved, 4, 0, &parts, &why) == NDEF_REFUSED && why.place == 1 && why.reason == NDEF_REASON_RESERVED_TNF, "a reserved type is read");
     expect(ndef_select(reserved, 4, NDEF_STANDARD, &parts, &why) == NDEF_OK && parts.minor == 2, "the standard reads no reserved type");
     expect(ndef_select(reserved, 4, 2, &parts, &why) == NDEF_BAD_ARGUMENT, "an unknown flag is taken");
 }
@@ -236,9 +236,9 @@ static void posters(void) {
     expect(!parts.has_action && !parts.action && !parts.has_size && !parts.size, "the least poster says something");
     parts.uri_at = 77;
     expect(ndef_poster((const uint8_t *)"\xd1\x01\x01T\x00", 5, 0, &parts, &why) == NDEF_REFUSED && parts.uri_at == 77, "a poster has no URI");
-    expect(why.place == 3 && why.reason == NDEF_URI_MISSING && why.records == 0, "a poster with no URI is refused otherwise");
+    expect(why.place == 3 && why.reason == NDEF_REASON_URI_MISSING && why.records == 0, "a poster with no URI is refused otherwise");
     const uint8_t *reserved = (const uint8_t *)"\xd1\x01\x02U\x24" "a";
-    expect(ndef_poster(reserved, 6, 0, &parts, &why) == NDEF_REFUSED && why.place == 4 && why.reason == NDEF_URI_CODE, "a reserved code is read");
+    expect(ndef_poster(reserved, 6, 0, &parts, &why) == NDEF_REFUSED && why.place == 4 && why.reason == NDEF_REASON_URI_CODE, "a reserved code is read");
     expect(ndef_poster(reserved, 6, NDEF_STANDARD, &parts, &why) == NDEF_OK && parts.uri_at == 4, "the standard reads no reserved code");
     expect(ndef_poster(least, 6, 2, &parts, &why) == NDEF_BAD_ARGUMENT, "an unknown flag is taken");
 }

@@ -37,8 +37,8 @@ static Message some_message() {
     Message message(1 + below(5));
     for (auto &record : message) {
         record.tnf = below(6);
-        if (record.tnf == NDEF_EMPTY) continue;
-        if (record.tnf != NDEF_UNKNOWN) record.type = octets(below(40) ? 1 + below(12) : 255);
+        if (record.tnf == NDEF_TNF_EMPTY) continue;
+        if (record.tnf != NDEF_TNF_UNKNOWN) record.type = octets(below(40) ? 1 + below(12) : 255);
         if (below(2)) record.id = octets(below(40) ? 1 + below(10) : 255);
         record.payload = octets(below(4) ? below(40) : 200 + below(200));
     }
@@ -63,7 +63,7 @@ static QByteArray write_by_ours(const Message &message, unsigned form, unsigned 
     QByteArray bytes;
     for (size_t i = 0; i < message.size(); i++) {
         const Plain &m = message[i];
-        const unsigned flags = form | (i == 0 ? unsigned(NDEF_FIRST) : 0u) | (i + 1 == message.size() ? unsigned(NDEF_LAST) : 0u);
+        const unsigned flags = form | (i == 0 ? unsigned(NDEF_WRITE_FIRST) : 0u) | (i + 1 == message.size() ? unsigned(NDEF_WRITE_LAST) : 0u);
         const ndef_writing how = { m.tnf, flags, chunk };
         QByteArray room(8192, 0);
         size_t count = 0;
@@ -142,7 +142,7 @@ int main(int count, char **words) {
         Message read;
         ndef_checked checked;
         expect(read_by_ours(theirs, read, checked) && read == message, "Qt wrote, ours read");
-        const unsigned form = below(2) ? unsigned(NDEF_LONG) : 0u, chunk = below(2) ? 0 : 1 + below(30);
+        const unsigned form = below(2) ? unsigned(NDEF_WRITE_LONG) : 0u, chunk = below(2) ? 0 : 1 + below(30);
         const QByteArray ours = write_by_ours(message, form, chunk);
         expect(read_by_qt(ours) == message, "ours wrote, Qt read");
         change(ours);

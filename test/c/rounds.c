@@ -35,8 +35,8 @@ static void fill(uint8_t *out, ndef_size length) {
 static void random_item(item *it) {
     memset(it, 0, sizeof *it);
     it->tnf = below(6);
-    if (it->tnf == NDEF_EMPTY) return;
-    if (it->tnf != NDEF_UNKNOWN) it->type_length = below(40) ? 1 + below(12) : PART;
+    if (it->tnf == NDEF_TNF_EMPTY) return;
+    if (it->tnf != NDEF_TNF_UNKNOWN) it->type_length = below(40) ? 1 + below(12) : PART;
     if (below(2)) it->id_length = below(40) ? 1 + below(10) : PART;
     it->payload_length = below(4) ? below(40) : 200 + below(200);
     fill(it->type, it->type_length);
@@ -124,7 +124,7 @@ static void check_any(const uint8_t *bytes, ndef_size length, const ndef_limits 
     ndef_checked checked;
     memcpy(exact, bytes, length);
     uint32_t status = ndef_check(exact, length, limits, &checked);
-    if (front && (status != NDEF_REFUSED || checked.place != length || checked.reason != NDEF_END_OF_INPUT))
+    if (front && (status != NDEF_REFUSED || checked.place != length || checked.reason != NDEF_REASON_END_OF_INPUT))
         fail("a front is answered otherwise");
     if (status != NDEF_BAD_ARGUMENT && (checked.place > length || (status == NDEF_OK) != (checked.reason == 0)))
         fail("a place is outside");
@@ -138,11 +138,11 @@ static void message_round(void) {
     static uint8_t bytes[MOST];
     ndef_limits limits = { 1048576, 1024, 4096, NDEF_OPAQUE };
     ndef_checked checked;
-    uint32_t count = 1 + below(RECORDS), form = below(2) ? (uint32_t)NDEF_LONG : 0, chunk = below(2) ? 0 : 1 + below(100);
+    uint32_t count = 1 + below(RECORDS), form = below(2) ? (uint32_t)NDEF_WRITE_LONG : 0, chunk = below(2) ? 0 : 1 + below(100);
     ndef_size length = 0;
     for (uint32_t i = 0; i < count; i++) {
         random_item(&items[i]);
-        uint32_t flags = form | (i == 0 ? (uint32_t)NDEF_FIRST : 0) | (i + 1 == count ? (uint32_t)NDEF_LAST : 0);
+        uint32_t flags = form | (i == 0 ? (uint32_t)NDEF_WRITE_FIRST : 0) | (i + 1 == count ? (uint32_t)NDEF_WRITE_LAST : 0);
         length += write_item(&items[i], flags, chunk, bytes + length, MOST - length);
     }
     if (ndef_check(bytes, length, &limits, &checked) != NDEF_OK || checked.place != length || checked.records != count)

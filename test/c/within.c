@@ -17,7 +17,7 @@ static int is(const uint8_t *room, ndef_size count, const char *text, ndef_size 
 /* Appends a record of a type of the NFC Forum to what the room holds, and answers how much it holds then. */
 static ndef_size record(uint8_t *room, ndef_size at, uint32_t flags, const char *type, const uint8_t *payload, ndef_size length) {
     ndef_size count = 0;
-    const ndef_writing how = { NDEF_WELL_KNOWN, flags, 0 };
+    const ndef_writing how = { NDEF_TNF_WELL_KNOWN, flags, 0 };
     expect(ndef_write_record((const uint8_t *)type, strlen(type), payload, 0, payload, length, &how, room + at, 512 - at, &count) == NDEF_OK,
            "a record isn't written");
     return at + count;
@@ -52,7 +52,7 @@ static void errors_read(void) {
     expect(ndef_error((const uint8_t *)"\0", 1, &parts, &why) == NDEF_OK && !parts.reason && !parts.has_number && !parts.data_length, "reason 0 isn't read");
     parts.reason = 7;
     expect(ndef_error((const uint8_t *)"\2\1\2\3", 4, &parts, &why) == NDEF_REFUSED && parts.reason == 7, "a short error is read");
-    expect(why.place == 0 && why.reason == NDEF_DOES_NOT_FIT && why.records == 0, "a short error is refused otherwise");
+    expect(why.place == 0 && why.reason == NDEF_REASON_DOES_NOT_FIT && why.records == 0, "a short error is refused otherwise");
 }
 
 static void errors(void) {
@@ -116,11 +116,11 @@ static void posters(void) {
     ndef_size count = 0, at;
     ndef_poster_parts parts;
     ndef_checked why = { 7, 7, 7 };
-    at = record(room, 0, NDEF_FIRST, "U", (const uint8_t *)"\0a", 2);
+    at = record(room, 0, NDEF_WRITE_FIRST, "U", (const uint8_t *)"\0a", 2);
     expect(ndef_write_action(1, payload, sizeof payload, &count) == NDEF_OK, "an action isn't written");
     at = record(room, at, 0, "act", payload, count);
     expect(ndef_write_size(65536, payload, sizeof payload, &count) == NDEF_OK, "a size isn't written");
-    at = record(room, at, NDEF_LAST, "s", payload, count);
+    at = record(room, at, NDEF_WRITE_LAST, "s", payload, count);
     expect(ndef_poster(room, at, 0, &parts, &why) == NDEF_OK, "a poster isn't read");
     expect(parts.has_action && parts.action == 1 && parts.has_size && parts.size == 65536, "a poster says something else");
 }
@@ -128,7 +128,7 @@ static void posters(void) {
 /* Whether the payload of a record of the type is what ndef_check takes. */
 static int is_taken(const char *type, const uint8_t *payload, ndef_size length) {
     uint8_t room[512];
-    ndef_size end = record(room, 0, NDEF_FIRST | NDEF_LAST, type, payload, length);
+    ndef_size end = record(room, 0, NDEF_WRITE_FIRST | NDEF_WRITE_LAST, type, payload, length);
     ndef_limits limits;
     ndef_checked checked;
     ndef_usual_limits(&limits);
@@ -141,9 +141,9 @@ static void requests(void) {
     const uint8_t *bytes = (const uint8_t *)"0";
     const ndef_part part = { 0, 1 };
     expect(ndef_write_collision(0x1234, payload, sizeof payload, &count) == NDEF_OK, "a number isn't written");
-    end = record(message, 0, NDEF_FIRST, "cr", payload, count);
+    end = record(message, 0, NDEF_WRITE_FIRST, "cr", payload, count);
     expect(ndef_write_alternative(1, bytes, 1, &part, 1, payload, sizeof payload, &count) == NDEF_OK, "an alternative carrier isn't written");
-    end = record(message, end, NDEF_LAST, "ac", payload, count);
+    end = record(message, end, NDEF_WRITE_LAST, "ac", payload, count);
     expect(ndef_write_handover(NDEF_REQUEST, 1, 3, message, end, room, end, &count) == NDEF_NO_ROOM && count == end + 1, "a request needs another length");
     expect(ndef_write_handover(NDEF_REQUEST, 1, 3, message, end, room, sizeof room, &count) == NDEF_OK && count == end + 1, "a request isn't written");
     expect(room[0] == 0x13 && memcmp(room + 1, message, end) == 0 && is_taken("Hr", room, count), "a request has another payload");
@@ -167,12 +167,12 @@ static void selects(void) {
            "a select with no message isn't written");
     expect(is_taken("Hs", room, count), "a select with no message isn't taken");
     expect(ndef_write_error_number(2, 1000, payload, sizeof payload, &count) == NDEF_OK, "an error isn't written");
-    end = record(message, 0, NDEF_FIRST | NDEF_LAST, "err", payload, count);
+    end = record(message, 0, NDEF_WRITE_FIRST | NDEF_WRITE_LAST, "err", payload, count);
     expect(ndef_write_handover(NDEF_SELECT, 1, 15, message, end, room, sizeof room, &count) == NDEF_OK && room[0] == 0x1f && is_taken("Hs", room, count),
            "a select with an error isn't written");
     count = 77;
     expect(ndef_write_handover(NDEF_REQUEST, 1, 15, message, end, room, sizeof room, &count) == NDEF_BAD_ARGUMENT, "a select is written for a request");
-    end = record(message, 0, NDEF_FIRST | NDEF_LAST, "err", payload, 4);
+    end = record(message, 0, NDEF_WRITE_FIRST | NDEF_WRITE_LAST, "err", payload, 4);
     expect(ndef_write_handover(NDEF_SELECT, 1, 2, message, end, room, sizeof room, &count) == NDEF_BAD_ARGUMENT && count == 77, "a short error is written");
 }
 

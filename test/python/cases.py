@@ -6,9 +6,9 @@ TOP = pathlib.Path(__file__).resolve().parents[2]
 
 
 def reasons():
-    """The names of the reasons by their numbers, as ndef.h has them."""
-    found = re.findall(r'NDEF_(\w+) = (\d+)', re.search(r'enum ndef_reason \{(.*?)\};', (TOP / 'include/ndef.h').read_text(), re.S)[1])
-    return {int(number): ''.join(word.capitalize() for word in name.split('_')) for name, number in found}
+    """The names of the reasons by their numbers, as the list NDEF_REASONS of ndef.h has them."""
+    found = re.findall(r'X\((\d+), \w+, "(\w+)"\)', (TOP / 'include/ndef.h').read_text())
+    return {int(number): name for number, name in found}
 
 
 def lines(name):

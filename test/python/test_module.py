@@ -8,6 +8,7 @@ import threading
 import unittest
 
 import simbegyor_ndef as ndef
+from simbegyor_ndef import _library as library
 from cases import TOP, cases, octets_of, reasons, values
 
 HELLO = bytes.fromhex('d101085402656e48656c6c6f')
@@ -334,6 +335,11 @@ class Streams(unittest.TestCase):
 
 
 class Refusals(unittest.TestCase):
+    def test_names_of_reasons(self):
+        self.assertEqual(list(REASONS), list(range(1, 26)))
+        self.assertEqual({number: library.reason_name(number) for number in REASONS}, REASONS)
+        self.assertEqual(REASONS[library.PAYLOAD_TOO_LARGE], 'PayloadTooLarge')
+
     def test_values_that_no_handover_has(self):
         request, select, active = ndef.HandoverRequestRecord, ndef.HandoverSelectRecord, 'active'
         self.assertRaises(ndef.EncodeError, octets, request())
