@@ -1,0 +1,139 @@
+// Reads the cases of the suite through ndef.hpp, a line each: name | languages | profile | limits | bytes | answer |
+// records. Each message is checked at once and in parts, walked, and written again. A line that fails is printed.
+#include "lines.hpp"
+
+#include <array>
+#include <cstring>
+#if __cplusplus >= 202002L
+#include <ranges>
+#include <span>
+static_assert(std::ranges::forward_range<ndef::message> && std::ranges::forward_range<ndef::links>);
+static_assert(std::ranges::forward_range<ndef::views<ndef::text>>);
+static_assert(std::is_constructible_v<ndef::bytes, std::span<const std::byte>>);
+static_assert(std::is_constructible_v<ndef::room, std::span<std::uint8_t> &>);
+#endif
+
+static_assert(std::is_convertible_v<std::vector<std::uint8_t>, ndef::bytes>);
+static_assert(std::is_convertible_v<std::array<char, 4>, ndef::bytes>);
+static_assert(std::is_convertible_v<std::string, ndef::bytes> && std::is_convertible_v<std::string_view, ndef::bytes>);
+static_assert(std::is_constructible_v<ndef::bytes, const std::uint8_t (&)[4]>);
+static_assert(!std::is_constructible_v<ndef::bytes, const char (&)[4]>);
+static_assert(!std::is_constructible_v<ndef::bytes, std::vector<int>>);
+static_assert(!std::is_constructible_v<ndef::room, const std::vector<std::uint8_t> &>);
+static_assert(ndef::to_string(NDEF_REASON_VERSION) == "Version" && ndef::to_string(NDEF_NO_ROOM) == "NoRoom");
+static_assert(ndef::to_string(static_cast<ndef::reason>(26)).empty());
+
+static std::uint8_t joined[1 << 21], again[1 << 21];
+static ndef::new_record records[1 << 16];
+
+/// What a check answers, in one number each.
+struct answer {
+    ndef::status what;
+    ndef::reason why;
+    std::uint64_t place;
+    std::size_t count;
+};
+
+static bool operator==(const answer &left, const answer &right) {
+    return left.what == right.what && left.why == right.why && left.place == right.place && left.count == right.count;
+}
+
+static answer at_once(ndef::bytes input, const ndef_limits &limits) {
+    const auto message = ndef::message::check(input, limits);
+    if (message) return {NDEF_OK, {}, message->octets().size(), message->record_count()};
+    return {message.error().what, message.error().why, message.error().place, 0};
+}
+
+/// The answer to parts, the first of so many bytes; input that ends too early is told as a check tells it.
+static answer in_parts(ndef::bytes input, const ndef_limits &limits, std::size_t cut) {
+    ndef::checker checker(limits);
+    auto fed = checker.feed(input.part(0, cut));
+    if (fed && !*fed) fed = checker.feed(input.from(cut));
+    if (!fed) return {fed.error().what, fed.error().why, fed.error().place, 0};
+    if (*fed) return {NDEF_OK, {}, (*fed)->size, (*fed)->records};
+    return {NDEF_REFUSED, NDEF_REASON_END_OF_INPUT, input.size(), 0};
+}
+
+/// Writes the records again, exactly as long as they are and with a room that is one byte short.
+static bool is_written_again(ndef::message message, std::size_t count) {
+    struct { const ndef::new_record *begin_at, *end_at;
+        const ndef::new_record *begin() const { return begin_at; }
+        const ndef::new_record *end() const { return end_at; } } all = {records, records + count};
+    ndef::room none;
+    const auto asked = ndef::write_message(none, all);
+    if (asked || asked.error().what != NDEF_NO_ROOM) return false;
+    const std::size_t needed = static_cast<std::size_t>(asked.error().needed);
+    ndef::room exact(again, needed), shorter(again, needed - 1);
+    const auto failed = ndef::write_message(shorter, all);
+    if (failed || failed.error().needed != needed || shorter.size() != needed - 1) return false;
+    const auto written = ndef::write_message(exact, all);
+    if (!written || written->octets().size() != needed || exact.size() != 0) return false;
+    auto one = message.begin();
+    for (ndef::record other : *written) {
+        if (one == message.end() || other.type() != one->type() || other.id() != one->id()) return false;
+        if (other.format() != one->format() || other.payload_size() != one->payload_size()) return false;
+        ++one;
+    }
+    return one == message.end();
+}
+
+/// Whether the records are those of the words `TNF TYPE ID PAYLOAD`, their payloads joined one behind the other.
+static bool are_records(ndef::message message, const std::vector<std::string> &words) {
+    ndef::room room(joined);
+    std::size_t count = 0;
+    for (ndef::record record : message) {
+        const auto payload = record.payload(room);
+        if (!payload || count >= words.size()) return false;
+        if (record.chunks() > 1 && record.payload_size() != 0 && record.payload().error().needed != payload->size())
+            return false;
+        const auto parts = split(words[count], ' ');
+        const auto named = [](const std::string &word) { return word == "-" ? std::string_view() : word; };
+        if (parts.size() != 4 || parts[0] != std::to_string(record.format()) || named(parts[1]) != record.type() ||
+            named(parts[2]) != record.id() || parts[3] != hex(*payload) || record.payload_string() != payload->text())
+            return false;
+        if (record.is_last() != (count + 1 == words.size())) return false;
+        records[count++] = {record.format(), record.type(), *payload, record.id()};
+    }
+    return count == words.size() && is_written_again(message, count);
+}
+
+static bool is_answered(const std::vector<std::string> &fields, bool is_opaque) {
+    ndef::limits limits;
+    limits.flags = (fields[2] == "standard" ? NDEF_STANDARD : 0) | (is_opaque ? NDEF_OPAQUE : 0);
+    const auto words = split(fields[3], ' ');
+    for (std::size_t at = 0; at + 1 < words.size(); at += 2) {
+        const auto number = static_cast<std::uint32_t>(std::stoul(words[at + 1]));
+        if (words[at] == "payload") limits.payload = number;
+        if (words[at] == "records") limits.records = number;
+        if (words[at] == "pieces") limits.pieces = number;
+    }
+    const auto input = from_hex(fields[4]);
+    const auto told = split(fields[5], ' ');
+    const auto rows = split(fields.size() > 6 ? fields[6] : "", ',');
+    const bool is_accepted = told[0] == "accepted";
+    answer wanted = {NDEF_REFUSED, NDEF_REASON_END_OF_INPUT, std::stoul(told[1]), 0};
+    if (is_accepted) wanted = {NDEF_OK, {}, wanted.place, rows.size()};
+    if (told[0] == "refused") wanted.why = static_cast<ndef::reason>(std::stoul(told[2]));
+
+    const auto before = allocations;
+    bool holds = at_once(input, limits) == wanted;
+    for (std::size_t cut = 0; cut <= input.size(); cut += 1 + input.size() / 64)
+        holds = holds && in_parts(input, limits, cut) == wanted;
+    if (allocations != before) return false;
+    return holds && (!is_accepted || are_records(*ndef::message::check(input, limits), rows));
+}
+
+int main() {
+    std::string line;
+    unsigned long run = 0, failed = 0;
+    while (std::getline(std::cin, line)) {
+        const auto fields = split(line, '|');
+        for (bool is_opaque : {false, true}) {
+            if (fields[1].find(is_opaque ? "opaque" : "typed") == std::string::npos) continue;
+            run++;
+            if (!is_answered(fields, is_opaque)) failed++, std::cout << line << '\n';
+        }
+    }
+    std::cout << "cases " << run << ", failed " << failed << '\n';
+    return failed || !run;
+}

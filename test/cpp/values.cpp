@@ -1,0 +1,208 @@
+// Reads the payloads of the suite through ndef.hpp, a line each: type | profile | payload | value | written, or
+// type | profile | payload | refused PLACE REASON. Each value is written again. A line that fails is printed.
+#include "lines.hpp"
+
+static std::uint8_t memory[1 << 20];
+static ndef::profile profile;
+
+/// A value in the words of the suite.
+static std::string number_or_none(const std::optional<std::uint32_t> &number) {
+    return number ? "Some(" + std::to_string(*number) + ")" : "None";
+}
+
+static std::string word_of(const std::optional<ndef::action> &action) {
+    static const char *const words[] = {"Do", "Save", "Open"};
+    if (!action) return "None";
+    const auto number = static_cast<std::uint32_t>(*action);
+    return number < 3 ? std::string("Some(") + words[number] + ")" : "Some(Other(" + std::to_string(number) + "))";
+}
+
+static std::string value_of(const ndef::text &text) {
+    ndef::room room(memory);
+    const auto utf8 = text.utf8(room);
+    if (!utf8 || *utf8 != text.str()) return "two texts";
+    return std::string(text.is_utf16() ? "Utf16 " : "Utf8 ") + hex(text.language()) + ' ' + hex(*utf8);
+}
+
+static std::string value_of(const ndef::uri &uri) {
+    ndef::room room(memory);
+    const auto utf8 = uri.utf8(room);
+    return utf8 && *utf8 == uri.str() && utf8->size() == uri.size() ? uri.str() : "two URIs";
+}
+
+static std::string value_of(const ndef::poster &poster) {
+    std::string titles;
+    for (ndef::text title : poster.titles()) titles += (titles.empty() ? "" : ",") + title.str();
+    const auto media = poster.records().find("t");
+    return std::to_string(poster.records().record_count()) + ' ' + poster.uri().str() + " [" + titles + "] " +
+        word_of(poster.action()) + ' ' + number_or_none(poster.size()) + ' ' +
+        (media ? hex(*media->payload()) : std::string("-"));
+}
+
+static std::string value_of(const ndef::alternative &alternative) {
+    static const char *const powers[] = {"Inactive", "Active", "Activating", "Unknown"};
+    const auto auxiliary = alternative.reference(1);
+    if (!auxiliary != (alternative.reference_count() == 1)) return "another number of references";
+    ndef_size end = 3;
+    for (std::uint32_t index = 0; index < alternative.reference_count(); index++)
+        end += alternative.reference(index)->size() + (index ? 1 : 0);
+    return powers[static_cast<std::uint32_t>(alternative.power())] + (' ' + hex(*alternative.reference(0))) + ' ' +
+        std::to_string(alternative.reference_count() - 1) + ' ' + hex(auxiliary.value_or(std::string_view())) + ' ' +
+        hex(alternative.payload().from(end));
+}
+
+static std::string value_of(const ndef::handover_error &error) {
+    return std::to_string(error.error_reason()) + ' ' + hex(error.data());
+}
+
+static std::string value_of(const ndef::carrier &carrier) {
+    return std::to_string(carrier.format()) + ' ' + hex(carrier.type()) + ' ' + hex(carrier.data());
+}
+
+static std::string value_of(const ndef::request &request) {
+    return std::to_string(request.minor_version()) + ' ' + std::to_string(request.collision()) + ' ' +
+        std::to_string(request.records().record_count());
+}
+
+static std::string value_of(const ndef::select &select) {
+    const auto count = select.records().record_count();
+    return std::to_string(select.minor_version()) + ' ' + (count ? "Some(" + std::to_string(count) + ")" : "None");
+}
+
+/// What is written of a value.
+static ndef::result<ndef::bytes> written(ndef::room &room, const ndef::text &text) {
+    const auto encoding = text.is_utf16() ? ndef::encoding::utf16 : ndef::encoding::utf8;
+    return ndef::write_text(room, text.language(), text.str(), encoding);
+}
+static ndef::result<ndef::bytes> written(ndef::room &room, const ndef::uri &uri) {
+    return ndef::write_uri(room, uri.str());
+}
+static ndef::result<ndef::bytes> written(ndef::room &room, const ndef::carrier &carrier) {
+    return ndef::write_carrier(room, carrier.format(), carrier.type(), carrier.data());
+}
+static ndef::result<ndef::bytes> written(ndef::room &room, const ndef::handover_error &error) {
+    if (!error.number()) return ndef::write_error(room, error.error_reason(), error.data());
+    return ndef::write_error_number(room, error.error_reason(), *error.number());
+}
+
+/// Written with the data reference alone, where there is no other.
+static ndef::result<ndef::bytes> written(ndef::room &room, const ndef::alternative &alternative) {
+    const std::string_view first = *alternative.reference(0);
+    if (alternative.reference_count() == 1) return ndef::write_alternative(room, alternative.power(), first);
+    std::vector<ndef_part> parts;
+    for (std::uint32_t index = 0; index < alternative.reference_count(); index++) {
+        const auto reference = ndef::bytes(*alternative.reference(index));
+        parts.push_back({static_cast<ndef_size>(reference.data() - alternative.payload().data()), reference.size()});
+    }
+    return ndef::write_alternative(room, alternative.power(), alternative.payload(), parts.data(), parts.size());
+}
+
+static ndef::result<ndef::bytes> written(ndef::room &room, ndef::message records) {
+    std::vector<ndef::new_record> all;
+    for (ndef::record one : records) {
+        const auto uri = one.as<ndef::uri>(profile);
+        const auto payload = uri ? written(room, *uri) : one.payload();
+        all.push_back({one.format(), one.type(), *payload, one.id()});
+    }
+    if (all.empty()) return ndef::bytes();
+    return ndef::write_message(room, all).transform([](const ndef::message &made) { return made.octets(); });
+}
+static ndef::result<ndef::bytes> written(ndef::room &room, const ndef::poster &poster) {
+    return written(room, poster.records());
+}
+static ndef::result<ndef::bytes> written(ndef::room &room, const ndef::request &request) {
+    const auto records = written(room, request.records());
+    return ndef::write_handover(room, ndef::handover::request, request.major_version(), request.minor_version(),
+                                *records);
+}
+static ndef::result<ndef::bytes> written(ndef::room &room, const ndef::select &select) {
+    const auto records = written(room, select.records());
+    return ndef::write_handover(room, ndef::handover::select, select.major_version(), select.minor_version(), *records);
+}
+
+/// Alternative carriers end with bytes that have no meaning, which no call writes.
+static bool has_rest(const std::string &type, const std::string &value) {
+    return type == "alternative carrier" && split(value, ' ').back() != "-";
+}
+
+template <class View> bool is_told(const std::vector<std::string> &fields) {
+    const auto payload = from_hex(fields[2]);
+    const auto before = allocations;
+    const auto view = View::read(payload, profile);
+    if (allocations != before) return false;
+    if (!view) {
+        const auto answer = "refused " + std::to_string(view.error().place) + ' ' + std::to_string(view.error().why);
+        return view.error().what == NDEF_REFUSED && fields[3] == answer;
+    }
+    if (value_of(*view) != fields[3]) return std::cout << value_of(*view) << '\n', false;
+    ndef::room room(memory);
+    const auto made = written(room, *view);
+    return has_rest(fields[0], fields[3]) || (made && hex(*made) == hex(from_hex(fields[4])));
+}
+
+static bool is_told_of(const std::vector<std::string> &fields) {
+    profile = fields[1] == "standard" ? ndef::profile::standard : ndef::profile::strict;
+    if (fields[0] == "text") return is_told<ndef::text>(fields);
+    if (fields[0] == "URI") return is_told<ndef::uri>(fields);
+    if (fields[0] == "poster") return is_told<ndef::poster>(fields);
+    if (fields[0] == "alternative carrier") return is_told<ndef::alternative>(fields);
+    if (fields[0] == "error") return is_told<ndef::handover_error>(fields);
+    if (fields[0] == "carrier") return is_told<ndef::carrier>(fields);
+    if (fields[0] == "request") return is_told<ndef::request>(fields);
+    return fields[0] == "select" && is_told<ndef::select>(fields);
+}
+
+/// A request with two carriers and the records to which they refer, written and read.
+static bool are_linked() {
+    ndef::room room(memory);
+    const auto collision = ndef::write_collision(room, 4660);
+    const auto first = ndef::write_alternative(room, ndef::power::active, "b");
+    const auto second = ndef::write_alternative(room, ndef::power::inactive, "none");
+    const auto nested = ndef::write_message(room, {ndef::well_known("cr", *collision), ndef::well_known("ac", *first),
+                                                   ndef::well_known("ac", *second)});
+    const auto payload = ndef::write_handover(room, ndef::handover::request, 1, 2, nested->octets());
+    const std::string_view data = "carrier data";
+    const auto message = ndef::write_message(room, {ndef::well_known("Hr", *payload), ndef::media("a/b", data, "a"),
+                                                    ndef::media("a/b", data.substr(0, 7), "b")});
+    if (!message || message->record_count() != 3) return false;
+    const auto before = allocations;
+    const auto request = message->begin()->as<ndef::request>();
+    if (!request || request->carrier_count() != 2 || request->collision() != 4660) return false;
+    std::size_t index = 0;
+    for (ndef::link link : request->links(*message)) {
+        const bool is_first = index++ == 0;
+        if (link.alternative.power() != (is_first ? ndef::power::active : ndef::power::inactive)) return false;
+        if (link.record.has_value() != is_first) return false;
+        if (is_first && (link.record_index != 2 || link.record->payload()->text() != "carrier")) return false;
+    }
+    const auto found = message->find_id("a"), typed = message->find(NDEF_TNF_MEDIA, "a/b");
+    return index == 2 && allocations == before && found && typed && found->place() == typed->place() &&
+        !message->find_id("") && !message->find("T") && !message->begin()->as<ndef::select>();
+}
+
+/// What can't be written says why.
+static bool are_refused() {
+    ndef::room room(memory);
+    const auto none = ndef::write_message(room, {});
+    const auto wrong = ndef::write_message(room, {ndef::well_known("", ndef::bytes())});
+    const auto language = ndef::write_text(room, std::string(64, 'x'), "");
+    const auto limits = ndef::message::check(ndef::bytes(), ndef_limits{0, 1, 1, 0});
+    return room.size() == sizeof memory && !none && none.error().what == NDEF_BAD_ARGUMENT && !wrong &&
+        wrong.error().what == NDEF_BAD_ARGUMENT && !language && language.error().what == NDEF_BAD_ARGUMENT && !limits &&
+        limits.error().what == NDEF_BAD_ARGUMENT && limits.error().why == 0;
+}
+
+int main() {
+    std::string line;
+    unsigned long run = 0, failed = 0;
+    while (std::getline(std::cin, line)) {
+        const auto fields = split(line, '|');
+        if (line.empty() || line[0] == '#') continue;
+        run++;
+        if (!is_told_of(fields)) failed++, std::cout << line << '\n';
+    }
+    if (!are_linked()) failed++, std::cout << "a request's links are told otherwise\n";
+    if (!are_refused()) failed++, std::cout << "a wrong value is written\n";
+    std::cout << "values " << run << ", failed " << failed << '\n';
+    return failed || !run;
+}
