@@ -6,10 +6,11 @@
 ///         if (auto text = record.as<ndef::text>()) std::cout << text->str() << '\n';
 ///
 /// This header makes no decision about the format: it hands each question to a call of ndef.h, and gives its answer a
-/// type. A message, a record and a payload are views of bytes that the caller keeps. Nothing throws, and nothing
-/// allocates but the functions that return a std::string. What can fail returns a result. No view is null where a call
-/// demands more of ndef.h than that lengths are right, so the rules at its head are kept if bytes, rooms and views
-/// point to memory that lives, and a room holds nothing that is read.
+/// type. Messages, records and payloads are views of bytes that the caller keeps. What can fail returns a result;
+/// nothing throws, and nothing allocates memory but the functions that return a std::string.
+///
+/// The rules at the head of ndef.h are kept as long as the memory of each view lives and stays as it is, and a room
+/// holds no bytes that are still needed.
 #ifndef NDEF_HPP
 #define NDEF_HPP
 

@@ -1,7 +1,7 @@
 """Links of a page, and the names of files, functions and definitions in it."""
 import re
 
-CODE = ('*.rt', '*.antt', '*.py', '*.h', '*.c', '*.map', 'ndef', 'ndef-make', 'ndef-explain', 'Makefile', '*.sh', 'crates.txt', 'run')
+CODE = ('*.rt', '*.antt', '*.py', '*.h', '*.c', '*.hpp', '*.cpp', '*.map', 'ndef', 'ndef-make', 'ndef-explain', 'Makefile', '*.sh', 'crates.txt', 'run')
 # Names of Rust's, of C's, of the kit's, of Debian's packages and of ndeflib's classes that pages use, and placeholders.
 FOREIGN = set('''
     rt git apt make dpkg-dev lintian clang ctypes clap cc strip simdutf8 hex itoa arrayvec smallvec byteorder thiserror anyhow
