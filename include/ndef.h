@@ -51,6 +51,7 @@ typedef uint64_t ndef_size;
 extern "C" {
 #endif
 
+/* What most calls return. */
 enum ndef_status {
     NDEF_OK = 0,
     NDEF_REFUSED = 1,      /* the bytes are no message, or no such payload; the call tells the place and the reason */
@@ -168,6 +169,7 @@ enum { NDEF_STANDARD = 1, NDEF_OPAQUE = 2 };
 /* Writes limits that suit usual tags: 1048576 bytes of payload, 1024 records, 4096 pieces, no flags. */
 void ndef_usual_limits(ndef_limits *out);
 
+/* What a check finds. */
 typedef struct ndef_checked {
     uint64_t place;   /* the length of the message in bytes; if refused, the place of the first refused byte */
     uint32_t records; /* the number of records; if refused, 0 */
