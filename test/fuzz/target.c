@@ -1,0 +1,359 @@
+/* What holds of the library whatever bytes it is given. libFuzzer calls LLVMFuzzerTestOneInput; with -DLINES the
+ * program itself reads inputs from standard input, as lines of hexadecimal digits. An input is two bytes that choose how
+ * the message is read, and the message. What does not hold is printed, and the program aborts. */
+#include "ndef.h"
+
+#include <stdio.h>
+#include <stdlib.h>
+#include <string.h>
+
+#define HOLDS(fact) ((fact) ? (void)0 : fail(__LINE__, #fact))
+
+int LLVMFuzzerTestOneInput(const uint8_t *data, size_t size);
+
+static void fail(int line, const char *fact) {
+    fprintf(stderr, "line %d: %s\n", line, fact);
+    abort();
+}
+
+/* ---- rooms */
+
+/* What a call wrote to a room of its own, which has exactly the size that the call needs. */
+struct made {
+    uint32_t status;
+    ndef_size length;
+    uint8_t *bytes;
+};
+
+/* Memory of exactly so many bytes, so that AddressSanitizer sees what lies beside it. */
+static uint8_t *filled(ndef_size size, uint8_t with) {
+    uint8_t *room = malloc(size ? size : 1);
+    HOLDS(room != NULL);
+    memset(room, with, size ? size : 1);
+    return room;
+}
+
+static int is_filled(const uint8_t *room, ndef_size size, uint8_t with) {
+    for (ndef_size i = 0; i < size; i++)
+        if (room[i] != with) return 0;
+    return 1;
+}
+
+/* Makes a call, which names `room`, `size` and `count`, four times: with no room, with a room that is one byte short,
+ * with one that is too large, and with one that is exact. */
+#define MAKE(made, call) do { \
+    uint8_t *room = NULL, *larger = NULL; \
+    ndef_size size = 0, count = 0; \
+    (made)->status = (call), (made)->length = count, (made)->bytes = NULL; \
+    HOLDS((made)->status == NDEF_NO_ROOM || count == 0); \
+    if ((made)->status == NDEF_NO_ROOM) { \
+        HOLDS(count > 0); \
+        size = (made)->length - 1, room = filled(size, 0x5a); \
+        HOLDS((call) == NDEF_NO_ROOM && count == (made)->length && is_filled(room, size, 0x5a)); \
+        free(room); \
+        size = (made)->length + 3, room = larger = filled(size, 0xc3); \
+        HOLDS((call) == NDEF_OK && count == (made)->length && is_filled(room + count, 3, 0xc3)); \
+        size = (made)->length, room = filled(size, 0x5a); \
+        (made)->status = (call), (made)->bytes = room; \
+        HOLDS((made)->status == NDEF_OK && count == size && memcmp(room, larger, size) == 0); \
+        free(larger); \
+    } \
+} while (0)
+
+static void discard(struct made *made) { free(made->bytes); }
+
+static int is_same(const struct made *made, const uint8_t *bytes, ndef_size length) {
+    if (made->status != NDEF_OK || made->length != length) return 0;
+    return length == 0 || memcmp(made->bytes, bytes, length) == 0;
+}
+
+/* Whether a part lies within so many bytes. */
+static int is_within(ndef_size at, ndef_size length, ndef_size whole) { return at <= whole && length <= whole - at; }
+
+/* ---- checks */
+
+static int is_answer(uint32_t status, const ndef_checked *out, uint32_t checked_status, const ndef_checked *checked,
+                     ndef_size length) {
+    const int wants_more = checked_status == NDEF_REFUSED && checked->place == length;
+    return status == (wants_more ? (uint32_t)NDEF_MORE : checked_status) && out->place == checked->place
+        && out->records == checked->records && out->reason == checked->reason;
+}
+
+/* A check of all bytes and feeds of them in parts answer the same. */
+static uint32_t check(const uint8_t *bytes, ndef_size length, const ndef_limits *limits, ndef_size cut,
+                      ndef_checked *out) {
+    ndef_checker whole, copy;
+    ndef_checked fed, again;
+    const uint32_t status = ndef_check(bytes, length, limits, out);
+    HOLDS(status == NDEF_OK || status == NDEF_REFUSED);
+    HOLDS(out->place <= length && (status == NDEF_OK ? out->records > 0 : out->records == 0));
+    HOLDS((status == NDEF_OK) == (out->reason == 0));
+    HOLDS((out->reason == NDEF_REASON_END_OF_INPUT) == (status == NDEF_REFUSED && out->place == length));
+    memset(&whole, 0x77, sizeof whole);
+    HOLDS(ndef_begin(limits, &whole) == NDEF_OK);
+    copy = whole;
+    uint32_t last = ndef_feed(&whole, bytes, cut, &fed);
+    HOLDS(is_answer(last, &fed, ndef_check(bytes, cut, limits, &again), &again, cut));
+    last = ndef_feed(&whole, bytes + cut, length - cut, &fed);
+    HOLDS(is_answer(last, &fed, status, out, length));
+    HOLDS(ndef_feed(&whole, NULL, 0, &again) == last && memcmp(&fed, &again, sizeof fed) == 0);
+    for (ndef_size at = 0; at < length; at++) last = ndef_feed(&copy, bytes + at, 1, &fed);
+    HOLDS(length == 0 || is_answer(last, &fed, status, out, length));
+    return status;
+}
+
+/* ---- payloads: each is read as every type, and what is read is written and read again */
+
+static void look_at_text(const uint8_t *payload, ndef_size length) {
+    ndef_text_parts parts, again;
+    ndef_checked why, other;
+    struct made text, written, back;
+    const uint32_t status = ndef_text(payload, length, &parts, &why);
+    MAKE(&text, ndef_text_in_utf8(payload, length, room, size, &count, &other));
+    HOLDS(text.status == status);
+    if (status != NDEF_OK) {
+        HOLDS(status == NDEF_REFUSED && why.place == other.place && why.reason == other.reason && why.place <= length);
+        return;
+    }
+    HOLDS(is_within(parts.language_at, parts.language_length, length));
+    HOLDS(is_within(parts.text_at, parts.text_length, length));
+    HOLDS(parts.utf16 || is_same(&text, payload + parts.text_at, parts.text_length));
+    for (uint32_t flags = 0; flags <= NDEF_AS_UTF16; flags++) {
+        MAKE(&written, ndef_write_text(payload + parts.language_at, parts.language_length, text.bytes, text.length,
+                                       flags, room, size, &count));
+        HOLDS(written.status == NDEF_OK && ndef_text(written.bytes, written.length, &again, &why) == NDEF_OK);
+        HOLDS(again.language_length == parts.language_length && again.utf16 == flags);
+        MAKE(&back, ndef_text_in_utf8(written.bytes, written.length, room, size, &count, &why));
+        HOLDS(is_same(&back, text.bytes, text.length));
+        discard(&written), discard(&back);
+    }
+    discard(&text);
+}
+
+static void look_at_uri(const uint8_t *payload, ndef_size length, uint32_t flags) {
+    ndef_checked why;
+    struct made uri, written, back;
+    MAKE(&uri, ndef_uri(payload, length, flags, room, size, &count, &why));
+    if (uri.status != NDEF_OK) {
+        HOLDS(uri.status == NDEF_REFUSED && why.place <= length);
+        return;
+    }
+    MAKE(&written, ndef_write_uri(uri.bytes, uri.length, room, size, &count));
+    HOLDS(written.status == NDEF_OK && written.length <= uri.length + 1);
+    MAKE(&back, ndef_uri(written.bytes, written.length, 0, room, size, &count, &why));
+    HOLDS(is_same(&back, uri.bytes, uri.length));
+    discard(&uri), discard(&written), discard(&back);
+}
+
+static void look_at_carrier(const uint8_t *payload, ndef_size length) {
+    ndef_carrier_parts parts, again;
+    ndef_checked why;
+    struct made written;
+    if (ndef_carrier(payload, length, &parts, &why) != NDEF_OK) return;
+    HOLDS(is_within(parts.type_at, parts.type_length, length) && is_within(parts.data_at, parts.data_length, length));
+    MAKE(&written, ndef_write_carrier(parts.format, payload + parts.type_at, parts.type_length, payload + parts.data_at,
+                                      parts.data_length, room, size, &count));
+    HOLDS(written.status == NDEF_OK && written.length == length);
+    HOLDS(memcmp(written.bytes + 1, payload + 1, length - 1) == 0);
+    HOLDS(ndef_carrier(written.bytes, written.length, &again, &why) == NDEF_OK && again.format == parts.format);
+    discard(&written);
+}
+
+static void look_at_alternative(const uint8_t *payload, ndef_size length) {
+    static ndef_part parts[256];
+    ndef_alternative_parts told, again;
+    ndef_part part;
+    ndef_checked why;
+    struct made written;
+    if (ndef_alternative(payload, length, &told, &why) != NDEF_OK) return;
+    HOLDS(told.power <= 3 && told.references >= 1 && told.references <= 256);
+    for (uint32_t i = 0; i < told.references; i++) {
+        HOLDS(ndef_reference(payload, length, i, &parts[i]) == NDEF_OK);
+        HOLDS(is_within(parts[i].at, parts[i].length, length));
+    }
+    HOLDS(ndef_reference(payload, length, told.references, &part) == NDEF_END);
+    MAKE(&written, ndef_write_alternative(told.power, payload, length, parts, told.references, room, size, &count));
+    HOLDS(written.status == NDEF_OK && written.length <= length);
+    HOLDS(memcmp(written.bytes + 1, payload + 1, written.length - 1) == 0);
+    HOLDS(ndef_alternative(written.bytes, written.length, &again, &why) == NDEF_OK);
+    HOLDS(told.power == again.power && told.references == again.references);
+    discard(&written);
+}
+
+static void look_at_error(const uint8_t *payload, ndef_size length) {
+    ndef_error_parts parts;
+    ndef_checked why;
+    struct made written;
+    if (ndef_error(payload, length, &parts, &why) != NDEF_OK) return;
+    HOLDS(is_within(parts.data_at, parts.data_length, length));
+    MAKE(&written, ndef_write_error(parts.reason, payload + parts.data_at, parts.data_length, room, size, &count));
+    HOLDS(is_same(&written, payload, length));
+    discard(&written);
+    if (!parts.has_number) return;
+    MAKE(&written, ndef_write_error_number(parts.reason, parts.number, room, size, &count));
+    HOLDS(is_same(&written, payload, length));
+    discard(&written);
+}
+
+static void look_at_poster(const uint8_t *payload, ndef_size length, uint32_t flags) {
+    ndef_poster_parts parts;
+    ndef_checked why;
+    ndef_size count;
+    uint8_t byte;
+    if (ndef_poster(payload, length, flags, &parts, &why) != NDEF_OK) return;
+    HOLDS(is_within(parts.uri_at, parts.uri_length, length));
+    const uint32_t status = ndef_uri(payload + parts.uri_at, parts.uri_length, flags, &byte, 0, &count, &why);
+    HOLDS(status == NDEF_OK || status == NDEF_NO_ROOM);
+    HOLDS(parts.has_action <= 1 && (parts.has_action || parts.action == 0));
+    HOLDS(parts.has_size <= 1 && (parts.has_size || parts.size == 0));
+}
+
+/* The links of a handover that stands in the message: as many as it has carriers. */
+static void look_at_links(const uint8_t *bytes, ndef_size length, const uint8_t *payload, ndef_size payload_length,
+                          ndef_size carriers) {
+    ndef_link link;
+    ndef_record record;
+    ndef_alternative_parts alternative;
+    ndef_part id;
+    ndef_checked why;
+    for (ndef_size i = 0; i <= carriers; i++) {
+        const uint32_t status = ndef_link_at(bytes, length, payload, payload_length, i, &link);
+        if (status == NDEF_BAD_ARGUMENT) return;
+        HOLDS(status == (i < carriers ? NDEF_OK : NDEF_END));
+        if (status == NDEF_END) return;
+        HOLDS(is_within(link.carrier_at, link.carrier_length, payload_length));
+        HOLDS(ndef_alternative(payload + link.carrier_at, link.carrier_length, &alternative, &why) == NDEF_OK);
+        HOLDS(ndef_reference(payload + link.carrier_at, link.carrier_length, 0, &id) == NDEF_OK);
+        if (!link.has_record) continue;
+        HOLDS(ndef_record_at(bytes, length, link.record_at, &record) == NDEF_OK && record.id_length == id.length);
+        HOLDS(memcmp(bytes + record.id_at, payload + link.carrier_at + id.at, id.length) == 0);
+    }
+}
+
+static void look_at_handover(const uint8_t *bytes, ndef_size length, const uint8_t *payload, ndef_size payload_length,
+                             uint32_t flags) {
+    ndef_request_parts request;
+    ndef_select_parts select;
+    ndef_checked why;
+    struct made written;
+    const int is_request = ndef_request(payload, payload_length, flags, &request, &why) == NDEF_OK;
+    const int is_select = ndef_select(payload, payload_length, flags, &select, &why) == NDEF_OK;
+    if (is_request) look_at_links(bytes, length, payload, payload_length, request.carriers);
+    if (is_select) {
+        HOLDS(is_within(select.detail_at, select.detail_length, payload_length));
+        if (!is_request) look_at_links(bytes, length, payload, payload_length, select.carriers);
+        MAKE(&written, ndef_write_handover(NDEF_SELECT, select.major, select.minor, payload + 1, payload_length - 1,
+                                           room, size, &count));
+        HOLDS(is_same(&written, payload, payload_length) || (flags && written.status == NDEF_BAD_ARGUMENT));
+        discard(&written);
+    }
+    if (is_request && flags == 0) {
+        MAKE(&written, ndef_write_handover(NDEF_REQUEST, request.major, request.minor, payload + 1, payload_length - 1,
+                                           room, size, &count));
+        HOLDS(is_same(&written, payload, payload_length));
+        discard(&written);
+    }
+}
+
+/* ---- records */
+
+static void look_at_payload(const uint8_t *bytes, ndef_size length, const uint8_t *payload, ndef_size payload_length) {
+    look_at_text(payload, payload_length);
+    look_at_carrier(payload, payload_length);
+    look_at_alternative(payload, payload_length);
+    look_at_error(payload, payload_length);
+    for (uint32_t flags = 0; flags <= NDEF_STANDARD; flags++) {
+        look_at_uri(payload, payload_length, flags);
+        look_at_poster(payload, payload_length, flags);
+        look_at_handover(bytes, length, payload, payload_length, flags);
+    }
+}
+
+/* Whether a record has the type, id and payload that its type name format allows; in bytes that aren't a message a walk
+ * meets others. */
+static int can_be_written(const ndef_record *record) {
+    if (record->tnf == NDEF_TNF_EMPTY) return record->type_length + record->id_length + record->payload_length == 0;
+    return (record->tnf == NDEF_TNF_UNKNOWN) == (record->type_length == 0);
+}
+
+/* The record is written again, alone and in chunks, and read back as the same. */
+static void write_record(const uint8_t *bytes, const ndef_record *record, const struct made *payload, uint32_t chunk) {
+    ndef_record again;
+    struct made written, back;
+    for (uint32_t form = 0; form <= NDEF_WRITE_LONG; form += NDEF_WRITE_LONG) {
+        const ndef_writing how = { record->tnf, NDEF_WRITE_FIRST | NDEF_WRITE_LAST | form,
+                                   record->tnf == NDEF_TNF_EMPTY ? 0 : chunk };
+        MAKE(&written, ndef_write_record(bytes + record->type_at, record->type_length, bytes + record->id_at,
+                                         record->id_length, payload->bytes, payload->length, &how, room, size, &count));
+        HOLDS(written.status == (can_be_written(record) ? NDEF_OK : NDEF_BAD_ARGUMENT));
+        if (written.status != NDEF_OK) return;
+        HOLDS(ndef_record_at(written.bytes, written.length, 0, &again) == NDEF_OK);
+        HOLDS(again.end == written.length && again.last == 1 && again.tnf == record->tnf);
+        HOLDS(again.type_length == record->type_length && again.id_length == record->id_length);
+        HOLDS(memcmp(written.bytes + again.type_at, bytes + record->type_at, again.type_length) == 0);
+        HOLDS(memcmp(written.bytes + again.id_at, bytes + record->id_at, again.id_length) == 0);
+        MAKE(&back, ndef_payload(written.bytes, written.length, 0, room, size, &count));
+        HOLDS(is_same(&back, payload->bytes, payload->length));
+        discard(&written), discard(&back);
+    }
+}
+
+/* Walks as far as records go; tells where the walk ends, how many records there are, and whether the last says so. */
+static ndef_size walk(const uint8_t *bytes, ndef_size length, uint32_t chunk, uint32_t *records, int *is_last) {
+    ndef_record record;
+    struct made payload;
+    ndef_size at = 0;
+    *records = 0, *is_last = 0;
+    while (!*is_last && ndef_record_at(bytes, length, at, &record) == NDEF_OK) {
+        HOLDS(record.at == at && record.end > at && record.end <= length && record.pieces > 0 && record.tnf <= 5);
+        HOLDS(is_within(record.type_at, record.type_length, record.end));
+        HOLDS(is_within(record.id_at, record.id_length, record.end));
+        HOLDS(is_within(record.payload_at, record.part_length, record.end));
+        HOLDS(record.part_length <= record.payload_length);
+        MAKE(&payload, ndef_payload(bytes, length, at, room, size, &count));
+        HOLDS(payload.status == NDEF_OK && payload.length == record.payload_length);
+        HOLDS(record.part_length == 0 || memcmp(payload.bytes, bytes + record.payload_at, record.part_length) == 0);
+        HOLDS(record.pieces > 1 || record.payload_at + record.payload_length == record.end);
+        write_record(bytes, &record, &payload, 0);
+        write_record(bytes, &record, &payload, chunk);
+        look_at_payload(bytes, length, payload.bytes, payload.length);
+        discard(&payload);
+        at = record.end, *is_last = (int)record.last, *records += 1;
+    }
+    return at;
+}
+
+int LLVMFuzzerTestOneInput(const uint8_t *data, size_t size) {
+    if (size < 2) return 0;
+    const ndef_size length = size - 2, cut = length ? data[1] % (length + 1) : 0;
+    const uint8_t *bytes = data + 2;
+    const ndef_limits usual = { 1048576, 1024, 4096, data[0] & 3u }, small = { 16, 2, 2, data[0] & 3u };
+    ndef_checked checked;
+    uint32_t records;
+    int is_last;
+    const uint32_t status = check(bytes, length, data[0] & 4 ? &small : &usual, cut, &checked);
+    const ndef_size end = walk(bytes, length, 1 + (data[0] >> 3), &records, &is_last);
+    HOLDS(status != NDEF_OK || (is_last && end == checked.place && records == checked.records));
+    look_at_payload(bytes, length, bytes, length);
+    return 0;
+}
+
+#ifdef LINES
+int main(void) {
+    static char line[1 << 16];
+    unsigned long inputs = 0;
+    while (fgets(line, sizeof line, stdin)) {
+        const size_t length = strspn(line, "0123456789abcdef") / 2;
+        uint8_t *input = filled(length, 0);
+        for (size_t i = 0; i < length; i++) {
+            const char digits[3] = { line[2 * i], line[2 * i + 1], 0 };
+            input[i] = (uint8_t)strtoul(digits, NULL, 16);
+        }
+        LLVMFuzzerTestOneInput(input, length);
+        free(input);
+        inputs++;
+    }
+    printf("inputs %lu\n", inputs);
+    return inputs == 0;
+}
+#endif
