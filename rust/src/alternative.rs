@@ -1,0 +1,136 @@
+//! Alternative carriers of handovers.
+use crate::bytes::{Bytes, Quoted};
+use crate::ffi::{self, Size};
+use crate::{promised, Refusal};
+use core::fmt;
+use core::iter::FusedIterator;
+
+#[cfg(feature = "alloc")]
+use alloc::vec::Vec;
+
+/// The power state of a carrier (Connection Handover 1.2, Alternative Carrier record).
+#[derive(Clone, Copy, Debug, PartialEq, Eq, Hash)]
+#[repr(u32)]
+pub enum PowerState {
+    /// It is off.
+    Inactive = 0,
+    /// It is on.
+    Active = 1,
+    /// It is being switched on.
+    Activating = 2,
+    /// It is not known.
+    Unknown = 3,
+}
+
+impl PowerState {
+    fn of(number: u32) -> Self {
+        match number {
+            0 => Self::Inactive,
+            1 => Self::Active,
+            2 => Self::Activating,
+            3 => Self::Unknown,
+            _ => promised(Err(number)),
+        }
+    }
+}
+
+/// An alternative carrier (`ac`, Connection Handover 1.2): it refers to the record that describes a carrier.
+///
+/// With the feature `alloc`, alternative carriers are equal if their power states and references are.
+#[derive(Clone)]
+pub struct AlternativeCarrier<'a> {
+    payload: Bytes<'a>,
+    parts: ffi::AlternativeParts,
+}
+
+impl<'a> AlternativeCarrier<'a> {
+    /// The alternative carrier of the payload of an Alternative Carrier record.
+    ///
+    /// # Errors
+    ///
+    /// The payload is none of an alternative carrier. The place counts from its first byte.
+    pub fn parse(payload: &'a [u8]) -> Result<Self, Refusal> {
+        Self::of(payload.into())
+    }
+
+    pub(crate) fn of(payload: Bytes<'a>) -> Result<Self, Refusal> {
+        let parts = ffi::alternative(&payload).map_err(Refusal::of)?;
+        Ok(Self { payload, parts })
+    }
+
+    /// The power state of the carrier.
+    pub fn power(&self) -> PowerState {
+        PowerState::of(self.parts.power)
+    }
+
+    /// The carrier data reference: the id of the record that describes the carrier, at most 255 bytes.
+    pub fn reference(&self) -> &[u8] {
+        promised(ffi::reference(&self.payload, 0).ok_or(()))
+    }
+
+    /// The auxiliary data references, at most 255, each of at most 255 bytes.
+    pub fn auxiliaries(&self) -> Auxiliaries<'_> {
+        Auxiliaries { payload: &self.payload, next: 1, count: self.parts.references.into() }
+    }
+
+    /// Its payload.
+    pub fn payload(&self) -> &[u8] {
+        &self.payload
+    }
+
+    /// The same alternative carrier, which borrows nothing.
+    #[cfg(feature = "alloc")]
+    pub fn into_owned(self) -> AlternativeCarrier<'static> {
+        AlternativeCarrier { payload: self.payload.into_owned(), parts: self.parts }
+    }
+
+    #[cfg(feature = "alloc")]
+    fn value(&self) -> (PowerState, &[u8], Vec<&[u8]>) {
+        (self.power(), self.reference(), self.auxiliaries().collect())
+    }
+}
+
+#[cfg(feature = "alloc")]
+compare_by_value! { AlternativeCarrier }
+
+impl fmt::Debug for AlternativeCarrier<'_> {
+    fn fmt(&self, to: &mut fmt::Formatter<'_>) -> fmt::Result {
+        to.debug_struct("AlternativeCarrier")
+            .field("power", &self.power())
+            .field("reference", &Quoted(self.reference()))
+            .field("auxiliaries", &self.auxiliaries())
+            .finish()
+    }
+}
+
+/// The auxiliary data references of an alternative carrier, one after another.
+#[derive(Clone)]
+pub struct Auxiliaries<'a> {
+    payload: &'a [u8],
+    next: Size,
+    count: Size,
+}
+
+impl<'a> Iterator for Auxiliaries<'a> {
+    type Item = &'a [u8];
+
+    fn next(&mut self) -> Option<&'a [u8]> {
+        let reference = ffi::reference(self.payload, self.next)?;
+        self.next += 1;
+        Some(reference)
+    }
+
+    fn size_hint(&self) -> (usize, Option<usize>) {
+        let left = ffi::index(self.count - self.next);
+        (left, Some(left))
+    }
+}
+
+impl ExactSizeIterator for Auxiliaries<'_> {}
+impl FusedIterator for Auxiliaries<'_> {}
+
+impl fmt::Debug for Auxiliaries<'_> {
+    fn fmt(&self, to: &mut fmt::Formatter<'_>) -> fmt::Result {
+        to.debug_list().entries(self.clone().map(Quoted)).finish()
+    }
+}

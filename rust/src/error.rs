@@ -1,0 +1,98 @@
+//! Why a value is not read or written, other than that bytes are refused.
+use crate::ffi::Unfilled;
+use crate::Refusal;
+use core::fmt;
+
+/// Why a payload is not decoded to a room.
+#[derive(Clone, Copy, Debug, PartialEq, Eq, Hash)]
+#[non_exhaustive]
+pub enum DecodeError {
+    /// It is no payload of its type.
+    Refused(Refusal),
+    /// The room is too small. So many bytes are needed, or elements where the room is one of [`Part`](crate::Part)s.
+    NoRoom(usize),
+}
+
+impl DecodeError {
+    pub(crate) fn of(unfilled: Unfilled) -> Self {
+        match unfilled {
+            Unfilled::NoRoom(needed) => Self::NoRoom(needed),
+            Unfilled::Refused(why) => Self::Refused(Refusal::of(why)),
+            Unfilled::BadArgument => crate::promised(Err(unfilled)),
+        }
+    }
+}
+
+impl From<Refusal> for DecodeError {
+    fn from(refusal: Refusal) -> Self {
+        Self::Refused(refusal)
+    }
+}
+
+impl fmt::Display for DecodeError {
+    fn fmt(&self, to: &mut fmt::Formatter<'_>) -> fmt::Result {
+        match self {
+            Self::Refused(refusal) => refusal.fmt(to),
+            Self::NoRoom(needed) => write!(to, "the room is too small: {needed} are needed"),
+        }
+    }
+}
+
+impl core::error::Error for DecodeError {}
+
+/// Why a value or a message is not written.
+#[derive(Clone, Copy, Debug, PartialEq, Eq, Hash)]
+#[non_exhaustive]
+pub enum EncodeError {
+    /// A message has at least one record.
+    NoRecord,
+    /// The type or the id of a record has more than 255 bytes; its payload has more than 4294967295 bytes; it has a
+    /// type where its type name format allows none, or none where it needs one; or it is [`Tnf::Empty`](crate::Tnf) and
+    /// has a type, an id or a payload.
+    Record,
+    /// The language code of a text has more than 63 bytes or is not ASCII, or the text is too long.
+    Text,
+    /// The URI is too long.
+    Uri,
+    /// The carrier type format of a handover carrier is above 7, its type has more than 255 bytes, or it is too long.
+    Carrier,
+    /// An alternative carrier has more than 255 auxiliary references, or a reference has more than 255 bytes.
+    Alternative,
+    /// The error of a handover has data that its reason does not allow.
+    HandoverError,
+    /// The records are none of a smart poster. The place counts from the first byte of its payload.
+    Poster(Refusal),
+    /// The minor version of a handover is above 15, or its records are none of a handover.
+    Handover,
+    /// The room is too small. So many bytes are needed.
+    NoRoom(usize),
+}
+
+impl EncodeError {
+    /// The error of a call that fills a room, and refuses its arguments for one reason.
+    pub(crate) fn of(unfilled: Unfilled, why: Self) -> Self {
+        match unfilled {
+            Unfilled::NoRoom(needed) => Self::NoRoom(needed),
+            Unfilled::Refused(_) | Unfilled::BadArgument => why,
+        }
+    }
+}
+
+impl fmt::Display for EncodeError {
+    fn fmt(&self, to: &mut fmt::Formatter<'_>) -> fmt::Result {
+        match self {
+            Self::NoRecord => to.write_str("a message has at least one record"),
+            Self::Record => to.write_str("a record cannot have this type, id or payload"),
+            Self::Text => to.write_str("a text cannot have this language or length"),
+            Self::Uri => to.write_str("a URI cannot be so long"),
+            Self::Carrier => to.write_str("a handover carrier cannot have this format, type or length"),
+            Self::Alternative => to.write_str("an alternative carrier cannot have these references"),
+            Self::HandoverError => to.write_str("an error of a handover cannot have these data"),
+            Self::Poster(refusal) => write!(to, "a smart poster cannot have these records: {refusal}"),
+            Self::Handover => to.write_str("a handover cannot have this version or these records"),
+            Self::NoRoom(needed) => write!(to, "the room is too small: {needed} bytes are needed"),
+        }
+    }
+}
+
+impl core::error::Error for EncodeError {}

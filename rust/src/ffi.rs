@@ -1,0 +1,509 @@
+//! The calls of `include/ndef.h`. All `unsafe` of this crate is here.
+//!
+//! The header demands this of a caller, and it is kept so:
+//!
+//! - D1, "a pointer that comes with a length points to that many bytes (or elements)": the pointer and the length are
+//!   those of one slice, or of the spare capacity of one `Vec`.
+//! - D2, "any other pointer points to one value of its type, and is not NULL": it comes from a reference.
+//! - D3, "what a call writes overlaps none of its other arguments": it is a local value, or behind a `&mut`.
+//! - D4, "the ndef_checker that ndef_feed is given holds what ndef_begin or ndef_feed left in it, or is a copy of one
+//!   that does; only one call at a time uses it": nothing but `begin` and `Clone` makes a `Checker`, its words are
+//!   private, and `feed` takes it by `&mut`.
+//! - D5, "no array has more than PTRDIFF_MAX bytes": no slice and no `Vec` has.
+//!
+//! `unsafe` relies on these promises of the header too:
+//!
+//! - P1: with NDEF_OK a call that fills a room has written `*count` bytes from the room's start on.
+//! - P2: `ndef_uri` and `ndef_text_in_utf8` write UTF-8. `ndef_text` tells a language code that is ASCII, and a text
+//!   that is UTF-8 where `utf16` is 0.
+#![allow(unsafe_code)]
+// Which calls are used depends on the features.
+#![allow(dead_code)]
+
+use crate::bytes::Bytes;
+
+#[cfg(feature = "alloc")]
+use crate::promised;
+#[cfg(feature = "alloc")]
+use alloc::{string::String, vec::Vec};
+
+/// `ndef_size`: a length, or the place of a byte. It has 64 bits, aligned to 8 bytes, on every machine.
+pub(crate) type Size = u64;
+const _: () = assert!(align_of::<Size>() == 8, "the library for C takes lengths that are aligned to 8 bytes");
+
+pub(crate) const OK: u32 = 0;
+pub(crate) const REFUSED: u32 = 1;
+pub(crate) const NO_ROOM: u32 = 2;
+pub(crate) const END: u32 = 4;
+pub(crate) const MORE: u32 = 5;
+pub(crate) const STANDARD: u32 = 1;
+pub(crate) const OPAQUE: u32 = 2;
+pub(crate) const FIRST: u32 = 1;
+pub(crate) const LAST: u32 = 2;
+pub(crate) const LONG: u32 = 4;
+pub(crate) const AS_UTF16: u32 = 1;
+pub(crate) const REQUEST: u32 = 0;
+pub(crate) const SELECT: u32 = 1;
+
+/// The structs of the header: name, size in bytes, and the fields in order.
+macro_rules! structs {
+    ($($(#[$doc:meta])* $name:ident ($size:literal) { $($field:ident: $kind:ty),* $(,)? })*) => { $(
+        $(#[$doc])*
+        #[repr(C)]
+        #[derive(Clone, Copy, Debug, Default, PartialEq, Eq)]
+        pub(crate) struct $name { $(pub(crate) $field: $kind),* }
+        const _: () = assert!(size_of::<$name>() == $size);
+    )* };
+}
+
+structs! {
+    /// `ndef_limits`
+    Limits (16) { payload: u32, records: u32, pieces: u32, flags: u32 }
+    /// `ndef_checked`
+    Checked (16) { place: u64, records: u32, reason: u32 }
+    /// `ndef_record`
+    Record (88) {
+        at: Size, end: Size, type_at: Size, type_length: Size, id_at: Size, id_length: Size,
+        payload_at: Size, part_length: Size, payload_length: Size, pieces: Size, tnf: u32, last: u32
+    }
+    /// `ndef_writing`
+    Writing (12) { tnf: u32, flags: u32, chunk: u32 }
+    /// `ndef_text_parts`
+    TextParts (40) { language_at: Size, language_length: Size, text_at: Size, text_length: Size, utf16: u32 }
+    /// `ndef_carrier_parts`
+    CarrierParts (40) { type_at: Size, type_length: Size, data_at: Size, data_length: Size, format: u32 }
+    /// `ndef_alternative_parts`
+    AlternativeParts (8) { power: u32, references: u32 }
+    /// `ndef_request_parts`
+    RequestParts (24) { carriers: Size, major: u32, minor: u32, collision: u32 }
+    /// `ndef_select_parts`
+    SelectParts (40) {
+        carriers: Size, detail_at: Size, detail_length: Size, major: u32, minor: u32, has_error: u32, error: u32
+    }
+    /// `ndef_link`
+    Link (40) { carrier_at: Size, carrier_length: Size, record_index: Size, record_at: Size, has_record: u32 }
+    /// `ndef_poster_parts`
+    PosterParts (32) {
+        uri_at: Size, uri_length: Size, has_action: u32, action: u32, has_size: u32, size: u32
+    }
+    /// `ndef_error_parts`
+    ErrorParts (32) { data_at: Size, data_length: Size, reason: u32, has_number: u32, number: u32 }
+}
+
+/// Where a part of some bytes lies. [`Record::chunks_in`](crate::Record::chunks_in) fills an array of them.
+#[repr(C)]
+#[derive(Clone, Copy, Debug, Default, PartialEq, Eq, Hash)]
+pub struct Part {
+    pub(crate) at: Size,
+    pub(crate) length: Size,
+}
+const _: () = assert!(size_of::<Part>() == 16);
+
+/// `ndef_checker`
+#[repr(C)]
+#[derive(Clone)]
+pub(crate) struct Checker {
+    words: [u64; 29],
+}
+
+mod c {
+    use super::*;
+
+    #[rustfmt::skip]
+    extern "C" {
+        pub(super) fn ndef_usual_limits(out: *mut Limits);
+        pub(super) fn ndef_check(bytes: *const u8, length: Size, limits: *const Limits, out: *mut Checked) -> u32;
+        pub(super) fn ndef_begin(limits: *const Limits, checker: *mut Checker) -> u32;
+        pub(super) fn ndef_feed(checker: *mut Checker, bytes: *const u8, length: Size, out: *mut Checked) -> u32;
+        pub(super) fn ndef_reason_name(reason: u32, room: *mut u8, size: Size, count: *mut Size) -> u32;
+        pub(super) fn ndef_record_at(bytes: *const u8, length: Size, at: Size, out: *mut Record) -> u32;
+        pub(super) fn ndef_payload(
+            bytes: *const u8, length: Size, at: Size, room: *mut u8, size: Size, count: *mut Size,
+        ) -> u32;
+        pub(super) fn ndef_pieces(
+            bytes: *const u8, length: Size, at: Size, parts: *mut Part, size: Size, count: *mut Size,
+        ) -> u32;
+        pub(super) fn ndef_write_record(
+            kind: *const u8, type_length: Size, id: *const u8, id_length: Size, payload: *const u8,
+            payload_length: Size, how: *const Writing, room: *mut u8, size: Size, count: *mut Size,
+        ) -> u32;
+        pub(super) fn ndef_uri(
+            payload: *const u8, length: Size, flags: u32, room: *mut u8, size: Size, count: *mut Size,
+            why: *mut Checked,
+        ) -> u32;
+        pub(super) fn ndef_write_uri(
+            uri: *const u8, length: Size, room: *mut u8, size: Size, count: *mut Size,
+        ) -> u32;
+        pub(super) fn ndef_text(payload: *const u8, length: Size, out: *mut TextParts, why: *mut Checked) -> u32;
+        pub(super) fn ndef_text_in_utf8(
+            payload: *const u8, length: Size, room: *mut u8, size: Size, count: *mut Size, why: *mut Checked,
+        ) -> u32;
+        pub(super) fn ndef_write_text(
+            language: *const u8, language_length: Size, text: *const u8, text_length: Size, flags: u32,
+            room: *mut u8, size: Size, count: *mut Size,
+        ) -> u32;
+        pub(super) fn ndef_carrier(
+            payload: *const u8, length: Size, out: *mut CarrierParts, why: *mut Checked,
+        ) -> u32;
+        pub(super) fn ndef_write_carrier(
+            format: u32, kind: *const u8, type_length: Size, data: *const u8, data_length: Size, room: *mut u8,
+            size: Size, count: *mut Size,
+        ) -> u32;
+        pub(super) fn ndef_alternative(
+            payload: *const u8, length: Size, out: *mut AlternativeParts, why: *mut Checked,
+        ) -> u32;
+        pub(super) fn ndef_reference(payload: *const u8, length: Size, index: Size, out: *mut Part) -> u32;
+        pub(super) fn ndef_write_alternative(
+            power: u32, bytes: *const u8, length: Size, parts: *const Part, parts_count: Size, room: *mut u8,
+            size: Size, count: *mut Size,
+        ) -> u32;
+        pub(super) fn ndef_request(
+            payload: *const u8, length: Size, flags: u32, out: *mut RequestParts, why: *mut Checked,
+        ) -> u32;
+        pub(super) fn ndef_select(
+            payload: *const u8, length: Size, flags: u32, out: *mut SelectParts, why: *mut Checked,
+        ) -> u32;
+        pub(super) fn ndef_link_at(
+            bytes: *const u8, length: Size, payload: *const u8, payload_length: Size, index: Size, out: *mut Link,
+        ) -> u32;
+        pub(super) fn ndef_poster(
+            payload: *const u8, length: Size, flags: u32, out: *mut PosterParts, why: *mut Checked,
+        ) -> u32;
+        pub(super) fn ndef_write_action(action: u32, room: *mut u8, size: Size, count: *mut Size) -> u32;
+        pub(super) fn ndef_write_size(bytes: u32, room: *mut u8, size: Size, count: *mut Size) -> u32;
+        pub(super) fn ndef_write_collision(number: u32, room: *mut u8, size: Size, count: *mut Size) -> u32;
+        pub(super) fn ndef_error(payload: *const u8, length: Size, out: *mut ErrorParts, why: *mut Checked) -> u32;
+        pub(super) fn ndef_write_error(
+            reason: u32, data: *const u8, length: Size, room: *mut u8, size: Size, count: *mut Size,
+        ) -> u32;
+        pub(super) fn ndef_write_error_number(
+            reason: u32, number: u32, room: *mut u8, size: Size, count: *mut Size,
+        ) -> u32;
+        pub(super) fn ndef_write_handover(
+            handover: u32, major: u32, minor: u32, message: *const u8, length: Size, room: *mut u8, size: Size,
+            count: *mut Size,
+        ) -> u32;
+    }
+}
+
+/// The length of a slice, as the calls take it.
+#[inline]
+fn size<T>(slice: &[T]) -> Size {
+    slice.len() as Size
+}
+
+/// A length or a place that the library told of bytes in memory: so it fits.
+#[inline]
+pub(crate) fn index(told: Size) -> usize {
+    told as usize
+}
+
+/// A part of bytes that the library told of them: so it lies within them.
+#[inline]
+pub(crate) fn part(bytes: &[u8], at: Size, length: Size) -> &[u8] {
+    &bytes[index(at)..][..index(length)]
+}
+
+pub(crate) fn usual_limits() -> Limits {
+    let mut out = Limits::default();
+    // SAFETY: D2.
+    unsafe { c::ndef_usual_limits(&mut out) };
+    out
+}
+
+// ---- checks
+
+#[inline]
+pub(crate) fn check(bytes: &[u8], limits: &Limits) -> (u32, Checked) {
+    let mut out = Checked::default();
+    // SAFETY: D1, D2, D5: a slice, and values of their types. D3: `out` is a local value.
+    let status = unsafe { c::ndef_check(bytes.as_ptr(), size(bytes), limits, &mut out) };
+    (status, out)
+}
+
+pub(crate) fn begin(limits: &Limits) -> Checker {
+    let mut checker = Checker { words: [0; 29] };
+    // SAFETY: D2: values of their types. D3: `checker` is a local value.
+    unsafe { c::ndef_begin(limits, &mut checker) };
+    checker
+}
+
+pub(crate) fn feed(checker: &mut Checker, bytes: &[u8]) -> (u32, Checked) {
+    let mut out = Checked::default();
+    // SAFETY: D1, D2, D5: a slice, and values of their types. D3: `checker` is a `&mut`, and `out` is a local value.
+    // D4: `begin` or `Clone` made `checker`, and nothing else has it now.
+    let status = unsafe { c::ndef_feed(checker, bytes.as_ptr(), size(bytes), &mut out) };
+    (status, out)
+}
+
+// ---- records
+
+/// The record that begins at a place.
+#[inline]
+pub(crate) fn record_at(bytes: &[u8], at: Size) -> Option<Record> {
+    let mut out = Record::default();
+    // SAFETY: D1, D2, D5: a slice, and a value of its type. D3: `out` is a local value.
+    let status = unsafe { c::ndef_record_at(bytes.as_ptr(), size(bytes), at, &mut out) };
+    (status == OK).then_some(out)
+}
+
+/// Where the payload of each chunk of the record that begins at a place lies.
+pub(crate) fn pieces(bytes: &[u8], at: Size, parts: &mut [Part]) -> Result<usize, Unfilled> {
+    let mut count = 0;
+    // SAFETY: D1, D2, D5: slices, and a value of its type. D3: `parts` is a `&mut`, and `count` is a local value.
+    let status =
+        unsafe { c::ndef_pieces(bytes.as_ptr(), size(bytes), at, parts.as_mut_ptr(), size(parts), &mut count) };
+    filled(status, count, Checked::default())
+}
+
+// ---- rooms
+
+/// Why a room is not filled.
+#[derive(Debug, PartialEq, Eq)]
+pub(crate) enum Unfilled {
+    /// The room is too small. So many bytes, or elements, are needed.
+    NoRoom(usize),
+    /// The payload is none of its type.
+    Refused(Checked),
+    /// An argument is not one that the call takes.
+    BadArgument,
+}
+
+/// The answer of a call that fills a room.
+fn filled(status: u32, count: Size, why: Checked) -> Result<usize, Unfilled> {
+    match status {
+        OK => Ok(index(count)),
+        NO_ROOM => Err(Unfilled::NoRoom(index(count))),
+        REFUSED => Err(Unfilled::Refused(why)),
+        _ => Err(Unfilled::BadArgument),
+    }
+}
+
+/// Memory to which a call writes bytes: a slice, from its start on, or a `Vec`, behind what it holds.
+pub(crate) trait Room {
+    /// Gives the call the memory and its size, and answers the status and the count. A `Vec` takes the memory that is
+    /// needed, and holds what was written then.
+    ///
+    /// # Safety
+    ///
+    /// The call has to be one of the header that fills a room, which is given this memory, size and count.
+    unsafe fn fill(&mut self, call: impl FnMut(*mut u8, Size, &mut Size) -> u32) -> (u32, Size);
+}
+
+impl Room for [u8] {
+    #[inline]
+    unsafe fn fill(&mut self, mut call: impl FnMut(*mut u8, Size, &mut Size) -> u32) -> (u32, Size) {
+        let mut count = 0;
+        let status = call(self.as_mut_ptr(), size(self), &mut count);
+        (status, count)
+    }
+}
+
+#[cfg(feature = "alloc")]
+impl Room for Vec<u8> {
+    unsafe fn fill(&mut self, mut call: impl FnMut(*mut u8, Size, &mut Size) -> u32) -> (u32, Size) {
+        let mut count = 0;
+        loop {
+            let spare = self.spare_capacity_mut();
+            match call(spare.as_mut_ptr().cast(), size(spare), &mut count) {
+                NO_ROOM => self.reserve(index(count)),
+                OK => {
+                    // SAFETY: P1: so many bytes of the spare capacity are written, which has as many.
+                    unsafe { self.set_len(self.len() + index(count)) };
+                    return (OK, count);
+                }
+                status => return (status, count),
+            }
+        }
+    }
+}
+
+/// Calls that fill a room.
+macro_rules! fills {
+    ($($name:ident ($($argument:ident: $kind:ty),*) = $call:ident ($($given:expr),*);)*) => { $(
+        pub(crate) fn $name($($argument: $kind,)* room: &mut (impl Room + ?Sized)) -> Result<usize, Unfilled> {
+            // SAFETY: D1, D2, D5: slices, values of their types, and the room. D3: `room` and `count` are `&mut`.
+            // Of `fill`: the call is one that fills a room.
+            let (status, count) = unsafe { room.fill(|at, size, count| c::$call($($given,)* at, size, count)) };
+            filled(status, count, Checked::default())
+        }
+    )* };
+}
+
+fills! {
+    reason_name(reason: u32) = ndef_reason_name(reason);
+    payload(bytes: &[u8], at: Size) = ndef_payload(bytes.as_ptr(), size(bytes), at);
+    write_record(kind: &[u8], id: &[u8], payload: &[u8], how: &Writing) = ndef_write_record(
+        kind.as_ptr(), size(kind), id.as_ptr(), size(id), payload.as_ptr(), size(payload), how);
+    write_uri(uri: &str) = ndef_write_uri(uri.as_ptr(), size(uri.as_bytes()));
+    write_text(language: &str, text: &str, flags: u32) = ndef_write_text(
+        language.as_ptr(), size(language.as_bytes()), text.as_ptr(), size(text.as_bytes()), flags);
+    write_carrier(format: u32, kind: &[u8], data: &[u8]) = ndef_write_carrier(
+        format, kind.as_ptr(), size(kind), data.as_ptr(), size(data));
+    write_alternative(power: u32, bytes: &[u8], parts: &[Part]) = ndef_write_alternative(
+        power, bytes.as_ptr(), size(bytes), parts.as_ptr(), size(parts));
+    write_action(action: u32) = ndef_write_action(action);
+    write_size(bytes: u32) = ndef_write_size(bytes);
+    write_collision(number: u32) = ndef_write_collision(number);
+    write_error(reason: u32, data: &[u8]) = ndef_write_error(reason, data.as_ptr(), size(data));
+    write_error_number(reason: u32, number: u32) = ndef_write_error_number(reason, number);
+    write_handover(handover: u32, major: u32, minor: u32, message: &[u8]) = ndef_write_handover(
+        handover, major, minor, message.as_ptr(), size(message));
+}
+
+fn uri(payload: &[u8], flags: u32, room: &mut (impl Room + ?Sized)) -> Result<usize, Unfilled> {
+    let mut why = Checked::default();
+    // SAFETY: D1, D2, D5: a slice, values of their types, and the room. D3: `room` and `count` are `&mut`, and `why` is
+    // a local value. Of `fill`: the call is one that fills a room.
+    let (status, count) = unsafe {
+        room.fill(|at, room, count| c::ndef_uri(payload.as_ptr(), size(payload), flags, at, room, count, &mut why))
+    };
+    filled(status, count, why)
+}
+
+/// How many bytes the URI of a payload has.
+pub(crate) fn uri_length(payload: &[u8], flags: u32) -> Result<usize, Checked> {
+    match uri(payload, flags, &mut [][..]) {
+        Ok(count) | Err(Unfilled::NoRoom(count)) => Ok(count),
+        Err(Unfilled::Refused(why)) => Err(why),
+        Err(Unfilled::BadArgument) => Err(Checked::default()),
+    }
+}
+
+/// The URI of a payload, in a room.
+pub(crate) fn uri_in<'r>(payload: &[u8], flags: u32, room: &'r mut [u8]) -> Result<&'r str, Unfilled> {
+    let count = uri(payload, flags, room)?;
+    // SAFETY: P1, P2: so many bytes of the room are what `ndef_uri` wrote.
+    Ok(unsafe { core::str::from_utf8_unchecked(&room[..count]) })
+}
+
+/// The URI of a payload that is one of a URI record.
+#[cfg(feature = "alloc")]
+pub(crate) fn uri_string(payload: &[u8], flags: u32) -> String {
+    let mut written = Vec::new();
+    promised(uri(payload, flags, &mut written));
+    // SAFETY: P2: `ndef_uri` wrote all of it.
+    unsafe { String::from_utf8_unchecked(written) }
+}
+
+fn text_in_utf8(payload: &[u8], room: &mut (impl Room + ?Sized)) -> Result<usize, Unfilled> {
+    let mut why = Checked::default();
+    // SAFETY: D1, D2, D5: a slice, values of their types, and the room. D3: `room` and `count` are `&mut`, and `why` is
+    // a local value. Of `fill`: the call is one that fills a room.
+    let (status, count) = unsafe {
+        room.fill(|at, room, count| c::ndef_text_in_utf8(payload.as_ptr(), size(payload), at, room, count, &mut why))
+    };
+    filled(status, count, why)
+}
+
+// ---- payloads
+
+/// Calls that tell the parts of a payload.
+macro_rules! parts {
+    ($($name:ident ($($argument:ident: $kind:ty),*) -> $out:ty = $call:ident;)*) => { $(
+        pub(crate) fn $name(payload: &[u8], $($argument: $kind),*) -> Result<$out, Checked> {
+            let (mut out, mut why) = (<$out>::default(), Checked::default());
+            // SAFETY: D1, D2, D5: a slice, and values of their types. D3: `out` and `why` are local values.
+            match unsafe { c::$call(payload.as_ptr(), size(payload), $($argument,)* &mut out, &mut why) } {
+                OK => Ok(out),
+                _ => Err(why),
+            }
+        }
+    )* };
+}
+
+parts! {
+    text() -> TextParts = ndef_text;
+    carrier() -> CarrierParts = ndef_carrier;
+    alternative() -> AlternativeParts = ndef_alternative;
+    error() -> ErrorParts = ndef_error;
+    request(flags: u32) -> RequestParts = ndef_request;
+    select(flags: u32) -> SelectParts = ndef_select;
+    poster(flags: u32) -> PosterParts = ndef_poster;
+}
+
+/// The reference with an index of an alternative carrier.
+pub(crate) fn reference(payload: &[u8], index: Size) -> Option<&[u8]> {
+    let mut out = Part::default();
+    // SAFETY: D1, D2, D5: a slice, and a value of its type. D3: `out` is a local value.
+    let status = unsafe { c::ndef_reference(payload.as_ptr(), size(payload), index, &mut out) };
+    (status == OK).then(|| part(payload, out.at, out.length))
+}
+
+/// The link with an index of a message, whose handover has the payload.
+pub(crate) fn link_at(bytes: &[u8], payload: &[u8], index: Size) -> Option<Link> {
+    let mut out = Link::default();
+    // SAFETY: D1, D2, D5: slices, and a value of its type. D3: `out` is a local value.
+    let status =
+        unsafe { c::ndef_link_at(bytes.as_ptr(), size(bytes), payload.as_ptr(), size(payload), index, &mut out) };
+    (status == OK).then_some(out)
+}
+
+/// The payload of a text, and the parts that `ndef_text` told of it.
+#[derive(Clone)]
+pub(crate) struct TextPayload<'a> {
+    bytes: Bytes<'a>,
+    parts: TextParts,
+}
+
+impl<'a> TextPayload<'a> {
+    pub(crate) fn of(bytes: Bytes<'a>) -> Result<Self, Checked> {
+        let parts = text(&bytes)?;
+        Ok(Self { bytes, parts })
+    }
+
+    pub(crate) fn bytes(&self) -> &Bytes<'a> {
+        &self.bytes
+    }
+
+    pub(crate) fn into_bytes(self) -> Bytes<'a> {
+        self.bytes
+    }
+
+    #[cfg(feature = "alloc")]
+    pub(crate) fn into_owned(self) -> TextPayload<'static> {
+        TextPayload { bytes: self.bytes.into_owned(), parts: self.parts }
+    }
+
+    pub(crate) fn is_utf16(&self) -> bool {
+        self.parts.utf16 != 0
+    }
+
+    pub(crate) fn language(&self) -> &str {
+        let code = part(&self.bytes, self.parts.language_at, self.parts.language_length);
+        // SAFETY: P2: `ndef_text` told this part of these bytes, and both fields never change.
+        unsafe { core::str::from_utf8_unchecked(code) }
+    }
+
+    /// The text, if the payload has it in UTF-8.
+    pub(crate) fn utf8(&self) -> Option<&str> {
+        let text = part(&self.bytes, self.parts.text_at, self.parts.text_length);
+        // SAFETY: P2: as for `language`.
+        (!self.is_utf16()).then(|| unsafe { core::str::from_utf8_unchecked(text) })
+    }
+
+    /// The text, if the payload has it in UTF-8 and is borrowed.
+    #[cfg(feature = "alloc")]
+    pub(crate) fn borrowed_utf8(&self) -> Option<&'a str> {
+        let Bytes::Borrowed(bytes) = self.bytes else { return None };
+        let text = part(bytes, self.parts.text_at, self.parts.text_length);
+        // SAFETY: P2: as for `language`.
+        (!self.is_utf16()).then(|| unsafe { core::str::from_utf8_unchecked(text) })
+    }
+
+    /// The text in UTF-8, in a room.
+    pub(crate) fn utf8_in<'r>(&self, room: &'r mut [u8]) -> Result<&'r str, Unfilled> {
+        let count = text_in_utf8(&self.bytes, room)?;
+        // SAFETY: P1, P2: so many bytes of the room are what `ndef_text_in_utf8` wrote.
+        Ok(unsafe { core::str::from_utf8_unchecked(&room[..count]) })
+    }
+
+    /// The text in UTF-8.
+    #[cfg(feature = "alloc")]
+    pub(crate) fn utf8_string(&self) -> String {
+        let mut written = Vec::new();
+        promised(text_in_utf8(&self.bytes, &mut written));
+        // SAFETY: P2: `ndef_text_in_utf8` wrote all of it.
+        unsafe { String::from_utf8_unchecked(written) }
+    }
+}

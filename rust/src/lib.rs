@@ -1,0 +1,94 @@
+#![doc = include_str!("../README.md")]
+#![no_std]
+
+#[cfg(feature = "alloc")]
+extern crate alloc;
+#[cfg(feature = "std")]
+extern crate std;
+
+/// Compares and hashes values of a type by what its method `value` answers.
+#[cfg(feature = "alloc")]
+macro_rules! compare_by_value {
+    ($($(#[$doc:meta])* $name:ident)*) => { $(
+        $(#[$doc])*
+        impl PartialEq for $name<'_> {
+            fn eq(&self, other: &Self) -> bool {
+                self.value() == other.value()
+            }
+        }
+
+        impl Eq for $name<'_> {}
+
+        impl core::hash::Hash for $name<'_> {
+            fn hash<H: core::hash::Hasher>(&self, state: &mut H) {
+                self.value().hash(state);
+            }
+        }
+    )* };
+}
+
+mod alternative;
+mod bytes;
+mod carrier;
+mod check;
+mod chunks;
+mod error;
+mod ffi;
+mod handover;
+#[cfg(feature = "alloc")]
+mod handover_builder;
+mod handover_error;
+mod limits;
+mod link;
+mod message;
+#[cfg(feature = "alloc")]
+mod message_builder;
+mod new_record;
+mod payload;
+mod poster;
+#[cfg(feature = "alloc")]
+mod poster_builder;
+#[cfg(feature = "std")]
+mod reading;
+mod record;
+mod refusal;
+mod text;
+mod tnf;
+mod uri;
+
+pub use alternative::{AlternativeCarrier, Auxiliaries, PowerState};
+pub use carrier::HandoverCarrier;
+pub use check::{check, Checked, Checker};
+pub use chunks::Chunks;
+pub use error::{DecodeError, EncodeError};
+pub use ffi::Part;
+pub use handover::{Alternatives, HandoverRequest, HandoverSelect};
+#[cfg(feature = "alloc")]
+pub use handover_builder::{HandoverRequestBuilder, HandoverSelectBuilder};
+pub use handover_error::HandoverError;
+pub use limits::{Limits, Payloads, Profile};
+pub use link::{Link, Links};
+pub use message::{Message, Records};
+#[cfg(feature = "alloc")]
+pub use message_builder::MessageBuilder;
+pub use new_record::{encode, Form, NewRecord};
+pub use payload::Payload;
+pub use poster::{Action, SmartPoster, Titles};
+#[cfg(feature = "alloc")]
+pub use poster_builder::SmartPosterBuilder;
+#[cfg(feature = "std")]
+pub use reading::{read_message, ReadError};
+pub use record::Record;
+pub use refusal::{Reason, Refusal};
+pub use text::{Encoding, Text};
+pub use tnf::Tnf;
+pub use uri::Uri;
+
+/// The value that a contract of the library promises. It panics only if the library that is linked breaks its contract.
+#[track_caller]
+fn promised<T, E>(answer: Result<T, E>) -> T {
+    match answer {
+        Ok(value) => value,
+        Err(_) => panic!("the library for C broke its contract"),
+    }
+}

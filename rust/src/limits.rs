@@ -1,0 +1,149 @@
+//! How large a message may be, and how it is checked.
+use crate::ffi;
+use core::num::{NonZeroU16, NonZeroU32};
+
+/// What becomes of values that the standard reserves.
+#[derive(Clone, Copy, Debug, Default, PartialEq, Eq, Hash)]
+pub enum Profile {
+    /// They are refused.
+    #[default]
+    Strict,
+    /// They are read as the standard says: the type name format 7 as [`Tnf::Unknown`](crate::Tnf::Unknown) (NDEF 1.0,
+    /// 3.2.6), and a reserved identifier code of a URI as no prefix (RTD URI 1.0, 3.2.2).
+    Standard,
+}
+
+impl Profile {
+    pub(crate) fn flags(self) -> u32 {
+        match self {
+            Self::Strict => 0,
+            Self::Standard => ffi::STANDARD,
+        }
+    }
+}
+
+/// Which payloads a check looks into.
+#[derive(Clone, Copy, Debug, Default, PartialEq, Eq, Hash)]
+pub enum Payloads {
+    /// Those of texts, URIs, smart posters, handover requests, handover selects and handover carriers.
+    #[default]
+    Typed,
+    /// None of them: any payload may have any bytes.
+    Opaque,
+}
+
+/// How large a message may be, and how it is checked. The type of each number is its range, so that no limits are bad.
+///
+/// ```
+/// use core::num::NonZeroU16;
+/// use simbegyor_ndef::{Limits, Profile};
+///
+/// let limits = Limits::new().with_profile(Profile::Standard).with_records(NonZeroU16::MIN);
+/// assert_eq!(limits.records().get(), 1);
+/// assert_eq!(limits.payload().get(), 1048576);
+/// ```
+#[derive(Clone, Copy, Debug, PartialEq, Eq, Hash)]
+pub struct Limits {
+    payload: NonZeroU32,
+    records: NonZeroU16,
+    pieces: NonZeroU16,
+    profile: Profile,
+    payloads: Payloads,
+}
+
+impl Limits {
+    /// Limits that suit usual tags: at most 1048576 bytes of payload in a record, 1024 records in a message and 4096
+    /// chunks in a record. Reserved values are refused, and payloads are looked into.
+    pub const fn new() -> Self {
+        Self {
+            payload: NonZeroU32::new(1048576).unwrap(),
+            records: NonZeroU16::new(1024).unwrap(),
+            pieces: NonZeroU16::new(4096).unwrap(),
+            profile: Profile::Strict,
+            payloads: Payloads::Typed,
+        }
+    }
+
+    /// The same with another limit for the payload of a record, in bytes, its chunks joined.
+    pub const fn with_payload(mut self, bytes: NonZeroU32) -> Self {
+        self.payload = bytes;
+        self
+    }
+
+    /// The same with another limit for the records of a message.
+    pub const fn with_records(mut self, records: NonZeroU16) -> Self {
+        self.records = records;
+        self
+    }
+
+    /// The same with another limit for the chunks of a record.
+    pub const fn with_pieces(mut self, pieces: NonZeroU16) -> Self {
+        self.pieces = pieces;
+        self
+    }
+
+    /// The same with another profile.
+    pub const fn with_profile(mut self, profile: Profile) -> Self {
+        self.profile = profile;
+        self
+    }
+
+    /// The same, but it looks into these payloads.
+    pub const fn with_payloads(mut self, payloads: Payloads) -> Self {
+        self.payloads = payloads;
+        self
+    }
+
+    /// The most bytes of a record's payload, its chunks joined.
+    pub const fn payload(&self) -> NonZeroU32 {
+        self.payload
+    }
+
+    /// The most records of a message.
+    pub const fn records(&self) -> NonZeroU16 {
+        self.records
+    }
+
+    /// The most chunks of a record.
+    pub const fn pieces(&self) -> NonZeroU16 {
+        self.pieces
+    }
+
+    /// What becomes of reserved values.
+    pub const fn profile(&self) -> Profile {
+        self.profile
+    }
+
+    /// Which payloads are looked into.
+    pub const fn payloads(&self) -> Payloads {
+        self.payloads
+    }
+
+    #[inline]
+    pub(crate) fn raw(&self) -> ffi::Limits {
+        let opaque = match self.payloads {
+            Payloads::Typed => 0,
+            Payloads::Opaque => ffi::OPAQUE,
+        };
+        ffi::Limits {
+            payload: self.payload.get(),
+            records: self.records.get().into(),
+            pieces: self.pieces.get().into(),
+            flags: self.profile.flags() | opaque,
+        }
+    }
+}
+
+impl Default for Limits {
+    fn default() -> Self {
+        Self::new()
+    }
+}
+
+#[cfg(test)]
+mod tests {
+    #[test]
+    fn the_usual_limits_are_the_librarys() {
+        assert_eq!(super::Limits::new().raw(), crate::ffi::usual_limits());
+    }
+}

@@ -1,0 +1,59 @@
+//! The links of messages.
+use crate::bytes::Bytes;
+use crate::ffi::{self, Size};
+use crate::{promised, AlternativeCarrier, Message, Payload, Record, Refusal};
+use core::fmt;
+use core::iter::FusedIterator;
+
+/// A link of a message: an alternative carrier of its handover, and the record to which that refers.
+#[derive(Clone, Debug)]
+#[cfg_attr(feature = "alloc", derive(PartialEq, Eq, Hash))]
+#[non_exhaustive]
+pub struct Link<'a> {
+    /// The alternative carrier.
+    pub alternative: AlternativeCarrier<'a>,
+    /// The first record whose id equals the carrier data reference. `None`: no record has that id, or the reference is
+    /// empty.
+    pub record: Option<Record<'a>>,
+}
+
+/// The links of a message, one after another.
+#[derive(Clone)]
+pub struct Links<'a> {
+    message: Message<'a>,
+    handover: Option<Bytes<'a>>,
+    next: Size,
+}
+
+impl<'a> Links<'a> {
+    pub(crate) fn none(message: Message<'a>) -> Self {
+        Self { message, handover: None, next: 0 }
+    }
+
+    /// The links of a message by its handover, whose whole payload is given.
+    pub(crate) fn of(message: Message<'a>, handover: Record<'a>, payload: Bytes<'a>) -> Result<Self, Refusal> {
+        Payload::parse(handover.tnf(), handover.kind(), &payload, message.profile())?;
+        Ok(Self { message, handover: Some(payload), next: 0 })
+    }
+}
+
+impl<'a> Iterator for Links<'a> {
+    type Item = Link<'a>;
+
+    fn next(&mut self) -> Option<Link<'a>> {
+        let handover = self.handover.as_ref()?;
+        let link = ffi::link_at(self.message.as_bytes(), handover, self.next)?;
+        self.next += 1;
+        let alternative = promised(AlternativeCarrier::of(handover.part(link.carrier_at, link.carrier_length)));
+        let record = (link.has_record != 0).then(|| self.message.record_at(link.record_at));
+        Some(Link { alternative, record })
+    }
+}
+
+impl FusedIterator for Links<'_> {}
+
+impl fmt::Debug for Links<'_> {
+    fn fmt(&self, to: &mut fmt::Formatter<'_>) -> fmt::Result {
+        to.debug_list().entries(self.clone()).finish()
+    }
+}

@@ -1,0 +1,150 @@
+//! Records to be written.
+use crate::bytes::{Bytes, Quoted};
+use crate::ffi::{self, Room, Unfilled};
+use crate::{EncodeError, Tnf};
+use core::fmt;
+use core::num::NonZeroU32;
+
+#[cfg(feature = "alloc")]
+use crate::Record;
+
+/// How records are written.
+#[derive(Clone, Copy, Debug, Default, PartialEq, Eq, Hash)]
+pub struct Form {
+    /// The payload bytes of each chunk but the last. `None`: records are not chunked.
+    pub chunk: Option<NonZeroU32>,
+    /// Whether each payload length takes four bytes, even where one would do.
+    pub long: bool,
+}
+
+impl Form {
+    /// The flags of the record with an index of so many.
+    fn flags(self, index: usize, count: usize) -> u32 {
+        (if self.long { ffi::LONG } else { 0 })
+            | (if index == 0 { ffi::FIRST } else { 0 })
+            | (if index + 1 == count { ffi::LAST } else { 0 })
+    }
+}
+
+/// A record to be written. Whether there is such a record is checked when it is written.
+#[derive(Clone)]
+pub struct NewRecord<'a> {
+    tnf: Tnf,
+    kind: Bytes<'a>,
+    id: Bytes<'a>,
+    payload: Bytes<'a>,
+}
+
+impl<'a> NewRecord<'a> {
+    /// A record with a type, at most 255 bytes, and a payload.
+    pub fn new(tnf: Tnf, kind: &'a [u8], payload: &'a [u8]) -> Self {
+        Self::of(tnf, kind, payload.into())
+    }
+
+    pub(crate) fn of(tnf: Tnf, kind: &'a [u8], payload: Bytes<'a>) -> Self {
+        Self { tnf, kind: kind.into(), id: Bytes::Borrowed(&[]), payload }
+    }
+
+    /// An empty record.
+    pub fn empty() -> Self {
+        Self::new(Tnf::Empty, &[], &[])
+    }
+
+    /// A record without a type.
+    pub fn unknown(payload: &'a [u8]) -> Self {
+        Self::new(Tnf::Unknown, &[], payload)
+    }
+
+    /// A record with a media type, as `text/plain`.
+    pub fn media(kind: &'a str, payload: &'a [u8]) -> Self {
+        Self::new(Tnf::Media, kind.as_bytes(), payload)
+    }
+
+    /// A record with an external type, as `example.com:x`.
+    pub fn external(kind: &'a str, payload: &'a [u8]) -> Self {
+        Self::new(Tnf::External, kind.as_bytes(), payload)
+    }
+
+    /// The same record with an id, at most 255 bytes. One with the empty id has none.
+    pub fn with_id(mut self, id: &'a [u8]) -> Self {
+        self.id = id.into();
+        self
+    }
+
+    /// More bytes than most spellings of it have.
+    #[cfg(feature = "alloc")]
+    pub(crate) fn usual_size(&self) -> usize {
+        16 + self.kind.len() + self.id.len() + self.payload.len()
+    }
+
+    /// Writes it as the record with an index of so many.
+    pub(crate) fn write(
+        &self,
+        form: Form,
+        (index, count): (usize, usize),
+        room: &mut (impl Room + ?Sized),
+    ) -> Result<usize, Unfilled> {
+        let chunk = form.chunk.map_or(0, NonZeroU32::get);
+        let how = ffi::Writing { tnf: self.tnf.number(), flags: form.flags(index, count), chunk };
+        ffi::write_record(&self.kind, &self.id, &self.payload, &how, room)
+    }
+}
+
+/// A record that was read, to be written.
+#[cfg(feature = "alloc")]
+impl<'a> From<Record<'a>> for NewRecord<'a> {
+    fn from(record: Record<'a>) -> Self {
+        Self::of(record.tnf(), record.kind(), record.payload_cow().into()).with_id(record.id())
+    }
+}
+
+impl fmt::Debug for NewRecord<'_> {
+    fn fmt(&self, to: &mut fmt::Formatter<'_>) -> fmt::Result {
+        to.debug_struct("NewRecord")
+            .field("tnf", &self.tnf)
+            .field("kind", &Quoted(&self.kind))
+            .field("id", &Quoted(&self.id))
+            .field("payload", &Quoted(&self.payload))
+            .finish()
+    }
+}
+
+/// Writes the message of these records to the room, and answers how many bytes it has.
+///
+/// # Errors
+///
+/// [`EncodeError::NoRecord`] or [`EncodeError::Record`]. [`EncodeError::NoRoom`] has the size that the whole message
+/// needs. After an error the room may hold some of the records.
+///
+/// ```
+/// use simbegyor_ndef::{encode, Encoding, Form, Text};
+///
+/// let (mut payload, mut room) = ([0; 32], [0; 64]);
+/// let text = Text::new_in("en", "Hello", Encoding::Utf8, &mut payload)?;
+/// let length = encode(&[text.into()], Form::default(), &mut room)?;
+/// assert_eq!(&room[..length], b"\xD1\x01\x08T\x02enHello");
+/// # Ok::<(), simbegyor_ndef::EncodeError>(())
+/// ```
+pub fn encode(records: &[NewRecord<'_>], form: Form, room: &mut [u8]) -> Result<usize, EncodeError> {
+    if records.is_empty() {
+        return Err(EncodeError::NoRecord);
+    }
+    let (mut length, mut fits) = (0usize, true);
+    for (index, record) in records.iter().enumerate() {
+        let left = if fits { &mut room[length..] } else { &mut [] };
+        let count = match record.write(form, (index, records.len()), left) {
+            Ok(count) => count,
+            Err(Unfilled::NoRoom(needed)) => {
+                fits = false;
+                needed
+            }
+            Err(_) => return Err(EncodeError::Record),
+        };
+        length = length.saturating_add(count);
+    }
+    if fits {
+        Ok(length)
+    } else {
+        Err(EncodeError::NoRoom(length))
+    }
+}

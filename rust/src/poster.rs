@@ -1,0 +1,173 @@
+//! Smart posters.
+use crate::bytes::Bytes;
+use crate::ffi;
+use crate::{promised, NewRecord, Profile, Records, Refusal, Text, Tnf, Uri};
+use core::fmt;
+
+#[cfg(feature = "alloc")]
+use crate::{Record, SmartPosterBuilder};
+#[cfg(feature = "alloc")]
+use alloc::vec::Vec;
+
+/// What a smart poster recommends to do with what its URI leads to (RTD Smart Poster 1.0, recommended action record).
+#[derive(Clone, Copy, Debug, PartialEq, Eq, Hash)]
+pub enum Action {
+    /// Do it: make the call, send the message, open the page.
+    Do,
+    /// Save it for later.
+    Save,
+    /// Open it for editing.
+    Open,
+    /// A reserved number, 3 to 255.
+    Other(u8),
+}
+
+impl Action {
+    fn of(number: u32) -> Self {
+        match number {
+            0 => Self::Do,
+            1 => Self::Save,
+            2 => Self::Open,
+            _ => Self::Other(promised(number.try_into())),
+        }
+    }
+
+    /// Its number.
+    pub const fn number(self) -> u8 {
+        match self {
+            Self::Do => 0,
+            Self::Save => 1,
+            Self::Open => 2,
+            Self::Other(number) => number,
+        }
+    }
+}
+
+/// A smart poster (`Sp`, RTD Smart Poster 1.0): a URI with titles, and with what it leads to.
+///
+/// With the feature `alloc`, posters are equal if their records are.
+#[derive(Clone)]
+pub struct SmartPoster<'a> {
+    payload: Bytes<'a>,
+    parts: ffi::PosterParts,
+    uri_length: usize,
+    profile: Profile,
+}
+
+impl<'a> SmartPoster<'a> {
+    /// The smart poster of the payload of a Smart Poster record.
+    ///
+    /// # Errors
+    ///
+    /// The payload is none of a smart poster. The place counts from its first byte.
+    pub fn parse(payload: &'a [u8], profile: Profile) -> Result<Self, Refusal> {
+        Self::of(payload.into(), profile)
+    }
+
+    pub(crate) fn of(payload: Bytes<'a>, profile: Profile) -> Result<Self, Refusal> {
+        let parts = ffi::poster(&payload, profile.flags()).map_err(Refusal::of)?;
+        let uri = ffi::part(&payload, parts.uri_at, parts.uri_length);
+        let uri_length = promised(ffi::uri_length(uri, profile.flags()));
+        Ok(Self { payload, parts, uri_length, profile })
+    }
+
+    /// Begins a smart poster for a URI.
+    ///
+    /// ```
+    /// use simbegyor_ndef::{Action, MessageBuilder, SmartPoster};
+    ///
+    /// let poster = SmartPoster::builder("http://www.example.com").title("en", "Title").action(Action::Save).build()?;
+    /// assert_eq!(poster.uri().to_uri(), "http://www.example.com");
+    /// assert_eq!(poster.title("en").unwrap().text(), "Title");
+    /// let bytes = MessageBuilder::new().record(poster).build()?;
+    /// # assert_eq!(bytes.len(), 40);
+    /// # Ok::<(), simbegyor_ndef::EncodeError>(())
+    /// ```
+    #[cfg(feature = "alloc")]
+    pub fn builder(uri: &str) -> SmartPosterBuilder<'static> {
+        SmartPosterBuilder::new(uri)
+    }
+
+    /// The URI.
+    pub fn uri(&self) -> Uri<'_> {
+        let payload = ffi::part(&self.payload, self.parts.uri_at, self.parts.uri_length);
+        Uri::within(payload, self.uri_length, self.profile)
+    }
+
+    /// The titles, each with its language.
+    pub fn titles(&self) -> Titles<'_> {
+        Titles(self.records())
+    }
+
+    /// The first title in a language. Upper and lower case of its code are the same.
+    pub fn title(&self, language: &str) -> Option<Text<'_>> {
+        self.titles().find(|title| title.language().eq_ignore_ascii_case(language))
+    }
+
+    /// What it recommends to do; of several recommendations the first.
+    pub fn action(&self) -> Option<Action> {
+        (self.parts.has_action != 0).then(|| Action::of(self.parts.action))
+    }
+
+    /// The size in bytes of what the URI leads to; of several sizes the first.
+    pub fn size(&self) -> Option<u32> {
+        (self.parts.has_size != 0).then_some(self.parts.size)
+    }
+
+    /// The media type of what the URI leads to; of several types the first.
+    pub fn media_type(&self) -> Option<&str> {
+        let record = self.records().find(|record| record.is_well_known(b"t"))?;
+        Some(promised(core::str::from_utf8(record.payload()?)))
+    }
+
+    /// All of its records.
+    pub fn records(&self) -> Records<'_> {
+        Records::within(&self.payload, self.profile)
+    }
+
+    /// Its payload.
+    pub fn payload(&self) -> &[u8] {
+        &self.payload
+    }
+
+    /// The same poster, which borrows nothing.
+    #[cfg(feature = "alloc")]
+    pub fn into_owned(self) -> SmartPoster<'static> {
+        SmartPoster { payload: self.payload.into_owned(), ..self }
+    }
+
+    #[cfg(feature = "alloc")]
+    fn value(&self) -> Vec<Record<'_>> {
+        self.records().collect()
+    }
+}
+
+#[cfg(feature = "alloc")]
+compare_by_value! { SmartPoster }
+
+impl<'a> From<SmartPoster<'a>> for NewRecord<'a> {
+    fn from(poster: SmartPoster<'a>) -> Self {
+        NewRecord::of(Tnf::WellKnown, b"Sp", poster.payload)
+    }
+}
+
+impl fmt::Debug for SmartPoster<'_> {
+    fn fmt(&self, to: &mut fmt::Formatter<'_>) -> fmt::Result {
+        to.debug_struct("SmartPoster").field("uri", &self.uri()).field("records", &self.records()).finish()
+    }
+}
+
+/// The titles of a smart poster, one after another.
+#[derive(Clone, Debug)]
+pub struct Titles<'a>(Records<'a>);
+
+impl<'a> Iterator for Titles<'a> {
+    type Item = Text<'a>;
+
+    fn next(&mut self) -> Option<Text<'a>> {
+        let record = self.0.find(|record| record.is_well_known(b"T"))?;
+        Some(promised(Text::parse(record.payload()?)))
+    }
+}
+
+impl core::iter::FusedIterator for Titles<'_> {}

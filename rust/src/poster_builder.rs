@@ -1,0 +1,64 @@
+//! Smart posters built of their records.
+use crate::bytes::Bytes;
+use crate::ffi::{self, Unfilled};
+use crate::{Action, EncodeError, MessageBuilder, NewRecord, Profile, SmartPoster, Text, Tnf, Uri};
+use alloc::vec::Vec;
+
+/// Builds a smart poster. The first error of the records is kept, and [`build`](Self::build) answers it.
+#[derive(Clone, Debug)]
+pub struct SmartPosterBuilder<'a> {
+    records: Result<MessageBuilder<'a>, EncodeError>,
+}
+
+impl<'a> SmartPosterBuilder<'a> {
+    pub(crate) fn new(uri: &str) -> Self {
+        Self { records: Uri::new(uri).map(|uri| MessageBuilder::new().record(uri)) }
+    }
+
+    /// Adds a title in a language, whose code is ASCII of at most 63 bytes.
+    pub fn title(mut self, language: &str, title: &str) -> Self {
+        self.records = self.records.and_then(|records| Ok(records.record(Text::new(language, title)?)));
+        self
+    }
+
+    /// Recommends what to do.
+    pub fn action(self, action: Action) -> Self {
+        self.written(b"act", |room| ffi::write_action(action.number().into(), room))
+    }
+
+    /// Tells the size in bytes of what the URI leads to.
+    pub fn size(self, bytes: u32) -> Self {
+        self.written(b"s", |room| ffi::write_size(bytes, room))
+    }
+
+    /// Tells the media type of what the URI leads to.
+    pub fn media_type(self, kind: &'a str) -> Self {
+        self.record(NewRecord::new(Tnf::WellKnown, b"t", kind.as_bytes()))
+    }
+
+    /// Adds any other record, as an icon.
+    pub fn record(mut self, record: impl Into<NewRecord<'a>>) -> Self {
+        self.records = self.records.map(|records| records.record(record));
+        self
+    }
+
+    fn written(mut self, kind: &'static [u8], write: impl FnOnce(&mut Vec<u8>) -> Result<usize, Unfilled>) -> Self {
+        self.records = self.records.and_then(|records| {
+            let mut payload = Vec::new();
+            write(&mut payload).map_err(|unfilled| EncodeError::of(unfilled, EncodeError::Record))?;
+            Ok(records.record(NewRecord::of(Tnf::WellKnown, kind, Bytes::Owned(payload))))
+        });
+        self
+    }
+
+    /// The smart poster.
+    ///
+    /// # Errors
+    ///
+    /// The first error of a record: [`EncodeError::Uri`], [`EncodeError::Text`] or [`EncodeError::Record`].
+    /// [`EncodeError::Poster`]: together they are no smart poster, as with a second URI.
+    pub fn build(self) -> Result<SmartPoster<'static>, EncodeError> {
+        let payload = self.records?.build()?;
+        SmartPoster::of(Bytes::Owned(payload), Profile::Strict).map_err(EncodeError::Poster)
+    }
+}

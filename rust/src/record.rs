@@ -1,0 +1,186 @@
+//! Records in the bytes of a message.
+use crate::bytes::{Bytes, Quoted};
+use crate::ffi;
+use crate::{Chunks, DecodeError, Part, Payload, Profile, Tnf};
+use core::fmt;
+
+#[cfg(feature = "alloc")]
+use crate::{promised, Refusal};
+#[cfg(feature = "alloc")]
+use alloc::{borrow::Cow, vec::Vec};
+
+/// A record of a message. It borrows the message's bytes.
+///
+/// With the feature `alloc`, records are equal if their type name formats, types, ids and whole payloads are.
+#[derive(Clone, Copy)]
+pub struct Record<'a> {
+    bytes: &'a [u8],
+    raw: ffi::Record,
+    profile: Profile,
+}
+
+impl<'a> Record<'a> {
+    #[inline]
+    pub(crate) fn new(bytes: &'a [u8], raw: ffi::Record, profile: Profile) -> Self {
+        Self { bytes, raw, profile }
+    }
+
+    /// Its type name format: what its type is.
+    #[inline]
+    pub fn tnf(&self) -> Tnf {
+        Tnf::of(self.raw.tnf)
+    }
+
+    /// Its type, at most 255 bytes.
+    #[inline]
+    pub fn kind(&self) -> &'a [u8] {
+        ffi::part(self.bytes, self.raw.type_at, self.raw.type_length)
+    }
+
+    /// Its id, at most 255 bytes. It is empty if the record has none.
+    #[inline]
+    pub fn id(&self) -> &'a [u8] {
+        ffi::part(self.bytes, self.raw.id_at, self.raw.id_length)
+    }
+
+    /// Whether it has this type, and the NFC Forum defines the type.
+    pub fn is_well_known(&self, kind: &[u8]) -> bool {
+        self.tnf() == Tnf::WellKnown && self.kind() == kind
+    }
+
+    /// The number of bytes of its payload, its chunks joined.
+    pub fn payload_len(&self) -> usize {
+        ffi::index(self.raw.payload_length)
+    }
+
+    /// Its payload, unless that lies in several chunks.
+    #[inline]
+    pub fn payload(&self) -> Option<&'a [u8]> {
+        (self.raw.pieces == 1).then(|| self.first_chunk())
+    }
+
+    fn first_chunk(&self) -> &'a [u8] {
+        ffi::part(self.bytes, self.raw.payload_at, self.raw.part_length)
+    }
+
+    /// Its payload. One that lies in several chunks is joined.
+    #[cfg(feature = "alloc")]
+    pub fn payload_cow(&self) -> Cow<'a, [u8]> {
+        match self.payload() {
+            Some(payload) => Cow::Borrowed(payload),
+            None => {
+                let mut joined = Vec::with_capacity(self.payload_len());
+                promised(ffi::payload(self.bytes, self.raw.at, &mut joined));
+                Cow::Owned(joined)
+            }
+        }
+    }
+
+    /// Its payload. One that lies in several chunks is joined in the room.
+    ///
+    /// # Errors
+    ///
+    /// [`DecodeError::NoRoom`] alone.
+    pub fn payload_in<'r>(&self, room: &'r mut [u8]) -> Result<&'r [u8], DecodeError>
+    where
+        'a: 'r,
+    {
+        if let Some(payload) = self.payload() {
+            return Ok(payload);
+        }
+        let count = ffi::payload(self.bytes, self.raw.at, room).map_err(DecodeError::of)?;
+        Ok(&room[..count])
+    }
+
+    /// The part of the payload that each chunk has. A record that is not chunked has one.
+    #[cfg(feature = "alloc")]
+    pub fn chunks(&self) -> Chunks<'a> {
+        if let Some(payload) = self.payload() {
+            return Chunks::one(payload);
+        }
+        let mut parts = alloc::vec![Part::default(); self.pieces()];
+        promised(ffi::pieces(self.bytes, self.raw.at, &mut parts));
+        Chunks::owned(self.bytes, parts)
+    }
+
+    /// The part of the payload that each chunk has. The room needs [`pieces`](Self::pieces) elements, or none if there
+    /// is one chunk.
+    ///
+    /// # Errors
+    ///
+    /// [`DecodeError::NoRoom`] alone.
+    pub fn chunks_in<'r>(&self, room: &'r mut [Part]) -> Result<Chunks<'r>, DecodeError>
+    where
+        'a: 'r,
+    {
+        if let Some(payload) = self.payload() {
+            return Ok(Chunks::one(payload));
+        }
+        let count = ffi::pieces(self.bytes, self.raw.at, room).map_err(DecodeError::of)?;
+        Ok(Chunks::borrowed(self.bytes, &room[..count]))
+    }
+
+    /// The value of its payload. A payload in several chunks is joined first.
+    ///
+    /// # Errors
+    ///
+    /// The payload is none of its type. That happens only in messages that were parsed with
+    /// [`Payloads::Opaque`](crate::Payloads::Opaque). The place counts from the first byte of the payload.
+    #[cfg(feature = "alloc")]
+    pub fn decode(&self) -> Result<Payload<'a>, Refusal> {
+        Payload::of(self.tnf(), self.kind(), self.payload_cow().into(), self.profile)
+    }
+
+    /// The value of its payload. A payload in several chunks is joined in the room first.
+    ///
+    /// # Errors
+    ///
+    /// As [`decode`](Self::decode), and [`DecodeError::NoRoom`].
+    pub fn decode_in<'r>(&self, room: &'r mut [u8]) -> Result<Payload<'r>, DecodeError>
+    where
+        'a: 'r,
+    {
+        let payload = Bytes::Borrowed(self.payload_in(room)?);
+        Ok(Payload::of(self.tnf(), self.kind(), payload, self.profile)?)
+    }
+
+    /// The number of its chunks, 1 if it is not chunked.
+    pub fn pieces(&self) -> usize {
+        ffi::index(self.raw.pieces)
+    }
+
+    /// Where it begins in the bytes of its message.
+    pub fn place(&self) -> usize {
+        ffi::index(self.raw.at)
+    }
+
+    /// Its bytes in the message, with all of its chunks.
+    pub fn as_bytes(&self) -> &'a [u8] {
+        ffi::part(self.bytes, self.raw.at, self.raw.end - self.raw.at)
+    }
+
+    /// Whether it is the last record of its message.
+    pub fn is_last(&self) -> bool {
+        self.raw.last != 0
+    }
+
+    #[cfg(feature = "alloc")]
+    fn value(&self) -> (Tnf, &'a [u8], &'a [u8], Cow<'a, [u8]>) {
+        (self.tnf(), self.kind(), self.id(), self.payload_cow())
+    }
+}
+
+#[cfg(feature = "alloc")]
+compare_by_value! { Record }
+
+impl fmt::Debug for Record<'_> {
+    fn fmt(&self, to: &mut fmt::Formatter<'_>) -> fmt::Result {
+        to.debug_struct("Record")
+            .field("tnf", &self.tnf())
+            .field("kind", &Quoted(self.kind()))
+            .field("id", &Quoted(self.id()))
+            .field("payload_len", &self.payload_len())
+            .field("pieces", &self.pieces())
+            .finish_non_exhaustive()
+    }
+}
