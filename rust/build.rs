@@ -11,10 +11,9 @@ use std::path::{Path, PathBuf};
 use std::process::Command;
 
 const HOW: &str = "\
-simbegyor-ndef needs the library for C, and has not found it. One of these gives it to it:
-  - install Simbegyor (its README says how, under \"Install it\"), so that `pkg-config --libs ndef` finds it;
-  - set NDEF_LIB_DIR to a folder with libndef.a;
-  - in the repository run `make`, or for AArch64 Linux `make TARGET=aarch64-linux`.";
+Install Simbegyor, so that `pkg-config --libs ndef` finds it (its README says how);
+or set NDEF_LIB_DIR to a folder with libndef.a;
+or in the repository run `make crates/ndef_c/out/libndef_c.a`, or for AArch64 Linux `make TARGET=aarch64-linux`.";
 
 /// A variable that cargo sets for build scripts.
 fn told(name: &str) -> String {
@@ -33,9 +32,9 @@ fn link(folder: &Path) -> bool {
     for name in names {
         let archive = folder.join(format!("lib{name}.a"));
         if archive.is_file() {
-            println!("cargo:rerun-if-changed={}", archive.display());
-            println!("cargo:rustc-link-search=native={}", folder.display());
-            println!("cargo:rustc-link-lib=static={name}");
+            println!("cargo::rerun-if-changed={}", archive.display());
+            println!("cargo::rustc-link-search=native={}", folder.display());
+            println!("cargo::rustc-link-lib=static={name}");
             return true;
         }
     }
@@ -51,10 +50,10 @@ fn installed() -> Option<PathBuf> {
     let tool = env::var_os("PKG_CONFIG").unwrap_or_else(|| "pkg-config".into());
     let minor: u32 = told("CARGO_PKG_VERSION_MINOR").parse().ok()?;
     let wanted = [format!("ndef >= {}", told("CARGO_PKG_VERSION")), format!("ndef < 0.{}", minor + 1)];
-    let printed = Command::new(tool).arg("--variable=libdir").args(wanted).output().ok()?;
-    let text = String::from_utf8(printed.stdout).ok()?;
-    let folder = text.lines().next()?.trim();
-    (printed.status.success() && !folder.is_empty()).then(|| folder.into())
+    let asked = Command::new(&tool).arg("--exists").args(wanted).status().ok()?;
+    let printed = Command::new(&tool).args(["--variable=libdir", "ndef"]).output().ok()?;
+    let folder = String::from_utf8(printed.stdout).ok()?;
+    asked.success().then(|| folder.trim().into())
 }
 
 /// The folder of the library that the repository makes for a machine.
@@ -67,18 +66,23 @@ fn of_repository() -> Option<PathBuf> {
     Some(PathBuf::from(env::var_os("CARGO_MANIFEST_DIR")?).join(made))
 }
 
+/// Links the library, or says why it doesn't.
+fn find() -> Result<(), String> {
+    if let Some(folder) = env::var_os("NDEF_LIB_DIR") {
+        let none = || format!("NDEF_LIB_DIR is {folder:?}, which has neither libndef.a nor libndef_c.a.");
+        return link(Path::new(&folder)).then_some(()).ok_or_else(none);
+    }
+    let mut folders = [installed(), of_repository()].into_iter().flatten();
+    folders.any(|folder| link(&folder)).then_some(()).ok_or("the library for C is not found.".into())
+}
+
 fn main() {
     for name in ["NDEF_LIB_DIR", "PKG_CONFIG", "PKG_CONFIG_PATH"] {
-        println!("cargo:rerun-if-env-changed={name}");
+        println!("cargo::rerun-if-env-changed={name}");
     }
-    println!("cargo:rerun-if-changed=build.rs");
-    if let Some(folder) = env::var_os("NDEF_LIB_DIR") {
-        assert!(
-            link(Path::new(&folder)),
-            "NDEF_LIB_DIR is {folder:?}, which has neither libndef.a nor libndef_c.a.\n{HOW}"
-        );
-        return;
+    println!("cargo::rerun-if-changed=build.rs");
+    if let Err(why) = find() {
+        println!("cargo::error={why}");
+        HOW.lines().for_each(|line| println!("cargo::error={line}"));
     }
-    let found = [installed(), of_repository()].into_iter().flatten().any(|folder| link(&folder));
-    assert!(found, "{HOW}");
 }

@@ -105,6 +105,7 @@ impl fmt::Debug for AlternativeCarrier<'_> {
 
 /// The auxiliary data references of an alternative carrier, one after another.
 #[derive(Clone)]
+#[must_use = "an iterator does nothing unless it is used"]
 pub struct Auxiliaries<'a> {
     payload: &'a [u8],
     next: Size,

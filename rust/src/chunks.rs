@@ -20,6 +20,7 @@ enum Parts<'a> {
 
 /// The part of a record's payload that each of its chunks has, one chunk after another.
 #[derive(Clone)]
+#[must_use = "an iterator does nothing unless it is used"]
 pub struct Chunks<'a> {
     bytes: &'a [u8],
     parts: Parts<'a>,
@@ -40,7 +41,7 @@ impl<'a> Chunks<'a> {
         Self { bytes, parts: Parts::Owned(parts), next: 0 }
     }
 
-    fn count(&self) -> usize {
+    fn total(&self) -> usize {
         match &self.parts {
             Parts::One => 1,
             Parts::Borrowed(parts) => parts.len(),
@@ -64,7 +65,7 @@ impl<'a> Iterator for Chunks<'a> {
     type Item = &'a [u8];
 
     fn next(&mut self) -> Option<&'a [u8]> {
-        if self.next == self.count() {
+        if self.next == self.total() {
             return None;
         }
         self.next += 1;
@@ -72,7 +73,7 @@ impl<'a> Iterator for Chunks<'a> {
     }
 
     fn size_hint(&self) -> (usize, Option<usize>) {
-        let left = self.count() - self.next;
+        let left = self.total() - self.next;
         (left, Some(left))
     }
 }

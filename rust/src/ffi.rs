@@ -13,7 +13,8 @@
 //!
 //! `unsafe` relies on these promises of the header too:
 //!
-//! - P1: with NDEF_OK a call that fills a room has written `*count` bytes from the room's start on.
+//! - P1: with NDEF_OK a call that fills a room has written `*count` bytes from the room's start on. What the room held
+//!   before does not matter, so it need not be initialized.
 //! - P2: `ndef_uri` and `ndef_text_in_utf8` write UTF-8. `ndef_text` tells a language code that is ASCII, and a text
 //!   that is UTF-8 where `utf16` is 0.
 #![allow(unsafe_code)]
@@ -105,6 +106,7 @@ const _: () = assert!(size_of::<Part>() == 16);
 pub(crate) struct Checker {
     words: [u64; 29],
 }
+const _: () = assert!(size_of::<Checker>() == 232);
 
 mod c {
     use super::*;

@@ -143,6 +143,7 @@ impl HandoverSelect<'_> {
 
 /// The alternative carriers of a handover, one after another.
 #[derive(Clone)]
+#[must_use = "an iterator does nothing unless it is used"]
 pub struct Alternatives<'a> {
     records: Records<'a>,
     left: usize,

@@ -51,6 +51,7 @@ macro_rules! builders {
     ($($(#[$doc:meta])* $name:ident builds $handover:ident $number:expr;)*) => { $(
         $(#[$doc])*
         #[derive(Clone, Debug)]
+        #[must_use]
         pub struct $name<'a> {
             minor: u8,
             records: Records<'a>,

@@ -43,6 +43,7 @@ pub enum Payloads {
 /// assert_eq!(limits.payload().get(), 1048576);
 /// ```
 #[derive(Clone, Copy, Debug, PartialEq, Eq, Hash)]
+#[must_use]
 pub struct Limits {
     payload: NonZeroU32,
     records: NonZeroU16,

@@ -19,6 +19,7 @@ pub struct Link<'a> {
 
 /// The links of a message, one after another.
 #[derive(Clone)]
+#[must_use = "an iterator does nothing unless it is used"]
 pub struct Links<'a> {
     message: Message<'a>,
     handover: Option<Bytes<'a>>,

@@ -181,6 +181,7 @@ enum Left {
 
 /// The records of a message, one after another.
 #[derive(Clone)]
+#[must_use = "an iterator does nothing unless it is used"]
 pub struct Records<'a> {
     bytes: &'a [u8],
     at: Size,

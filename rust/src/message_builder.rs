@@ -17,6 +17,7 @@ use core::num::NonZeroU32;
 /// # Ok::<(), Box<dyn std::error::Error>>(())
 /// ```
 #[derive(Clone, Debug, Default)]
+#[must_use]
 pub struct MessageBuilder<'a> {
     records: Vec<NewRecord<'a>>,
     form: Form,

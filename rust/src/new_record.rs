@@ -28,6 +28,7 @@ impl Form {
 
 /// A record to be written. Whether there is such a record is checked when it is written.
 #[derive(Clone)]
+#[must_use]
 pub struct NewRecord<'a> {
     tnf: Tnf,
     kind: Bytes<'a>,

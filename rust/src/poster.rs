@@ -159,6 +159,7 @@ impl fmt::Debug for SmartPoster<'_> {
 
 /// The titles of a smart poster, one after another.
 #[derive(Clone, Debug)]
+#[must_use = "an iterator does nothing unless it is used"]
 pub struct Titles<'a>(Records<'a>);
 
 impl<'a> Iterator for Titles<'a> {

@@ -6,6 +6,7 @@ use alloc::vec::Vec;
 
 /// Builds a smart poster. The first error of the records is kept, and [`build`](Self::build) answers it.
 #[derive(Clone, Debug)]
+#[must_use]
 pub struct SmartPosterBuilder<'a> {
     records: Result<MessageBuilder<'a>, EncodeError>,
 }

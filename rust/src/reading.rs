@@ -70,7 +70,10 @@ pub fn read_message<R: BufRead + ?Sized>(reader: &mut R, limits: &Limits) -> Res
             Err(error) => return Err(error.into()),
         };
         if shown.is_empty() {
-            return if message.is_empty() { Ok(None) } else { Err(checker.end().unwrap_err().into()) };
+            return match checker.end() {
+                Err(refusal) if !message.is_empty() => Err(refusal.into()),
+                _ => Ok(None),
+            };
         }
         let answer = checker.feed(shown);
         let end = match answer {

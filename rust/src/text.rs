@@ -155,6 +155,13 @@ impl<'a> From<Text<'a>> for NewRecord<'a> {
     }
 }
 
+#[cfg(feature = "alloc")]
+impl fmt::Display for Text<'_> {
+    fn fmt(&self, to: &mut fmt::Formatter<'_>) -> fmt::Result {
+        to.pad(&self.text())
+    }
+}
+
 impl fmt::Debug for Text<'_> {
     fn fmt(&self, to: &mut fmt::Formatter<'_>) -> fmt::Result {
         to.debug_struct("Text").field("payload", &Quoted(self.payload())).finish()

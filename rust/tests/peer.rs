@@ -193,17 +193,19 @@ fn plain_record(record: Record<'_>) -> by_hand::Record {
 }
 
 /// Compares what both tell of a message.
-fn is_told(message: Message<'_>, records: &[by_hand::Record], standard: bool) {
+fn is_told(message: Message<'_>, records: &[by_hand::Record], rules: Rules) {
+    // A payload is decoded without limits.
+    let rules = Rules { records: 65535, ..rules };
     assert_eq!(message.records().map(plain_record).collect::<Vec<_>>(), records);
     for (record, wanted) in message.records().zip(records) {
-        let value = by_hand::value(wanted.tnf, &wanted.kind, &wanted.payload, standard);
+        let value = by_hand::value(wanted.tnf, &wanted.kind, &wanted.payload, rules);
         assert_eq!(record.decode().ok().as_ref().map(plain), value);
     }
     let index_of = |record: Record<'_>| message.records().position(|other| other.place() == record.place()).unwrap();
     let links = message.links().ok().map(|links| {
         links.map(|link| (plain_alternative(&link.alternative), link.record.map(index_of))).collect::<Vec<_>>()
     });
-    assert_eq!(links, by_hand::links(records, standard));
+    assert_eq!(links, by_hand::links(records, rules));
 }
 
 #[test]
@@ -228,7 +230,7 @@ fn inputs_are_read_as_by_a_peer() {
                     (length, &bytes[length..]),
                     "{rules:?} {bytes:02x?}"
                 );
-                is_told(message, &records, rules.standard);
+                is_told(message, &records, rules);
             }
             (Err(refusal), None) => {
                 refused += 1;

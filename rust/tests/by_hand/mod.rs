@@ -126,7 +126,7 @@ pub fn message(bytes: &[u8], rules: Rules) -> Option<(Vec<Record>, usize)> {
     loop {
         let (record, is_last) = record(&mut input, records.is_empty(), rules)?;
         if rules.typed {
-            value(record.tnf, &record.kind, &record.payload, rules.standard)?;
+            value(record.tnf, &record.kind, &record.payload, rules)?;
         }
         records.push(record);
         match (is_last, records.len() < rules.records) {
@@ -137,24 +137,24 @@ pub fn message(bytes: &[u8], rules: Rules) -> Option<(Vec<Record>, usize)> {
     }
 }
 
-/// The records of a message that is all of a payload. None of them is chunked.
-fn within(payload: &[u8], standard: bool) -> Option<Vec<Record>> {
-    let rules = Rules { payload: usize::MAX, records: 65535, pieces: 1, standard, typed: false };
+/// The records of a message that is all of a payload. It has as many as a message may have, and none of them is chunked.
+fn within(payload: &[u8], rules: Rules) -> Option<Vec<Record>> {
+    let rules = Rules { pieces: 1, typed: false, ..rules };
     let (records, length) = message(payload, rules)?;
     (length == payload.len()).then_some(records)
 }
 
 /// The value of a payload.
-pub fn value(tnf: u8, kind: &[u8], payload: &[u8], standard: bool) -> Option<Value> {
+pub fn value(tnf: u8, kind: &[u8], payload: &[u8], rules: Rules) -> Option<Value> {
     match (tnf, kind) {
         (1, b"T") => {
             let (utf16, language, text) = text(payload)?;
             Some(Value::Text { utf16, language, text })
         }
-        (1, b"U") => Some(Value::Uri(uri(payload, standard)?)),
-        (1, b"Sp") => poster(&within(payload, standard)?, standard),
-        (1, b"Hr") => request(payload, standard),
-        (1, b"Hs") => select(payload, standard),
+        (1, b"U") => Some(Value::Uri(uri(payload, rules.standard)?)),
+        (1, b"Sp") => poster(&within(payload, rules)?, rules.standard),
+        (1, b"Hr") => request(payload, rules),
+        (1, b"Hs") => select(payload, rules),
         (1, b"Hc") => {
             let mut input = Input(payload);
             let format = input.byte()? & 7;
@@ -234,9 +234,9 @@ fn version(payload: &[u8]) -> Option<(u8, &[u8])> {
     (version >> 4 == 1).then_some((version & 15, rest))
 }
 
-fn request(payload: &[u8], standard: bool) -> Option<Value> {
+fn request(payload: &[u8], rules: Rules) -> Option<Value> {
     let (minor, rest) = version(payload)?;
-    let records = within(rest, standard)?;
+    let records = within(rest, rules)?;
     let mut numbers = Vec::new();
     for record in records.iter().filter(|record| record.tnf == 1 && record.kind == b"cr") {
         numbers.push(u16::from_be_bytes(record.payload.as_slice().try_into().ok()?));
@@ -246,9 +246,9 @@ fn request(payload: &[u8], standard: bool) -> Option<Value> {
     Some(Value::Request { minor, collision, alternatives: alternatives(&records)? })
 }
 
-fn select(payload: &[u8], standard: bool) -> Option<Value> {
+fn select(payload: &[u8], rules: Rules) -> Option<Value> {
     let (minor, rest) = version(payload)?;
-    let records = if rest.is_empty() { Vec::new() } else { within(rest, standard)? };
+    let records = if rest.is_empty() { Vec::new() } else { within(rest, rules)? };
     let mut errors = Vec::new();
     for record in records.iter().filter(|record| record.tnf == 1 && record.kind == b"err") {
         let (reason, data) = record.payload.split_first()?;
@@ -281,10 +281,10 @@ fn alternative(payload: &[u8]) -> Option<Alternative> {
 }
 
 /// The first handover of a message, and for each of its alternative carriers the index of the record that it refers to.
-pub fn links(records: &[Record], standard: bool) -> Option<Vec<(Alternative, Option<usize>)>> {
+pub fn links(records: &[Record], rules: Rules) -> Option<Vec<(Alternative, Option<usize>)>> {
     let is_handover = |record: &&Record| record.tnf == 1 && (record.kind == b"Hr" || record.kind == b"Hs");
     let Some(handover) = records.iter().find(is_handover) else { return Some(Vec::new()) };
-    let alternatives = match value(1, &handover.kind, &handover.payload, standard)? {
+    let alternatives = match value(1, &handover.kind, &handover.payload, rules)? {
         Value::Request { alternatives, .. } | Value::Select { alternatives, .. } => alternatives,
         _ => return None,
     };
