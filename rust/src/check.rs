@@ -35,9 +35,10 @@ impl Checked {
 /// ```
 #[inline]
 pub fn check(bytes: &[u8], limits: &Limits) -> Result<Checked, Refusal> {
-    match ffi::check(bytes, &limits.raw()) {
-        (ffi::OK, checked) => Ok(Checked::of(checked)),
-        (_, why) => Err(Refusal::of(why)),
+    let mut answer = ffi::Checked::default();
+    match ffi::check(bytes, &limits.raw(), &mut answer) {
+        ffi::OK => Ok(Checked { length: answer.place, records: answer.records }),
+        _ => Err(Refusal::of(answer)),
     }
 }
 

@@ -215,12 +215,11 @@ pub(crate) fn usual_limits() -> Limits {
 
 // ---- checks
 
+/// Checks that the bytes begin with a message, and answers the status.
 #[inline]
-pub(crate) fn check(bytes: &[u8], limits: &Limits) -> (u32, Checked) {
-    let mut out = Checked::default();
-    // SAFETY: D1, D2, D5: a slice, and values of their types. D3: `out` is a local value.
-    let status = unsafe { c::ndef_check(bytes.as_ptr(), size(bytes), limits, &mut out) };
-    (status, out)
+pub(crate) fn check(bytes: &[u8], limits: &Limits, out: &mut Checked) -> u32 {
+    // SAFETY: D1, D2, D5: a slice, and values of their types. D3: `out` is a `&mut`.
+    unsafe { c::ndef_check(bytes.as_ptr(), size(bytes), limits, out) }
 }
 
 pub(crate) fn begin(limits: &Limits) -> Checker {
@@ -240,13 +239,14 @@ pub(crate) fn feed(checker: &mut Checker, bytes: &[u8]) -> (u32, Checked) {
 
 // ---- records
 
-/// The record that begins at a place.
+/// Tells the record that begins at a place. An error is the status.
 #[inline]
-pub(crate) fn record_at(bytes: &[u8], at: Size) -> Option<Record> {
-    let mut out = Record::default();
-    // SAFETY: D1, D2, D5: a slice, and a value of its type. D3: `out` is a local value.
-    let status = unsafe { c::ndef_record_at(bytes.as_ptr(), size(bytes), at, &mut out) };
-    (status == OK).then_some(out)
+pub(crate) fn record_at(bytes: &[u8], at: Size, out: &mut Record) -> Result<(), u32> {
+    // SAFETY: D1, D2, D5: a slice, and a value of its type. D3: `out` is a `&mut`.
+    match unsafe { c::ndef_record_at(bytes.as_ptr(), size(bytes), at, out) } {
+        OK => Ok(()),
+        status => Err(status),
+    }
 }
 
 /// Where the payload of each chunk of the record that begins at a place lies.

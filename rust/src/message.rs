@@ -1,11 +1,11 @@
 //! Messages in bytes.
 use crate::ffi::{self, Size};
-use crate::{check, promised, DecodeError, Limits, Links, Profile, Record, Refusal};
+use crate::{check, DecodeError, Limits, Links, Profile, Record, Refusal};
 use core::fmt;
 use core::iter::FusedIterator;
 
 #[cfg(feature = "alloc")]
-use crate::MessageBuilder;
+use crate::{promised, MessageBuilder};
 #[cfg(feature = "alloc")]
 use alloc::vec::Vec;
 
@@ -116,7 +116,7 @@ impl<'a> Message<'a> {
 
     /// The record that the library told to begin at a place.
     pub(crate) fn record_at(&self, at: Size) -> Record<'a> {
-        Record::new(self.bytes, promised(ffi::record_at(self.bytes, at).ok_or(())), self.profile)
+        Record::at(self.bytes, at, self.profile)
     }
 
     fn handover(&self) -> Option<Record<'a>> {
@@ -205,14 +205,14 @@ impl<'a> Iterator for Records<'a> {
         if let Left::Counted(0) = self.left {
             return None;
         }
-        let raw = promised(ffi::record_at(self.bytes, self.at).ok_or(()));
-        self.at = raw.end;
+        let record = Record::at(self.bytes, self.at, self.profile);
+        self.at = record.end();
         self.left = match self.left {
             Left::Counted(left) => Left::Counted(left - 1),
-            Left::Some if raw.last != 0 => Left::Counted(0),
+            Left::Some if record.is_last() => Left::Counted(0),
             Left::Some => Left::Some,
         };
-        Some(Record::new(self.bytes, raw, self.profile))
+        Some(record)
     }
 
     fn size_hint(&self) -> (usize, Option<usize>) {

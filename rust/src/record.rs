@@ -1,11 +1,11 @@
 //! Records in the bytes of a message.
 use crate::bytes::{Bytes, Quoted};
-use crate::ffi;
-use crate::{Chunks, DecodeError, Part, Payload, Profile, Tnf};
+use crate::ffi::{self, Size};
+use crate::{promised, Chunks, DecodeError, Part, Payload, Profile, Tnf};
 use core::fmt;
 
 #[cfg(feature = "alloc")]
-use crate::{promised, Refusal};
+use crate::Refusal;
 #[cfg(feature = "alloc")]
 use alloc::{borrow::Cow, vec::Vec};
 
@@ -14,53 +14,80 @@ use alloc::{borrow::Cow, vec::Vec};
 /// With the feature `alloc`, records are equal if their type name formats, types, ids and whole payloads are.
 #[derive(Clone, Copy)]
 pub struct Record<'a> {
-    bytes: &'a [u8],
-    raw: ffi::Record,
+    /// The bytes of its message, or of one within a payload.
+    message: &'a [u8],
+    kind: &'a [u8],
+    id: &'a [u8],
+    /// What its first chunk has of the payload.
+    first: &'a [u8],
+    at: Size,
+    end: Size,
+    payload_length: Size,
+    pieces: Size,
+    tnf: Tnf,
+    is_last: bool,
     profile: Profile,
 }
 
 impl<'a> Record<'a> {
+    /// The record that begins at a place of a message or of one within a payload.
     #[inline]
-    pub(crate) fn new(bytes: &'a [u8], raw: ffi::Record, profile: Profile) -> Self {
-        Self { bytes, raw, profile }
+    pub(crate) fn at(message: &'a [u8], at: Size, profile: Profile) -> Self {
+        let mut told = ffi::Record::default();
+        promised(ffi::record_at(message, at, &mut told));
+        Self {
+            message,
+            kind: ffi::part(message, told.type_at, told.type_length),
+            id: ffi::part(message, told.id_at, told.id_length),
+            first: ffi::part(message, told.payload_at, told.part_length),
+            at: told.at,
+            end: told.end,
+            payload_length: told.payload_length,
+            pieces: told.pieces,
+            tnf: Tnf::of(told.tnf),
+            is_last: told.last != 0,
+            profile,
+        }
+    }
+
+    /// Where the next record begins.
+    #[inline]
+    pub(crate) fn end(&self) -> Size {
+        self.end
     }
 
     /// Its type name format: what its type is.
     #[inline]
     pub fn tnf(&self) -> Tnf {
-        Tnf::of(self.raw.tnf)
+        self.tnf
     }
 
     /// Its type, at most 255 bytes.
     #[inline]
     pub fn kind(&self) -> &'a [u8] {
-        ffi::part(self.bytes, self.raw.type_at, self.raw.type_length)
+        self.kind
     }
 
     /// Its id, at most 255 bytes. It is empty if the record has none.
     #[inline]
     pub fn id(&self) -> &'a [u8] {
-        ffi::part(self.bytes, self.raw.id_at, self.raw.id_length)
+        self.id
     }
 
     /// Whether it has this type, and the NFC Forum defines the type.
     pub fn is_well_known(&self, kind: &[u8]) -> bool {
-        self.tnf() == Tnf::WellKnown && self.kind() == kind
+        self.tnf == Tnf::WellKnown && self.kind == kind
     }
 
     /// The number of bytes of its payload, its chunks joined.
     pub fn payload_len(&self) -> usize {
-        ffi::index(self.raw.payload_length)
+        ffi::index(self.payload_length)
     }
 
     /// Its payload, unless that lies in several chunks.
     #[inline]
     pub fn payload(&self) -> Option<&'a [u8]> {
-        (self.raw.pieces == 1).then(|| self.first_chunk())
-    }
-
-    fn first_chunk(&self) -> &'a [u8] {
-        ffi::part(self.bytes, self.raw.payload_at, self.raw.part_length)
+        (self.pieces == 1).then_some(self.first)
     }
 
     /// Its payload. One that lies in several chunks is joined.
@@ -70,7 +97,7 @@ impl<'a> Record<'a> {
             Some(payload) => Cow::Borrowed(payload),
             None => {
                 let mut joined = Vec::with_capacity(self.payload_len());
-                promised(ffi::payload(self.bytes, self.raw.at, &mut joined));
+                promised(ffi::payload(self.message, self.at, &mut joined));
                 Cow::Owned(joined)
             }
         }
@@ -88,7 +115,7 @@ impl<'a> Record<'a> {
         if let Some(payload) = self.payload() {
             return Ok(payload);
         }
-        let count = ffi::payload(self.bytes, self.raw.at, room).map_err(DecodeError::of)?;
+        let count = ffi::payload(self.message, self.at, room).map_err(DecodeError::of)?;
         Ok(&room[..count])
     }
 
@@ -99,8 +126,8 @@ impl<'a> Record<'a> {
             return Chunks::one(payload);
         }
         let mut parts = alloc::vec![Part::default(); self.pieces()];
-        promised(ffi::pieces(self.bytes, self.raw.at, &mut parts));
-        Chunks::owned(self.bytes, parts)
+        promised(ffi::pieces(self.message, self.at, &mut parts));
+        Chunks::owned(self.message, parts)
     }
 
     /// The part of the payload that each chunk has. The room needs [`pieces`](Self::pieces) elements, or none if there
@@ -116,8 +143,8 @@ impl<'a> Record<'a> {
         if let Some(payload) = self.payload() {
             return Ok(Chunks::one(payload));
         }
-        let count = ffi::pieces(self.bytes, self.raw.at, room).map_err(DecodeError::of)?;
-        Ok(Chunks::borrowed(self.bytes, &room[..count]))
+        let count = ffi::pieces(self.message, self.at, room).map_err(DecodeError::of)?;
+        Ok(Chunks::borrowed(self.message, &room[..count]))
     }
 
     /// The value of its payload. A payload in several chunks is joined first.
@@ -128,7 +155,7 @@ impl<'a> Record<'a> {
     /// [`Payloads::Opaque`](crate::Payloads::Opaque). The place counts from the first byte of the payload.
     #[cfg(feature = "alloc")]
     pub fn decode(&self) -> Result<Payload<'a>, Refusal> {
-        Payload::of(self.tnf(), self.kind(), self.payload_cow().into(), self.profile)
+        Payload::of(self.tnf, self.kind, self.payload_cow().into(), self.profile)
     }
 
     /// The value of its payload. A payload in several chunks is joined in the room first.
@@ -141,32 +168,33 @@ impl<'a> Record<'a> {
         'a: 'r,
     {
         let payload = Bytes::Borrowed(self.payload_in(room)?);
-        Ok(Payload::of(self.tnf(), self.kind(), payload, self.profile)?)
+        Ok(Payload::of(self.tnf, self.kind, payload, self.profile)?)
     }
 
     /// The number of its chunks, 1 if it is not chunked.
     pub fn pieces(&self) -> usize {
-        ffi::index(self.raw.pieces)
+        ffi::index(self.pieces)
     }
 
     /// Where it begins in the bytes of its message.
     pub fn place(&self) -> usize {
-        ffi::index(self.raw.at)
+        ffi::index(self.at)
     }
 
     /// Its bytes in the message, with all of its chunks.
     pub fn as_bytes(&self) -> &'a [u8] {
-        ffi::part(self.bytes, self.raw.at, self.raw.end - self.raw.at)
+        ffi::part(self.message, self.at, self.end - self.at)
     }
 
     /// Whether it is the last record of its message.
+    #[inline]
     pub fn is_last(&self) -> bool {
-        self.raw.last != 0
+        self.is_last
     }
 
     #[cfg(feature = "alloc")]
     fn value(&self) -> (Tnf, &'a [u8], &'a [u8], Cow<'a, [u8]>) {
-        (self.tnf(), self.kind(), self.id(), self.payload_cow())
+        (self.tnf, self.kind, self.id, self.payload_cow())
     }
 }
 

@@ -19,6 +19,7 @@ pub enum Tnf {
 }
 
 impl Tnf {
+    #[inline]
     pub(crate) fn of(number: u32) -> Self {
         match number {
             0 => Self::Empty,
