@@ -80,7 +80,7 @@ impl Checker {
     ///
     /// # Errors
     ///
-    /// As [`check`]. [`Reason::EndOfInput`](crate::Reason::EndOfInput) says that the message is not whole.
+    /// As [`check`](check()). [`Reason::EndOfInput`](crate::Reason::EndOfInput) says that the message is not whole.
     pub fn end(mut self) -> Result<Checked, Refusal> {
         match ffi::feed(&mut self.0, &[]) {
             (ffi::OK, checked) => Ok(Checked::of(checked)),

@@ -35,7 +35,7 @@ impl<'a> Message<'a> {
     ///
     /// # Errors
     ///
-    /// As [`check`].
+    /// As [`check`](check()).
     #[inline]
     pub fn parse(bytes: &'a [u8]) -> Result<Self, Refusal> {
         Self::parse_within(bytes, &Limits::new())
@@ -45,7 +45,7 @@ impl<'a> Message<'a> {
     ///
     /// # Errors
     ///
-    /// As [`check`].
+    /// As [`check`](check()).
     #[inline]
     pub fn parse_within(bytes: &'a [u8], limits: &Limits) -> Result<Self, Refusal> {
         let checked = check(bytes, limits)?;

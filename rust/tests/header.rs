@@ -43,7 +43,7 @@ fn type_of(text: &str) -> String {
 fn calls_of_header() -> BTreeMap<String, Vec<String>> {
     let text = header();
     let calls = text.split(';').filter_map(|part| {
-        let (front, arguments) = part.trim().strip_suffix(')')?.split_once('(')?;
+        let (front, arguments) = part.trim().strip_suffix(')')?.rsplit_once('(')?;
         let name = front.split_whitespace().next_back().filter(|name| name.starts_with("ndef_"))?;
         Some((name.to_string(), arguments.split(',').map(type_of).collect()))
     });
