@@ -48,7 +48,7 @@ impl<'a> AlternativeCarrier<'a> {
     ///
     /// # Errors
     ///
-    /// The payload is none of an alternative carrier. The place counts from its first byte.
+    /// The payload is not that of an alternative carrier. The place counts from its first byte.
     pub fn parse(payload: &'a [u8]) -> Result<Self, Refusal> {
         Self::of(payload.into())
     }

@@ -21,7 +21,7 @@ impl<'a> HandoverCarrier<'a> {
     ///
     /// # Errors
     ///
-    /// The payload is none of a handover carrier. The place counts from its first byte.
+    /// The payload is not that of a handover carrier. The place counts from its first byte.
     pub fn parse(payload: &'a [u8]) -> Result<Self, Refusal> {
         Self::of(payload.into())
     }

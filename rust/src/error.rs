@@ -7,7 +7,7 @@ use core::fmt;
 #[derive(Clone, Copy, Debug, PartialEq, Eq, Hash)]
 #[non_exhaustive]
 pub enum DecodeError {
-    /// It is no payload of its type.
+    /// The payload is not one of its type.
     Refused(Refusal),
     /// The room is too small. So many bytes are needed, or elements where the room is one of [`Part`](crate::Part)s.
     NoRoom(usize),
@@ -60,9 +60,9 @@ pub enum EncodeError {
     Alternative,
     /// The error of a handover has data that its reason does not allow.
     HandoverError,
-    /// The records are none of a smart poster. The place counts from the first byte of its payload.
+    /// The records are not those of a smart poster. The place counts from the first byte of its payload.
     Poster(Refusal),
-    /// The minor version of a handover is above 15, or its records are none of a handover.
+    /// The minor version of a handover is above 15, or its records are not those of a handover.
     Handover,
     /// The room is too small. So many bytes are needed.
     NoRoom(usize),

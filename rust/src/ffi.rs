@@ -265,7 +265,7 @@ pub(crate) fn pieces(bytes: &[u8], at: Size, parts: &mut [Part]) -> Result<usize
 pub(crate) enum Unfilled {
     /// The room is too small. So many bytes, or elements, are needed.
     NoRoom(usize),
-    /// The payload is none of its type.
+    /// The payload is not one of its type.
     Refused(Checked),
     /// An argument is not one that the call takes.
     BadArgument,

@@ -77,7 +77,7 @@ macro_rules! builders {
             /// # Errors
             ///
             /// The first error of a record: [`EncodeError::Alternative`], [`EncodeError::HandoverError`] or
-            /// [`EncodeError::Record`]. [`EncodeError::Handover`]: together they are no such handover.
+            /// [`EncodeError::Record`]. [`EncodeError::Handover`]: together they make no such handover.
             pub fn build(self) -> Result<$handover<'static>, EncodeError> {
                 let payload = payload($number, self.minor, self.records)?;
                 Ok(promised($handover::of(payload, Profile::Strict)))

@@ -89,8 +89,8 @@ impl<'a> Message<'a> {
     ///
     /// # Errors
     ///
-    /// The payload of the handover is none. That happens only in messages that were parsed with
-    /// [`Payloads::Opaque`](crate::Payloads::Opaque). The place counts from the first byte of the payload.
+    /// The payload of the handover is not one of its type. The place counts from the first byte of the payload. This
+    /// happens only if the message was parsed with [`Payloads::Opaque`](crate::Payloads::Opaque).
     #[cfg(feature = "alloc")]
     pub fn links(&self) -> Result<Links<'a>, Refusal> {
         match self.handover() {

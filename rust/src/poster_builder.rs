@@ -57,7 +57,7 @@ impl<'a> SmartPosterBuilder<'a> {
     /// # Errors
     ///
     /// The first error of a record: [`EncodeError::Uri`], [`EncodeError::Text`] or [`EncodeError::Record`].
-    /// [`EncodeError::Poster`]: together they are no smart poster, as with a second URI.
+    /// [`EncodeError::Poster`]: together they make no smart poster, as with a second URI.
     pub fn build(self) -> Result<SmartPoster<'static>, EncodeError> {
         let payload = self.records?.build()?;
         SmartPoster::of(Bytes::Owned(payload), Profile::Strict).map_err(EncodeError::Poster)

@@ -151,8 +151,9 @@ impl<'a> Record<'a> {
     ///
     /// # Errors
     ///
-    /// The payload is none of its type. That happens only in messages that were parsed with
-    /// [`Payloads::Opaque`](crate::Payloads::Opaque). The place counts from the first byte of the payload.
+    /// The payload is not one of its type. The place counts from the first byte of the payload. A record of a message has
+    /// no such payload, unless the message was parsed with [`Payloads::Opaque`](crate::Payloads::Opaque). A record
+    /// within a payload may have one.
     #[cfg(feature = "alloc")]
     pub fn decode(&self) -> Result<Payload<'a>, Refusal> {
         Payload::of(self.tnf, self.kind, self.payload_cow().into(), self.profile)

@@ -37,7 +37,7 @@ impl<'a> Text<'a> {
     ///
     /// # Errors
     ///
-    /// The payload is none of a text. The place counts from its first byte.
+    /// The payload is not that of a text. The place counts from its first byte.
     pub fn parse(payload: &'a [u8]) -> Result<Self, Refusal> {
         Self::of(payload.into())
     }

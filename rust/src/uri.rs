@@ -22,7 +22,7 @@ impl<'a> Uri<'a> {
     ///
     /// # Errors
     ///
-    /// The payload is none of a URI. The place counts from its first byte.
+    /// The payload is not that of a URI. The place counts from its first byte.
     pub fn parse(payload: &'a [u8], profile: Profile) -> Result<Self, Refusal> {
         Self::of(payload.into(), profile)
     }
