@@ -466,6 +466,56 @@ uint32_t ndef_write_handover(uint32_t handover, uint32_t major, uint32_t minor, 
                              ndef_size length, uint8_t *room, ndef_size size, ndef_size *count);
 enum ndef_handover { NDEF_REQUEST = 0, NDEF_SELECT = 1 };
 
+/* ---- arrays
+ *
+ * The calls below fill an array of the caller, `size` elements long, from its front. They put the number of elements
+ * they wrote into *count. Where the array is too small, the answer is NDEF_NO_ROOM, *count has the size that is
+ * needed, and the array is unchanged: so an array of 0 elements asks for the size. Elements behind *count are unchanged. */
+
+/* Tells where the payload of each chunk lies, of the record that begins at a place. The parts are in the order of the
+ * chunks, so their bytes, joined, are what ndef_payload writes; a record that is not chunked has one.
+ * NDEF_OK, NDEF_NO_ROOM. NDEF_BAD_ARGUMENT: no record begins at the place, or the place is `length`. */
+uint32_t ndef_pieces(const uint8_t *bytes, ndef_size length, ndef_size at, ndef_part *parts, ndef_size size,
+                     ndef_size *count);
+
+/* Tells where each reference lies in the payload of an Alternative Carrier record (`ac`): for each index what
+ * ndef_reference tells, the carrier data reference first. ndef_write_alternative takes such parts.
+ * NDEF_OK, NDEF_NO_ROOM. NDEF_BAD_ARGUMENT: it is no such payload. */
+uint32_t ndef_references(const uint8_t *payload, ndef_size length, ndef_part *parts, ndef_size size,
+                         ndef_size *count);
+
+/* Tells the links of a message: for each index what ndef_link_at tells of the same message and payload, which are read
+ * once.
+ * NDEF_OK, NDEF_NO_ROOM. NDEF_BAD_ARGUMENT: as ndef_link_at answers it. */
+uint32_t ndef_links(const uint8_t *bytes, ndef_size length, const uint8_t *payload, ndef_size payload_length,
+                    ndef_link *links, ndef_size size, ndef_size *count);
+
+/* ---- find records */
+
+/* Tells the first record of a type, from the record that begins at a place on, up to the last of its message. The type
+ * name format is an ndef_tnf; types are equal where their bytes are.
+ * NDEF_OK: `out` is what ndef_record_at tells of that record. NDEF_END: none of these records has the type, or the place is
+ *   `length`. NDEF_BAD_ARGUMENT: no record begins at the place; or before one has the type or is the last, no whole record
+ *   begins where the one before it ends.
+ * To find the next one, ask again with its `end`, unless it was the last: what follows the last is another message. */
+uint32_t ndef_find_type(const uint8_t *bytes, ndef_size length, ndef_size at, uint32_t tnf, const uint8_t *type,
+                        ndef_size type_length, ndef_record *out);
+
+/* Tells the first record with an id, in the same way. No record has the empty id.
+ * NDEF_OK, NDEF_END, NDEF_BAD_ARGUMENT: as ndef_find_type. */
+uint32_t ndef_find_id(const uint8_t *bytes, ndef_size length, ndef_size at, const uint8_t *id, ndef_size id_length,
+                      ndef_record *out);
+
+/* ---- names */
+
+/* The version of the library, as the file VERSION has it: 65536 times the first number, 256 times the second, and the
+ * third. */
+uint32_t ndef_version(void);
+
+/* Writes the name of an ndef_status to the room, in ASCII, at most 11 bytes: as "NoRoom" for NDEF_NO_ROOM.
+ * NDEF_OK, NDEF_NO_ROOM. NDEF_BAD_ARGUMENT: there is no such status. */
+uint32_t ndef_status_name(uint32_t status, uint8_t *room, ndef_size size, ndef_size *count);
+
 #ifdef __cplusplus
 }
 #endif

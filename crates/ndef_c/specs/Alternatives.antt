@@ -2,6 +2,7 @@
 use Rattle.std.specs.Prelude.{◌≡◌, ℕ, ◌^◌, ◌<◌, ◌≤◌, List, ◌∷◌, length, slice_get, Some}
 use Rattle.ndef_format.specs.Handovers.{IsAlternative}
 use Rattle.ndef_types.specs.Values.{AcValue, StandsForAc, power_code}
+use Rattle.ndef_c.specs.Arrays.{EachAt, GivesMany}
 use Rattle.ndef_c.specs.Walks.{Lies}
 use Rattle.ndef_c.specs.declared.alternative.NdefAlternative.{NdefAlternative}
 use Rattle.ndef_c.specs.declared.part.NdefPart.{NdefPart}
@@ -38,3 +39,11 @@ pub record HasNoReference (payload : List ℕ) (index : ℕ) : Type 0 where
   pub alternative : AcValue
   pub stands : StandsForAc payload alternative
   pub beyond : length (references alternative) ≤ index
+
+-- Connection Handover 1.2, Alternative Carrier record: the payload is that of an alternative carrier, and where each reference lies is given
+pub record GivesReferences (payload : List ℕ) (before after : List NdefPart) (count status : ℕ) : Type 0 where
+  pub in_set : IsAlternative payload
+  pub short : length payload < 2 ^ 32
+  pub alternative : AcValue
+  pub stands : StandsForAc payload alternative
+  pub gives : GivesMany (EachAt (LiesAt payload (references alternative)) 0) (length (references alternative)) before after count status

@@ -1,5 +1,7 @@
 pub mod AlternativeWrites
 pub mod Alternatives
+pub mod Arrays
+pub mod Built
 pub mod Carriers
 pub mod Checks
 pub mod ErrorWrites
@@ -8,12 +10,15 @@ pub mod HandoverWrites
 pub mod Handovers
 pub mod Links
 pub mod Feeding
+pub mod Finding
 pub mod Nested
 pub mod Numbers
 pub mod Payloads
+pub mod Pieces
 pub mod Posters
 pub mod Rooms
 pub mod Runs
+pub mod Statuses
 pub mod Texts
 pub mod Walks
 pub mod Writes

@@ -11,6 +11,7 @@ use Rattle.ndef_message.specs.Views.{Viewed, Views}
 use Rattle.ndef_types.specs.Links.{IsHandoverRecord as IsHandoverRecord, IsIndexOf, LinksOf, alternatives}
 use Rattle.ndef_types.specs.Values.{AcValue, StandsForAc}
 use Rattle.ndef_types.specs.declared.link.Link.{Link}
+use Rattle.ndef_c.specs.Arrays.{EachAt, GivesMany}
 use Rattle.ndef_c.specs.Handovers.{IsHandoverPayload, HasMessage}
 use Rattle.ndef_c.specs.Nested.{TellsNumber}
 use Rattle.ndef_c.specs.Walks.{BeginsWithRun, AreWalked, Lies}
@@ -89,6 +90,13 @@ pub record HasNoLink (bytes payload : List ℕ) (index : ℕ) : Type 0 where
   pub items : List Item
   pub records : HasMessage Standard items payload
   pub beyond : length (alternatives items) ≤ index
+
+-- Connection Handover 1.2, Alternative Carrier record: each link of the handover is given, in the order of its alternative carriers
+pub record GivesLinks (bytes payload : List ℕ) (before after : List NdefLink) (count status : ℕ) : Type 0 where
+  pub may : MayHaveLinks bytes payload
+  pub items : List Item
+  pub records : HasMessage Standard items payload
+  pub gives : GivesMany (EachAt (IsLinkAt bytes payload) 0) (length (alternatives items)) before after count status
 
 -- ---- law
 

@@ -1,5 +1,5 @@
 -- What is answered of the payload of a record, and what is written for a value.
-use Rattle.std.specs.Prelude.{◌≡◌, ℕ, ◌^◌, ◌<◌, List, length, slice_index}
+use Rattle.std.specs.Prelude.{◌≡◌, ℕ, ◌^◌, ◌<◌, List, ◌∷◌, length, slice_index}
 use Rattle.ndef_format.specs.Records.{bit}
 use Rattle.ndef_format.specs.Reasons.{reason_number}
 use Rattle.ndef_format.specs.declared.refusal.Refusal.{Refusal}
@@ -12,6 +12,7 @@ use Rattle.ndef_c.specs.Rooms.{Gives}
 use Rattle.ndef_c.specs.Walks.{Lies}
 use Rattle.ndef_c.specs.declared.checking.NdefChecked.{NdefChecked}
 use Rattle.ndef_c.specs.declared.text.NdefText.{NdefText}
+use Rattle.ndef_c.specs.declared.uri_view.NdefUri.{NdefUri}
 
 -- the payload isn't in its set: where and why is told
 pub record RefusesWith (set : Payloads) (holds : Reasons) (payload : List ℕ) (out : NdefChecked) : Type 0 where
@@ -43,3 +44,12 @@ pub record GivesFor {V : Type 0} (written : Writing V) (value : V) (before after
   pub is : written value payload
   pub short : length payload < 2 ^ 32
   pub gives : Gives payload before after count status
+
+-- RTD URI 1.0: the payload is that of a URI: its code, whose prefix begins the URI, and where the rest of it lies
+pub record IsUriAt (profile : Profile) (payload : List ℕ) (out : NdefUri) : Type 0 where
+  pub in_set : IsUri profile payload
+  pub short : length payload < 2 ^ 32
+  pub rest : List ℕ
+  pub behind : payload ≡ out.code ∷ rest
+  pub place : out.rest_at ≡ 1
+  pub count : out.rest_length ≡ length rest

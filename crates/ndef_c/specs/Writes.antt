@@ -1,9 +1,9 @@
 -- What is written of a record.
-use Rattle.std.specs.Prelude.{◌≡◌, ℕ, ◌/◌, ◌%◌, ◌≤◌, ◌==◌, nat_le, Bool, true, false, List, [], ◌∷◌, ◌++◌, Option, Some, None, if◌then◌else◌}
+use Rattle.std.specs.Prelude.{◌≡◌, ℕ, ◌/◌, ◌%◌, ◌≤◌, ◌==◌, nat_le, Bool, true, false, List, [], ◌∷◌, ◌++◌, length, Option, Some, None, if◌then◌else◌}
 use Rattle.std.specs.List.{flat_map}
 use Rattle.ndef_format.specs.Messages.{Item, IsShaped}
+use Rattle.ndef_format.specs.Records.{Piece, octets, pieces, tnf_of}
 use Rattle.ndef_format.specs.Canonical.{HasLengths, is_nil}
-use Rattle.ndef_format.specs.Records.{octets, pieces, tnf_of}
 use Rattle.ndef_piece.specs.Heads.{written_fields}
 use Rattle.ndef_piece.specs.declared.head.Head.{Head}
 use Rattle.ndef_message.specs.declared.form.Form.{Form}
@@ -29,6 +29,13 @@ piece_octets head kind id part = octets (written_fields head) ++ (kind ++ (id ++
 -- the octets of a record that is written so
 abbrev pub octets_by : Way → Item → List ℕ
 octets_by way m = record_octets way.form way.first way.last (Some way.size) m
+
+-- NDEF 1.0, chunked payloads: in the octets of a record that is written so, its last piece begins behind so many
+pub record LastBegins (form : Form) (first last : Bool) (size : Option ℕ) (m : Item) (at : ℕ) : Type 0 where
+  pub done : List Piece
+  pub piece : Piece
+  pub pieces_are : pieces (cut_run first last size m) ≡ done ++ piece ∷ []
+  pub at_is : at ≡ length (flat_map (written_piece form) done)
 
 -- ---- what is asked by numbers
 

@@ -65,7 +65,7 @@ pub extern "C" fn ndef_alternative(
 }
 
 /// The reference that stands behind its length at a place.
-fn counted_at(payload: &[u8], at: usize) -> NdefPart
+pub(crate) fn counted_at(payload: &[u8], at: usize) -> NdefPart
     requires { at < length payload.now }
     ensures at { result.at ≡ at + 1 }
     ensures length { result.length ≡ slice_index payload.now at }

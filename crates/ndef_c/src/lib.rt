@@ -5,6 +5,7 @@
 //!
 //! - `checking.rt`: check. `feeding.rt`, `specs/Feeding.antt`: check of bytes that come in parts.
 //! - `run.rt`, `record.rt`, `specs/Walks.antt`: the record at a place. `payload.rt`: its joined payload.
+//! - `pieces.rt`, `specs/Pieces.antt`: where its pieces lie. `specs/Arrays.antt`: what is written to an array.
 //! - `writing.rt`, `specs/Writes.antt`: a record written.
 //! - `uri.rt`, `text.rt`, `carrier.rt`, `alternative.rt`, `request.rt`, `select.rt`, `poster.rt`,
 //!   `error.rt`: payloads of each kind. `numbers.rt` and `alternative_writing.rt`, `error_writing.rt`,
@@ -19,42 +20,52 @@
 
 mod alternative;
 mod alternative_writing;
+mod building;
 mod carrier;
 mod checking;
 mod error;
 mod error_writing;
 mod feeding;
+mod finding;
 mod handover;
 mod handover_writing;
 mod laws;
 mod limits;
 mod link;
+mod links;
 mod message;
 mod nested;
 mod numbers;
 mod part;
 mod payload;
+mod pieces;
 mod poster;
 mod reasons;
 mod record;
+mod references;
 mod refusal;
 mod request;
 mod room;
 mod run;
 mod select;
 mod status;
+mod status_name;
 mod text;
 mod uri;
+mod uri_view;
 mod utf16;
+mod version;
 mod writing;
 
 pub use alternative::{NdefAlternative, ndef_alternative, ndef_reference};
 pub use alternative_writing::ndef_write_alternative;
+pub use building::{NdefBuilt, ndef_append};
 pub use carrier::{NdefCarrier, ndef_carrier, ndef_write_carrier};
 pub use checking::{NdefChecked, ndef_check};
 pub use error::{NdefError, ndef_error};
 pub use error_writing::{ndef_write_error, ndef_write_error_number};
 pub use feeding::{NdefChecker, ndef_begin, ndef_feed};
+pub use finding::{ndef_find_id, ndef_find_type};
 pub use handover_writing::{REQUEST, SELECT, ndef_write_handover};
 pub use laws::{
     checks_are_walked, feeds_are_checks, links_are_told, one_record_is_there,
@@ -62,15 +73,21 @@ pub use laws::{
 };
 pub use limits::{NdefLimits, ndef_usual_limits};
 pub use link::{NdefLink, ndef_link_at};
+pub use links::ndef_links;
 pub use numbers::{ndef_write_action, ndef_write_collision, ndef_write_size};
 pub use part::NdefPart;
 pub use payload::ndef_payload;
+pub use pieces::ndef_pieces;
 pub use poster::{NdefPoster, ndef_poster};
 pub use reasons::ndef_reason_name;
 pub use record::{NdefRecord, ndef_record_at};
+pub use references::ndef_references;
 pub use request::{NdefRequest, ndef_request};
 pub use select::{NdefSelect, ndef_select};
 pub use status::{BAD_ARGUMENT, END, MORE, NO_ROOM, OK, REFUSED};
+pub use status_name::ndef_status_name;
 pub use text::{NdefText, ndef_text, ndef_text_in_utf8, ndef_write_text};
 pub use uri::{ndef_uri, ndef_write_uri};
+pub use uri_view::{NdefUri, ndef_uri_prefix, ndef_uri_view};
+pub use version::{MAJOR, MINOR, PATCH, ndef_version};
 pub use writing::{NdefWriting, ndef_write_record};

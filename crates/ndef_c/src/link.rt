@@ -39,7 +39,7 @@ fn told(place: Option<Place>) -> (u32, usize, usize)
 }
 
 /// The link of an alternative carrier that lies in the message of a handover.
-fn link_of(bytes: &[u8], at: usize, carrier: &[u8]) -> NdefLink
+pub(crate) fn link_of(bytes: &[u8], at: usize, carrier: &[u8]) -> NdefLink
     requires message { HasRuns bytes.now }
     requires alternative { IsAlternative carrier.now }
     requires bound { at < 2 ^ 32 }

@@ -26,7 +26,7 @@ pub(crate) struct Found<'a> {
 }
 
 /// The payload of a piece that lies in the bytes.
-fn found_in<'a>(bytes: &'a [u8], piece: &WholePiece<'a>) -> Found<'a>
+pub(crate) fn found_in<'a>(bytes: &'a [u8], piece: &WholePiece<'a>) -> Found<'a>
     requires split { (at : ℕ) × IsSplit (shown piece.now) (is_set 4 piece.now.header) piece.now.rest.now
         (drop at bytes.now) }
     requires no_id { is_set 3 piece.now.header ≡ false → piece.now.id.now ≡ [] }
@@ -60,7 +60,7 @@ pub(crate) fn first_of(table: Table, bytes: &[u8], kind: Kind) -> Option<Found<'
 }
 
 /// Whether a record in one piece is an alternative carrier.
-fn is_alternative(piece: &WholePiece<'_>) -> bool
+pub(crate) fn is_alternative(piece: &WholePiece<'_>) -> bool
     ensures { result ≡ is_alternative (kind_of (tnf_of (shown piece.now).tnf) piece.now.kind.now) }
 {
     match Kind::of(piece.tnf(), piece.kind) {

@@ -36,7 +36,7 @@ pub struct NdefRecord {
 }
 
 /// The record at a place of the bytes, if one is there.
-fn record_at(bytes: &[u8], at: usize) -> Option<NdefRecord>
+pub(crate) fn record_at(bytes: &[u8], at: usize) -> Option<NdefRecord>
     ensures none { IfNone result (¬ IsRecordThere bytes.now at) }
     ensures some { IfSome result (IsRecordAt bytes.now at) }
 {

@@ -1,5 +1,5 @@
 //! Writes a record.
-ghost use Rattle.std.specs.Prelude.{◌≡◌, ◌≢◌, ◌+◌, ◌*◌, ◌≤◌, ◌<◌, ◌^◌, ◌++◌, ◌&&◌, [], not, take, drop, length, unwrap_or, Some, IfSome, IsNone, IsTrue, ◌↔◌};
+ghost use Rattle.std.specs.Prelude.{◌≡◌, ◌≢◌, ◌+◌, ◌*◌, ◌≤◌, ◌<◌, ◌^◌, ◌++◌, ◌&&◌, [], not, take, drop, length, unwrap_or, Some, IfNone, IfSome, IsNone, IsTrue, ◌↔◌, ℕ};
 ghost use Rattle.ndef_format.specs.Records.{FitsForm, fields, tnf_of};
 ghost use Rattle.ndef_format.specs.Messages.{IsShaped};
 ghost use Rattle.ndef_format.specs.Canonical.{HasLengths};
@@ -7,7 +7,7 @@ ghost use Rattle.ndef_piece.specs.Heads.{written_fields};
 ghost use Rattle.ndef_message.specs.Cut.{first_piece, later_piece};
 ghost use Rattle.ndef_message.specs.Written.{is_short};
 ghost use Rattle.ndef_c.specs.Rooms.{Gives, IsPut};
-ghost use Rattle.ndef_c.specs.Writes.{item_of, octets_by, piece_octets, asked, asked_octets, is_first, is_last, form_of, size_of, MayBeWritten};
+ghost use Rattle.ndef_c.specs.Writes.{item_of, octets_by, piece_octets, asked, asked_octets, is_first, is_last, form_of, size_of, LastBegins, MayBeWritten};
 
 use crate::room::put;
 use crate::status::{BAD_ARGUMENT, NO_ROOM, OK};
@@ -29,7 +29,7 @@ pub struct NdefWriting {
 
 /// The parts of a record.
 #[derive(Clone, Copy)]
-struct Parts<'a> {
+pub(crate) struct Parts<'a> {
     tnf: Tnf,
     kind: &'a [u8],
     id: &'a [u8],
@@ -38,12 +38,12 @@ struct Parts<'a> {
 
 /// Where a record stands, and how it is written.
 #[derive(Clone, Copy)]
-struct Way {
-    first: bool,
-    last: bool,
-    form: Form,
+pub(crate) struct Way {
+    pub(crate) first: bool,
+    pub(crate) last: bool,
+    pub(crate) form: Form,
     /// The payload bytes of a piece, at least 1.
-    size: usize,
+    pub(crate) size: usize,
 }
 
 /// The type name format of a record with a number (NDEF 1.0, TNF).
@@ -175,10 +175,11 @@ fn first_part(payload: &[u8], size: usize) -> (&[u8], &[u8])
 }
 
 /// The bytes of a record that is written so.
-fn record_length(parts: &Parts<'_>, way: Way) -> usize
+pub(crate) fn record_length(parts: &Parts<'_>, way: Way) -> usize
     requires lengths { HasLengths (item_of parts.now) }
     requires some { 1 ≤ way.size }
-    ensures { result ≡ length (octets_by way (item_of parts.now)) }
+    ensures value { result ≡ length (octets_by way (item_of parts.now)) }
+    ensures bound { result < 2 ^ 36 }
 {
     let (part, behind) = first_part(parts.payload, way.size);
     let head = first_head(parts, way, behind.is_empty(), part);
@@ -193,27 +194,32 @@ fn record_length(parts: &Parts<'_>, way: Way) -> usize
     total
 }
 
-/// Writes a record so to the front of the room.
-fn put_record(room: &mut [u8], parts: &Parts<'_>, way: Way)
+/// Writes a record so at a place of the room, and answers where its last piece begins.
+pub(crate) fn put_record(room: &mut [u8], from: usize, parts: &Parts<'_>, way: Way) -> usize
     requires lengths { HasLengths (item_of parts.now) }
     requires some { 1 ≤ way.size }
-    requires room { length (octets_by way (item_of parts.now)) ≤ length room.old }
-    ensures { IsPut 0 (octets_by way (item_of parts.now)) room.old room.new }
+    requires room { from + length (octets_by way (item_of parts.now)) ≤ length room.old }
+    ensures put { IsPut from (octets_by way (item_of parts.now)) room.old room.new }
+    ensures last { (at : ℕ) × LastBegins way.form way.first way.last (Some way.size) (item_of parts.now) at
+        × (result ≡ from + at) }
 {
     let (part, behind) = first_part(parts.payload, way.size);
     let head = first_head(parts, way, behind.is_empty(), part);
-    let mut at = put_piece(room, 0, &head, parts.kind, parts.id, part);
+    let mut last = from;
+    let mut at = put_piece(room, from, &head, parts.kind, parts.id, part);
     let mut rest = behind;
     while !rest.is_empty() {
         let (part, later) = first_part(rest, way.size);
         let head = later_head(way, later.is_empty(), part);
+        last = at;
         at = put_piece(room, at, &head, &[], &[], part);
         rest = later;
     }
+    last
 }
 
 /// Where a record stands, and how it is written, as the numbers say.
-fn way_of(how: &NdefWriting) -> Way
+pub(crate) fn way_of(how: &NdefWriting) -> Way
     ensures first { result.first ≡ is_first how.now }
     ensures last { result.last ≡ is_last how.now }
     ensures form { result.form ≡ form_of how.now }
@@ -235,6 +241,32 @@ fn way_of(how: &NdefWriting) -> Way
     }
 }
 
+/// The parts of a record that is asked for, if it may be written.
+pub(crate) fn asked_parts<'a>(
+    kind: &'a [u8],
+    id: &'a [u8],
+    payload: &'a [u8],
+    how: &NdefWriting,
+) -> Option<Parts<'a>>
+    ensures none { IfNone result (¬ MayBeWritten how.now (asked how.now kind.now id.now payload.now)) }
+    ensures may { IfSome result (λ _. MayBeWritten how.now (asked how.now kind.now id.now payload.now)) }
+    ensures some { IfSome result (λ p. item_of p ≡ asked how.now kind.now id.now payload.now) }
+{
+    let Some(tnf) = tnf_of(how.tnf) else {
+        return None;
+    };
+    let parts = Parts {
+        tnf,
+        kind,
+        id,
+        payload,
+    };
+    if how.flags > 7 || !is_shaped(&parts) || !has_lengths(&parts) {
+        return None;
+    }
+    Some(parts)
+}
+
 /// Writes a record to the room (NDEF 1.0, record layout and chunked payloads), as the numbers say; an
 /// empty id isn't written.
 #[unsafe(no_mangle)]
@@ -252,24 +284,15 @@ pub extern "C" fn ndef_write_record(
         → Gives (asked_octets how.now (asked how.now kind.now id.now payload.now))
         room.old room.new count.new result }
 {
-    let Some(tnf) = tnf_of(how.tnf) else {
+    let Some(parts) = asked_parts(kind, id, payload, how) else {
         return BAD_ARGUMENT;
     };
-    let parts = Parts {
-        tnf,
-        kind,
-        id,
-        payload,
-    };
-    if how.flags > 7 || !is_shaped(&parts) || !has_lengths(&parts) {
-        return BAD_ARGUMENT;
-    }
     let way = way_of(how);
     let needed = record_length(&parts, way);
     *count = needed;
     if room.len() < needed {
         return NO_ROOM;
     }
-    put_record(room, &parts, way);
+    let _last = put_record(room, 0, &parts, way);
     OK
 }

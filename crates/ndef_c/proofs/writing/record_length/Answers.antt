@@ -56,9 +56,14 @@ loop-rest-preserved c =
       left = omega (arith, v, n, i3);
     }
 
-pub returns : goal.returns
-returns c =
+pub returns-clause-value : goal.returns-clause-value
+returns-clause-value c =
     let a = c.args in
     let e = ap length (none_is_left a.way.form a.way.last a.way.size c.loop-rest.rest.now c.requires.some (sym c.is_empty-in-loop-rest.ensures ∙ c.loop-rest-test.false)) in
     let i = c.loop-rest.invariant.left in
     omega (arith, e, i)
+
+pub returns-clause-bound : goal.returns-clause-bound
+returns-clause-bound c =
+    let i = c.loop-rest.invariant.small in
+    omega (arith, i)

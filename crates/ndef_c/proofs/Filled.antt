@@ -1,0 +1,44 @@
+-- An array that is filled from its front.
+use Rattle.std.proofs.Common.{◌≡◌, ℕ, zero, suc, ◌+◌, ◌<◌, ◌≤◌, List, [], ◌∷◌, ◌++◌, length, length-append, length-drop, drop, refl, ◌∙◌, ap, subst, arith, Some}
+use Rattle.std.specs.Prelude.{slice_get, slice_set}
+use Rattle.ndef_c.specs.Arrays.{EachAt, GivesMany, set_over}
+use Rattle.ndef_c.specs.declared.status.TheConstants.{OK, NO_ROOM}
+
+at_end : {T : Type 0} (done : List T) (x : T) (before : List T) → length done < length before → slice_set (set_over done before) (length done) x ≡ set_over (done ++ x ∷ []) before
+at_end [] x [] h = absurd (omega (arith, h))
+at_end [] x (b ∷ before) h = refl
+at_end (d ∷ done) x [] h = absurd (omega (arith, h))
+at_end (d ∷ done) x (b ∷ before) h = ap (λ xs. d ∷ xs) (at_end done x before (omega (arith, h)))
+
+-- one more element
+pub filled_on : {T : Type 0} (done : List T) (x : T) (before now : List T) (index : ℕ) → now ≡ set_over done before → index ≡ length done → length done < length before
+    → slice_set now index x ≡ set_over (done ++ x ∷ []) before
+filled_on done x before now index e n h = ap (λ xs. slice_set xs index x) e ∙ ap (λ k. slice_set (set_over done before) k x) n ∙ at_end done x before h
+
+-- it keeps its length
+pub length-set_over : {T : Type 0} (done before : List T) → length done ≤ length before → length (set_over done before) ≡ length before
+length-set_over done before h =
+    let n = length-append done (drop (length done) before) in
+    let d = length-drop (length done) before in
+    omega (arith, n, d, h)
+
+-- one more of which this holds
+pub each_more : {T : Type 0} (P : ℕ → T → Type 0) (from : ℕ) (xs : List T) (x : T) → EachAt P from xs → P (from + length xs) x → EachAt P from (xs ++ x ∷ [])
+each_more P from [] x h p = let e : from + 0 ≡ from = omega arith in (subst (λ k. P k x) e p, tt)
+each_more P from (y ∷ xs) x h p = let e : from + length (y ∷ xs) ≡ from + 1 + length xs = omega arith in (h.0, each_more P (from + 1) xs x h.1 (subst (λ k. P k x) e p))
+
+-- an array that is too small is as it was
+pub no_room_for : {T : Type 0} (holds : List T → Type 0) (many : ℕ) (old : List T) (count : ℕ) → count ≡ many → length old < count → GivesMany holds many old old count NO_ROOM
+no_room_for holds many old count n h = record { count_is = n; fits = λ l. absurd (omega (arith, n, h, l)); too_small = λ _. (refl, refl) }
+
+-- one that is large enough is filled
+pub room_for : {T : Type 0} (holds : List T → Type 0) (many : ℕ) (old new : List T) (count : ℕ) → count ≡ many → count ≤ length old → (told : List T) → holds told → length told ≡ many → new ≡ set_over told old
+    → GivesMany holds many old new count OK
+room_for holds many old new count n h told are size e =
+    record { count_is = n; fits = λ _. (refl, told, are, size, e); too_small = λ l. absurd (omega (arith, n, h, l)) }
+
+-- an index at which there is an element
+pub get_within : {T : Type 0} (xs : List T) (k : ℕ) (x : T) → slice_get xs k ≡ Some x → k < length xs
+get_within [] k x e = absurd (cc)
+get_within (y ∷ xs) zero x e = omega arith
+get_within (y ∷ xs) (suc k) x e = let n = get_within xs k x e in omega (arith, n)

@@ -1,0 +1,17 @@
+use Rattle.std.proofs.Common.{◌≡◌, ◌≤◌, ◌+◌, ◌∷◌, [], List, length, get_or}
+use Rattle.ndef_types.specs.Values.{AcValue, StandsForAc}
+use Rattle.ndef_c.specs.Alternatives.{LiesAt, references}
+use Rattle.ndef_c.specs.Arrays.{EachAt, set_over}
+use Rattle.ndef_c.specs.declared.part.NdefPart.{NdefPart}
+use Rattle.ndef_c.proofs.Alternatives.{NamesAt}
+use Rattle.ndef_c.proofs.references.tell_references.Given as goal
+
+abbrev pub invariant-loop-before : goal.invariant-loop-before
+invariant-loop-before l = record {
+  within : l.before ≤ l.count;
+  names : NamesAt l.payload l.count l.at l.before;
+  told : List NdefPart;
+  are : (v : AcValue) → StandsForAc l.payload v → EachAt (LiesAt l.payload (references v)) 0 told;
+  count : length told ≡ 1 + l.before;
+  filled : l.parts ≡ set_over told l.fn.parts;
+}

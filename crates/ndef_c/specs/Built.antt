@@ -1,0 +1,76 @@
+-- A message that is built in a room, record after record.
+use Rattle.std.specs.Prelude.{◌≡◌, ℕ, ◌+◌, ◌-◌, ◌<◌, ◌≤◌, ◌==◌, ◌⊎◌, Bool, true, false, List, [], ◌++◌, length, take, drop, slice_index, slice_set}
+use Rattle.ndef_format.specs.Messages.{Item}
+use Rattle.ndef_format.specs.Records.{Piece}
+use Rattle.ndef_piece.specs.Whole.{IsSplit}
+use Rattle.ndef_c.specs.Writes.{LastBegins, MayBeWritten, form_of, record_octets, size_of}
+use Rattle.ndef_c.specs.declared.status.TheConstants.{OK, NO_ROOM}
+use Rattle.ndef_c.specs.declared.building.NdefBuilt.{NdefBuilt}
+use Rattle.ndef_c.specs.declared.writing.NdefWriting.{NdefWriting}
+
+-- a room, and what is told of the message with which it begins
+pub record Holding : Type 0 where
+  pub room : List ℕ
+  pub built : NdefBuilt
+
+abbrev pub held : List ℕ → NdefBuilt → Holding
+held room built = record { room = room; built = built }
+
+-- no record is there yet
+pub record IsUnbuilt (built : NdefBuilt) : Type 0 where
+  pub length_is : built.length ≡ 0
+  pub last_at : built.last_at ≡ 0
+  pub records : built.records ≡ 0
+
+-- NDEF 1.0, ME: the bytes end with a piece that ends a message, and it begins at the place
+pub record EndsWithPiece (bytes : List ℕ) (at : ℕ) : Type 0 where
+  pub piece : Piece
+  pub short : Bool
+  pub split : IsSplit piece short [] (drop at bytes)
+  pub last : piece.last ≡ true
+  pub whole : piece.chunked ≡ false
+
+-- the message lies in the room, and one more record can be counted
+pub record IsBuilt (h : Holding) : Type 0 where
+  pub within : h.built.length ≤ length h.room
+  pub ends : EndsWithPiece (take h.built.length h.room) h.built.last_at
+  pub few : h.built.records < 4294967295
+
+-- a record can be appended
+abbrev pub MayGrow : Holding → Type 0
+MayGrow h = IsUnbuilt h.built ⊎ IsBuilt h
+
+-- no flag but that of the long form is set, and it is a record
+pub record MayBeAppended (how : NdefWriting) (m : Item) : Type 0 where
+  pub flags : (how.flags ≡ 0) ⊎ (how.flags ≡ 4)
+  pub written : MayBeWritten how m
+
+-- NDEF 1.0, ME: the message that is there, the bit that ends it taken from its last piece
+abbrev pub reopened : Holding → List ℕ
+reopened h = slice_set (take h.built.length h.room) h.built.last_at (slice_index (take h.built.length h.room) h.built.last_at - 64)
+
+-- NDEF 1.0, MB and ME: the octets of a record that is the last of its message, and its first where none was there
+abbrev pub appended_octets : (first : Bool) → NdefWriting → Item → List ℕ
+appended_octets first how m = record_octets (form_of how) first true (size_of how) m
+
+-- NDEF 1.0, chunked payloads: where the last piece of such a record begins in its octets
+abbrev pub AppendedBegins : (first : Bool) → NdefWriting → Item → ℕ → Type 0
+AppendedBegins first how m at = LastBegins (form_of how) first true (size_of how) m at
+
+-- no record was there
+abbrev pub is_first_of : NdefBuilt → Bool
+is_first_of built = built.length == 0
+
+-- these octets and one record are more, and the last piece begins there
+pub record IsGrown (octets : List ℕ) (begins : ℕ → Type 0) (before after : NdefBuilt) : Type 0 where
+  pub length_is : after.length ≡ before.length + length octets
+  pub records : after.records ≡ before.records + 1
+  pub at : ℕ
+  pub begins_at : begins at
+  pub last_at : after.last_at ≡ before.length + at
+
+-- the octets are written behind the message where the room is large enough, else all is as it was; the length of both is told
+pub record GivesAppended (octets : List ℕ) (begins : ℕ → Type 0) (before after : Holding) (count status : ℕ) : Type 0 where
+  pub count_is : count ≡ before.built.length + length octets
+  pub fits : count ≤ length before.room → (status ≡ OK) × (after.room ≡ reopened before ++ (octets ++ drop count before.room)) × IsGrown octets begins before.built after.built
+  pub too_small : length before.room < count → (status ≡ NO_ROOM) × (after ≡ before)

@@ -1,0 +1,76 @@
+-- What is told of the first record that has what is wanted.
+use Rattle.std.specs.Prelude.{◌≡◌, ◌≢◌, ℕ, ◌⊎◌, true, false, List, [], ◌∷◌, length, drop}
+use Rattle.std.specs.List.{AllByRecursion}
+use Rattle.ndef_format.specs.Messages.{Item, run_record}
+use Rattle.ndef_format.specs.Records.{Run, code}
+use Rattle.ndef_c.specs.Links.{LieBetween}
+use Rattle.ndef_c.specs.Walks.{BeginsWithRun, IsRecordAt, IsRecordThere, ends_message}
+use Rattle.ndef_c.specs.declared.finding.Wanted.{Wanted}
+use Rattle.ndef_c.specs.declared.finding.Wanted.TheVariants.{Kind as OfKind, Id as WithId}
+use Rattle.ndef_c.specs.declared.finding.Walk.{Walk}
+use Rattle.ndef_c.specs.declared.finding.Walk.TheVariants.{Found, Ended, Broken}
+use Rattle.ndef_c.specs.declared.record.NdefRecord.{NdefRecord}
+
+-- NDEF 1.0, TNF and TYPE: the record has this type name format and this type
+abbrev pub HasType : (tnf : ℕ) → (kind : List ℕ) → Item → Type 0
+HasType tnf kind i = (code i.tnf ≡ tnf) × (i.kind ≡ kind)
+
+-- NDEF 1.0, ID: the record has this id, which isn't empty
+abbrev pub HasIdOf : List ℕ → Item → Type 0
+HasIdOf id i = (id ≢ []) × (i.id ≡ id)
+
+-- one or the other
+abbrev pub Has : Wanted → Item → Type 0
+Has (OfKind tnf kind) i = HasType tnf kind.now i
+Has (WithId id) i = HasIdOf id.now i
+
+-- what is sought of records
+abbrev pub Sought : Type 1
+Sought = Item → Type 0
+
+-- NDEF 1.0, ME: the record of the run hasn't what is wanted, and isn't the last of its message
+abbrev pub IsPassed : Sought → Run → Type 0
+IsPassed P run = (¬ P (run_record run)) × (ends_message run.initial run.later ≡ false)
+
+-- NDEF 1.0, messages: from a place up to another lie records, one behind another, that are all passed
+pub record PassesTo (P : Sought) (bytes : List ℕ) (at next : ℕ) : Type 0 where
+  pub runs : List Run
+  pub between : LieBetween bytes at runs next
+  pub passed : AllByRecursion (IsPassed P) runs
+
+-- NDEF 1.0, messages: it is the first of the records from the place on, up to the last of the message, that has what is wanted
+pub record FindsAt (P : Sought) (bytes : List ℕ) (at : ℕ) (out : NdefRecord) : Type 0 where
+  pub next : ℕ
+  pub passes : PassesTo P bytes at next
+  pub record_is : IsRecordAt bytes next out
+  pub has : P (run_record record_is.run)
+
+-- NDEF 1.0, messages: the first of these records that has what is wanted begins there
+pub record HasFirst (P : Sought) (bytes : List ℕ) (at next : ℕ) : Type 0 where
+  pub passes : PassesTo P bytes at next
+  pub run : Run
+  pub rest : List ℕ
+  pub begins : BeginsWithRun run rest (drop next bytes)
+  pub has : P (run_record run)
+
+-- NDEF 1.0, messages: none of the records from the place on, up to the last of the message, has what is wanted
+pub record HasNone (P : Sought) (bytes : List ℕ) (at : ℕ) : Type 0 where
+  pub next : ℕ
+  pub passes : PassesTo P bytes at next
+  pub run : Run
+  pub rest : List ℕ
+  pub begins : BeginsWithRun run rest (drop next bytes)
+  pub lacks : ¬ P (run_record run)
+  pub ends : ends_message run.initial run.later ≡ true
+
+-- NDEF 1.0, messages: before any of them has what is wanted or is the last, no record begins where the one before it ends
+pub record BreaksOff (P : Sought) (bytes : List ℕ) (at : ℕ) : Type 0 where
+  pub next : ℕ
+  pub passes : PassesTo P bytes at next
+  pub gap : ¬ IsRecordThere bytes next
+
+-- how a walk ends
+abbrev pub WalksTo : Sought → List ℕ → ℕ → Walk → Type 0
+WalksTo P bytes at (Found next) = HasFirst P bytes at next
+WalksTo P bytes at Ended = HasNone P bytes at
+WalksTo P bytes at Broken = BreaksOff P bytes at

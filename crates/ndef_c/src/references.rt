@@ -1,0 +1,64 @@
+//! Where all references of an alternative carrier lie (Connection Handover 1.2, Alternative Carrier record).
+ghost use Rattle.std.specs.Prelude.{◌≡◌, ◌≢◌, ◌<◌, ◌+◌, ◌^◌, ◌↔◌, length, slice_index, List};
+ghost use Rattle.ndef_format.specs.Handovers.{IsAlternative};
+ghost use Rattle.ndef_types.specs.Values.{AcValue, StandsForAc};
+ghost use Rattle.ndef_c.specs.Alternatives.{GivesReferences, LiesAt, references};
+ghost use Rattle.ndef_c.specs.Arrays.{EachAt, set_over};
+ghost use Rattle.ndef_c.specs.declared.part.NdefPart.{NdefPart as Part};
+
+use crate::alternative::counted_at;
+use crate::part::NdefPart;
+use crate::status::{BAD_ARGUMENT, NO_ROOM, OK};
+use ndef_lang::{AcLang, Kind};
+use ndef_types::{accept, alternatives_are_exact};
+use ndef_value::Profile;
+
+/// Writes where each reference lies to the front of the parts.
+fn tell_references(payload: &[u8], parts: &mut [NdefPart])
+    requires alternative { IsAlternative payload.now }
+    requires room { slice_index payload.now (2 + slice_index payload.now 1) < length parts.old }
+    ensures { (v : AcValue) → StandsForAc payload.now v
+        → (told : List Part) × EachAt (LiesAt payload.now (references v)) 0 told
+        × (length told ≡ length (references v)) × (parts.new ≡ set_over told parts.old) }
+{
+    let first = usize::from(payload[1]);
+    let count = usize::from(payload[2 + first]);
+    let mut at = 3 + first;
+    parts[0] = counted_at(payload, 1);
+    for before in 0..count {
+        let part = counted_at(payload, at);
+        at = part.at + part.length;
+        parts[before + 1] = part;
+    }
+}
+
+/// Tells where each reference lies, where the parts are enough, and how many they are.
+fn give_references(payload: &[u8], parts: &mut [NdefPart], count: &mut usize) -> u32
+    requires alternative { IsAlternative payload.now }
+    requires short { length payload.now < 2 ^ 32 }
+    ensures { GivesReferences payload.now parts.old parts.new count.new result }
+{
+    alternatives_are_exact();
+    let needed = 1 + usize::from(payload[2 + usize::from(payload[1])]);
+    *count = needed;
+    if parts.len() < needed {
+        return NO_ROOM;
+    }
+    tell_references(payload, parts);
+    OK
+}
+
+/// Tells where each reference lies in the payload of an Alternative Carrier record: the carrier data
+/// reference first, and the auxiliary ones behind it.
+#[unsafe(no_mangle)]
+pub extern "C" fn ndef_references(payload: &[u8], parts: &mut [NdefPart], count: &mut usize) -> u32
+    ensures bad { result ≡ BAD_ARGUMENT ↔ ¬ (IsAlternative payload.now × (length payload.now < 2 ^ 32)) }
+    ensures kept { result ≡ BAD_ARGUMENT → (parts.new ≡ parts.old) × (count.new ≡ count.old) }
+    ensures references { result ≢ BAD_ARGUMENT
+        → GivesReferences payload.now parts.old parts.new count.new result }
+{
+    match accept::<AcLang>(Kind::Alternative, Profile::Strict, payload) {
+        Ok(()) => give_references(payload, parts, count),
+        Err(_) => BAD_ARGUMENT,
+    }
+}

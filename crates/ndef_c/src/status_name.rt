@@ -1,0 +1,61 @@
+//! The names of what calls answer.
+ghost use Rattle.std.specs.Prelude.{◌≡◌, ◌≢◌, ◌<◌, ◌≤◌, ◌↔◌, IfSome, IsSome};
+ghost use Rattle.ndef_c.specs.Statuses.{GivesStatusName, status_number, status_text};
+
+use crate::room::give;
+use crate::status::{BAD_ARGUMENT, END, MORE, NO_ROOM, OK, REFUSED};
+
+/// What a call answers.
+#[derive(Clone, Copy)]
+enum Status {
+    Ok,
+    Refused,
+    NoRoom,
+    BadArgument,
+    End,
+    More,
+}
+
+/// The status with a number.
+fn status_of(number: u32) -> Option<Status>
+    ensures told { IfSome result (λ s. status_number s ≡ number) }
+    ensures some { IsSome result ↔ (number ≤ MORE) }
+{
+    let status = match number {
+        OK => Status::Ok,
+        REFUSED => Status::Refused,
+        NO_ROOM => Status::NoRoom,
+        BAD_ARGUMENT => Status::BadArgument,
+        END => Status::End,
+        MORE => Status::More,
+        _ => return None,
+    };
+    Some(status)
+}
+
+/// The name of a status.
+fn text_of(status: Status) -> &'static str
+    ensures value { result.now ≡ status_text status }
+{
+    match status {
+        Status::Ok => "Ok",
+        Status::Refused => "Refused",
+        Status::NoRoom => "NoRoom",
+        Status::BadArgument => "BadArgument",
+        Status::End => "End",
+        Status::More => "More",
+    }
+}
+
+/// Writes the name of the status with a number, in ASCII and with no NUL behind it, to the room.
+#[unsafe(no_mangle)]
+pub extern "C" fn ndef_status_name(status: u32, room: &mut [u8], count: &mut usize) -> u32
+    ensures bad { result ≡ BAD_ARGUMENT ↔ (MORE < status) }
+    ensures kept { result ≡ BAD_ARGUMENT → (room.new ≡ room.old) × (count.new ≡ count.old) }
+    ensures name { result ≢ BAD_ARGUMENT → GivesStatusName status room.old room.new count.new result }
+{
+    let Some(status) = status_of(status) else {
+        return BAD_ARGUMENT;
+    };
+    give(text_of(status).as_bytes(), room, count)
+}

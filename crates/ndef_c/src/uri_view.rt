@@ -1,0 +1,91 @@
+//! URIs where they lie in their payloads (RTD URI 1.0).
+ghost use Rattle.std.specs.Prelude.{◌≡◌, ◌≢◌, ◌<◌, ◌^◌, ◌↔◌, ◌⊎◌, length};
+ghost use Rattle.ndef_format.specs.declared.profile.Profile.{Profile};
+ghost use Rattle.ndef_format.specs.Uris.{IsUri};
+ghost use Rattle.ndef_format.specs.PayloadReasons.{UriReason};
+ghost use Rattle.ndef_types.specs.Prefixes.{prefix_of};
+ghost use Rattle.ndef_c.specs.Checks.{profile_of};
+ghost use Rattle.ndef_c.specs.Payloads.{IsUriAt, RefusesWith};
+ghost use Rattle.ndef_c.specs.Rooms.{Gives};
+
+use crate::checking::NdefChecked;
+use crate::limits::profile_of;
+use crate::refusal::refused_by;
+use crate::room::give;
+use crate::status::{BAD_ARGUMENT, OK, REFUSED};
+use ndef_lang::{Kind, UriLang};
+use ndef_types::{accept, prefix};
+
+/// A URI: the prefix of a code, and the rest, which lies in the payload.
+#[repr(C)]
+#[derive(Clone, Copy, Drop)]
+pub struct NdefUri {
+    /// Where the rest begins.
+    pub rest_at: usize,
+    /// The bytes of the rest.
+    pub rest_length: usize,
+    /// The code, 0 to 255; the reserved ones have no prefix.
+    pub code: u32,
+}
+
+/// The code, and where the rest lies.
+fn uri_at(payload: &[u8]) -> NdefUri
+    requires uri { (profile : Profile) × IsUri profile payload.now }
+    requires short { length payload.now < 2 ^ 32 }
+    ensures { (profile : Profile) → IsUri profile payload.now → IsUriAt profile payload.now result }
+{
+    let [code, rest @ ..] = payload else {
+        unreachable!()
+    };
+    NdefUri {
+        rest_at: 1,
+        rest_length: rest.len(),
+        code: u32::from(*code),
+    }
+}
+
+/// Tells the code of the prefix and where the rest lies of the URI for which the payload of a URI record
+/// stands.
+#[unsafe(no_mangle)]
+pub extern "C" fn ndef_uri_view(
+    payload: &[u8],
+    flags: u32,
+    out: &mut NdefUri,
+    why: &mut NdefChecked,
+) -> u32
+    ensures bad { result ≡ BAD_ARGUMENT ↔ (1 < flags) }
+    ensures known { (result ≡ OK) ⊎ (result ≡ REFUSED) ⊎ (result ≡ BAD_ARGUMENT) }
+    ensures uri { result ≡ OK → IsUriAt (profile_of flags) payload.now out.new }
+    ensures refused { result ≡ REFUSED
+        → RefusesWith (IsUri (profile_of flags)) (UriReason (profile_of flags)) payload.now why.new }
+    ensures kept { result ≢ OK → out.new ≡ out.old }
+    ensures kept_why { result ≢ REFUSED → why.new ≡ why.old }
+{
+    if flags > 1 {
+        return BAD_ARGUMENT;
+    }
+    match accept::<UriLang>(Kind::Uri, profile_of(flags), payload) {
+        Ok(()) => {
+            *out = uri_at(payload);
+            OK
+        }
+        Err(refusal) => {
+            *why = refused_by(refusal);
+            REFUSED
+        }
+    }
+}
+
+/// Writes the prefix for which a code stands (RTD URI 1.0, URI identifier codes) to the room; a reserved
+/// code stands for the empty one.
+#[unsafe(no_mangle)]
+pub extern "C" fn ndef_uri_prefix(code: u32, room: &mut [u8], count: &mut usize) -> u32
+    ensures bad { result ≡ BAD_ARGUMENT ↔ (255 < code) }
+    ensures kept { result ≡ BAD_ARGUMENT → (room.new ≡ room.old) × (count.new ≡ count.old) }
+    ensures prefix { result ≢ BAD_ARGUMENT → Gives (prefix_of code) room.old room.new count.new result }
+{
+    if code > 255 {
+        return BAD_ARGUMENT;
+    }
+    give(prefix(code as u8).as_bytes(), room, count)
+}

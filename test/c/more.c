@@ -1,0 +1,179 @@
+/* The calls that fill an array or find a record: each answer against the calls that tell one thing at a time, with an
+ * array that fits and one that is an element short. VERSION_NUMBER is the number that the file VERSION has. */
+#include "ndef.h"
+
+#include <stdio.h>
+#include <string.h>
+
+static int failed;
+
+static void expect(int holds, const char *what) {
+    if (!holds) failed++, printf("%s\n", what);
+}
+
+/* ---- pieces */
+
+/* A record of type "A" with 2 bytes; then one of type "texts", id "the ids", in pieces of 9, 300 (its length in 4 bytes)
+ * and 0 bytes; the message ends. */
+static uint8_t message[6 + 25 + 306 + 3];
+
+static void make_message(void) {
+    static const uint8_t front[] = {
+        0x91, 1, 2, 'A', 1, 2,
+        0x3a, 5, 9, 7, 't', 'e', 'x', 't', 's', 't', 'h', 'e', ' ', 'i', 'd', 's', 1, 2, 3, 4, 5, 6, 7, 8, 9,
+        0x26, 0, 0, 0, 1, 44 };
+    memset(message, 0x66, sizeof message);
+    memcpy(message, front, sizeof front);
+    message[sizeof message - 3] = 0x56, message[sizeof message - 2] = 0, message[sizeof message - 1] = 0;
+}
+
+static int same_part(const ndef_part *part, ndef_size at, ndef_size length) {
+    return part->at == at && part->length == length;
+}
+
+static void pieces(void) {
+    ndef_part parts[4];
+    ndef_part marks[4];
+    ndef_size count = 77;
+    memset(parts, 0x5a, sizeof parts);
+    memcpy(marks, parts, sizeof marks);
+    expect(ndef_pieces(message, sizeof message, 6, parts, 2, &count) == NDEF_NO_ROOM && count == 3, "pieces: two parts are enough for three");
+    expect(memcmp(parts, marks, sizeof parts) == 0, "pieces: a small array is written");
+    expect(ndef_pieces(message, sizeof message, 6, parts, 3, &count) == NDEF_OK && count == 3, "pieces: three parts are not enough");
+    expect(same_part(&parts[0], 22, 9) && same_part(&parts[1], 37, 300) && same_part(&parts[2], 340, 0), "pieces: they lie elsewhere");
+    expect(memcmp(&parts[3], &marks[3], sizeof *parts) == 0, "pieces: a part behind them is written");
+    expect(ndef_pieces(message, sizeof message, 0, parts, 4, &count) == NDEF_OK && count == 1, "pieces: a whole record has others");
+    expect(same_part(&parts[0], 4, 2), "pieces: a whole record lies elsewhere");
+    count = 77;
+    expect(ndef_pieces(message, sizeof message, sizeof message, parts, 4, &count) == NDEF_BAD_ARGUMENT, "pieces: there are some at the end");
+    expect(ndef_pieces(message, sizeof message, 1, parts, 4, &count) == NDEF_BAD_ARGUMENT, "pieces: there are some within a record");
+    expect(ndef_pieces(message, 339, 6, parts, 4, &count) == NDEF_BAD_ARGUMENT, "pieces: there are some of half a record");
+    expect(ndef_pieces(message, sizeof message, (ndef_size)-1, parts, 4, &count) == NDEF_BAD_ARGUMENT, "pieces: there are some far away");
+    expect(count == 77 && same_part(&parts[0], 4, 2), "pieces: a wrong argument leaves something else");
+    expect(ndef_pieces(message, sizeof message, 6, NULL, 0, &count) == NDEF_NO_ROOM && count == 3, "pieces: no array is enough");
+}
+
+/* ---- references */
+
+static void references(void) {
+    /* The carrier data reference "0", and the auxiliary ones "abc", "", "z" and "" */
+    static const uint8_t payload[] = { 2, 1, '0', 4, 3, 'a', 'b', 'c', 0, 1, 'z', 0 };
+    ndef_part parts[6], marks[6], one;
+    ndef_size count = 77;
+    memset(parts, 0x5a, sizeof parts);
+    memcpy(marks, parts, sizeof marks);
+    expect(ndef_references(payload, sizeof payload, parts, 4, &count) == NDEF_NO_ROOM && count == 5, "references: four parts are enough for five");
+    expect(memcmp(parts, marks, sizeof parts) == 0, "references: a small array is written");
+    expect(ndef_references(payload, sizeof payload, parts, 5, &count) == NDEF_OK && count == 5, "references: five parts are not enough");
+    expect(same_part(&parts[0], 2, 1) && same_part(&parts[1], 5, 3) && same_part(&parts[2], 9, 0) && same_part(&parts[3], 10, 1) && same_part(&parts[4], 12, 0),
+           "references: they lie elsewhere");
+    expect(memcmp(&parts[5], &marks[5], sizeof *parts) == 0, "references: a part behind them is written");
+    for (ndef_size i = 0; i < count; i++)
+        expect(ndef_reference(payload, sizeof payload, i, &one) == NDEF_OK && same_part(&one, parts[i].at, parts[i].length), "references: one is told otherwise");
+    count = 77;
+    expect(ndef_references(payload, sizeof payload - 1, parts, 6, &count) == NDEF_BAD_ARGUMENT && count == 77, "references: half a payload has some");
+    expect(ndef_references(payload, 0, parts, 6, &count) == NDEF_BAD_ARGUMENT && same_part(&parts[0], 2, 1), "references: no payload has some");
+    expect(ndef_references((const uint8_t *)"\1\0\0", 3, parts, 1, &count) == NDEF_OK && count == 1 && same_part(&parts[0], 2, 0),
+           "references: an empty one alone is told otherwise");
+}
+
+/* ---- links */
+
+/* Version 1.6, "ac" to "h", "" and "k", and an "err" */
+static const uint8_t handover[] = { 0x16, 0x91, 2, 4, 'a', 'c', 1, 1, 'h', 0, 0x11, 2, 3, 'a', 'c', 1, 0, 0, 0x11, 2, 4, 'a', 'c', 1, 1,
+                                    'k', 0, 0x51, 3, 5, 'e', 'r', 'r', 2, 1, 2, 3, 4 };
+
+static int same_link(const ndef_link *a, const ndef_link *b) {
+    return a->carrier_at == b->carrier_at && a->carrier_length == b->carrier_length && a->record_index == b->record_index
+        && a->record_at == b->record_at && a->has_record == b->has_record;
+}
+
+static void links(void) {
+    /* The handover, an empty record, and two with the id "h" */
+    uint8_t bytes[128] = { 0x91, 2, sizeof handover, 'H', 's' };
+    static const uint8_t others[] = { 0x15, 0, 0, 0x1c, 1, 0, 1, 'x', 'h', 0x5c, 1, 0, 1, 'y', 'h' };
+    const ndef_size whole = 5 + sizeof handover + sizeof others;
+    ndef_link told[4], marks[4], one;
+    ndef_size count = 77;
+    memcpy(bytes + 5, handover, sizeof handover);
+    memcpy(bytes + 5 + sizeof handover, others, sizeof others);
+    memset(told, 0x5a, sizeof told);
+    memcpy(marks, told, sizeof marks);
+    expect(ndef_links(bytes, whole, handover, sizeof handover, told, 2, &count) == NDEF_NO_ROOM && count == 3, "links: two are enough for three");
+    expect(memcmp(told, marks, sizeof told) == 0, "links: a small array is written");
+    expect(ndef_links(bytes, whole, handover, sizeof handover, told, 3, &count) == NDEF_OK && count == 3, "links: three are not enough");
+    expect(told[0].carrier_at == 6 && told[0].carrier_length == 4 && told[0].has_record == 1 && told[0].record_index == 2
+           && told[0].record_at == 5 + sizeof handover + 3, "links: the first leads elsewhere");
+    expect(told[1].carrier_at == 15 && told[1].carrier_length == 3 && told[1].has_record == 0 && told[1].record_index == 0 && told[1].record_at == 0,
+           "links: an empty reference leads somewhere");
+    expect(told[2].carrier_at == 23 && told[2].has_record == 0, "links: a reference to no record leads somewhere");
+    expect(memcmp(&told[3], &marks[3], sizeof *told) == 0, "links: one behind them is written");
+    for (ndef_size i = 0; i < count; i++)
+        expect(ndef_link_at(bytes, whole, handover, sizeof handover, i, &one) == NDEF_OK && same_link(&one, &told[i]), "links: one is told otherwise");
+    count = 77;
+    expect(ndef_links(bytes, whole - 1, handover, sizeof handover, told, 4, &count) == NDEF_BAD_ARGUMENT, "links: half a message has some");
+    expect(ndef_links(bytes, whole, handover + 1, sizeof handover - 1, told, 4, &count) == NDEF_BAD_ARGUMENT, "links: no handover has some");
+    expect(count == 77 && told[0].carrier_at == 6, "links: a wrong argument leaves something else");
+    expect(ndef_links(bytes, whole, (const uint8_t *)"\x12", 1, told, 0, &count) == NDEF_OK && count == 0, "links: a select with no message has some");
+}
+
+/* ---- records that are found */
+
+static void found(void) {
+    /* "A" with 2 bytes; an empty record; a media type "A", id "x"; "A" with 1 byte, id "y", the last; and another message, "B", id "z" */
+    static const uint8_t bytes[] = { 0x91, 1, 2, 'A', 1, 2, 0x10, 0, 0, 0x1a, 1, 0, 1, 'A', 'x', 0x59, 1, 1, 1, 'A', 'y', 3, 0xd9, 1, 0, 1, 'B', 'z' };
+    const uint8_t *a = (const uint8_t *)"A", *b = (const uint8_t *)"B", *x = (const uint8_t *)"x", *y = (const uint8_t *)"y", *z = (const uint8_t *)"z";
+    ndef_record told, one;
+    memset(&told, 0x77, sizeof told);
+    expect(ndef_find_type(bytes, sizeof bytes, 0, NDEF_TNF_WELL_KNOWN, b, 1, &told) == NDEF_END, "found: a type behind the message is found");
+    expect(ndef_find_type(bytes, sizeof bytes, 0, NDEF_TNF_EXTERNAL, a, 1, &told) == NDEF_END, "found: the type of another format is found");
+    expect(ndef_find_type(bytes, sizeof bytes, 0, NDEF_TNF_WELL_KNOWN, a, 0, &told) == NDEF_END, "found: a longer type is found");
+    expect(ndef_find_id(bytes, sizeof bytes, 0, x, 0, &told) == NDEF_END, "found: the empty id is found");
+    expect(ndef_find_id(bytes, sizeof bytes, 0, z, 1, &told) == NDEF_END, "found: an id behind the message is found");
+    expect(ndef_find_type(bytes, sizeof bytes, sizeof bytes, NDEF_TNF_WELL_KNOWN, a, 1, &told) == NDEF_END, "found: the end isn't one");
+    expect(ndef_find_type(bytes, sizeof bytes, 1, NDEF_TNF_WELL_KNOWN, a, 1, &told) == NDEF_BAD_ARGUMENT, "found: a walk begins within a record");
+    expect(ndef_find_type(bytes, sizeof bytes, sizeof bytes + 1, NDEF_TNF_WELL_KNOWN, a, 1, &told) == NDEF_BAD_ARGUMENT, "found: a walk begins far away");
+    expect(ndef_find_type(bytes, 21, 0, NDEF_TNF_WELL_KNOWN, b, 1, &told) == NDEF_BAD_ARGUMENT, "found: half a record is passed");
+    expect(ndef_find_type(bytes, 15, 0, NDEF_TNF_WELL_KNOWN, b, 1, &told) == NDEF_BAD_ARGUMENT, "found: the message breaks off, and isn't refused");
+    expect(ndef_find_id(bytes, 15, 0, y, 1, &told) == NDEF_BAD_ARGUMENT, "found: the message breaks off before the id, and isn't refused");
+    expect(told.at == 0x7777777777777777 && told.last == 0x77777777, "found: something is told of none");
+    expect(ndef_find_type(bytes, sizeof bytes, 0, NDEF_TNF_WELL_KNOWN, a, 1, &told) == NDEF_OK && told.at == 0 && told.end == 6, "found: the first of a type isn't");
+    expect(ndef_find_type(bytes, sizeof bytes, 6, NDEF_TNF_WELL_KNOWN, a, 1, &told) == NDEF_OK && told.at == 15, "found: the next of a type isn't");
+    expect(ndef_find_type(bytes, sizeof bytes, 0, NDEF_TNF_EMPTY, a, 0, &told) == NDEF_OK && told.at == 6, "found: the empty record isn't");
+    expect(ndef_find_type(bytes, 15, 0, NDEF_TNF_MEDIA, a, 1, &told) == NDEF_OK && told.at == 9 && told.id_length == 1, "found: a media type isn't");
+    expect(ndef_find_id(bytes, sizeof bytes, 0, y, 1, &told) == NDEF_OK && ndef_record_at(bytes, sizeof bytes, 15, &one) == NDEF_OK
+           && memcmp(&told, &one, sizeof one) == 0, "found: an id isn't, or is told otherwise");
+    expect(ndef_find_id(bytes, sizeof bytes, 22, z, 1, &told) == NDEF_OK && told.at == 22, "found: an id of the next message isn't");
+}
+
+/* ---- names */
+
+static void version(void) {
+    expect(ndef_version() == VERSION_NUMBER, "the version is another one than the file VERSION has");
+}
+
+static void names(void) {
+    static const char *const texts[] = { "Ok", "Refused", "NoRoom", "BadArgument", "End", "More" };
+    uint8_t room[12];
+    ndef_size count;
+    for (uint32_t status = 0; status < 6; status++) {
+        ndef_size length = strlen(texts[status]);
+        memset(room, 0x77, sizeof room);
+        expect(ndef_status_name(status, room, length - 1, &count) == NDEF_NO_ROOM && count == length && room[0] == 0x77, "names: a small room is enough");
+        expect(ndef_status_name(status, room, length, &count) == NDEF_OK && count == length && memcmp(room, texts[status], length) == 0 && room[length] == 0x77,
+               "names: a status has another");
+    }
+    count = 77;
+    expect(ndef_status_name(6, room, sizeof room, &count) == NDEF_BAD_ARGUMENT && count == 77, "names: there are more statuses");
+}
+
+int main(void) {
+    make_message();
+    pieces();
+    references();
+    links();
+    found();
+    version();
+    names();
+    return failed != 0;
+}
