@@ -3,3 +3,72 @@ import re
 
 CODE = ('*.rt', '*.antt', '*.py', '*.h', '*.c', '*.hpp', '*.cpp', '*.rs', '*.map', 'ndef', 'ndef-make', 'ndef-explain', 'Makefile', '*.sh',
         'crates.txt', 'run', 'Cargo.toml')
+# Names of Rust's, of C's, of the kit's, of Debian's packages and of ndeflib's classes that pages use, and placeholders.
+FOREIGN = set('''
+    rt git apt make dpkg-dev lintian clang ctypes clap cc strip simdutf8 hex itoa arrayvec smallvec byteorder thiserror anyhow
+    requires ensures after_borrow Copy Display Eq Hash PartialEq QNdefMessage Sig
+    mandoc pkg-config help ndeflib type nodejs qemu-user cargo rustdoc rustfmt clippy
+    gcc-riscv64-linux-gnu gcc-arm-linux-gnueabihf gcc-arm-none-eabi gcc-mingw-w64-x86-64-win32 gcc-aarch64-linux-gnu
+    BluetoothEasyPairingRecord BluetoothLowEnergyRecord WifiSimpleConfigRecord WifiPeerToPeerRecord DeviceInformationRecord
+    SignatureRecord HandoverMediationRecord HandoverInitiateRecord
+'''.split())
+
+
+def slug(heading):
+    text = re.sub(r'[`*]|\[|\]\([^)]*\)', '', heading.strip().lower())
+    return re.sub(r'[^\w\- ]', '', text).replace(' ', '-')
+
+
+def without_blocks(text):
+    return re.sub(r'^```.*?^```$', '', text, flags=re.M | re.S)
+
+
+def anchors(path):
+    return {slug(heading) for heading in re.findall(r'^#+ (.*)$', without_blocks(path.read_text()), re.M)}
+
+
+def broken_links(top, page):
+    text = re.sub(r'`[^`\n]*`', lambda code: code.group().replace('](', '] ('), without_blocks(page.read_text()))
+    for target in re.findall(r'\]\(([^)\s]+)\)', text):
+        if re.match(r'[a-z]+:', target):
+            continue
+        path, _, anchor = target.partition('#')
+        file = (page.parent / path).resolve() if path else page
+        if not file.exists():
+            yield f'{target}: no such file'
+        elif re.fullmatch(r'L\d+', anchor):
+            if int(anchor[1:]) > file.read_text().count('\n'):
+                yield f'{target}: no such line'
+        elif anchor and anchor not in anchors(file):
+            yield f'{target}: no such heading'
+
+
+def known(top):
+    """The words of all code and scripts, and the paths of all files."""
+    files = [path for path in top.rglob('*') if path.is_file() and not {'out', '.git'} & set(path.relative_to(top).parts)]
+    paths = {str(path.relative_to(top)) for path in files}
+    words = {path.stem for path in files} | {folder for path in paths for folder in path.split('/')[:-1]}
+    for path in files:
+        if any(path.match(pattern) for pattern in CODE):
+            words.update(re.findall(r'[\w-]+', path.read_text(errors='replace')))
+            words.update(re.findall(r'\w+', path.read_text(errors='replace')))
+    return words, paths
+
+
+def is_file_there(name, paths):
+    """Whether a file or folder has the name, which may begin in any folder."""
+    name = name.removeprefix('./').rstrip('/')
+    end = re.compile('(^|/)' + re.escape(name).replace(r'\*', '[^/]*') + '(/|$)')
+    return any(end.search(path) for path in paths)
+
+
+def unknown(top, page, known_names):
+    words, paths = known_names
+    for code in re.findall(r'`([^`\n]+)`', without_blocks(page.read_text())):
+        if re.fullmatch(r'[\w./*-]+\.(rt|antt|md|h|c|py|rs|txt|edit|in|so)|[\w.*-]+(/[\w.*-]+)*/', code):
+            if not is_file_there(code, paths) and not re.search(r'signature|[A-Z]{4}|/out', code, re.I) and 'out' not in code:
+                yield f'{code}: no such file'
+        elif re.fullmatch(r'[A-Za-z_][\w-]*(::\w+)*(\(\))?', code):
+            last = re.split('::', code.removesuffix('()'))[-1]
+            if last not in words and last not in FOREIGN and len(last) > 2:
+                yield f'{code}: no such name'
