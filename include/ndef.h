@@ -516,6 +516,46 @@ uint32_t ndef_version(void);
  * NDEF_OK, NDEF_NO_ROOM. NDEF_BAD_ARGUMENT: there is no such status. */
 uint32_t ndef_status_name(uint32_t status, uint8_t *room, ndef_size size, ndef_size *count);
 
+/* ---- URIs where they lie */
+
+/* A URI: the prefix of a code, and behind it the rest, which lies in the payload. */
+typedef struct ndef_uri_parts {
+    ndef_size rest_at, rest_length; /* the rest, in UTF-8 */
+    uint32_t code;                  /* 0 to 255; ndef_uri_prefix writes its prefix */
+} ndef_uri_parts;
+
+/* Tells the code and where the rest lies in the payload of a URI record (`U`). The URI that ndef_uri writes is the
+ * prefix of the code and then the rest. Flags: as ndef_uri.
+ * NDEF_OK, NDEF_REFUSED. NDEF_BAD_ARGUMENT: an unknown flag is set. */
+uint32_t ndef_uri_view(const uint8_t *payload, ndef_size length, uint32_t flags, ndef_uri_parts *out, ndef_checked *why);
+
+/* Writes the prefix of a code to the room, in ASCII, at most 26 bytes. Code 0 and the reserved codes, 36 to 255, have
+ * the empty prefix.
+ * NDEF_OK, NDEF_NO_ROOM. NDEF_BAD_ARGUMENT: the code is above 255. */
+uint32_t ndef_uri_prefix(uint32_t code, uint8_t *room, ndef_size size, ndef_size *count);
+
+/* ---- build a message */
+
+/* What is known of a message that is being built in a room. All 0: it has no record yet. */
+typedef struct ndef_built {
+    uint64_t length;  /* its bytes, from the front of the room */
+    uint64_t last_at; /* where the last chunk of its last record begins */
+    uint32_t records; /* the number of its records */
+} ndef_built;
+
+/* Appends a record to the message that the room begins with, and tells in `built` what is known of the message then.
+ * The room holds a whole message behind each call: the record that was the last says so no longer. The record is written
+ * as ndef_write_record writes it; the only flag is NDEF_LONG, since the call knows which record is first and last.
+ * `built` and the room are those of the call before, all of `built` 0 for the first record. *count has the length of the
+ * message with the record. Bytes of the room behind it are unchanged.
+ * NDEF_OK. NDEF_NO_ROOM: the room and `built` are unchanged.
+ * NDEF_BAD_ARGUMENT: another flag is set; what ndef_write_record answers so; or `built` does not fit the room: its length
+ *   is above `size`; the last bytes of the message, from last_at on, are not the chunk that ends a message; it has
+ *   4294967295 records; or its length is 0 and the other members are not. */
+uint32_t ndef_append(ndef_built *built, const uint8_t *type, ndef_size type_length, const uint8_t *id,
+                     ndef_size id_length, const uint8_t *payload, ndef_size payload_length, const ndef_writing *how,
+                     uint8_t *room, ndef_size size, ndef_size *count);
+
 #ifdef __cplusplus
 }
 #endif

@@ -119,8 +119,54 @@ static void write_from(const uint8_t *bytes, ndef_size length, ndef_size size) {
     WRITTEN(size, ndef_write_collision(number * 40503u, to, size, &count));
 }
 
+/* The calls that fill an array: with none, with too small a one and with a large one. */
+enum { ELEMENTS = 64 };
+static ndef_part parts[ELEMENTS];
+static ndef_link links[ELEMENTS];
+static const ndef_size sizes[] = { 0, 1, ELEMENTS };
+
+static ndef_part *marked_parts(void) {
+    for (int i = 0; i < ELEMENTS; i++) parts[i].at = parts[i].length = 7;
+    return parts;
+}
+
+static void mix_parts(uint32_t status, ndef_size count) {
+    mix_status(status), mix(count);
+    for (int i = 0; i < ELEMENTS; i++) mix(parts[i].at), mix(parts[i].length);
+}
+
+static void fill_parts(const uint8_t *bytes, ndef_size length, ndef_size at) {
+    for (int i = 0; i < 3; i++) {
+        ndef_size count = 77;
+        uint32_t status = ndef_pieces(bytes, length, at, marked_parts(), sizes[i], &count);
+        mix_parts(status, count);
+        status = ndef_references(bytes, length, marked_parts(), sizes[i], &count);
+        mix_parts(status, count);
+    }
+}
+
+static void fill_links(const uint8_t *bytes, ndef_size length, const uint8_t *handover, ndef_size handover_length) {
+    for (int i = 0; i < 3; i++) {
+        const ndef_link mark = { 7, 7, 7, 7, 7 };
+        ndef_size count = 77;
+        for (int k = 0; k < ELEMENTS; k++) links[k] = mark;
+        mix_status(ndef_links(bytes, length, handover, handover_length, links, sizes[i], &count)), mix(count);
+        for (int k = 0; k < ELEMENTS; k++) {
+            mix(links[k].carrier_at), mix(links[k].carrier_length), mix(links[k].record_index), mix(links[k].record_at);
+            mix(links[k].has_record);
+        }
+    }
+}
+
 static void look_at_payload(const uint8_t *bytes, ndef_size length, ndef_size size) {
-    for (uint32_t flags = 0; flags < 3; flags++) read_with_flags(bytes, length, flags, size);
+    for (uint32_t flags = 0; flags < 3; flags++) {
+        ndef_checked why = { 77, 77, 77 };
+        ndef_uri_parts uri = { 7, 7, 7 };
+        read_with_flags(bytes, length, flags, size);
+        mix_status(ndef_uri_view(bytes, length, flags, &uri, &why));
+        mix(uri.rest_at), mix(uri.rest_length), mix(uri.code), mix_checked(&why);
+    }
+    fill_parts(bytes, length, 0);
     read_without_flags(bytes, length, size);
     write_from(bytes, length, size);
 }
@@ -150,6 +196,33 @@ static void write_again(const uint8_t *bytes, const ndef_record *record) {
     }
 }
 
+static void find(const uint8_t *bytes, ndef_size length, const ndef_record *record) {
+    const ndef_size from[] = { 0, record->at };
+    for (int i = 0; i < 2; i++) {
+        ndef_record found = { 7, 7, 7, 7, 7, 7, 7, 7, 7, 7, 7, 7 };
+        mix_status(ndef_find_type(bytes, length, from[i], record->tnf, bytes + record->type_at, record->type_length, &found));
+        mix_record(&found);
+        mix_status(ndef_find_id(bytes, length, from[i], bytes + record->id_at, record->id_length, &found));
+        mix_record(&found);
+    }
+}
+
+/* Appends the record to a message of it; `copy` has its payload. */
+static void build(const uint8_t *bytes, const ndef_record *record) {
+    ndef_size size = 64 + 16 * record->payload_length + 2 * (record->type_length + record->id_length);
+    ndef_built built = { 0, 0, 0 };
+    if (size + MARKS > MOST) size = 1000;
+    marked(size);
+    for (uint32_t i = 0; i < 4; i++) {
+        const ndef_writing how = { record->tnf, i == 1 ? NDEF_LONG : i == 3, i == 2 ? 3 : 0 };
+        ndef_size count = 77;
+        mix_status(ndef_append(&built, bytes + record->type_at, record->type_length, bytes + record->id_at, record->id_length,
+                               copy, record->payload_length, &how, room, i ? size : size / 2, &count));
+        mix(count), mix(built.length), mix(built.last_at), mix(built.records);
+    }
+    mix_bytes(room, size + MARKS);
+}
+
 static void walk(const uint8_t *bytes, ndef_size length, int is_nested) {
     ndef_size at = 0;
     for (int i = 0; i < 12; i++) {
@@ -162,11 +235,15 @@ static void walk(const uint8_t *bytes, ndef_size length, int is_nested) {
         WRITTEN(size, ndef_payload(bytes, length, at, to, size, &count));
         copy_bytes(copy, room, size);
         write_again(bytes, &record);
+        build(bytes, &record);
+        find(bytes, length, &record);
+        fill_parts(bytes, length, at);
         if (!is_nested && size <= 3000) {
             copy_bytes(payload, copy, size);
             look_at_payload(payload, size, 2 * size + 40);
             look_at_payload(payload, size, size / 2);
             follow_links(bytes, length, payload, size);
+            fill_links(bytes, length, payload, size);
             walk(payload, size, 1);
             if (size > 1) walk(payload + 1, size - 1, 1);
         }
@@ -206,6 +283,11 @@ static void names(void) {
     mix(usual.payload), mix(usual.records), mix(usual.pieces), mix(usual.flags);
     for (uint32_t reason = 0; reason < 40; reason++)
         WRITTEN(24, ndef_reason_name(reason, to, reason % 20, &count));
+    for (uint32_t status = 0; status < 8; status++)
+        WRITTEN(24, ndef_status_name(status, to, status + 4, &count));
+    for (uint32_t code = 0; code < 260; code++)
+        WRITTEN(32, ndef_uri_prefix(code, to, code % 29, &count));
+    mix(ndef_version());
 }
 
 /* ---- random messages: the cases with bytes changed, put in or left out, some of them as payloads */

@@ -1,5 +1,5 @@
-/* The calls that fill an array or find a record: each answer against the calls that tell one thing at a time, with an
- * array that fits and one that is an element short. VERSION_NUMBER is the number that the file VERSION has. */
+/* The calls that fill an array, find a record or build a message, and those of names: with an array or a room that fits and
+ * with one that is too small by one. VERSION_NUMBER is the number that the file VERSION has. */
 #include "ndef.h"
 
 #include <stdio.h>
@@ -167,6 +167,78 @@ static void names(void) {
     expect(ndef_status_name(6, room, sizeof room, &count) == NDEF_BAD_ARGUMENT && count == 77, "names: there are more statuses");
 }
 
+/* ---- URIs where they lie */
+
+static void uris(void) {
+    static const uint8_t payload[] = { 4, 'a', '.', 'd', 'e' };
+    ndef_uri_parts told;
+    ndef_checked why = { 7, 7, 7 };
+    uint8_t room[32];
+    ndef_size count;
+    memset(&told, 0x77, sizeof told);
+    expect(ndef_uri_view(payload, sizeof payload, 0, &told, &why) == NDEF_OK && why.place == 7, "URIs: one isn't read");
+    expect(told.code == 4 && told.rest_at == 1 && told.rest_length == 4, "URIs: one lies elsewhere");
+    expect(ndef_uri_prefix(told.code, room, 7, &count) == NDEF_NO_ROOM && count == 8, "URIs: a prefix needs another length");
+    expect(ndef_uri_prefix(told.code, room, 8, &count) == NDEF_OK && count == 8 && memcmp(room, "https://", 8) == 0, "URIs: a prefix is another one");
+    expect(ndef_uri_prefix(7, room, sizeof room, &count) == NDEF_OK && count == 26, "URIs: the longest prefix is another one");
+    expect(ndef_uri_prefix(36, room, 0, &count) == NDEF_OK && count == 0, "URIs: a reserved code has a prefix");
+    expect(ndef_uri_prefix(255, room, 0, &count) == NDEF_OK && count == 0, "URIs: the last code has a prefix");
+    expect(ndef_uri_prefix(256, room, 0, &count) == NDEF_BAD_ARGUMENT, "URIs: a code of two bytes has a prefix");
+    memset(&told, 0x77, sizeof told);
+    expect(ndef_uri_view((const uint8_t *)"\x24" "a", 2, 0, &told, &why) == NDEF_REFUSED && why.place == 0 && why.reason == 19, "URIs: a reserved code is read");
+    expect(ndef_uri_view((const uint8_t *)"\x24" "a", 2, 2, &told, &why) == NDEF_BAD_ARGUMENT && told.code == 0x77777777, "URIs: an unknown flag is taken");
+    expect(ndef_uri_view((const uint8_t *)"\x24" "a", 2, NDEF_STANDARD, &told, &why) == NDEF_OK && told.code == 36 && told.rest_length == 1,
+           "URIs: the standard has no reserved codes");
+}
+
+/* ---- messages that are built */
+
+static const uint8_t *octets(const char *text) { return (const uint8_t *)text; }
+
+static void built(void) {
+    /* "a" with "xy", in one piece; "b" with id "i" and "uvw", in pieces of 2; and "c" with no payload */
+    static const uint8_t one[] = { 0xd4, 1, 2, 'a', 'x', 'y' };
+    static const uint8_t two[] = { 0x94, 1, 2, 'a', 'x', 'y', 0x3c, 1, 2, 1, 'b', 'i', 'u', 'v', 0x56, 0, 1, 'w' };
+    static const uint8_t three[] = { 0x94, 1, 2, 'a', 'x', 'y', 0x3c, 1, 2, 1, 'b', 'i', 'u', 'v', 0x16, 0, 1, 'w', 0x44, 1, 0, 0, 0, 0, 'c' };
+    ndef_writing plain = { 4, 0, 0 }, cut = { 4, 0, 2 }, wide = { 4, NDEF_LONG, 0 }, wrong = { 4, 1, 0 };
+    ndef_built state = { 0, 0, 0 }, kept;
+    uint8_t room[40], marks[40];
+    ndef_size count = 77;
+    memset(room, 0xa5, sizeof room);
+    expect(ndef_append(&state, octets("a"), 1, NULL, 0, octets("xy"), 2, &plain, room, 5, &count) == NDEF_NO_ROOM && count == 6, "built: the first needs another length");
+    expect(state.length == 0 && state.records == 0 && room[0] == 0xa5, "built: a small room is written");
+    expect(ndef_append(&state, octets("a"), 1, NULL, 0, octets("xy"), 2, &plain, room, 6, &count) == NDEF_OK && count == 6, "built: the first isn't appended");
+    expect(memcmp(room, one, sizeof one) == 0 && room[6] == 0xa5, "built: the first is another message");
+    expect(state.length == 6 && state.last_at == 0 && state.records == 1, "built: the first is told otherwise");
+    memcpy(marks, room, sizeof room);
+    kept = state;
+    expect(ndef_append(&state, octets("b"), 1, octets("i"), 1, octets("uvw"), 3, &cut, room, 17, &count) == NDEF_NO_ROOM && count == 18, "built: pieces need another length");
+    expect(memcmp(room, marks, sizeof room) == 0 && state.length == 6 && state.last_at == 0 && state.records == 1, "built: a room that is too small for pieces is written");
+    expect(ndef_append(&state, octets("b"), 1, octets("i"), 1, octets("uvw"), 3, &cut, room, 18, &count) == NDEF_OK && count == 18, "built: pieces aren't appended");
+    expect(memcmp(room, two, sizeof two) == 0 && room[18] == 0xa5, "built: pieces make another message");
+    expect(state.length == 18 && state.last_at == 14 && state.records == 2, "built: pieces are told otherwise");
+    expect(ndef_append(&state, octets("c"), 1, NULL, 0, NULL, 0, &wide, room, sizeof room, &count) == NDEF_OK && count == 25, "built: the long form isn't appended");
+    expect(memcmp(room, three, sizeof three) == 0 && room[25] == 0xa5, "built: the long form makes another message");
+    expect(state.length == 25 && state.last_at == 18 && state.records == 3, "built: the long form is told otherwise");
+    memcpy(marks, room, sizeof room);
+    count = 77;
+    expect(ndef_append(&state, octets("a"), 1, NULL, 0, NULL, 0, &wrong, room, sizeof room, &count) == NDEF_BAD_ARGUMENT, "built: the flag of the first is taken");
+    expect(ndef_append(&state, octets("a"), 0, NULL, 0, NULL, 0, &plain, room, sizeof room, &count) == NDEF_BAD_ARGUMENT, "built: an empty type is taken");
+    kept = state, kept.last_at--;
+    expect(ndef_append(&kept, octets("a"), 1, NULL, 0, NULL, 0, &plain, room, sizeof room, &count) == NDEF_BAD_ARGUMENT, "built: another place is taken");
+    kept = state, kept.length--;
+    expect(ndef_append(&kept, octets("a"), 1, NULL, 0, NULL, 0, &plain, room, sizeof room, &count) == NDEF_BAD_ARGUMENT, "built: another length is taken");
+    kept = state, kept.length = (uint64_t)-1;
+    expect(ndef_append(&kept, octets("a"), 1, NULL, 0, NULL, 0, &plain, room, sizeof room, &count) == NDEF_BAD_ARGUMENT, "built: the greatest length is taken");
+    kept = state, kept.last_at = (uint64_t)-1;
+    expect(ndef_append(&kept, octets("a"), 1, NULL, 0, NULL, 0, &plain, room, sizeof room, &count) == NDEF_BAD_ARGUMENT, "built: the greatest place is taken");
+    kept = state, kept.records = 0xffffffff;
+    expect(ndef_append(&kept, octets("a"), 1, NULL, 0, NULL, 0, &plain, room, sizeof room, &count) == NDEF_BAD_ARGUMENT, "built: a record too many is taken");
+    kept = state, kept.length = 0;
+    expect(ndef_append(&kept, octets("a"), 1, NULL, 0, NULL, 0, &plain, room, sizeof room, &count) == NDEF_BAD_ARGUMENT, "built: records with no length are taken");
+    expect(count == 77 && memcmp(room, marks, sizeof room) == 0 && state.length == 25, "built: a wrong argument leaves something else");
+}
+
 int main(void) {
     make_message();
     pieces();
@@ -175,5 +247,7 @@ int main(void) {
     found();
     version();
     names();
+    uris();
+    built();
     return failed != 0;
 }

@@ -4,7 +4,7 @@
 #include <stdio.h>
 #include <string.h>
 
-enum { CALLS = 64 };
+enum { CALLS = 96 };
 
 struct answer { uint32_t status, reason; uint64_t place, count; };
 static struct answer answers[2][CALLS];
@@ -73,9 +73,30 @@ static void writing_calls(int way, const uint8_t *none, const ndef_part *no_part
     answer(way, ndef_write_handover(NDEF_SELECT, 1, 2, none, 0, room, size, &count));
 }
 
+/* The calls that fill an array, find a record or build a message. */
+static void more_calls(int way, const uint8_t *none, ndef_part *no_parts, ndef_link *no_links, uint8_t *room, ndef_size size) {
+    const ndef_writing how = { NDEF_UNKNOWN, 0, 0 };
+    ndef_record record;
+    ndef_uri_parts uri;
+    ndef_built built = { 0, 0, 0 };
+    answer(way, ndef_pieces(none, 0, 0, no_parts, 0, &count));
+    answer(way, ndef_pieces((const uint8_t *)"\xd0\0", 3, 0, no_parts, 0, &count));
+    answer(way, ndef_references(none, 0, no_parts, 0, &count));
+    answer(way, ndef_links(none, 0, none, 0, no_links, 0, &count));
+    answer(way, ndef_links((const uint8_t *)"\xd0\0", 3, (const uint8_t *)"\x12", 1, no_links, 0, &count));
+    answer(way, ndef_find_type(none, 0, 0, 0, none, 0, &record));
+    answer(way, ndef_find_type((const uint8_t *)"\xd0\0", 3, 0, 0, none, 0, &record));
+    answer(way, ndef_find_id((const uint8_t *)"\xd0\0", 3, 0, none, 0, &record));
+    answer(way, ndef_status_name(2, room, 0, &count));
+    answer(way, ndef_uri_view(none, 0, 0, &uri, &why));
+    answer(way, ndef_uri_prefix(0, room, 0, &count));
+    answer(way, ndef_append(&built, none, 0, none, 0, none, 0, &how, room, size, &count));
+}
+
 int main(void) {
     static uint8_t byte[1], room[2][64];
     static ndef_part part[1];
+    static ndef_link link[1];
     int calls = 0;
     for (int way = 0; way < 2; way++) {
         made = 0;
@@ -85,6 +106,8 @@ int main(void) {
         reading_calls(way, way ? byte : NULL, way ? byte : NULL);
         writing_calls(way, way ? byte : NULL, way ? part : NULL, way ? byte : NULL, 0);
         writing_calls(way, way ? byte : NULL, way ? part : NULL, room[way], sizeof room[way]);
+        more_calls(way, way ? byte : NULL, way ? part : NULL, way ? link : NULL, way ? byte : NULL, 0);
+        more_calls(way, way ? byte : NULL, way ? part : NULL, way ? link : NULL, room[way], sizeof room[way]);
         calls = made;
     }
     printf("calls %d\n", calls);

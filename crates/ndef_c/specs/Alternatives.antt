@@ -40,10 +40,11 @@ pub record HasNoReference (payload : List ℕ) (index : ℕ) : Type 0 where
   pub stands : StandsForAc payload alternative
   pub beyond : length (references alternative) ≤ index
 
--- Connection Handover 1.2, Alternative Carrier record: the payload is that of an alternative carrier, and where each reference lies is given
+-- Connection Handover 1.2, Alternative Carrier record: where each reference of an alternative carrier lies is given
 pub record GivesReferences (payload : List ℕ) (before after : List NdefPart) (count status : ℕ) : Type 0 where
   pub in_set : IsAlternative payload
   pub short : length payload < 2 ^ 32
   pub alternative : AcValue
   pub stands : StandsForAc payload alternative
-  pub gives : GivesMany (EachAt (LiesAt payload (references alternative)) 0) (length (references alternative)) before after count status
+  pub gives : GivesMany (EachAt (LiesAt payload (references alternative)) 0) (length (references alternative))
+      before after count status

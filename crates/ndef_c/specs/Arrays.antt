@@ -6,10 +6,12 @@ use Rattle.ndef_c.specs.declared.status.TheConstants.{OK, NO_ROOM}
 abbrev pub set_over : {T : Type 0} → List T → List T → List T
 set_over told before = told ++ drop (length told) before
 
--- so many elements of which this holds are written to the array where it is large enough, else it is as it was; how many they are is told
-pub record GivesMany {T : Type 0} (holds : List T → Type 0) (many : ℕ) (before after : List T) (count status : ℕ) : Type 0 where
+-- so many elements of which this holds are written where the array has room, else it is as it was; their number is told
+pub record GivesMany {T : Type 0} (holds : List T → Type 0) (many : ℕ) (before after : List T) (count status : ℕ)
+    : Type 0 where
   pub count_is : count ≡ many
-  pub fits : many ≤ length before → (status ≡ OK) × (told : List T) × holds told × (length told ≡ many) × (after ≡ set_over told before)
+  pub fits : many ≤ length before → (status ≡ OK) × (told : List T) × holds told × (length told ≡ many)
+      × (after ≡ set_over told before)
   pub too_small : length before < many → (status ≡ NO_ROOM) × (after ≡ before)
 
 -- this holds of each of them and its index, counted from a number

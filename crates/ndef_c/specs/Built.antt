@@ -47,7 +47,9 @@ pub record MayBeAppended (how : NdefWriting) (m : Item) : Type 0 where
 
 -- NDEF 1.0, ME: the message that is there, the bit that ends it taken from its last piece
 abbrev pub reopened : Holding → List ℕ
-reopened h = slice_set (take h.built.length h.room) h.built.last_at (slice_index (take h.built.length h.room) h.built.last_at - 64)
+reopened h =
+    let bytes = take h.built.length h.room in
+    slice_set bytes h.built.last_at (slice_index bytes h.built.last_at - 64)
 
 -- NDEF 1.0, MB and ME: the octets of a record that is the last of its message, and its first where none was there
 abbrev pub appended_octets : (first : Bool) → NdefWriting → Item → List ℕ
@@ -69,8 +71,11 @@ pub record IsGrown (octets : List ℕ) (begins : ℕ → Type 0) (before after :
   pub begins_at : begins at
   pub last_at : after.last_at ≡ before.length + at
 
--- the octets are written behind the message where the room is large enough, else all is as it was; the length of both is told
-pub record GivesAppended (octets : List ℕ) (begins : ℕ → Type 0) (before after : Holding) (count status : ℕ) : Type 0 where
+-- the octets are written behind the message where there is room, else all is as it was; the length of both is told
+pub record GivesAppended (octets : List ℕ) (begins : ℕ → Type 0) (before after : Holding) (count status : ℕ)
+    : Type 0 where
   pub count_is : count ≡ before.built.length + length octets
-  pub fits : count ≤ length before.room → (status ≡ OK) × (after.room ≡ reopened before ++ (octets ++ drop count before.room)) × IsGrown octets begins before.built after.built
+  pub fits : count ≤ length before.room → (status ≡ OK)
+      × (after.room ≡ reopened before ++ (octets ++ drop count before.room))
+      × IsGrown octets begins before.built after.built
   pub too_small : length before.room < count → (status ≡ NO_ROOM) × (after ≡ before)

@@ -38,7 +38,7 @@ pub record PassesTo (P : Sought) (bytes : List ℕ) (at next : ℕ) : Type 0 whe
   pub between : LieBetween bytes at runs next
   pub passed : AllByRecursion (IsPassed P) runs
 
--- NDEF 1.0, messages: it is the first of the records from the place on, up to the last of the message, that has what is wanted
+-- NDEF 1.0, messages: of the records from the place on, up to the last of the message, it is the first that is sought
 pub record FindsAt (P : Sought) (bytes : List ℕ) (at : ℕ) (out : NdefRecord) : Type 0 where
   pub next : ℕ
   pub passes : PassesTo P bytes at next
@@ -63,7 +63,7 @@ pub record HasNone (P : Sought) (bytes : List ℕ) (at : ℕ) : Type 0 where
   pub lacks : ¬ P (run_record run)
   pub ends : ends_message run.initial run.later ≡ true
 
--- NDEF 1.0, messages: before any of them has what is wanted or is the last, no record begins where the one before it ends
+-- NDEF 1.0, messages: before any of them is sought or the last, no record begins where the one before it ends
 pub record BreaksOff (P : Sought) (bytes : List ℕ) (at : ℕ) : Type 0 where
   pub next : ℕ
   pub passes : PassesTo P bytes at next

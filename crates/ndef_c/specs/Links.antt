@@ -91,7 +91,7 @@ pub record HasNoLink (bytes payload : List ℕ) (index : ℕ) : Type 0 where
   pub records : HasMessage Standard items payload
   pub beyond : length (alternatives items) ≤ index
 
--- Connection Handover 1.2, Alternative Carrier record: each link of the handover is given, in the order of its alternative carriers
+-- Connection Handover 1.2, Alternative Carrier record: each link is given, in the order of the alternative carriers
 pub record GivesLinks (bytes payload : List ℕ) (before after : List NdefLink) (count status : ℕ) : Type 0 where
   pub may : MayHaveLinks bytes payload
   pub items : List Item

@@ -6,13 +6,14 @@
 //! - `checking.rt`: check. `feeding.rt`, `specs/Feeding.antt`: check of bytes that come in parts.
 //! - `run.rt`, `record.rt`, `specs/Walks.antt`: the record at a place. `payload.rt`: its joined payload.
 //! - `pieces.rt`, `specs/Pieces.antt`: where its pieces lie. `specs/Arrays.antt`: what is written to an array.
-//! - `writing.rt`, `specs/Writes.antt`: a record written.
-//! - `uri.rt`, `text.rt`, `carrier.rt`, `alternative.rt`, `request.rt`, `select.rt`, `poster.rt`,
+//! - `finding.rt`, `specs/Finding.antt`: the first record with a type or an id.
+//! - `writing.rt`, `specs/Writes.antt`: a record written. `building.rt`, `specs/Built.antt`: a message built in a room.
+//! - `uri.rt`, `uri_view.rt`, `text.rt`, `carrier.rt`, `alternative.rt`, `request.rt`, `select.rt`, `poster.rt`,
 //!   `error.rt`: payloads of each kind. `numbers.rt` and `alternative_writing.rt`, `error_writing.rt`,
 //!   `handover_writing.rt`: those of records within posters and handovers, written.
 //! - `utf16.rt`: texts from and to UTF-16.
 //! - `link.rt`: the links of a message. `message.rt`: its records. `handover.rt`: what requests and
-//!   selects share.
+//!   selects share. `links.rt`, `references.rt`: all links of a message, all references of an alternative carrier.
 //! - `nested.rt`: records of the messages in payloads.
 //! - `room.rt`, `specs/Rooms.antt`: bytes written to the caller's buffer.
 //! - `laws.rt`: what holds of the calls together.

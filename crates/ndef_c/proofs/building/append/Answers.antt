@@ -6,7 +6,7 @@ use Rattle.ndef_c.proofs.building.append.Goals as goal
 pub returns : goal.returns
 returns c =
     let a = c.args in
-    let n = ap (λ k. a.built.now.length + k) c.record_length-end.ensures.value in
+    let n = ap (λ k. a.built.now.length + k) c.record_length.ensures.value in
     let l = c.if-room-end.false in
     let p = c.put_record-last.ensures in
     record {

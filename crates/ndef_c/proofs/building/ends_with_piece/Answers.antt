@@ -1,4 +1,5 @@
-use Rattle.std.proofs.Common.{◌≡◌, ◌==◌, drop, length, sym, ◌∙◌, ap, subst, true≢false}
+use Rattle.std.proofs.Common.{◌==◌, drop, length, sym, ◌∙◌, ap, subst, true≢false}
+use Rattle.ndef_format.specs.HeadReasons.{is_set}
 use Rattle.ndef_piece.specs.Whole.{IsSplit, shown}
 use Rattle.ndef_c.proofs.Built.{ends_only, none_of}
 use Rattle.ndef_c.proofs.building.ends_with_piece.Goals as goal
@@ -19,8 +20,8 @@ returns c =
     let s = subst (IsSplit (shown p) _ p.rest.now) c.split_at.ensures.back c.in-Some.ensures.piece in (
       λ t. record {
         piece = shown p;
-        short = _;
-        split = subst (λ r. IsSplit (shown p) _ r (drop c.args.at c.args.bytes.now)) (none_of p.rest.now (sym c.is_empty.ensures ∙ t)) s;
+        short = is_set 4 p.header;
+        split = subst (λ r. IsSplit (shown p) (is_set 4 p.header) r (drop c.args.at c.args.bytes.now)) (none_of p.rest.now (sym c.is_empty.ensures ∙ t)) s;
         last = sym c.is_last.ensures ∙ c.if-not-is_last.false;
         whole = sym c.is_chunked.ensures ∙ c.if-is_chunked.false;
       },

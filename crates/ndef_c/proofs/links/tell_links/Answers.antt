@@ -105,7 +105,7 @@ loop-message-preserved c =
             filled = w.links-is ∙ filled_on i.told link _ _ _ i.filled i.index (omega (arith, l, room, count));
             index = omega (arith, index, one, e);
           }
-        )
+          )
       | else-is_alternative w ↦ (
           let same = ap length (alternatives_same i.done r.item (k ∙ w.if-is_alternative.false)) in
           let e = w.index-is in
@@ -121,7 +121,7 @@ loop-message-preserved c =
             filled = w.links-is ∙ i.filled;
             index = omega (arith, index, e);
           }
-        )
+          )
     ]
 
 pub returns : goal.returns

@@ -13,4 +13,4 @@ returns-clause-written c = λ may.
     let m : Item = asked a.how.now a.kind.now a.id.now a.payload.now in
     let same : octets_by way (item_of c.in-Some.parts) ≡ asked_octets a.how.now m = ap (octets_by way) c.in-Some.ensures.some ∙ asked_by a.how.now way m w.first w.last w.form w.size may.lengths.payload in
     let room = c.if-room-needed.false in
-    gives_put _ _ _ _ _ same c.record_length-needed.ensures.value room c.put_record.ensures.put
+    gives_put _ _ _ _ _ same c.record_length-needed.ensures.value room c.put_record-last.ensures.put
