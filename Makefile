@@ -37,6 +37,8 @@ calls := $(shell sed -nE 's/^(uint32_t|void) (ndef_[a-z0-9_]+).*/\2/p' include/n
 call_pages := $(patsubst %,out/man3/%.3,$(calls) simbegyor-ndef)
 headers := include/ndef.h include/ndef.hpp
 completions := $(wildcard share/completion/*)
+zsh_completions := $(wildcard share/zsh/*)
+fish_completions := $(wildcard share/fish/*)
 shared := -shared -Wl,-z,defs -Wl,-z,relro -Wl,-z,now
 filled := s,@PREFIX@,$(PREFIX),; s,@LIBDIR@,$(LIBDIR),; s,@VERSION@,$(VERSION),; s,@ABI@,$(ABI),
 
@@ -95,7 +97,8 @@ $(library): $(archive) packaging/libsimbegyor-ndef.map
 install: all
 	install -d $(addprefix $(DESTDIR),$(PREFIX)/bin $(PREFIX)/include $(LIBDIR)/pkgconfig $(cmake) \
 	    $(PYTHONDIR)/simbegyor_ndef \
-	    $(PREFIX)/share/man/man1 $(PREFIX)/share/man/man3 $(PREFIX)/share/bash-completion/completions)
+	    $(PREFIX)/share/man/man1 $(PREFIX)/share/man/man3 $(PREFIX)/share/bash-completion/completions \
+	    $(PREFIX)/share/zsh/site-functions $(PREFIX)/share/fish/vendor_completions.d)
 	install -m 755 $(program) $(DESTDIR)$(PREFIX)/bin
 	install -m 755 $(maker) $(DESTDIR)$(PREFIX)/bin/ndef-make
 	install -m 755 $(explainer) $(DESTDIR)$(PREFIX)/bin/ndef-explain
@@ -117,6 +120,8 @@ install: all
 	install -m 644 $(pages) $(DESTDIR)$(PREFIX)/share/man/man1
 	install -m 644 $(call_pages) $(DESTDIR)$(PREFIX)/share/man/man3
 	install -m 644 $(completions) $(DESTDIR)$(PREFIX)/share/bash-completion/completions
+	install -m 644 $(zsh_completions) $(DESTDIR)$(PREFIX)/share/zsh/site-functions
+	install -m 644 $(fish_completions) $(DESTDIR)$(PREFIX)/share/fish/vendor_completions.d
 
 uninstall:
 	rm -f $(addprefix $(DESTDIR)$(PREFIX)/bin/,ndef ndef-make ndef-explain) $(addprefix $(DESTDIR)$(PREFIX)/,$(headers))
@@ -126,6 +131,8 @@ uninstall:
 	rm -f $(addprefix $(DESTDIR)$(PREFIX)/share/man/man1/,$(notdir $(pages)))
 	rm -f $(addprefix $(DESTDIR)$(PREFIX)/share/man/man3/,$(notdir $(call_pages)))
 	rm -f $(addprefix $(DESTDIR)$(PREFIX)/share/bash-completion/completions/,$(notdir $(completions)))
+	rm -f $(addprefix $(DESTDIR)$(PREFIX)/share/zsh/site-functions/,$(notdir $(zsh_completions)))
+	rm -f $(addprefix $(DESTDIR)$(PREFIX)/share/fish/vendor_completions.d/,$(notdir $(fish_completions)))
 
 check:
 	.ci/run

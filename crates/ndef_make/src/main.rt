@@ -8,7 +8,7 @@ ghost use Rattle.ndef_making.specs.Runs.{status_after};
 
 use ndef_making::{Status, run};
 use ndef_message::{StdSink, StdSource};
-use std::io::{self, BufReader, BufWriter, Write};
+use std::io::{self, BufReader, BufWriter, IsTerminal, Write};
 use std::process::ExitCode;
 
 /// The status as the process ends with it.
@@ -45,10 +45,11 @@ fn main(rt: HostRuntime) -> ExitCode {
     let Ok(mut writer) = BufWriter::new(alloc, rt.stdout()) else {
         return code(Status::Fault);
     };
+    let terminal = rt.stdout().is_terminal();
     let mut source = StdSource::new(reader);
     let mut sink = StdSink::new(&mut writer);
     let mut lines = StdSink::new(rt.stderr());
-    let status = run(alloc, words.as_slice(), &mut source, &mut sink, &mut lines);
+    let status = run(alloc, words.as_slice(), terminal, &mut source, &mut sink, &mut lines);
     drop(sink);
     code_after(status, writer.flush())
 }

@@ -7,9 +7,10 @@ use Rattle.clap.specs.Words.{Text}
 use Rattle.ndef_format.specs.Messages.{Item}
 use Rattle.ndef_making.specs.Asked.{AskedPart, SaidAll, SaysPart, all_or_none, asked_of, part_in, parts_of}
 use Rattle.ndef_message.specs.Sources.{Supply}
-use Rattle.ndef_making.specs.Making.{AreMade, IsMade, IsMadeFor, MakesMessage, IsWritten, Makes, ReadsFor, readers_of, wants_hex}
+use Rattle.ndef_making.specs.Making.{AreMade, IsMade, IsMadeFor, MakesMessage, IsWritten, Makes, ReadsFor, readers_of, shown_by}
 use Rattle.ndef_making.specs.declared.fault.Fault.{Fault}
 use Rattle.ndef_making.specs.declared.fault.Fault.TheVariants.{Usage, Refused, Reading, TooLong, Memory}
+use Rattle.ndef_making.specs.declared.making.Written.{Written}
 use Rattle.ndef_making.proofs.Lists.{all_as_long, cut_has_parts, map_twice, none_at}
 use Rattle.ndef_making.proofs.Made.{made_as_many}
 
@@ -37,29 +38,29 @@ asked g words behind slice parts o same is rest said =
 -- ---- what is made
 
 -- where the input is read
-pub written : (words : List Text) (parts : List AskedPart) (before after : Supply) (failed : Bool) (input : List ℕ) (made : Result Text Fault) → asked_of words ≡ Some parts
-    → ReadsFor (readers_of parts) before after failed (Ok input) → IsWritten parts input made → IsMade words before after failed made
-written words parts before after failed input (Ok text) e reads is =
-    subst (λ (o : Option (List AskedPart)). IsMadeFor o before after failed (Ok text)) (sym e) (Ok input, reads, is)
-written words parts before after failed input (Err Usage) e reads is =
-    subst (λ (o : Option (List AskedPart)). IsMadeFor o before after failed (Err Usage)) (sym e) (Ok input, reads, is)
-written words parts before after failed input (Err (Refused why)) e reads is =
-    subst (λ (o : Option (List AskedPart)). IsMadeFor o before after failed (Err (Refused why))) (sym e) (Ok input, reads, is)
-written words parts before after failed input (Err Reading) e reads is =
-    subst (λ (o : Option (List AskedPart)). IsMadeFor o before after failed (Err Reading)) (sym e) (Ok input, reads, is)
-written words parts before after failed input (Err TooLong) e reads is =
-    subst (λ (o : Option (List AskedPart)). IsMadeFor o before after failed (Err TooLong)) (sym e) (Ok input, reads, is)
-written words parts before after failed input (Err Memory) e reads is = tt
+pub written : (words : List Text) (terminal : Bool) (parts : List AskedPart) (before after : Supply) (failed : Bool) (input : List ℕ) (made : Result Written Fault) → asked_of words ≡ Some parts
+    → ReadsFor (readers_of parts) before after failed (Ok input) → IsWritten parts terminal input made → IsMade words terminal before after failed made
+written words terminal parts before after failed input (Ok made) e reads is =
+    subst (λ (o : Option (List AskedPart)). IsMadeFor o terminal before after failed (Ok made)) (sym e) (Ok input, reads, is)
+written words terminal parts before after failed input (Err Usage) e reads is =
+    subst (λ (o : Option (List AskedPart)). IsMadeFor o terminal before after failed (Err Usage)) (sym e) (Ok input, reads, is)
+written words terminal parts before after failed input (Err (Refused why)) e reads is =
+    subst (λ (o : Option (List AskedPart)). IsMadeFor o terminal before after failed (Err (Refused why))) (sym e) (Ok input, reads, is)
+written words terminal parts before after failed input (Err Reading) e reads is =
+    subst (λ (o : Option (List AskedPart)). IsMadeFor o terminal before after failed (Err Reading)) (sym e) (Ok input, reads, is)
+written words terminal parts before after failed input (Err TooLong) e reads is =
+    subst (λ (o : Option (List AskedPart)). IsMadeFor o terminal before after failed (Err TooLong)) (sym e) (Ok input, reads, is)
+written words terminal parts before after failed input (Err Memory) e reads is = tt
 
 -- where the records are made
-pub answers : (parts : List AskedPart) (input : List ℕ) (items : List Item) (made : Result Text Fault) → AreMade parts input items → MakesMessage (wants_hex parts) items made
-    → IsWritten parts input made
-answers parts input items (Ok text) are is = (items, are, is)
-answers parts input items (Err Usage) are is = inr (items, are, is)
-answers parts input items (Err (Refused why)) are is = inr (items, are, is)
-answers parts input items (Err Reading) are is = inr (items, are, is)
-answers parts input items (Err TooLong) are is = inr (items, are, is)
-answers parts input items (Err Memory) are is = tt
+pub answers : (parts : List AskedPart) (terminal : Bool) (input : List ℕ) (items : List Item) (made : Result Written Fault) → AreMade parts input items
+    → MakesMessage (shown_by terminal parts) items made → IsWritten parts terminal input made
+answers parts terminal input items (Ok made) are is = (items, are, is)
+answers parts terminal input items (Err Usage) are is = inr (items, are, is)
+answers parts terminal input items (Err (Refused why)) are is = inr (items, are, is)
+answers parts terminal input items (Err Reading) are is = inr (items, are, is)
+answers parts terminal input items (Err TooLong) are is = inr (items, are, is)
+answers parts terminal input items (Err Memory) are is = tt
 
 -- there is a record, since there is a part
 pub some_record : (words : List Text) (parts : List AskedPart) (input : List ℕ) (items : List Item) → asked_of words ≡ Some parts → AreMade parts input items → items ≡ [] → ⊥

@@ -1,5 +1,5 @@
 -- Why no message is made, what is printed of it, and the status.
-use Rattle.std.specs.Prelude.{ℕ, codes}
+use Rattle.std.specs.Prelude.{ℕ, ◌++◌, codes, decimal}
 use Rattle.clap.specs.Words.{Text}
 use Rattle.ndef_message.specs.declared.input.InputError.{InputError}
 use Rattle.ndef_message.specs.declared.input.InputError.TheVariants as inputs
@@ -11,10 +11,14 @@ use Rattle.ndef_value.specs.declared.name.NameError.{NameError}
 use Rattle.ndef_value.specs.declared.name.NameError.TheVariants as names
 use Rattle.ndef_value.specs.declared.record.RecordError.{RecordError}
 use Rattle.ndef_value.specs.declared.record.RecordError.TheVariants as records
+use Rattle.ndef_format.specs.Reasons.{reason_name, reason_number}
+use Rattle.ndef_format.specs.declared.refusal.Refusal.{Refusal}
 use Rattle.ndef_making.specs.declared.fault.Fault.{Fault}
 use Rattle.ndef_making.specs.declared.fault.Fault.TheVariants.{Usage, Refused, Reading, TooLong, Memory}
 use Rattle.ndef_making.specs.declared.fault.Refused.TheVariants as refused
 use Rattle.ndef_making.specs.declared.fault.Status.{Status}
+use Rattle.ndef_making.specs.declared.fault.Told.{Told}
+use Rattle.ndef_making.specs.declared.fault.Told.TheVariants as told
 use Rattle.ndef_making.specs.declared.fault.Status.TheVariants as status
 
 -- ---- errors of the input and of parts
@@ -51,7 +55,12 @@ record_fault records.NoMemory = Memory
 
 -- for words that don't parse
 abbrev pub usage_line : Text
-usage_line = codes "usage: ndef-make text [--language L] [--utf16] TEXT | uri URI | poster URI [--title L=TEXT].. [--action do|save|open] [--size N] [--media TYPE] | record --tnf N [--type T] [--id I] < payload; [--hex]; more records: --and ..\n"
+usage_line = codes "usage: ndef-make text [--language L] [--utf16] TEXT | uri URI | poster URI [--title L=TEXT].. [--action do|save|open] [--size N] [--media TYPE] | record --tnf N [--type T] [--id I] [--unchecked] < payload | carrier --format N --type T [--id I] < data; [--hex] [--raw]; more records: --and ..; --help | --version\n"
+
+-- for a payload that isn't one of its type
+abbrev pub payload_line : Refusal → Text
+payload_line r =
+    codes "refused: payload at " ++ decimal r.at ++ codes ": " ++ decimal (reason_number r.reason) ++ codes " " ++ reason_name r.reason ++ codes "\n"
 
 -- the line of a fault
 abbrev pub line_of : Fault → Text
@@ -61,11 +70,17 @@ line_of (Refused refused.LanguageNotAscii) = codes "refused: a language code tha
 line_of (Refused refused.PayloadTooLong) = codes "refused: a payload of more than 4294967295 bytes\n"
 line_of (Refused refused.BadShape) = codes "refused: parts that do not go with the type name format\n"
 line_of (Refused refused.PartTooLong) = codes "refused: a type or an id of more than 255 bytes\n"
+line_of (Refused (refused.BadPayload refusal)) = payload_line refusal
 line_of (Refused refused.NoPoster) = codes "refused: records that are no smart poster\n"
 line_of (Refused refused.TooManyRecords) = codes "refused: more than 65535 records\n"
 line_of Reading = codes "fault: reading\n"
 line_of TooLong = codes "fault: more than 1048576 bytes of payload\n"
 line_of Memory = codes "fault: memory\n"
+
+-- what is told
+abbrev pub told_text : Told → Text
+told_text (told.Text text) = text.now
+told_text (told.Line line) = line
 
 -- ---- the status
 

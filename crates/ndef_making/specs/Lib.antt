@@ -5,5 +5,9 @@ pub mod Faults
 pub mod Inputs
 pub mod Records
 pub mod Posters
+pub mod Carriers
+pub mod Checking
 pub mod Making
+pub mod Reading
+pub mod Pages
 pub mod Runs

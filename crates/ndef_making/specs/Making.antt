@@ -1,5 +1,5 @@
 -- The message that the words ask for, and what is written of it.
-use Rattle.std.specs.Prelude.{◌≡◌, ◌<◌, ◌⊎◌, ℕ, zero, suc, Bool, true, false, List, [], ◌++◌, length, count_by, Option, Some, None, Result, Ok, Err, ⊤, codes, Vec}
+use Rattle.std.specs.Prelude.{◌≡◌, ◌<◌, ◌⊎◌, ◌&&◌, ℕ, zero, suc, Bool, not, if◌then◌else◌, List, [], ◌++◌, length, count_by, Option, Some, None, Result, Ok, Err, ⊤, codes, Vec}
 use Rattle.std.specs.declared.alloc.Global.{Global}
 use Rattle.std.specs.List.{list_any}
 use Rattle.hex.specs.Hex.{encode_lower}
@@ -8,22 +8,22 @@ use Rattle.ndef_format.specs.Canonical.{AreItems, canonical}
 use Rattle.ndef_format.specs.Messages.{Item}
 use Rattle.ndef_message.specs.Sources.{Supply}
 use Rattle.ndef_making.specs.Asked.{AskedPart, asked_of}
+use Rattle.ndef_making.specs.Carriers.{MakesCarrier, carrier_said, id_said}
+use Rattle.ndef_making.specs.Checking.{MakesIf, is_unchecked}
 use Rattle.ndef_making.specs.Inputs.{IsPayloadInput}
-use Rattle.ndef_making.specs.Options.{flag_of, subject_named}
+use Rattle.ndef_making.specs.Options.{flag_of, subject_named, takes_input}
 use Rattle.ndef_making.specs.Posters.{MakesPoster}
 use Rattle.ndef_making.specs.Records.{Answer, AreAnsweredBy, AreMadeBy, Asks, FailsBy, MakesItem, MakesText, MakesUri, item_said, text_said, uri_said}
 use Rattle.ndef_making.specs.declared.fault.Fault.{Fault}
 use Rattle.ndef_making.specs.declared.fault.Fault.TheVariants.{Usage, Refused, Memory}
 use Rattle.ndef_making.specs.declared.fault.Refused.TheVariants.{TooManyRecords}
+use Rattle.ndef_making.specs.declared.making.Written.{Written}
+use Rattle.ndef_making.specs.declared.making.Shown.{Shown}
+use Rattle.ndef_making.specs.declared.making.Shown.TheVariants.{Digits, DigitsForTerminal, Octets}
 use Rattle.ndef_making.specs.declared.options.Subject.{Subject}
 use Rattle.ndef_making.specs.declared.options.Subject.TheVariants as subject
 
 -- ---- the input
-
--- the subject is a record whose payload is the input
-abbrev pub takes_input : Option Subject → Bool
-takes_input (Some subject.Record) = true
-takes_input _ = false
 
 -- whether the part takes the input
 abbrev pub is_reader : AskedPart → Bool
@@ -48,10 +48,11 @@ MakesBy (Some subject.Text) rows input answer = Asks MakesText (text_said rows) 
 MakesBy (Some subject.Uri) rows input answer = Asks MakesUri (uri_said rows) answer
 MakesBy (Some subject.Poster) rows input answer = MakesPoster rows answer
 MakesBy (Some subject.Record) rows input answer = Asks MakesItem (item_said rows input) answer
+MakesBy (Some subject.Carrier) rows input answer = Asks (MakesCarrier (id_said rows)) (carrier_said rows input) answer
 
--- what is made of a part, with the input
+-- what is made of a part, with the input: a record whose payload is one of its type, or isn't checked
 abbrev pub Makes : AskedPart → (input : List ℕ) → Answer → Type 0
-Makes part input answer = MakesBy (subject_named part.0) part.1 input answer
+Makes part input answer = MakesIf (is_unchecked part) (MakesBy (subject_named part.0) part.1 input) answer
 
 -- the records of the parts, in order
 abbrev pub AreMade : List AskedPart → (input : List ℕ) → List Item → Type 0
@@ -67,42 +68,48 @@ AreAnswered parts input answer = AreAnsweredBy (λ part. Makes part input) parts
 
 -- ---- what is written
 
--- whether a part asks for hexadecimal digits
-abbrev pub wants_hex : List AskedPart → Bool
-wants_hex = list_any (λ part. flag_of (codes "hex") part.1)
+-- whether a part has the flag
+abbrev pub has_flag : Text → List AskedPart → Bool
+has_flag id parts = list_any (λ part. flag_of id part.1) parts
+
+-- how the bytes are written, to a terminal or not
+abbrev pub shown_by : (terminal : Bool) → List AskedPart → Shown
+shown_by terminal parts = if has_flag (codes "hex") parts then Digits
+    else (if terminal && not (has_flag (codes "raw") parts) then DigitsForTerminal else Octets)
 
 -- bytes as they are, or as a line of hexadecimal digits
-abbrev pub shown_in : Bool → List ℕ → Text
-shown_in false bytes = bytes
-shown_in true bytes = encode_lower bytes ++ codes "\n"
+abbrev pub shown_in : Shown → List ℕ → Text
+shown_in Octets bytes = bytes
+shown_in Digits bytes = encode_lower bytes ++ codes "\n"
+shown_in DigitsForTerminal bytes = encode_lower bytes ++ codes "\n"
 
 -- NDEF 1.0, messages: the canonical spelling of the records, of which there are at most 65535
-abbrev pub MakesMessage : (hex : Bool) → List Item → Result Text Fault → Type 0
-MakesMessage hex items (Ok text) = AreItems items × (text ≡ shown_in hex (canonical items))
-MakesMessage hex items (Err (Refused TooManyRecords)) = 65535 < length items
-MakesMessage hex items (Err Memory) = ⊤
-MakesMessage hex items (Err _) = ⊥
+abbrev pub MakesMessage : Shown → List Item → Result Written Fault → Type 0
+MakesMessage shown items (Ok made) = AreItems items × (made.text ≡ shown_in shown (canonical items)) × (made.shown ≡ shown)
+MakesMessage shown items (Err (Refused TooManyRecords)) = 65535 < length items
+MakesMessage shown items (Err Memory) = ⊤
+MakesMessage shown items (Err _) = ⊥
 
 -- what is written for the parts: their message, or why there is none
-abbrev pub IsWritten : List AskedPart → (input : List ℕ) → Result Text Fault → Type 0
-IsWritten parts input (Err Memory) = ⊤
-IsWritten parts input (Ok text) = (items : List Item) × AreMade parts input items × MakesMessage (wants_hex parts) items (Ok text)
-IsWritten parts input (Err fault) =
-    FailsAt parts input fault ⊎ ((items : List Item) × AreMade parts input items × MakesMessage (wants_hex parts) items (Err fault))
+abbrev pub IsWritten : List AskedPart → (terminal : Bool) → (input : List ℕ) → Result Written Fault → Type 0
+IsWritten parts terminal input (Err Memory) = ⊤
+IsWritten parts terminal input (Ok made) = (items : List Item) × AreMade parts input items × MakesMessage (shown_by terminal parts) items (Ok made)
+IsWritten parts terminal input (Err fault) =
+    FailsAt parts input fault ⊎ ((items : List Item) × AreMade parts input items × MakesMessage (shown_by terminal parts) items (Err fault))
 
 -- the same with what comes of reading
-abbrev pub IsWrittenOf : List AskedPart → Result (List ℕ) Fault → Result Text Fault → Type 0
-IsWrittenOf parts (Ok input) made = IsWritten parts input made
-IsWrittenOf parts (Err fault) made = made ≡ Err fault
+abbrev pub IsWrittenOf : List AskedPart → (terminal : Bool) → Result (List ℕ) Fault → Result Written Fault → Type 0
+IsWrittenOf parts terminal (Ok input) made = IsWritten parts terminal input made
+IsWrittenOf parts terminal (Err fault) made = made ≡ Err fault
 
 -- the message for which the words ask; the usage line where they ask for nothing
-abbrev pub IsMadeFor : Option (List AskedPart) → (before after : Supply) → Bool → Result Text Fault → Type 0
-IsMadeFor None before after failed made = (after ≡ before) × (made ≡ Err Usage)
-IsMadeFor (Some parts) before after failed made =
-    (input : Result (List ℕ) Fault) × ReadsFor (readers_of parts) before after failed input × IsWrittenOf parts input made
+abbrev pub IsMadeFor : Option (List AskedPart) → (terminal : Bool) → (before after : Supply) → Bool → Result Written Fault → Type 0
+IsMadeFor None terminal before after failed made = (after ≡ before) × (made ≡ Err Usage)
+IsMadeFor (Some parts) terminal before after failed made =
+    (input : Result (List ℕ) Fault) × ReadsFor (readers_of parts) before after failed input × IsWrittenOf parts terminal input made
 
 -- what comes of the words and the input: what is written of the message, or why there is none
-abbrev pub IsMade : List Text → (before after : Supply) → Bool → Result Text Fault → Type 0
-IsMade words before after failed (Ok text) = IsMadeFor (asked_of words) before after failed (Ok text)
-IsMade words before after failed (Err Memory) = ⊤
-IsMade words before after failed (Err fault) = IsMadeFor (asked_of words) before after failed (Err fault)
+abbrev pub IsMade : List Text → (terminal : Bool) → (before after : Supply) → Bool → Result Written Fault → Type 0
+IsMade words terminal before after failed (Ok made) = IsMadeFor (asked_of words) terminal before after failed (Ok made)
+IsMade words terminal before after failed (Err Memory) = ⊤
+IsMade words terminal before after failed (Err fault) = IsMadeFor (asked_of words) terminal before after failed (Err fault)

@@ -1,5 +1,5 @@
 -- What the options of a part say.
-use Rattle.std.specs.Prelude.{Bool, false, List, Option, Some, None, codes, if◌then◌else◌, unwrap_or}
+use Rattle.std.specs.Prelude.{Bool, true, false, List, Option, Some, None, codes, if◌then◌else◌, unwrap_or}
 use Rattle.std.specs.Option.{option_map_or}
 use Rattle.std.specs.Str.{bytes_eq}
 use Rattle.clap.specs.Words.{Row, Text, first_of}
@@ -21,7 +21,19 @@ abbrev pub subject_named : Text → Option Subject
 subject_named name = if bytes_eq name (codes "text") then Some subject.Text
     else (if bytes_eq name (codes "uri") then Some subject.Uri
     else (if bytes_eq name (codes "poster") then Some subject.Poster
-    else (if bytes_eq name (codes "record") then Some subject.Record else None)))
+    else (if bytes_eq name (codes "record") then Some subject.Record
+    else (if bytes_eq name (codes "carrier") then Some subject.Carrier else None))))
+
+-- the subject is a record of given parts
+abbrev pub is_given : Option Subject → Bool
+is_given (Some subject.Record) = true
+is_given _ = false
+
+-- the subject is a record whose payload or data is the input
+abbrev pub takes_input : Option Subject → Bool
+takes_input (Some subject.Record) = true
+takes_input (Some subject.Carrier) = true
+takes_input _ = false
 
 -- NDEF 1.0, TNF: the type name format of this number, as it is written in decimal; 6 and 7 are of no record
 abbrev pub tnf_named : Text → Option Tnf

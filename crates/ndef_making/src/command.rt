@@ -2,7 +2,7 @@
 ghost use Rattle.std.specs.Prelude.{◌≡◌, false};
 ghost use Rattle.clap.specs.Words.{App, app_of, rule_of, with_rule, with_subcommand};
 ghost use Rattle.clap.specs.declared.builder.command.Command.TheViews.{out-Command as fields_of};
-ghost use Rattle.ndef_making.specs.CommandLine.{IsCommand, asked_rule, empty_app, flag_rule, given_rule, hex_app, make_app, poster_app, record_app, repeated_rule, text_app, titled_app, uri_app, word_rule};
+ghost use Rattle.ndef_making.specs.CommandLine.{IsCommand, asked_rule, carrier_app, empty_app, flag_rule, given_rule, hex_app, make_app, part_app, poster_app, record_app, repeated_rule, text_app, titled_app, uri_app, word_rule};
 
 use clap::{Arg, ArgAction, Command};
 use std::alloc::{AllocError, Global};
@@ -69,18 +69,25 @@ fn over<'a>(
     command?.subcommand(subcommand?)
 }
 
-/// A subcommand with the flag for hexadecimal text.
+/// A subcommand with the flag for hexadecimal digits.
 fn hex_command<'a>(alloc: Global, name: &'a str) -> Result<Command<'a>, AllocError>
     ensures { IsCommand (hex_app name.entry.now) result }
 {
     Command::new(alloc, name).arg(flag(alloc, "hex"))
 }
 
+/// A subcommand with the flags of each: how the bytes are written.
+fn part_command<'a>(alloc: Global, name: &'a str) -> Result<Command<'a>, AllocError>
+    ensures { IsCommand (part_app name.entry.now) result }
+{
+    with(hex_command(alloc, name), flag(alloc, "raw"))
+}
+
 /// The subcommand `text`.
 fn text_command<'a>(alloc: Global) -> Result<Command<'a>, AllocError>
     ensures { IsCommand text_app result }
 {
-    let command = hex_command(alloc, "text");
+    let command = part_command(alloc, "text");
     let command = with(command, word_option(alloc, "language"));
     let command = with(command, flag(alloc, "utf16"));
     with(command, given_word(alloc, "text"))
@@ -90,14 +97,14 @@ fn text_command<'a>(alloc: Global) -> Result<Command<'a>, AllocError>
 fn uri_command<'a>(alloc: Global) -> Result<Command<'a>, AllocError>
     ensures { IsCommand uri_app result }
 {
-    with(hex_command(alloc, "uri"), given_word(alloc, "uri"))
+    with(part_command(alloc, "uri"), given_word(alloc, "uri"))
 }
 
 /// The subcommand `poster`, with its URI and titles.
 fn titled_command<'a>(alloc: Global) -> Result<Command<'a>, AllocError>
     ensures { IsCommand titled_app result }
 {
-    let command = hex_command(alloc, "poster");
+    let command = part_command(alloc, "poster");
     let command = with(command, given_word(alloc, "uri"));
     with(command, repeated_option(alloc, "title"))
 }
@@ -116,9 +123,20 @@ fn poster_command<'a>(alloc: Global) -> Result<Command<'a>, AllocError>
 fn record_command<'a>(alloc: Global) -> Result<Command<'a>, AllocError>
     ensures { IsCommand record_app result }
 {
-    let command = hex_command(alloc, "record");
+    let command = part_command(alloc, "record");
     let command = with(command, asked_option(alloc, "tnf"));
     let command = with(command, word_option(alloc, "type"));
+    let command = with(command, word_option(alloc, "id"));
+    with(command, flag(alloc, "unchecked"))
+}
+
+/// The subcommand `carrier`.
+fn carrier_command<'a>(alloc: Global) -> Result<Command<'a>, AllocError>
+    ensures { IsCommand carrier_app result }
+{
+    let command = part_command(alloc, "carrier");
+    let command = with(command, asked_option(alloc, "format"));
+    let command = with(command, asked_option(alloc, "type"));
     with(command, word_option(alloc, "id"))
 }
 
@@ -141,5 +159,6 @@ pub fn make_command<'a>(alloc: Global) -> Result<Command<'a>, AllocError>
     let command = over(Ok(empty_command(alloc)), text_command(alloc));
     let command = over(command, uri_command(alloc));
     let command = over(command, poster_command(alloc));
-    over(command, record_command(alloc))
+    let command = over(command, record_command(alloc));
+    over(command, carrier_command(alloc))
 }

@@ -1,11 +1,12 @@
 //! Why no message is made, and the status of a run.
 ghost use Rattle.std.specs.Prelude.{◌≡◌};
-ghost use Rattle.ndef_making.specs.Faults.{encode_fault, input_fault, line_of, name_fault, number_of_status, record_fault, status_of, text_fault};
+ghost use Rattle.ndef_making.specs.Faults.{encode_fault, input_fault, line_of, name_fault, payload_line, record_fault, status_of, text_fault, told_text};
 ghost use Rattle.ndef_making.specs.declared.fault.Fault.TheVariants.{Memory};
 
 use ndef_message::InputError;
+use ndef_program::Line;
 use ndef_types::{EncodeError, TextError};
-use ndef_value::{NameError, NoMemory, RecordError};
+use ndef_value::{NameError, NoMemory, RecordError, Refusal};
 use std::alloc::{AllocError, AllocFailed};
 use thiserror::Error;
 
@@ -27,6 +28,9 @@ pub enum Refused {
     /// A type or an id of more than 255 bytes (NDEF 1.0, TYPE_LENGTH and ID_LENGTH).
     #[error("a type or an id of more than 255 bytes")]
     PartTooLong,
+    /// A payload that isn't one of its type: where and why a strict reader refuses it.
+    #[error("a payload is {0}")]
+    BadPayload(Refusal),
     /// Records that are no smart poster (RTD Smart Poster 1.0).
     #[error("records that are no smart poster")]
     NoPoster,
@@ -151,38 +155,83 @@ pub enum Status {
     Fault = 3,
 }
 
+/// What is printed of a fault.
+#[derive(Drop)]
+pub(crate) enum Told {
+    /// The same text each time.
+    Text(&'static [u8]),
+    /// A line with numbers.
+    Line(Line),
+}
+
+impl Told {
+    /// Its bytes.
+    pub(crate) fn as_slice(&self) -> &[u8]
+        ensures { result.now ≡ told_text self.now }
+    {
+        match self {
+            Told::Text(text) => text,
+            Told::Line(line) => line.as_slice(),
+        }
+    }
+}
+
+/// What is printed of a payload that is refused.
+fn payload_line(refusal: Refusal) -> Line
+    ensures { result ≡ payload_line refusal }
+{
+    let mut line = Line::new();
+    line.push(b"refused: payload at ");
+    line.push_number(refusal.at);
+    line.push(b": ");
+    line.push_number(u64::from(refusal.reason.number()));
+    line.push(b" ");
+    line.push(refusal.reason.name());
+    line.push(b"\n");
+    line
+}
+
 /// What is printed where what the words ask for can't be said.
-fn refused_line(refused: Refused) -> &'static [u8]
-    ensures { result.now ≡ line_of (Fault.Refused refused) }
+fn refused_line(refused: Refused) -> Told
+    ensures { told_text result ≡ line_of (Fault.Refused refused) }
 {
     match refused {
-        Refused::LanguageTooLong => b"refused: a language code of more than 63 bytes\n",
-        Refused::LanguageNotAscii => b"refused: a language code that is not ASCII\n",
-        Refused::PayloadTooLong => b"refused: a payload of more than 4294967295 bytes\n",
-        Refused::BadShape => b"refused: parts that do not go with the type name format\n",
-        Refused::PartTooLong => b"refused: a type or an id of more than 255 bytes\n",
-        Refused::NoPoster => b"refused: records that are no smart poster\n",
-        Refused::TooManyRecords => b"refused: more than 65535 records\n",
+        Refused::BadPayload(refusal) => Told::Line(payload_line(refusal)),
+        Refused::LanguageTooLong => {
+            Told::Text(b"refused: a language code of more than 63 bytes\n")
+        }
+        Refused::LanguageNotAscii => Told::Text(b"refused: a language code that is not ASCII\n"),
+        Refused::PayloadTooLong => {
+            Told::Text(b"refused: a payload of more than 4294967295 bytes\n")
+        }
+        Refused::BadShape => {
+            Told::Text(b"refused: parts that do not go with the type name format\n")
+        }
+        Refused::PartTooLong => Told::Text(b"refused: a type or an id of more than 255 bytes\n"),
+        Refused::NoPoster => Told::Text(b"refused: records that are no smart poster\n"),
+        Refused::TooManyRecords => Told::Text(b"refused: more than 65535 records\n"),
     }
 }
 
 /// What is printed of a fault.
-pub(crate) fn line_of(fault: Fault) -> &'static [u8]
-    ensures { result.now ≡ line_of fault }
+pub(crate) fn line_of(fault: Fault) -> Told
+    ensures { told_text result ≡ line_of fault }
 {
     match fault {
-        Fault::Usage => USAGE,
+        Fault::Usage => Told::Text(USAGE),
         Fault::Refused(refused) => refused_line(refused),
-        Fault::Reading => b"fault: reading\n",
-        Fault::TooLong => b"fault: more than 1048576 bytes of payload\n",
-        Fault::Memory => b"fault: memory\n",
+        Fault::Reading => Told::Text(b"fault: reading\n"),
+        Fault::TooLong => Told::Text(b"fault: more than 1048576 bytes of payload\n"),
+        Fault::Memory => Told::Text(b"fault: memory\n"),
     }
 }
 
 /// What is printed where the words don't parse.
 const USAGE: &[u8] = b"usage: ndef-make text [--language L] [--utf16] TEXT | uri URI | \
     poster URI [--title L=TEXT].. [--action do|save|open] [--size N] [--media TYPE] | \
-    record --tnf N [--type T] [--id I] < payload; [--hex]; more records: --and ..\n";
+    record --tnf N [--type T] [--id I] [--unchecked] < payload | \
+    carrier --format N --type T [--id I] < data; [--hex] [--raw]; more records: --and ..; \
+    --help | --version\n";
 
 /// The status of a fault.
 pub(crate) fn status_of(fault: Fault) -> Status

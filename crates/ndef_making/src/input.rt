@@ -1,4 +1,4 @@
-//! The payload that stands on the input.
+//! The payload of a record, or the data of a carrier, that stands on the input.
 ghost use Rattle.ndef_message.specs.Machine.Turns.{supply_of};
 ghost use Rattle.ndef_making.specs.Inputs.{IsPayloadInput};
 

@@ -4,22 +4,29 @@
 //! Where to look:
 //!
 //! - `running.rt`, `specs/Runs.antt`: one run. `making.rt`, `specs/Making.antt`: the message.
+//! - `pages.rt`, `specs/Pages.antt`: what `--help` and `--version` print.
 //! - `parts.rt`, `command.rt`, `options.rt`, `specs/Asked.antt`: the words, by clap.
-//! - `records.rt`, `poster.rt`, `specs/Records.antt`, `specs/Posters.antt`: the record of a part.
-//! - `input.rt`: the payload of a record, from standard input.
+//! - `records.rt`, `poster.rt`, `carrier.rt`, `specs/Records.antt`, `specs/Posters.antt`, `specs/Carriers.antt`: the
+//!   record of a part;
+//!   `specs/Checking.antt`: which payloads are written. `laws.rt`, `specs/Reading.antt`: what is read of it.
+//! - `input.rt`: the payload of a record or the data of a carrier, from standard input.
 //! - `fault.rt`, `specs/Faults.antt`: why there is no message, the line that says so, and the status.
 #![tactic(auto)]
 
+mod carrier;
 mod command;
 mod fault;
 mod input;
+mod laws;
 mod making;
 mod options;
+mod pages;
 mod parts;
 mod poster;
 mod records;
 mod running;
 
 pub use fault::{Fault, Refused, Status};
-pub use making::make;
+pub use laws::made_is_read;
+pub use making::{Shown, Written, make};
 pub use running::run;

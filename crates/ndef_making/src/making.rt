@@ -1,8 +1,9 @@
 //! The message that the words ask for.
-ghost use Rattle.std.specs.Prelude.{◌≡◌, ◌≢◌, [], drop, map, string_bytes, IfOk};
+ghost use Rattle.std.specs.Prelude.{◌≡◌, ◌≢◌, ◌++◌, [], codes, drop, map, string_bytes, IfOk};
+ghost use Rattle.hex.specs.Hex.{encode_lower};
 ghost use Rattle.ndef_message.specs.Machine.Turns.{supply_of};
 ghost use Rattle.ndef_making.specs.Asked.{asked_part};
-ghost use Rattle.ndef_making.specs.Making.{AreAnswered, IsMade, MakesMessage, ReadsFor, is_reader, readers_of, shown_in, wants_hex};
+ghost use Rattle.ndef_making.specs.Making.{AreAnswered, IsMade, MakesMessage, ReadsFor, has_flag, is_reader, readers_of, shown_by, shown_in};
 
 use crate::input::read_payload;
 use crate::options::{Subject, flag, subject_named};
@@ -13,11 +14,35 @@ use ndef_message::{Form, Source, encode};
 use ndef_value::{Bytes, Message, MessageError, NoMemory, Record};
 use std::alloc::Global;
 
+/// How the bytes of a message are written.
+#[derive(Clone, Copy, Debug, PartialEq, Eq)]
+pub enum Shown {
+    /// As they are.
+    Octets,
+    /// As hexadecimal digits and a newline.
+    Digits,
+    /// As hexadecimal digits and a newline, because they go to a terminal.
+    DigitsForTerminal,
+}
+
+/// What is written of a message.
+#[derive(Debug, Drop)]
+pub struct Written {
+    /// The bytes, or their digits.
+    pub text: Bytes,
+    /// Which of the two.
+    pub shown: Shown,
+}
+
 /// Whether a part takes the input.
 fn is_reader(said: &Said<'_>) -> bool
     ensures { result ≡ is_reader (asked_part said.now) }
 {
-    matches!(subject_named(said.name), Some(Subject::Record))
+    match subject_named(said.name) {
+        Some(Subject::Record) => true,
+        Some(Subject::Carrier) => true,
+        _ => false,
+    }
 }
 
 /// How many parts take the input.
@@ -45,16 +70,29 @@ fn read_for<S: Source>(alloc: Global, said: &[Said<'_>], source: &mut S) -> Resu
     }
 }
 
-/// Whether the bytes are written as hexadecimal digits.
-fn wants_hex(said: &[Said<'_>]) -> bool
-    ensures { result ≡ wants_hex (map asked_part said.now) }
+/// Whether a part has the flag.
+fn has_flag(said: &[Said<'_>], id: &str) -> bool
+    ensures { result ≡ has_flag id.now (map asked_part said.now) }
 {
     for part in said {
-        if flag(&part.matches, "hex") {
+        if flag(&part.matches, id) {
             return true;
         }
     }
     false
+}
+
+/// How the bytes are written, to a terminal or not.
+fn shown_by(terminal: bool, said: &[Said<'_>]) -> Shown
+    ensures { result ≡ shown_by terminal (map asked_part said.now) }
+{
+    if has_flag(said, "hex") {
+        return Shown::Digits;
+    }
+    if terminal && !has_flag(said, "raw") {
+        return Shown::DigitsForTerminal;
+    }
+    Shown::Octets
 }
 
 /// The records of the parts, with the input.
@@ -68,13 +106,10 @@ fn make_records(alloc: Global, said: &[Said<'_>], input: &[u8]) -> Result<Vec<Re
     Ok(records)
 }
 
-/// The bytes as they are, or as a line of hexadecimal digits.
-fn shown(alloc: Global, hex: bool, bytes: Bytes) -> Result<Bytes, NoMemory>
-    ensures { IfOk result (λ text. text ≡ shown_in hex bytes) }
+/// The bytes as a line of hexadecimal digits.
+fn digits_of(alloc: Global, bytes: &Bytes) -> Result<Bytes, NoMemory>
+    ensures { IfOk result (λ text. text ≡ encode_lower bytes.now ++ codes "\n") }
 {
-    if !hex {
-        return Ok(bytes);
-    }
     let Ok(digits) = hex::encode(alloc, bytes.as_slice()) else {
         return Err(NoMemory);
     };
@@ -83,15 +118,26 @@ fn shown(alloc: Global, hex: bool, bytes: Bytes) -> Result<Bytes, NoMemory>
     Ok(line)
 }
 
+/// The bytes as they are written.
+fn text_in(alloc: Global, shown: Shown, bytes: Bytes) -> Result<Bytes, NoMemory>
+    ensures { IfOk result (λ text. text ≡ shown_in shown bytes) }
+{
+    match shown {
+        Shown::Octets => Ok(bytes),
+        Shown::Digits | Shown::DigitsForTerminal => digits_of(alloc, &bytes),
+    }
+}
+
 /// What is written of the records.
-fn write_records(alloc: Global, hex: bool, records: Vec<Record>) -> Result<Bytes, Fault>
+fn write_records(alloc: Global, shown: Shown, records: Vec<Record>) -> Result<Written, Fault>
     requires { records.items ≢ [] }
-    ensures { MakesMessage hex records.items result }
+    ensures { MakesMessage shown records.items result }
 {
     match Message::new(records) {
         Ok(message) => {
             let bytes = encode(alloc, &message, Form::Short)?;
-            Ok(shown(alloc, hex, bytes)?)
+            let text = text_in(alloc, shown, bytes)?;
+            Ok(Written { text, shown })
         }
         Err(MessageError::NoRecords(_)) => unreachable!(),
         Err(MessageError::TooMany(_)) => Err(Fault::Refused(Refused::TooManyRecords)),
@@ -110,9 +156,15 @@ fn words_behind(words: &[String]) -> &[String]
 
 /// What is written of the message for which the words ask, of which the first is the program's name.
 ///
-/// The source is read, to its end, exactly where one part is a `record`.
-pub fn make<S: Source>(alloc: Global, words: &[String], source: &mut S) -> Result<Bytes, Fault>
-    ensures { IsMade (map string_bytes words.now)
+/// The source is read, to its end, exactly where one part is a `record` or a `carrier`. To a terminal digits are written,
+/// unless a part has the flag `raw`.
+pub fn make<S: Source>(
+    alloc: Global,
+    words: &[String],
+    terminal: bool,
+    source: &mut S,
+) -> Result<Written, Fault>
+    ensures { IsMade (map string_bytes words.now) terminal
         (supply_of S.Source source.old) (supply_of S.Source source.new)
         (S.has_failed source.new) result }
 {
@@ -120,5 +172,5 @@ pub fn make<S: Source>(alloc: Global, words: &[String], source: &mut S) -> Resul
     let said = say_all(alloc, parts.as_slice())?;
     let input = read_for(alloc, said.as_slice(), source)?;
     let records = make_records(alloc, said.as_slice(), input.as_slice())?;
-    write_records(alloc, wants_hex(said.as_slice()), records)
+    write_records(alloc, shown_by(terminal, said.as_slice()), records)
 }

@@ -17,6 +17,8 @@ pub(crate) enum Subject {
     Poster,
     /// A record whose payload is the input.
     Record,
+    /// A Handover Carrier record, whose data is the input (Connection Handover 1.2).
+    Carrier,
 }
 
 /// The word of an option, where it is given.
@@ -55,6 +57,7 @@ pub(crate) fn subject_named(name: &str) -> Option<Subject>
         "uri" => Some(Subject::Uri),
         "poster" => Some(Subject::Poster),
         "record" => Some(Subject::Record),
+        "carrier" => Some(Subject::Carrier),
         _ => None,
     }
 }

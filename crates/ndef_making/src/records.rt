@@ -2,16 +2,21 @@
 ghost use Rattle.std.specs.Prelude.{◌≡◌, ◌<◌, ◌≤◌, ◌^◌, length, chars};
 ghost use Rattle.clap.specs.Words.{found_of, rows_of};
 ghost use Rattle.ndef_making.specs.Asked.{asked_part};
-ghost use Rattle.ndef_making.specs.Making.{Makes};
+ghost use Rattle.ndef_making.specs.Checking.{Checked, is_unchecked};
+ghost use Rattle.ndef_making.specs.Making.{Makes, MakesBy};
+ghost use Rattle.ndef_making.specs.Options.{subject_named};
 ghost use Rattle.ndef_making.specs.Records.{Asks, MakesItem, MakesText, MakesUri, item_said, text_said, uri_said, well_known};
 
-use crate::Fault;
+use crate::carrier::carrier_record;
 use crate::options::{Subject, flag, subject_named, tnf_named, word, word_or};
 use crate::parts::Said;
 use crate::poster::poster_record;
+use crate::{Fault, Refused};
 use clap::ArgMatches;
+use ndef_lang::{Kind, refusal_of};
+use ndef_nest::Typed;
 use ndef_types::{Encoding, Text, Uri};
-use ndef_value::{Bytes, Name, Record, Tnf};
+use ndef_value::{Bytes, MOST_RECORDS, Name, Profile, Record, Tnf};
 use std::alloc::Global;
 
 /// A record of a well-known type, without an id.
@@ -90,15 +95,48 @@ fn given_record(alloc: Global, matches: &ArgMatches<'_>, payload: &[u8]) -> Resu
     Ok(Record::new(alloc, tnf, kind.as_bytes(), id.as_bytes(), payload)?)
 }
 
-/// The record that a part asks for, with the input.
-pub(crate) fn make_record(alloc: Global, said: &Said<'_>, input: &[u8]) -> Result<Record, Fault>
-    ensures { Makes (asked_part said.now) input.now result }
+/// The record that a part asks for, with the input, whatever its payload.
+fn asked_record(alloc: Global, said: &Said<'_>, input: &[u8]) -> Result<Record, Fault>
+    ensures { MakesBy (subject_named (asked_part said.now).0) (asked_part said.now).1 input.now result }
 {
     match subject_named(said.name) {
         Some(Subject::Text) => text_record(alloc, &said.matches),
         Some(Subject::Uri) => uri_record(alloc, &said.matches),
         Some(Subject::Poster) => poster_record(alloc, &said.matches),
         Some(Subject::Record) => given_record(alloc, &said.matches, input),
+        Some(Subject::Carrier) => carrier_record(alloc, &said.matches, input),
         None => Err(Fault::Usage),
     }
+}
+
+/// Whether a part asks for a record whose payload isn't checked.
+fn is_unchecked(said: &Said<'_>) -> bool
+    ensures { result ≡ is_unchecked (asked_part said.now) }
+{
+    match subject_named(said.name) {
+        Some(Subject::Record) => flag(&said.matches, "unchecked"),
+        _ => false,
+    }
+}
+
+/// The record, where its payload is one of its type for a strict reader.
+fn checked(item: Record) -> Result<Record, Fault>
+    ensures { Checked item result }
+{
+    let kind = Kind::of(item.tnf(), item.kind());
+    match refusal_of::<Typed>(kind, MOST_RECORDS, Profile::Strict, item.payload()) {
+        None => Ok(item),
+        Some(refusal) => Err(Fault::Refused(Refused::BadPayload(refusal))),
+    }
+}
+
+/// The record that a part asks for, with the input, where its payload is one of its type or isn't checked.
+pub(crate) fn make_record(alloc: Global, said: &Said<'_>, input: &[u8]) -> Result<Record, Fault>
+    ensures { Makes (asked_part said.now) input.now result }
+{
+    let item = asked_record(alloc, said, input)?;
+    if is_unchecked(said) {
+        return Ok(item);
+    }
+    checked(item)
 }

@@ -8,11 +8,11 @@ ghost use Rattle.ndef_tool.specs.Chosen.{HasSizeIfAny};
 ghost use Rattle.ndef_tool.specs.Blocks.{block_text};
 
 use crate::hexadecimal::hexadecimal;
-use crate::line::Line;
 use crate::linking::push_link_lines;
 use crate::printing::message_line;
 use crate::showing::push_records;
 use ndef_message::{Checked, Form, Read, encode, encode_chunked};
+use ndef_program::Line;
 use ndef_value::{Bytes, Message, NoMemory, Profile};
 use std::alloc::Global;
 

@@ -9,7 +9,7 @@
 //! - `block.rt`, `printing.rt`, `specs/Output.antt`: what is printed.
 //! - `showing.rt`: the lines of records. `value_lines.rt`, `poster_lines.rt`, `handover_lines.rt`: of
 //!   their payloads.
-//! - `linking.rt`: the lines of links. `quoting.rt`, `decimals.rt`, `line.rt`: parts of lines.
+//! - `linking.rt`: the lines of links. `quoting.rt`, `decimals.rt`: parts of lines.
 #![tactic(auto)]
 
 mod block;
@@ -21,7 +21,6 @@ mod handover_lines;
 mod hexadecimal;
 mod kinds;
 mod laws;
-mod line;
 mod linking;
 mod poster_lines;
 mod printing;
@@ -36,7 +35,6 @@ pub use choice::{Action, Choice, WordsError, choose};
 pub use decimals::push_number;
 pub use ending::{Ending, HexFault, Status};
 pub use hexadecimal::read_hexadecimal;
-pub use line::Line;
 pub use printing::ending_line;
 pub use quoting::push_quoted;
 pub use running::run;

@@ -4,7 +4,7 @@ ghost use Rattle.ndef_tool.specs.Output.{FitsPlace, ending_line, ending_text, he
 
 use crate::choice::Action;
 use crate::ending::{Ending, HexFault};
-use crate::line::{Line, ROOM};
+use ndef_program::{Line, ROOM};
 use ndef_value::Refusal;
 
 /// The line of a message, with its number from 1 and its place in the input.

@@ -49,7 +49,7 @@ fn is_made(alloc: Global, words: &[String], wanted: &[u8]) -> Option<bool> {
     let mut told = [0; 256];
     let mut sink = FailingSink::new(&mut room, 256, None);
     let mut lines = FailingSink::new(&mut told, 256, None);
-    let status = run(alloc, words, &mut source, &mut sink, &mut lines);
+    let status = run(alloc, words, false, &mut source, &mut sink, &mut lines);
     let written = sink.written();
     let lines = lines.written();
     match status {

@@ -14,15 +14,22 @@ struct Outcome {
     lines: Vec<u8>,
 }
 
-/// Runs the program on an input.
-fn run_words(alloc: Global, texts: &[&str], input: &[u8]) -> Result<Outcome, Fail> {
+/// Runs the program on an input, and writes to a terminal or not.
+fn run_on(alloc: Global, texts: &[&str], terminal: bool, input: &[u8]) -> Result<Outcome, Fail> {
     let words = words(alloc, texts)?;
     let mut source = SliceSource::whole(input);
     let mut bytes = Vec::new(alloc);
     let mut lines = Vec::new(alloc);
     let mut sink = StdSink::new(&mut bytes);
     let mut told = StdSink::new(&mut lines);
-    let status = run(alloc, words.as_slice(), &mut source, &mut sink, &mut told);
+    let status = run(
+        alloc,
+        words.as_slice(),
+        terminal,
+        &mut source,
+        &mut sink,
+        &mut told,
+    );
     drop(sink);
     drop(told);
     Ok(Outcome {
@@ -34,7 +41,12 @@ fn run_words(alloc: Global, texts: &[&str], input: &[u8]) -> Result<Outcome, Fai
 
 /// The same of the words of a line.
 fn run_line(alloc: Global, line: &str, input: &[u8]) -> Result<Outcome, Fail> {
-    run_words(alloc, texts_of(alloc, "ndef-make", line)?.as_slice(), input)
+    run_on(
+        alloc,
+        texts_of(alloc, "ndef-make", line)?.as_slice(),
+        false,
+        input,
+    )
 }
 
 /// Whether a run ends with the status, has written nothing and has told the text.
@@ -45,7 +57,7 @@ fn tells(alloc: Global, line: &str, input: &[u8], status: u8, text: &str) -> Res
 }
 
 /// The words, the input, the digits that are written with `--hex`, and what `show` prints of the bytes.
-const WRITTEN: [(&str, &[u8], &str, &str); 16] = [
+const WRITTEN: [(&str, &[u8], &str, &str); 20] = [
     (
         "text Hello",
         b"",
@@ -105,6 +117,30 @@ const WRITTEN: [(&str, &[u8], &str, &str); 16] = [
         b"\x02a",
         "d10102550261",
         "message 1 at 0: records 1, bytes 6\n 1 tnf 1 type \"U\" id \"\" payload 2 uri \"https://www.a\"\n",
+    ),
+    (
+        "record --tnf 1 --type Hs",
+        b"\x12",
+        "d10201487312",
+        "message 1 at 0: records 1, bytes 6\n 1 tnf 1 type \"Hs\" id \"\" payload 1 select version 1.2 carriers 0\n",
+    ),
+    (
+        "record --tnf 1 --type act",
+        b"\xff\xff",
+        "d10302616374ffff",
+        "message 1 at 0: records 1, bytes 8\n 1 tnf 1 type \"act\" id \"\" payload 2 other\n",
+    ),
+    (
+        "carrier --format 2 --type a/b --id 0",
+        b"12",
+        "d90207014863300203612f623132",
+        "message 1 at 0: records 1, bytes 14\n 1 tnf 1 type \"Hc\" id \"0\" payload 7 carrier format 2 type \"a/b\" data 2\n",
+    ),
+    (
+        "carrier --format 7 --type= --and uri a",
+        b"",
+        "91020248630700510102550061",
+        "message 1 at 0: records 2, bytes 13\n 1 tnf 1 type \"Hc\" id \"\" payload 2 carrier format 7 type \"\" data 0\n 2 tnf 1 type \"U\" id \"\" payload 2 uri \"a\"\n",
     ),
     (
         "uri a --and uri tel:1",
@@ -181,15 +217,56 @@ fn makes_hexadecimal_text(rt: HostRuntime) -> Result<(), Fail> {
     Ok(())
 }
 
+/// What is told where digits are written because they go to a terminal.
+const NOTE: &str =
+    "standard output is a terminal: writing hexadecimal digits; --raw writes the bytes\n";
+
+/// Words, and what they write to a terminal and tell.
+const ON_A_TERMINAL: [(&str, &[u8], &str); 4] = [
+    ("uri a", b"d10102550061\n", NOTE),
+    ("uri a --hex", b"d10102550061\n", ""),
+    ("uri a --raw", b"\xd1\x01\x02U\0a", ""),
+    ("uri a --hex --raw", b"d10102550061\n", ""),
+];
+
+#[test]
+fn writes_digits_to_a_terminal(rt: HostRuntime) -> Result<(), Fail> {
+    let alloc = rt.alloc();
+    for (line, text, note) in ON_A_TERMINAL {
+        let words = texts_of(alloc, "ndef-make", line)?;
+        let outcome = run_on(alloc, words.as_slice(), true, b"")?;
+        let told = outcome.lines.as_slice() == note.as_bytes();
+        assert!(rt;
+            outcome.status == 0 && outcome.bytes.as_slice() == text && told,
+            "{line}"
+        );
+    }
+    Ok(())
+}
+
+#[test]
+fn prints_pages(rt: HostRuntime) -> Result<(), Fail> {
+    let alloc = rt.alloc();
+    assert!(rt; writes(alloc, "--version", b"", b"ndef-make 0.1.0\n")?);
+    let help = run_line(alloc, "--help", b"")?;
+    let begins = help
+        .bytes
+        .as_slice()
+        .starts_with(b"ndef-make writes a message");
+    assert!(rt; help.status == 0 && help.lines.is_empty() && begins);
+    Ok(())
+}
+
 const USAGE: &str =
-    "usage: ndef-make text [--language L] [--utf16] TEXT | uri URI | poster URI [--title L=TEXT].. [--action do|save|open] [--size N] [--media TYPE] | record --tnf N [--type T] [--id I] < payload; [--hex]; more records: --and ..\n";
+    "usage: ndef-make text [--language L] [--utf16] TEXT | uri URI | poster URI [--title L=TEXT].. [--action do|save|open] [--size N] [--media TYPE] | record --tnf N [--type T] [--id I] [--unchecked] < payload | carrier --format N --type T [--id I] < data; [--hex] [--raw]; more records: --and ..; --help | --version\n";
 
 /// Words that don't parse.
 const NO_WORDS: &str = "
 
 --hex
 help
---help
+--help --version
+text --help
 show
 text
 text a b
@@ -213,6 +290,10 @@ text a --and
 --and text a
 text a --and --and text b
 record --tnf 5 --and record --tnf 5
+record --tnf 5 --and carrier --format 2 --type x
+carrier --format 8 --type x
+carrier --format 2
+carrier --type x
 ";
 
 #[test]
@@ -224,7 +305,7 @@ fn tells_usage(rt: HostRuntime) -> Result<(), Fail> {
 }
 
 /// Words that ask for what can't be said, and the line that is told.
-const REFUSED: [(&str, &[u8], &str); 6] = [
+const REFUSED: [(&str, &[u8], &str); 15] = [
     (
         "text --language \u{e9} a",
         b"",
@@ -255,7 +336,78 @@ const REFUSED: [(&str, &[u8], &str); 6] = [
         b"",
         "refused: parts that do not go with the type name format\n",
     ),
+    (
+        "record --tnf 1 --type U",
+        b"",
+        "refused: payload at 0: 23 DoesNotFit\n",
+    ),
+    (
+        "text a --and record --tnf 1 --type U --hex",
+        b"\xff\xff",
+        "refused: payload at 0: 19 UriCode\n",
+    ),
+    (
+        "record --tnf 1 --type U",
+        b"\x01a\xff",
+        "refused: payload at 2: 17 Utf8\n",
+    ),
+    (
+        "record --tnf 1 --type T",
+        b"\xff\xff",
+        "refused: payload at 0: 15 TextBit\n",
+    ),
+    (
+        "record --tnf 1 --type Sp",
+        b"\xff\xff",
+        "refused: payload at 0: 23 DoesNotFit\n",
+    ),
+    (
+        "record --tnf 1 --type Sp",
+        b"\xd1\x01\x04Taaaa",
+        "refused: payload at 3: 20 UriMissing\n",
+    ),
+    (
+        "record --tnf 1 --type Hr",
+        b"\xff\xff",
+        "refused: payload at 0: 23 DoesNotFit\n",
+    ),
+    (
+        "record --tnf 1 --type Hs",
+        b"\xff",
+        "refused: payload at 0: 22 Version\n",
+    ),
+    (
+        "record --tnf 1 --type Hc",
+        b"\xff\xff",
+        "refused: payload at 1: 23 DoesNotFit\n",
+    ),
 ];
+
+/// Words that ask for a record whose payload isn't one of its type, the input, and the bytes that are written.
+const UNCHECKED: [(&str, &[u8], &[u8]); 3] = [
+    ("record --tnf 1 --type U --unchecked", b"", b"\xd1\x01\0U"),
+    (
+        "record --unchecked --tnf 1 --type Hc --id 0",
+        b"\xff\xff",
+        b"\xd9\x02\x02\x01Hc0\xff\xff",
+    ),
+    (
+        "uri a --and record --tnf 1 --type T --unchecked",
+        b"\xff",
+        b"\x91\x01\x02U\0aQ\x01\x01T\xff",
+    ),
+];
+
+#[test]
+fn writes_what_is_not_checked(rt: HostRuntime) -> Result<(), Fail> {
+    let alloc = rt.alloc();
+    for (line, input, bytes) in UNCHECKED {
+        assert!(rt; writes(alloc, line, input, bytes)?, "{line}");
+        let (status, _) = ran(alloc, &["ndef", "show"], bytes, 5)?;
+        assert!(rt; status == 1, "{line}");
+    }
+    Ok(())
+}
 
 #[test]
 fn tells_what_is_refused(rt: HostRuntime) -> Result<(), Fail> {

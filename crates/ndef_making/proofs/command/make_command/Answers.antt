@@ -1,5 +1,5 @@
 use Rattle.clap.specs.Words.{with_subcommand}
-use Rattle.ndef_making.specs.CommandLine.{empty_app, poster_app, record_app, text_app, uri_app}
+use Rattle.ndef_making.specs.CommandLine.{carrier_app, empty_app, poster_app, record_app, text_app, uri_app}
 use Rattle.ndef_making.proofs.command.make_command.Goals as goal
 
 pub returns : goal.returns
@@ -9,4 +9,6 @@ returns c =
     let text = c.over-command.ensures empty_app text_app (c.empty_command.ensures.app, c.empty_command.ensures.local) c.text_command.ensures in
     let uri = c.over-command-2.ensures with_text uri_app text c.uri_command.ensures in
     let poster = c.over-command-3.ensures with_uri poster_app uri c.poster_command.ensures in
-    c.over.ensures (with_subcommand with_uri poster_app.top) record_app poster c.record_command.ensures
+    let with_poster = with_subcommand with_uri poster_app.top in
+    let given = c.over-command-4.ensures with_poster record_app poster c.record_command.ensures in
+    c.over.ensures (with_subcommand with_poster record_app.top) carrier_app given c.carrier_command.ensures

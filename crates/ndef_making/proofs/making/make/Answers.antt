@@ -19,5 +19,5 @@ returns g c =
     c.as_slice.ensures.value c.in_ok-parts.ensures c.words_behind.ensures c.in_ok-said.ensures in
     let reads = rw c.as_slice-2.ensures.value at c.in_ok-input.ensures in
     let are = rw (c.as_slice-3.ensures.value, c.as_slice-4.ensures.value) at c.in_ok-records.ensures in
-    let is = rw (c.wants_hex.ensures, c.as_slice-5.ensures.value) at c.write_records.ensures in
-    written words said _ _ _ c.in_ok-input.input _ e reads (answers said c.in_ok-input.input c.in_ok-records.records.items _ are is)
+    let is = rw (c.shown_by.ensures, c.as_slice-5.ensures.value) at c.write_records.ensures in
+    written words c.args.terminal said _ _ _ c.in_ok-input.input _ e reads (answers said c.args.terminal c.in_ok-input.input c.in_ok-records.records.items _ are is)

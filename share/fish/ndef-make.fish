@@ -1,0 +1,46 @@
+# Completes the words of the command ndef-make in fish.
+
+# Whether the cursor stands in a part with this subcommand; with '', in one that has none yet.
+function __ndef_make_in
+    set -l kind ''
+    for word in (commandline -opc)[2..-1]
+        if test "$word" = --and
+            set kind ''
+        else if test -z "$kind"
+            set kind $word
+        end
+    end
+    test "$kind" = "$argv[1]"
+end
+
+# Whether no word is given yet.
+function __ndef_make_begins
+    test (count (commandline -opc)) = 1
+end
+
+complete -c ndef-make -f
+complete -c ndef-make -n __ndef_make_begins -l help -d 'Print a page of help'
+complete -c ndef-make -n __ndef_make_begins -l version -d 'Print the name and the version'
+complete -c ndef-make -n '__ndef_make_in ""' -a text -d 'A text'
+complete -c ndef-make -n '__ndef_make_in ""' -a uri -d 'A URI'
+complete -c ndef-make -n '__ndef_make_in ""' -a poster -d 'A smart poster'
+complete -c ndef-make -n '__ndef_make_in ""' -a record -d 'A record of any type'
+complete -c ndef-make -n '__ndef_make_in ""' -a carrier -d 'A handover carrier'
+for kind in text uri poster record carrier
+    complete -c ndef-make -n "__ndef_make_in $kind" -l hex -d 'Write hexadecimal digits'
+    complete -c ndef-make -n "__ndef_make_in $kind" -l raw -d 'Write bytes to a terminal too'
+    complete -c ndef-make -n "__ndef_make_in $kind" -l and -d 'Begin another record'
+end
+complete -c ndef-make -n '__ndef_make_in text' -l language -x -d 'The code of the language'
+complete -c ndef-make -n '__ndef_make_in text' -l utf16 -d 'Encode in UTF-16'
+complete -c ndef-make -n '__ndef_make_in poster' -l title -x -d 'A language, an equals sign and a title'
+complete -c ndef-make -n '__ndef_make_in poster' -l action -x -a 'do save open' -d 'The recommended action'
+complete -c ndef-make -n '__ndef_make_in poster' -l size -x -d 'The size of what the URI leads to'
+complete -c ndef-make -n '__ndef_make_in poster' -l media -x -d 'The media type of what the URI leads to'
+complete -c ndef-make -n '__ndef_make_in record' -l tnf -x -a '0 1 2 3 4 5' -d 'The type name format'
+complete -c ndef-make -n '__ndef_make_in record' -l type -x -d 'The type'
+complete -c ndef-make -n '__ndef_make_in record' -l id -x -d 'The id'
+complete -c ndef-make -n '__ndef_make_in record' -l unchecked -d 'Write any payload'
+complete -c ndef-make -n '__ndef_make_in carrier' -l format -x -a '1 2 3 4' -d 'The carrier type format'
+complete -c ndef-make -n '__ndef_make_in carrier' -l type -x -d 'The carrier type'
+complete -c ndef-make -n '__ndef_make_in carrier' -l id -x -d 'The id'
