@@ -545,7 +545,7 @@ typedef struct ndef_built {
 
 /* Appends a record to the message that the room begins with, and tells in `built` what is known of the message then.
  * The room holds a whole message behind each call: the record that was the last says so no longer. The record is written
- * as ndef_write_record writes it; the only flag is NDEF_LONG, since the call knows which record is first and last.
+ * as ndef_write_record writes it; the only flag is NDEF_WRITE_LONG, since the call knows which record is first and last.
  * `built` and the room are those of the call before, all of `built` 0 for the first record. *count has the length of the
  * message with the record. Bytes of the room behind it are unchanged.
  * NDEF_OK. NDEF_NO_ROOM: the room and `built` are unchanged.

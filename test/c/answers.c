@@ -214,7 +214,7 @@ static void build(const uint8_t *bytes, const ndef_record *record) {
     if (size + MARKS > MOST) size = 1000;
     marked(size);
     for (uint32_t i = 0; i < 4; i++) {
-        const ndef_writing how = { record->tnf, i == 1 ? NDEF_LONG : i == 3, i == 2 ? 3 : 0 };
+        const ndef_writing how = { record->tnf, i == 1 ? NDEF_WRITE_LONG : i == 3, i == 2 ? 3 : 0 };
         ndef_size count = 77;
         mix_status(ndef_append(&built, bytes + record->type_at, record->type_length, bytes + record->id_at, record->id_length,
                                copy, record->payload_length, &how, room, i ? size : size / 2, &count));

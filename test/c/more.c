@@ -200,7 +200,7 @@ static void built(void) {
     static const uint8_t one[] = { 0xd4, 1, 2, 'a', 'x', 'y' };
     static const uint8_t two[] = { 0x94, 1, 2, 'a', 'x', 'y', 0x3c, 1, 2, 1, 'b', 'i', 'u', 'v', 0x56, 0, 1, 'w' };
     static const uint8_t three[] = { 0x94, 1, 2, 'a', 'x', 'y', 0x3c, 1, 2, 1, 'b', 'i', 'u', 'v', 0x16, 0, 1, 'w', 0x44, 1, 0, 0, 0, 0, 'c' };
-    ndef_writing plain = { 4, 0, 0 }, cut = { 4, 0, 2 }, wide = { 4, NDEF_LONG, 0 }, wrong = { 4, 1, 0 };
+    ndef_writing plain = { 4, 0, 0 }, cut = { 4, 0, 2 }, wide = { 4, NDEF_WRITE_LONG, 0 }, wrong = { 4, 1, 0 };
     ndef_built state = { 0, 0, 0 }, kept;
     uint8_t room[40], marks[40];
     ndef_size count = 77;

@@ -75,7 +75,7 @@ static void writing_calls(int way, const uint8_t *none, const ndef_part *no_part
 
 /* The calls that fill an array, find a record or build a message. */
 static void more_calls(int way, const uint8_t *none, ndef_part *no_parts, ndef_link *no_links, uint8_t *room, ndef_size size) {
-    const ndef_writing how = { NDEF_UNKNOWN, 0, 0 };
+    const ndef_writing how = { NDEF_TNF_UNKNOWN, 0, 0 };
     ndef_record record;
     ndef_uri_parts uri;
     ndef_built built = { 0, 0, 0 };
