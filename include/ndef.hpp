@@ -155,7 +155,7 @@ private:
 };
 
 /// Memory of the caller to which calls write, one behind the other. A call that succeeds takes what it wrote from the
-/// front of the room, so what it returned stays as it is; a call that fails takes nothing.
+/// front of the room, so what it returned stays as it is. A call that fails takes nothing.
 class room {
 public:
     /// A room of no bytes. A call that writes to it tells what it needs.
@@ -569,7 +569,7 @@ public:
     }
 
     /// Its titles, each in a language.
-    views<text> titles() const noexcept { return views<text>(records(), reading); }
+    views<text> titles() const noexcept { return views<text>(records()); }
 
     /// All its records: icons are those of a media type.
     message records() const noexcept { return message::unchecked(whole); }
@@ -805,7 +805,7 @@ inline new_record external(std::string_view type, bytes payload, std::string_vie
 }
 
 /// A message of records, one or more, as ndef_write_record writes each. NDEF_BAD_ARGUMENT if there is no record, or one
-/// of them can't be written. NDEF_NO_ROOM tells the size of the whole message.
+/// of them can't be written. NDEF_NO_ROOM tells the size of the whole message; the room holds a part of it then.
 template <class Records> result<message> write_message(room &to, const Records &records) noexcept {
     room rest = to;
     ndef_size whole = 0;
@@ -819,7 +819,6 @@ template <class Records> result<message> write_message(room &to, const Records &
             detail::put(rest, ndef_write_record, detail::octets(one.type.data()), one.type.size(),
                         detail::octets(one.id.data()), one.id.size(), one.payload.data(), one.payload.size(), &how);
         if (!made && made.error().what != NDEF_NO_ROOM) return made.error();
-        if (!made) rest = room();
         whole += made ? made->size() : made.error().needed;
     }
     if (whole == 0) return error{};

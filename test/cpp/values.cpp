@@ -180,6 +180,29 @@ static bool are_linked() {
         !message->find_id("") && !message->find("T") && !message->begin()->as<ndef::select>();
 }
 
+/// A record in chunks, and in the long form; and records that end where one is the last, whatever follows.
+static bool are_chunked() {
+    ndef::room room(memory);
+    const std::string_view data = "payload";
+    const auto message = ndef::write_message(room, {{NDEF_TNF_EXTERNAL, "a:b", data, "id", 3, false},
+                                                    {NDEF_TNF_UNKNOWN, "", data, "", 0, true}});
+    if (!message || hex(message->octets()) != "BC030302" "613A626964" "706179" "360003" "6C6F61" "160001" "64"
+                                              "4500" "00000007" "7061796C6F6164") return false;
+    const auto first = message->begin();
+    const auto joined = first->payload(room);
+    if (first->chunks() != 3 || first->payload() || !joined || joined->text() != data) return false;
+    const std::uint8_t two[] = {0xd0, 0, 0, 0xd0, 0, 0};
+    return ndef::message::unchecked(two).record_count() == 1 && ndef::message::check(two)->octets().size() == 3;
+}
+
+/// A select with an error.
+static bool has_error() {
+    const std::uint8_t payload[] = {0x12, 0xd1, 3, 5, 'e', 'r', 'r', 2, 0, 0, 1, 4};
+    const auto select = ndef::select::read(payload), other = ndef::select::read(ndef::bytes(payload, 1));
+    return select && select->error_reason() == 2u && hex(select->error_data()) == "00000104" && other &&
+        !other->error_reason() && other->error_data().empty() && other->major_version() == 1;
+}
+
 /// What can't be written says why.
 static bool are_refused() {
     ndef::room room(memory);
@@ -203,6 +226,8 @@ int main() {
     }
     if (!are_linked()) failed++, std::cout << "a request's links are told otherwise\n";
     if (!are_refused()) failed++, std::cout << "a wrong value is written\n";
+    if (!are_chunked()) failed++, std::cout << "a record in chunks is another one\n";
+    if (!has_error()) failed++, std::cout << "a select's error is told otherwise\n";
     std::cout << "values " << run << ", failed " << failed << '\n';
     return failed || !run;
 }
