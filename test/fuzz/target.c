@@ -1,6 +1,6 @@
 /* What holds of the library whatever bytes it is given. libFuzzer calls LLVMFuzzerTestOneInput; with -DLINES the
- * program itself reads inputs from standard input, as lines of hexadecimal digits. An input is two bytes that choose how
- * the message is read, and the message. What does not hold is printed, and the program aborts. */
+ * program itself reads inputs from standard input, as lines of hexadecimal digits. An input is two bytes that choose
+ * how the message is read, and the message. What does not hold is printed, and the program aborts. */
 #include "ndef.h"
 
 #include <stdio.h>
