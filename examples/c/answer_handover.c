@@ -1,5 +1,5 @@
 /* Answers a handover request: answer_handover REQUEST TYPE > answer.bin
- * The answer selects the first carrier whose record has the media type; it is a select without a carrier if there is none. */
+ * The answer selects the first carrier whose record has the media type; without one, it selects none. */
 #include "ndef.h"
 
 #include <stdio.h>
@@ -19,11 +19,13 @@ static int find(ndef_size length, ndef_size request_length, const char *type, nd
 }
 
 /* Writes a record of a type of the NFC Forum to a room, and tells its length; 0 if it is too long. */
-static ndef_size put(const char *type, const uint8_t *bytes, ndef_size length, uint32_t flags, uint8_t *room, ndef_size size) {
+static ndef_size put(const char *type, const uint8_t *bytes, ndef_size length, uint32_t flags, uint8_t *room,
+                     ndef_size size) {
     const ndef_writing how = { NDEF_TNF_WELL_KNOWN, flags, 0 };
     ndef_size count;
-    return ndef_write_record((const uint8_t *)type, strlen(type), NULL, 0, bytes, length, &how, room, size, &count) == NDEF_OK
-        ? count : 0;
+    const uint32_t status =
+        ndef_write_record((const uint8_t *)type, strlen(type), NULL, 0, bytes, length, &how, room, size, &count);
+    return status == NDEF_OK ? count : 0;
 }
 
 /* Writes a select with the alternative carrier whose data reference is the id of the record, and tells its length. */
