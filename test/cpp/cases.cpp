@@ -22,6 +22,9 @@ static_assert(!std::is_constructible_v<ndef::bytes, std::vector<int>>);
 static_assert(!std::is_constructible_v<ndef::room, const std::vector<std::uint8_t> &>);
 static_assert(ndef::to_string(NDEF_REASON_VERSION) == "Version" && ndef::to_string(NDEF_NO_ROOM) == "NoRoom");
 static_assert(ndef::to_string(static_cast<ndef::reason>(26)).empty());
+static constexpr std::uint8_t two[] = {1, 2};
+static_assert(ndef::bytes(two, 2).from(1).size() == 1 && ndef::bytes(two, 2).from(3).empty());
+static_assert(ndef::bytes(two, 2).part(1, 9).size() == 1 && ndef::bytes(two, 2).part(~0ull, 1).empty());
 
 static std::uint8_t joined[1 << 21], again[1 << 21];
 static ndef::new_record records[1 << 16];
