@@ -301,11 +301,7 @@ public:
 
     /// The record that begins at a place of some bytes, as ndef_record_at tells it.
     static result<record> at(bytes message, ndef_size place) noexcept {
-        record found;
-        const std::uint32_t answer = ndef_record_at(message.data(), message.size(), place, &found.told);
-        if (answer != NDEF_OK) return detail::failure(answer);
-        found.whole = message;
-        return found;
+        return told_by(ndef_record_at, message, place);
     }
 
     ndef::tnf format() const noexcept { return static_cast<ndef::tnf>(told.tnf); }
@@ -353,6 +349,17 @@ public:
     const ndef_record &parts() const noexcept { return told; }
 
 private:
+    friend class message;
+    /// The record that a call of ndef.h tells: call(message, length, words.., record).
+    template <class Call, class... Words>
+    static result<record> told_by(Call call, bytes message, Words... words) noexcept {
+        record found;
+        const std::uint32_t answer = call(message.data(), message.size(), words..., &found.told);
+        if (answer != NDEF_OK) return detail::failure(answer);
+        found.whole = message;
+        return found;
+    }
+
     std::uint32_t join(std::uint8_t *memory, ndef_size size, ndef_size *count, ndef_checked *) const noexcept {
         return ndef_payload(whole.data(), whole.size(), told.at, memory, size, count);
     }
@@ -388,15 +395,16 @@ public:
     /// The number of records. It walks them.
     std::size_t record_count() const noexcept { return static_cast<std::size_t>(std::distance(begin(), end())); }
 
-    /// The first record with a type; without a format, one that the NFC Forum defines.
-    std::optional<record> find(ndef::tnf format, std::string_view type) const noexcept {
-        return first([=](const record &one) { return one.is(format, type); });
+    /// The first record with a type; without a format, one that the NFC Forum defines. NDEF_END if there is none.
+    result<record> find(ndef::tnf format, std::string_view type) const noexcept {
+        return record::told_by(ndef_find_type, whole, ndef_size{0}, static_cast<std::uint32_t>(format),
+                               detail::octets(type.data()), type.size());
     }
-    std::optional<record> find(std::string_view type) const noexcept { return find(NDEF_TNF_WELL_KNOWN, type); }
+    result<record> find(std::string_view type) const noexcept { return find(NDEF_TNF_WELL_KNOWN, type); }
 
-    /// The first record with an id. No record has the empty id.
-    std::optional<record> find_id(std::string_view id) const noexcept {
-        return first([=](const record &one) { return !id.empty() && one.id() == id; });
+    /// The first record with an id. No record has the empty id. NDEF_END if there is none.
+    result<record> find_id(std::string_view id) const noexcept {
+        return record::told_by(ndef_find_id, whole, ndef_size{0}, detail::octets(id.data()), id.size());
     }
 
 private:
@@ -407,11 +415,6 @@ private:
         const auto found = record::at(whole, place);
         if (!found) return std::nullopt;
         return detail::found_at<record>{*found, found->is_last() ? detail::no_place : found->parts().end};
-    }
-    template <class Test> std::optional<record> first(Test holds) const noexcept {
-        for (record one : *this)
-            if (holds(one)) return one;
-        return std::nullopt;
     }
 
     bytes whole;
@@ -480,26 +483,18 @@ private:
     }
 };
 
-/// The payload of a URI record.
-class uri {
+/// The payload of a URI record: a code, which stands for a prefix, and the rest.
+class uri : public detail::payload_view<ndef_uri_parts> {
 public:
     static constexpr std::string_view type_name = "U";
-
     static result<uri> read(bytes payload, profile how = profile::strict) noexcept {
-        uri found;
-        found.whole = payload;
-        found.reading = how;
-        ndef_checked why = {};
-        const std::uint32_t answer = found.spell(nullptr, 0, &found.length, &why);
-        if (answer != NDEF_OK && answer != NDEF_NO_ROOM) return detail::failure(answer, why);
+        auto found = read_by<uri>(payload, ndef_uri_view, static_cast<std::uint32_t>(how));
+        if (found) found->reading = how;
         return found;
     }
 
-    /// The payload itself.
-    bytes payload() const noexcept { return whole; }
-
-    /// The number of bytes of the URI, its prefix spelled out.
-    ndef_size size() const noexcept { return length; }
+    std::uint32_t code() const noexcept { return told.code; }
+    std::string_view rest() const noexcept { return part(told.rest_at, told.rest_length).text(); }
 
     /// The URI in UTF-8, its prefix spelled out, in the room.
     result<std::string_view> utf8(room &spelled) const noexcept {
@@ -517,8 +512,6 @@ private:
         return ndef_uri(whole.data(), whole.size(), static_cast<std::uint32_t>(reading), memory, size, count, why);
     }
 
-    bytes whole;
-    ndef_size length = 0;
     profile reading = profile::strict;
 };
 
@@ -641,7 +634,8 @@ struct link {
     std::size_t record_index = 0; ///< the index of that record in the message, from 0
 };
 
-/// The links of a handover, in order. Each step reads the payload and the message from its start.
+/// The links of a handover, in order. Each step reads the payload and the message from its start; ndef_links fills an
+/// array with all of them and reads both once.
 class links {
 public:
     using iterator = detail::iterator_of<links, link>;
@@ -828,6 +822,34 @@ template <class Records> result<message> write_message(room &to, const Records &
 inline result<message> write_message(room &to, std::initializer_list<new_record> records) noexcept {
     return write_message<std::initializer_list<new_record>>(to, records);
 }
+
+/// A message that is built in memory of the caller, and is whole behind each record, as ndef_append leaves it.
+class builder {
+public:
+    explicit builder(room to) noexcept : memory(to) {}
+
+    /// Appends a record, and returns the message. A record that can't be appended leaves the message as it was.
+    result<message> add(const new_record &one) noexcept {
+        const std::uint32_t form = one.is_long ? NDEF_WRITE_LONG : 0;
+        const ndef_writing how = {static_cast<std::uint32_t>(one.format), form, one.chunk};
+        ndef_size count = 0;
+        const std::uint32_t answer =
+            ndef_append(&built, detail::octets(one.type.data()), one.type.size(), detail::octets(one.id.data()),
+                        one.id.size(), one.payload.data(), one.payload.size(), &how, memory.data(), memory.size(),
+                        &count);
+        if (answer != NDEF_OK) return detail::failure(answer, {}, count);
+        return made();
+    }
+
+    /// The message so far.
+    message made() const noexcept {
+        return message::unchecked(bytes(memory.data(), memory.size()).part(0, built.length));
+    }
+
+private:
+    room memory;
+    ndef_built built = {};
+};
 
 } // namespace ndef
 

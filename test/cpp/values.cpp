@@ -27,7 +27,8 @@ static std::string value_of(const ndef::text &text) {
 static std::string value_of(const ndef::uri &uri) {
     ndef::room room(memory);
     const auto utf8 = uri.utf8(room);
-    return utf8 && *utf8 == uri.str() && utf8->size() == uri.size() ? uri.str() : "two URIs";
+    const bool is_rest = utf8 && utf8->substr(utf8->size() - uri.rest().size()) == uri.rest();
+    return is_rest && *utf8 == uri.str() && uri.code() == uri.payload()[0] ? uri.str() : "two URIs";
 }
 
 static std::string value_of(const ndef::poster &poster) {
@@ -195,6 +196,22 @@ static bool are_chunked() {
     return ndef::message::unchecked(two).record_count() == 1 && ndef::message::check(two)->octets().size() == 3;
 }
 
+/// A message that is built is whole behind each record, and stays as it was where a record doesn't fit.
+static bool is_built() {
+    std::uint8_t few[25];
+    ndef::builder builder{ndef::room(few)};
+    const std::string_view data = "payload";
+    if (builder.made().record_count() != 0 || builder.add({NDEF_TNF_MEDIA, "", data})) return false;
+    const auto first = builder.add({NDEF_TNF_MEDIA, "a/b", data});
+    if (!first || hex(first->octets()) != "D20307" "612F62" "7061796C6F6164") return false;
+    const auto failed = builder.add({NDEF_TNF_MEDIA, "a/b", data});
+    if (failed || failed.error().what != NDEF_NO_ROOM || failed.error().needed != 26) return false;
+    if (builder.made().octets() != first->octets()) return false;
+    const auto second = builder.add({NDEF_TNF_UNKNOWN, "", data, "i", 0, false});
+    return second && hex(second->octets()) == "920307" "612F62" "7061796C6F6164" "5D000701" "69" "7061796C6F6164" &&
+        ndef::message::check(second->octets())->record_count() == 2;
+}
+
 /// A select with an error.
 static bool has_error() {
     const std::uint8_t payload[] = {0x12, 0xd1, 3, 5, 'e', 'r', 'r', 2, 0, 0, 1, 4};
@@ -227,6 +244,7 @@ int main() {
     if (!are_linked()) failed++, std::cout << "a request's links are told otherwise\n";
     if (!are_refused()) failed++, std::cout << "a wrong value is written\n";
     if (!are_chunked()) failed++, std::cout << "a record in chunks is another one\n";
+    if (!is_built()) failed++, std::cout << "a message is built otherwise\n";
     if (!has_error()) failed++, std::cout << "a select's error is told otherwise\n";
     std::cout << "values " << run << ", failed " << failed << '\n';
     return failed || !run;

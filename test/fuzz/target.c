@@ -60,6 +60,24 @@ static int is_filled(const uint8_t *room, ndef_size size, uint8_t with) {
     } \
 } while (0)
 
+/* Makes a call that fills an array, which names `array`, `size` and `count`, with no array, with one that is an element
+ * short, and with one that is exact. `list` has the elements, NULL if there are none. */
+#define LIST(list, number, call) do { \
+    void *array = NULL; \
+    ndef_size size = 0, count = 0; \
+    const uint32_t asked = (call); \
+    (list) = NULL, (number) = count; \
+    HOLDS(asked == NDEF_NO_ROOM || count == 0); \
+    if (asked == NDEF_NO_ROOM) { \
+        size = (number) - 1, array = filled(size * sizeof *(list), 0x5a); \
+        HOLDS((call) == NDEF_NO_ROOM && count == (number) && is_filled(array, size * sizeof *(list), 0x5a)); \
+        free(array); \
+        size = (number), array = filled(size * sizeof *(list), 0x5a); \
+        HOLDS((call) == NDEF_OK && count == (number)); \
+        (list) = array; \
+    } \
+} while (0)
+
 static void discard(struct made *made) { free(made->bytes); }
 
 static int is_same(const struct made *made, const uint8_t *bytes, ndef_size length) {
@@ -130,10 +148,27 @@ static void look_at_text(const uint8_t *payload, ndef_size length) {
     discard(&text);
 }
 
+/* The URI is the prefix and the rest. */
+static void look_at_uri_parts(const uint8_t *payload, ndef_size length, uint32_t flags, const struct made *uri) {
+    ndef_uri_parts parts;
+    ndef_checked why;
+    struct made prefix;
+    HOLDS(ndef_uri_view(payload, length, flags, &parts, &why) == uri->status);
+    if (uri->status != NDEF_OK) return;
+    MAKE(&prefix, ndef_uri_prefix(parts.code, room, size, &count));
+    HOLDS(prefix.status == NDEF_OK && prefix.length + parts.rest_length == uri->length);
+    HOLDS(is_within(parts.rest_at, parts.rest_length, length));
+    HOLDS(prefix.length == 0 || memcmp(uri->bytes, prefix.bytes, prefix.length) == 0);
+    HOLDS(parts.rest_length == 0
+          || memcmp(uri->bytes + prefix.length, payload + parts.rest_at, parts.rest_length) == 0);
+    discard(&prefix);
+}
+
 static void look_at_uri(const uint8_t *payload, ndef_size length, uint32_t flags) {
     ndef_checked why;
     struct made uri, written, back;
     MAKE(&uri, ndef_uri(payload, length, flags, room, size, &count, &why));
+    look_at_uri_parts(payload, length, flags, &uri);
     if (uri.status != NDEF_OK) {
         HOLDS(uri.status == NDEF_REFUSED && why.place <= length);
         return;
@@ -160,16 +195,21 @@ static void look_at_carrier(const uint8_t *payload, ndef_size length) {
 }
 
 static void look_at_alternative(const uint8_t *payload, ndef_size length) {
-    static ndef_part parts[256];
+    ndef_part *parts;
+    ndef_size number;
     ndef_alternative_parts told, again;
     ndef_part part;
     ndef_checked why;
     struct made written;
-    if (ndef_alternative(payload, length, &told, &why) != NDEF_OK) return;
-    HOLDS(told.power <= 3 && told.references >= 1 && told.references <= 256);
+    LIST(parts, number, ndef_references(payload, length, array, size, &count));
+    if (ndef_alternative(payload, length, &told, &why) != NDEF_OK) {
+        HOLDS(ndef_references(payload, length, NULL, 0, &number) == NDEF_BAD_ARGUMENT);
+        return;
+    }
+    HOLDS(number == told.references && told.power <= 3 && told.references >= 1 && told.references <= 256);
     for (uint32_t i = 0; i < told.references; i++) {
-        HOLDS(ndef_reference(payload, length, i, &parts[i]) == NDEF_OK);
-        HOLDS(is_within(parts[i].at, parts[i].length, length));
+        HOLDS(ndef_reference(payload, length, i, &part) == NDEF_OK && is_within(part.at, part.length, length));
+        HOLDS(part.at == parts[i].at && part.length == parts[i].length);
     }
     HOLDS(ndef_reference(payload, length, told.references, &part) == NDEF_END);
     MAKE(&written, ndef_write_alternative(told.power, payload, length, parts, told.references, room, size, &count));
@@ -178,6 +218,7 @@ static void look_at_alternative(const uint8_t *payload, ndef_size length) {
     HOLDS(ndef_alternative(written.bytes, written.length, &again, &why) == NDEF_OK);
     HOLDS(told.power == again.power && told.references == again.references);
     discard(&written);
+    free(parts);
 }
 
 static void look_at_error(const uint8_t *payload, ndef_size length) {
@@ -211,16 +252,22 @@ static void look_at_poster(const uint8_t *payload, ndef_size length, uint32_t fl
 /* The links of a handover that stands in the message: as many as it has carriers. */
 static void look_at_links(const uint8_t *bytes, ndef_size length, const uint8_t *payload, ndef_size payload_length,
                           ndef_size carriers) {
-    ndef_link link;
+    ndef_link link, *links;
     ndef_record record;
     ndef_alternative_parts alternative;
     ndef_part id;
     ndef_checked why;
+    ndef_size number;
+    LIST(links, number, ndef_links(bytes, length, payload, payload_length, array, size, &count));
     for (ndef_size i = 0; i <= carriers; i++) {
         const uint32_t status = ndef_link_at(bytes, length, payload, payload_length, i, &link);
+        if (status == NDEF_BAD_ARGUMENT) HOLDS(links == NULL);
         if (status == NDEF_BAD_ARGUMENT) return;
-        HOLDS(status == (i < carriers ? NDEF_OK : NDEF_END));
-        if (status == NDEF_END) return;
+        HOLDS(number == carriers && status == (i < carriers ? NDEF_OK : NDEF_END));
+        if (status == NDEF_END) break;
+        HOLDS(link.carrier_at == links[i].carrier_at && link.carrier_length == links[i].carrier_length);
+        HOLDS(link.record_index == links[i].record_index && link.record_at == links[i].record_at);
+        HOLDS(link.has_record == links[i].has_record);
         HOLDS(is_within(link.carrier_at, link.carrier_length, payload_length));
         HOLDS(ndef_alternative(payload + link.carrier_at, link.carrier_length, &alternative, &why) == NDEF_OK);
         HOLDS(ndef_reference(payload + link.carrier_at, link.carrier_length, 0, &id) == NDEF_OK);
@@ -228,6 +275,7 @@ static void look_at_links(const uint8_t *bytes, ndef_size length, const uint8_t 
         HOLDS(ndef_record_at(bytes, length, link.record_at, &record) == NDEF_OK && record.id_length == id.length);
         HOLDS(memcmp(bytes + record.id_at, payload + link.carrier_at + id.at, id.length) == 0);
     }
+    free(links);
 }
 
 static void look_at_handover(const uint8_t *bytes, ndef_size length, const uint8_t *payload, ndef_size payload_length,
@@ -298,6 +346,61 @@ static void write_record(const uint8_t *bytes, const ndef_record *record, const 
     }
 }
 
+/* The chunks of a record, joined, are its payload. */
+static void look_at_pieces(const uint8_t *bytes, ndef_size length, const ndef_record *record,
+                           const struct made *payload) {
+    ndef_part *parts;
+    ndef_size number, at = 0;
+    LIST(parts, number, ndef_pieces(bytes, length, record->at, array, size, &count));
+    HOLDS(number == record->pieces && parts[0].at == record->payload_at && parts[0].length == record->part_length);
+    for (ndef_size i = 0; i < number; at += parts[i].length, i++) {
+        HOLDS(is_within(parts[i].at, parts[i].length, record->end) && parts[i].length <= payload->length - at);
+        HOLDS(parts[i].length == 0 || memcmp(payload->bytes + at, bytes + parts[i].at, parts[i].length) == 0);
+    }
+    HOLDS(at == payload->length);
+    free(parts);
+}
+
+/* A record is found from its own place; from the front of the message one is found that is not behind it. */
+static void find(const uint8_t *bytes, ndef_size length, const ndef_record *record) {
+    const uint8_t *type = bytes + record->type_at, *id = bytes + record->id_at;
+    ndef_record found;
+    HOLDS(ndef_find_type(bytes, length, record->at, record->tnf, type, record->type_length, &found) == NDEF_OK);
+    HOLDS(found.at == record->at && found.end == record->end && found.payload_length == record->payload_length);
+    HOLDS(ndef_find_type(bytes, length, 0, record->tnf, type, record->type_length, &found) == NDEF_OK);
+    HOLDS(found.at <= record->at && found.tnf == record->tnf && found.type_length == record->type_length);
+    if (record->id_length == 0) return;
+    HOLDS(ndef_find_id(bytes, length, record->at, id, record->id_length, &found) == NDEF_OK && found.at == record->at);
+    HOLDS(ndef_find_id(bytes, length, 0, id, record->id_length, &found) == NDEF_OK && found.at <= record->at);
+    HOLDS(found.id_length == record->id_length && memcmp(bytes + found.id_at, id, found.id_length) == 0);
+}
+
+/* A message that is built of the record, twice, is whole behind each; with a byte too few it stays as it was. */
+static void build(const uint8_t *bytes, const ndef_record *record, const struct made *payload, uint32_t chunk) {
+    const ndef_writing how = { record->tnf, chunk & NDEF_WRITE_LONG, record->tnf == NDEF_TNF_EMPTY ? 0 : chunk };
+    const ndef_limits most = { UINT32_MAX, 65535, 65535, NDEF_OPAQUE };
+    ndef_built built = { 0, 0, 0 };
+    ndef_checked checked;
+    if (!can_be_written(record)) return;
+    const ndef_size size = 2 * (16 + record->type_length + record->id_length + 8 * payload->length);
+    uint8_t *room = filled(size, 0x5a);
+    for (uint32_t number = 1; number <= 2; number++) {
+        ndef_size count = 0, needed = 0;
+        const ndef_built before = built;
+#define APPEND(size, count) ndef_append(&built, bytes + record->type_at, record->type_length, bytes + record->id_at, \
+        record->id_length, payload->bytes, payload->length, &how, room, size, count)
+        HOLDS(APPEND(built.length, &needed) == NDEF_NO_ROOM && APPEND(needed - 1, &count) == NDEF_NO_ROOM);
+        HOLDS(count == needed && built.length == before.length && built.records == before.records);
+        HOLDS(is_filled(room + before.length, size - before.length, 0x5a));
+        HOLDS(APPEND(needed, &count) == NDEF_OK && count == needed && built.length == needed);
+        HOLDS(is_filled(room + needed, size - needed, 0x5a));
+        HOLDS(ndef_check(room, needed, &most, &checked) == NDEF_OK && checked.place == needed);
+        HOLDS(checked.records == number && built.records == number);
+#undef APPEND
+    }
+    free(room);
+}
+
 /* Walks as far as records go; tells where the walk ends, how many records there are, and whether the last says so. */
 static ndef_size walk(const uint8_t *bytes, ndef_size length, uint32_t chunk, uint32_t *records, int *is_last) {
     ndef_record record;
@@ -316,6 +419,9 @@ static ndef_size walk(const uint8_t *bytes, ndef_size length, uint32_t chunk, ui
         HOLDS(record.pieces > 1 || record.payload_at + record.payload_length == record.end);
         write_record(bytes, &record, &payload, 0);
         write_record(bytes, &record, &payload, chunk);
+        look_at_pieces(bytes, length, &record, &payload);
+        find(bytes, length, &record);
+        build(bytes, &record, &payload, chunk);
         look_at_payload(bytes, length, payload.bytes, payload.length);
         discard(&payload);
         at = record.end, *is_last = (int)record.last, *records += 1;
