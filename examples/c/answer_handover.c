@@ -5,7 +5,13 @@
 #include <stdio.h>
 #include <string.h>
 
-static uint8_t image[65536], request[65536], data[65536], small[1024], select[1024], answer[65536];
+/* A message that is built. Without a record all of `built` is 0. */
+struct message {
+    ndef_built built;
+    uint8_t bytes[65536];
+};
+static struct message carriers, answer;
+static uint8_t image[65536], request[65536], payload[65536];
 
 /* Whether a carrier of the request refers to a record with the media type, which is told then. */
 static int find(ndef_size length, ndef_size request_length, const char *type, ndef_record *record) {
@@ -18,38 +24,34 @@ static int find(ndef_size length, ndef_size request_length, const char *type, nd
     return 0;
 }
 
-/* Writes a record of a type of the NFC Forum to a room, and tells its length; 0 if it is too long. */
-static ndef_size put(const char *type, const uint8_t *bytes, ndef_size length, uint32_t flags, uint8_t *room,
-                     ndef_size size) {
-    const ndef_writing how = { NDEF_TNF_WELL_KNOWN, flags, 0 };
+/* Appends a record of a type of the NFC Forum, whose payload a call wrote; tells whether both succeed. */
+static int append(struct message *to, const char *type, uint32_t status, ndef_size length) {
+    const ndef_writing how = { NDEF_TNF_WELL_KNOWN, 0, 0 };
     ndef_size count;
-    const uint32_t status =
-        ndef_write_record((const uint8_t *)type, strlen(type), NULL, 0, bytes, length, &how, room, size, &count);
-    return status == NDEF_OK ? count : 0;
+    return status == NDEF_OK && ndef_append(&to->built, (const uint8_t *)type, strlen(type), NULL, 0, payload, length,
+                                            &how, to->bytes, sizeof to->bytes, &count) == NDEF_OK;
 }
 
-/* Writes a select with the alternative carrier whose data reference is the id of the record, and tells its length. */
-static ndef_size write_select(uint32_t minor, ndef_size length, const ndef_record *record, uint32_t flags) {
-    ndef_size carriers = 0, count;
+/* Builds a select with the alternative carrier whose data reference is the id of the record, if there is one. */
+static int build_select(uint32_t minor, ndef_size length, const ndef_record *record) {
+    ndef_size count = 0;
     if (record) {
         const ndef_part id = { record->id_at, record->id_length };
-        if (ndef_write_alternative(1, image, length, &id, 1, select, sizeof select, &count) != NDEF_OK) return 0;
-        carriers = put("ac", select, count, NDEF_WRITE_FIRST | NDEF_WRITE_LAST, small, sizeof small);
+        const uint32_t status = ndef_write_alternative(1, image, length, &id, 1, payload, sizeof payload, &count);
+        if (!append(&carriers, "ac", status, count)) return 0;
     }
-    if (ndef_write_handover(NDEF_SELECT, 1, minor, small, carriers, select, sizeof select, &count) != NDEF_OK) return 0;
-    return put("Hs", select, count, flags, answer, sizeof answer);
+    const uint32_t status = ndef_write_handover(NDEF_SELECT, 1, minor, carriers.bytes, carriers.built.length, payload,
+                                                sizeof payload, &count);
+    return append(&answer, "Hs", status, count);
 }
 
-/* Writes the message that selects the record, with a copy of it, and tells its length; 0 if it is too long. */
-static ndef_size write_answer(uint32_t minor, ndef_size length, const ndef_record *record) {
-    const ndef_writing last = { NDEF_TNF_MEDIA, NDEF_WRITE_LAST, 0 };
-    const ndef_size end = write_select(minor, length, record, NDEF_WRITE_FIRST);
-    ndef_size data_length, count;
-    if (end == 0 || ndef_payload(image, length, record->at, data, sizeof data, &data_length) != NDEF_OK
-        || ndef_write_record(image + record->type_at, record->type_length, image + record->id_at, record->id_length,
-                             data, data_length, &last, answer + end, sizeof answer - end, &count) != NDEF_OK)
-        return 0;
-    return end + count;
+/* Appends a copy of a record of the request's message. */
+static int copy(ndef_size length, const ndef_record *record) {
+    const ndef_writing how = { record->tnf, 0, 0 };
+    ndef_size size, count;
+    return ndef_payload(image, length, record->at, payload, sizeof payload, &size) == NDEF_OK
+        && ndef_append(&answer.built, image + record->type_at, record->type_length, image + record->id_at,
+                       record->id_length, payload, size, &how, answer.bytes, sizeof answer.bytes, &count) == NDEF_OK;
 }
 
 int main(int count, char **words) {
@@ -72,8 +74,7 @@ int main(int count, char **words) {
         fprintf(stderr, "answer_handover: no handover request\n");
         return 1;
     }
-    const ndef_size end = find(read, length, words[2], &record)
-        ? write_answer(asked.minor, read, &record)
-        : write_select(asked.minor, read, NULL, NDEF_WRITE_FIRST | NDEF_WRITE_LAST);
-    return end == 0 || fwrite(answer, 1, end, stdout) != end;
+    const int is_found = find(read, length, words[2], &record);
+    if (!build_select(asked.minor, read, is_found ? &record : NULL) || (is_found && !copy(read, &record))) return 1;
+    return fwrite(answer.bytes, 1, answer.built.length, stdout) != answer.built.length;
 }
