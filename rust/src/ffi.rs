@@ -113,6 +113,7 @@ mod c {
 
     #[rustfmt::skip]
     extern "C" {
+        pub(super) fn ndef_version() -> u32;
         pub(super) fn ndef_usual_limits(out: *mut Limits);
         pub(super) fn ndef_check(bytes: *const u8, length: Size, limits: *const Limits, out: *mut Checked) -> u32;
         pub(super) fn ndef_begin(limits: *const Limits, checker: *mut Checker) -> u32;
@@ -124,6 +125,9 @@ mod c {
         ) -> u32;
         pub(super) fn ndef_pieces(
             bytes: *const u8, length: Size, at: Size, parts: *mut Part, size: Size, count: *mut Size,
+        ) -> u32;
+        pub(super) fn ndef_find_id(
+            bytes: *const u8, length: Size, at: Size, id: *const u8, id_length: Size, out: *mut Record,
         ) -> u32;
         pub(super) fn ndef_write_record(
             kind: *const u8, type_length: Size, id: *const u8, id_length: Size, payload: *const u8,
@@ -168,6 +172,10 @@ mod c {
         pub(super) fn ndef_link_at(
             bytes: *const u8, length: Size, payload: *const u8, payload_length: Size, index: Size, out: *mut Link,
         ) -> u32;
+        pub(super) fn ndef_links(
+            bytes: *const u8, length: Size, payload: *const u8, payload_length: Size, links: *mut Link, size: Size,
+            count: *mut Size,
+        ) -> u32;
         pub(super) fn ndef_poster(
             payload: *const u8, length: Size, flags: u32, out: *mut PosterParts, why: *mut Checked,
         ) -> u32;
@@ -204,6 +212,11 @@ pub(crate) fn index(told: Size) -> usize {
 #[inline]
 pub(crate) fn part(bytes: &[u8], at: Size, length: Size) -> &[u8] {
     &bytes[index(at)..][..index(length)]
+}
+
+pub(crate) fn version() -> u32 {
+    // SAFETY: the call takes nothing.
+    unsafe { c::ndef_version() }
 }
 
 pub(crate) fn usual_limits() -> Limits {
@@ -247,6 +260,14 @@ pub(crate) fn record_at(bytes: &[u8], at: Size, out: &mut Record) -> Result<(), 
         OK => Ok(()),
         status => Err(status),
     }
+}
+
+/// The first record with an id, from the one that begins at a place on.
+pub(crate) fn find_id(bytes: &[u8], at: Size, id: &[u8]) -> Option<Record> {
+    let mut out = Record::default();
+    // SAFETY: D1, D2, D5: slices, and a value of its type. D3: `out` is a local value.
+    let status = unsafe { c::ndef_find_id(bytes.as_ptr(), size(bytes), at, id.as_ptr(), size(id), &mut out) };
+    (status == OK).then_some(out)
 }
 
 /// Where the payload of each chunk of the record that begins at a place lies.
@@ -439,6 +460,16 @@ pub(crate) fn link_at(bytes: &[u8], payload: &[u8], index: Size) -> Option<Link>
     let status =
         unsafe { c::ndef_link_at(bytes.as_ptr(), size(bytes), payload.as_ptr(), size(payload), index, &mut out) };
     (status == OK).then_some(out)
+}
+
+/// The links of a message, whose handover has the payload.
+pub(crate) fn links(bytes: &[u8], payload: &[u8], links: &mut [Link]) -> Result<usize, Unfilled> {
+    let (at, room) = (links.as_mut_ptr(), size(links));
+    let mut count = 0;
+    // SAFETY: D1, D2, D5: slices, and a value of its type. D3: `links` is a `&mut`, and `count` is a local value.
+    let status =
+        unsafe { c::ndef_links(bytes.as_ptr(), size(bytes), payload.as_ptr(), size(payload), at, room, &mut count) };
+    filled(status, count, Checked::default())
 }
 
 /// The payload of a text, and the parts that `ndef_text` told of it.

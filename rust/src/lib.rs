@@ -92,3 +92,12 @@ fn promised<T, E>(answer: Result<T, E>) -> T {
         Err(_) => panic!("the library for C broke its contract"),
     }
 }
+
+#[cfg(test)]
+mod tests {
+    #[test]
+    fn the_library_has_this_version() {
+        let numbers = env!("CARGO_PKG_VERSION").split('.').map(|number| number.parse::<u32>().unwrap());
+        assert_eq!(crate::ffi::version(), numbers.fold(0, |version, number| 256 * version + number));
+    }
+}

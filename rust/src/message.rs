@@ -81,7 +81,7 @@ impl<'a> Message<'a> {
 
     /// Its first record with this id. No record has the empty id.
     pub fn record_with_id(&self, id: &[u8]) -> Option<Record<'a>> {
-        self.records().find(|record| !id.is_empty() && record.id() == id)
+        ffi::find_id(self.bytes, 0, id).map(|told| Record::of(self.bytes, told, self.profile))
     }
 
     /// The links of its first handover request or handover select, or none if it has neither. Each link is an
@@ -95,7 +95,7 @@ impl<'a> Message<'a> {
     pub fn links(&self) -> Result<Links<'a>, Refusal> {
         match self.handover() {
             None => Ok(Links::none(*self)),
-            Some(record) => Links::of(*self, record, record.payload_cow().into()),
+            Some(record) => Ok(Links::of(*self, record, record.payload_cow().into())?.told_before()),
         }
     }
 

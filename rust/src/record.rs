@@ -35,6 +35,12 @@ impl<'a> Record<'a> {
     pub(crate) fn at(message: &'a [u8], at: Size, profile: Profile) -> Self {
         let mut told = ffi::Record::default();
         promised(ffi::record_at(message, at, &mut told));
+        Self::of(message, told, profile)
+    }
+
+    /// A record that the library told of a message.
+    #[inline]
+    pub(crate) fn of(message: &'a [u8], told: ffi::Record, profile: Profile) -> Self {
         Self {
             message,
             kind: ffi::part(message, told.type_at, told.type_length),
@@ -151,8 +157,8 @@ impl<'a> Record<'a> {
     ///
     /// # Errors
     ///
-    /// The payload is not one of its type. The place counts from the first byte of the payload. A record of a message has
-    /// no such payload, unless the message was parsed with [`Payloads::Opaque`](crate::Payloads::Opaque). A record
+    /// The payload is not one of its type. The place counts from the first byte of the payload. A record of a message
+    /// has no such payload, unless the message was parsed with [`Payloads::Opaque`](crate::Payloads::Opaque). A record
     /// within a payload may have one.
     #[cfg(feature = "alloc")]
     pub fn decode(&self) -> Result<Payload<'a>, Refusal> {

@@ -45,7 +45,8 @@ fn calls_of_header() -> BTreeMap<String, Vec<String>> {
     let calls = text.split(';').filter_map(|part| {
         let (front, arguments) = part.trim().strip_suffix(')')?.rsplit_once('(')?;
         let name = front.split_whitespace().next_back().filter(|name| name.starts_with("ndef_"))?;
-        Some((name.to_string(), arguments.split(',').map(type_of).collect()))
+        let arguments = arguments.split(',').filter(|argument| *argument != "void");
+        Some((name.to_string(), arguments.map(type_of).collect()))
     });
     calls.collect()
 }

@@ -137,7 +137,7 @@ pub fn message(bytes: &[u8], rules: Rules) -> Option<(Vec<Record>, usize)> {
     }
 }
 
-/// The records of a message that is all of a payload. It has as many as a message may have, and none of them is chunked.
+/// The records of a message that is all of a payload. It has at most as many as any message, and none is chunked.
 fn within(payload: &[u8], rules: Rules) -> Option<Vec<Record>> {
     let rules = Rules { pieces: 1, typed: false, ..rules };
     let (records, length) = message(payload, rules)?;
