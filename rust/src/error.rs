@@ -47,8 +47,8 @@ pub enum EncodeError {
     /// A message has at least one record.
     NoRecord,
     /// The type or the id of a record has more than 255 bytes; its payload has more than 4294967295 bytes; it has a
-    /// type where its type name format allows none, or none where it needs one; or it is [`Tnf::Empty`](crate::Tnf) and
-    /// has a type, an id or a payload.
+    /// type where its type name format allows none, or none where it needs one; or its type name format is
+    /// [`Tnf::Empty`](crate::Tnf::Empty), and it has a type, an id or a payload.
     Record,
     /// The language code of a text has more than 63 bytes or is not ASCII, or the text is too long.
     Text,
