@@ -468,9 +468,9 @@ enum ndef_handover { NDEF_REQUEST = 0, NDEF_SELECT = 1 };
 
 /* ---- arrays
  *
- * The calls below fill an array of the caller, `size` elements long, from its front. They put the number of elements
- * they wrote into *count. Where the array is too small, the answer is NDEF_NO_ROOM, *count has the size that is
- * needed, and the array is unchanged: so an array of 0 elements asks for the size. Elements behind *count are unchanged. */
+ * These calls fill an array of the caller, `size` elements long, from its front. They put the number of elements they
+ * wrote into *count. Where the array is too small, the answer is NDEF_NO_ROOM, *count has the size that is needed, and
+ * the array is unchanged: so an array of 0 elements asks for the size. Elements behind *count are unchanged. */
 
 /* Tells where the payload of each chunk lies, of the record that begins at a place. The parts are in the order of the
  * chunks, so their bytes, joined, are what ndef_payload writes; a record that is not chunked has one.
@@ -493,11 +493,11 @@ uint32_t ndef_links(const uint8_t *bytes, ndef_size length, const uint8_t *paylo
 /* ---- find records */
 
 /* Tells the first record of a type, from the record that begins at a place on, up to the last of its message. The type
- * name format is an ndef_tnf; types are equal where their bytes are.
- * NDEF_OK: `out` is what ndef_record_at tells of that record. NDEF_END: none of these records has the type, or the place is
- *   `length`. NDEF_BAD_ARGUMENT: no record begins at the place; or before one has the type or is the last, no whole record
- *   begins where the one before it ends.
- * To find the next one, ask again with its `end`, unless it was the last: what follows the last is another message. */
+ * name format is an ndef_tnf; types are equal where their bytes are. To find the next one, ask again with its `end`,
+ * unless it was the last: what follows the last is another message.
+ * NDEF_OK: `out` is what ndef_record_at tells of that record. NDEF_END: none of these records has the type, or the
+ *   place is `length`. NDEF_BAD_ARGUMENT: no record begins at the place; or, before a record that has the type or is
+ *   the last, no whole record begins where the one before it ends. */
 uint32_t ndef_find_type(const uint8_t *bytes, ndef_size length, ndef_size at, uint32_t tnf, const uint8_t *type,
                         ndef_size type_length, ndef_record *out);
 
