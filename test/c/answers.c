@@ -283,8 +283,8 @@ static void names(void) {
     mix(usual.payload), mix(usual.records), mix(usual.pieces), mix(usual.flags);
     for (uint32_t reason = 0; reason < 40; reason++)
         WRITTEN(24, ndef_reason_name(reason, to, reason % 20, &count));
-    for (uint32_t status = 0; status < 8; status++)
-        WRITTEN(24, ndef_status_name(status, to, status + 4, &count));
+    for (uint32_t number = 0; number < 8; number++)
+        WRITTEN(24, ndef_status_name(number, to, number + 4, &count));
     for (uint32_t code = 0; code < 260; code++)
         WRITTEN(32, ndef_uri_prefix(code, to, code % 29, &count));
     mix(ndef_version());
