@@ -7,7 +7,7 @@ use Rattle.ndef_format.specs.Messages.{Item}
 use Rattle.ndef_format.specs.Records.{Piece, bit}
 use Rattle.ndef_piece.specs.Heads.{HeadsAreApart}
 use Rattle.ndef_piece.specs.Whole.{IsSplit}
-use Rattle.ndef_c.specs.Built.{AppendedBegins, EndsWithPiece, GivesAppended, Holding, IsBuilt, MayGrow, appended_octets, held, reopened}
+use Rattle.ndef_c.specs.Built.{AppendedBegins, EndsWithPiece, GivesAppended, Holding, IsBuilt, MayBeGrown, appended_octets, held, reopened}
 use Rattle.ndef_c.specs.Rooms.{IsPut}
 use Rattle.ndef_c.specs.Writes.{LastBegins, form_of, octets_by, record_octets, size_of}
 use Rattle.ndef_c.specs.declared.building.NdefBuilt.{NdefBuilt}
@@ -45,7 +45,7 @@ pub none_ends : (at : ℕ) → EndsWithPiece [] at → ⊥
 none_ends at e = let n = (mark_of [] at e).within in omega (arith, n)
 
 -- where there are bytes the message is there
-pub built_of : (h : Holding) → MayGrow h → 0 < h.built.length → IsBuilt h
+pub built_of : (h : Holding) → MayBeGrown h → 0 < h.built.length → IsBuilt h
 built_of h (inl u) some = let n = u.length_is in absurd (omega (arith, n, some))
 built_of h (inr b) some = b
 

@@ -37,8 +37,8 @@ pub record IsBuilt (h : Holding) : Type 0 where
   pub few : h.built.records < 4294967295
 
 -- a record can be appended
-abbrev pub MayGrow : Holding → Type 0
-MayGrow h = IsUnbuilt h.built ⊎ IsBuilt h
+abbrev pub MayBeGrown : Holding → Type 0
+MayBeGrown h = IsUnbuilt h.built ⊎ IsBuilt h
 
 -- no flag but that of the long form is set, and it is a record
 pub record MayBeAppended (how : NdefWriting) (m : Item) : Type 0 where

@@ -15,16 +15,16 @@ status_number statuses.End = END
 status_number statuses.More = MORE
 
 -- its name
-abbrev pub status_text : Status → List ℕ
-status_text statuses.Ok = codes "Ok"
-status_text statuses.Refused = codes "Refused"
-status_text statuses.NoRoom = codes "NoRoom"
-status_text statuses.BadArgument = codes "BadArgument"
-status_text statuses.End = codes "End"
-status_text statuses.More = codes "More"
+abbrev pub name_of_status : Status → List ℕ
+name_of_status statuses.Ok = codes "Ok"
+name_of_status statuses.Refused = codes "Refused"
+name_of_status statuses.NoRoom = codes "NoRoom"
+name_of_status statuses.BadArgument = codes "BadArgument"
+name_of_status statuses.End = codes "End"
+name_of_status statuses.More = codes "More"
 
 -- the name of the status with this number is given
 pub record GivesStatusName (number : ℕ) (before after : List ℕ) (count status : ℕ) : Type 0 where
   pub named : Status
   pub number_is : status_number named ≡ number
-  pub gives : Gives (status_text named) before after count status
+  pub gives : Gives (name_of_status named) before after count status

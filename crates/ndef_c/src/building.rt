@@ -1,7 +1,7 @@
 //! A message that is built in the room of its caller, whole behind each record.
 ghost use Rattle.std.specs.Prelude.{◌≡◌, ◌≢◌, ◌≤◌, ◌↔◌, length, take, drop, Some, IsTrue};
 ghost use Rattle.ndef_format.specs.Canonical.{HasLengths};
-ghost use Rattle.ndef_c.specs.Built.{AppendedBegins, EndsWithPiece, GivesAppended, MayBeAppended, MayGrow, appended_octets, held, is_first_of, reopened};
+ghost use Rattle.ndef_c.specs.Built.{AppendedBegins, EndsWithPiece, GivesAppended, MayBeAppended, MayBeGrown, appended_octets, held, is_first_of, reopened};
 ghost use Rattle.ndef_c.specs.Writes.{LastBegins, asked, item_of, octets_by};
 
 use crate::status::{BAD_ARGUMENT, NO_ROOM, OK};
@@ -43,7 +43,7 @@ fn ends_with_piece(bytes: &[u8], at: u64) -> bool
 
 /// Whether a record can be appended.
 fn may_grow(room: &[u8], built: &NdefBuilt) -> bool
-    ensures { IsTrue result ↔ MayGrow (held room.now built.now) }
+    ensures { IsTrue result ↔ MayBeGrown (held room.now built.now) }
 {
     if built.length == 0 {
         return built.last_at == 0 && built.records == 0;
@@ -56,7 +56,7 @@ fn may_grow(room: &[u8], built: &NdefBuilt) -> bool
 
 /// Clears the bit that ends the message (NDEF 1.0, ME), if there is one.
 fn reopen(room: &mut [u8], built: &NdefBuilt)
-    requires { MayGrow (held room.old built.now) }
+    requires { MayBeGrown (held room.old built.now) }
     ensures front { take built.now.length room.new ≡ reopened (held room.old built.now) }
     ensures behind { drop built.now.length room.new ≡ drop built.now.length room.old }
     ensures size { length room.new ≡ length room.old }
@@ -74,7 +74,7 @@ fn append(
     way: Way,
     count: &mut usize,
 ) -> u32
-    requires grow { MayGrow (held room.old built.old) }
+    requires grow { MayBeGrown (held room.old built.old) }
     requires lengths { HasLengths (item_of parts.now) }
     requires some { 1 ≤ way.size }
     ensures { GivesAppended (octets_by way (item_of parts.now))
@@ -110,7 +110,7 @@ pub extern "C" fn ndef_append(
     count: &mut usize,
 ) -> u32
     ensures bad { result ≡ BAD_ARGUMENT ↔ ¬ (MayBeAppended how.now (asked how.now kind.now id.now payload.now)
-        × MayGrow (held room.old built.old)) }
+        × MayBeGrown (held room.old built.old)) }
     ensures kept_room { result ≡ BAD_ARGUMENT → (room.new ≡ room.old) × (count.new ≡ count.old) }
     ensures kept { result ≡ BAD_ARGUMENT → built.new ≡ built.old }
     ensures appended { result ≢ BAD_ARGUMENT

@@ -1,6 +1,6 @@
 //! The names of what calls answer.
 ghost use Rattle.std.specs.Prelude.{◌≡◌, ◌≢◌, ◌<◌, ◌≤◌, ◌↔◌, IfSome, IsSome};
-ghost use Rattle.ndef_c.specs.Statuses.{GivesStatusName, status_number, status_text};
+ghost use Rattle.ndef_c.specs.Statuses.{GivesStatusName, status_number, name_of_status};
 
 use crate::room::give;
 use crate::status::{BAD_ARGUMENT, END, MORE, NO_ROOM, OK, REFUSED};
@@ -35,7 +35,7 @@ fn status_of(number: u32) -> Option<Status>
 
 /// The name of a status.
 fn text_of(status: Status) -> &'static str
-    ensures value { result.now ≡ status_text status }
+    ensures value { result.now ≡ name_of_status status }
 {
     match status {
         Status::Ok => "Ok",

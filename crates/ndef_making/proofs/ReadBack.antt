@@ -24,7 +24,7 @@ use Rattle.ndef_message.specs.Readings.{GivesBack, ReadsInput, RoundTrips}
 use Rattle.ndef_message.specs.Written.{ShortIsCanonical}
 use Rattle.ndef_message.specs.declared.form.Form.TheVariants.{Short}
 use Rattle.ndef_making.specs.Asked.{AskedPart}
-use Rattle.ndef_making.specs.Checking.{IsTyped, MakesIf, is_unchecked}
+use Rattle.ndef_making.specs.Checking.{IsOfItsType, MakesIf, is_unchecked}
 use Rattle.ndef_making.specs.Making.{AreMade, IsMadeFor, IsWrittenOf, MakesBy, shown_in}
 use Rattle.ndef_making.specs.Options.{subject_named}
 use Rattle.ndef_making.specs.Reading.{HoldsFew, IsReadBack, MadeIsRead, ReadsBack, nested_octets}
@@ -88,7 +88,7 @@ neither : (a b : Bool) → (a || b) ≡ false → (a ≡ false) × (b ≡ false)
 neither false b e = (refl, e)
 neither true b e = absurd (search rules)
 
-are_typed : (parts : List AskedPart) (input : List ℕ) (items : List Item) → AreMade parts input items → list_any is_unchecked parts ≡ false → AllByRecursion IsTyped items
+are_typed : (parts : List AskedPart) (input : List ℕ) (items : List Item) → AreMade parts input items → list_any is_unchecked parts ≡ false → AllByRecursion IsOfItsType items
 are_typed [] input [] are e = tt
 are_typed [] input (i ∷ items) are e = absurd are
 are_typed (part ∷ parts) input [] are e = absurd are
@@ -97,7 +97,7 @@ are_typed (part ∷ parts) input (i ∷ items) are e =
     let checked = subst (λ b. MakesIf b (MakesBy (subject_named part.0) part.1 input) (Ok i)) both.0 are.0 in
     (checked.1, are_typed parts input items are.1 both.1)
 
-are_members : StrictContentsAreRead → (set : Sets) → SameSets set IsTypedPayload → (limits : LimitValues) (items : List Item) → AllByRecursion IsTyped items
+are_members : StrictContentsAreRead → (set : Sets) → SameSets set IsTypedPayload → (limits : LimitValues) (items : List Item) → AllByRecursion IsOfItsType items
     → AllByRecursion (HoldsFew limits.records) items → AllByRecursion (IsMember set limits) items
 are_members strict set same limits [] typed few = tt
 are_members strict set same limits (i ∷ items) typed few = (
@@ -106,7 +106,7 @@ are_members strict set same limits (i ∷ items) typed few = (
 )
 
 read_back : StrictContentsAreRead → ShortIsCanonical → (set : Sets) (holds : Conditions) → SameSets set IsTypedPayload → RoundTrips set holds
-    → (items : List Item) → AreItems items → AllByRecursion IsTyped items → IsReadBack set holds items
+    → (items : List Item) → AreItems items → AllByRecursion IsOfItsType items → IsReadBack set holds items
 read_back strict short set holds same trips items are typed limits rest after result admits reads =
     let e = short items in
     let back = trips limits Short None items rest after result (λ n e. absurd (search rules)) are (are_members strict set same limits items typed admits.inner) admits.within

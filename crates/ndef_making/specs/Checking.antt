@@ -14,8 +14,8 @@ use Rattle.ndef_making.specs.declared.fault.Fault.TheVariants.{Refused}
 use Rattle.ndef_making.specs.declared.fault.Refused.TheVariants.{BadPayload}
 
 -- RTD Text, RTD URI, RTD Smart Poster and Connection Handover 1.2: the payload is one of its type, for a strict reader
-abbrev pub IsTyped : Item → Type 0
-IsTyped i = IsTypedPayload (kind_of i.tnf i.kind) 65535 Strict i.payload
+abbrev pub IsOfItsType : Item → Type 0
+IsOfItsType i = IsTypedPayload (kind_of i.tnf i.kind) 65535 Strict i.payload
 
 -- the payload isn't one of its type: where and why a strict reader refuses it
 abbrev pub IsUntyped : Item → Refusal → Type 0
@@ -24,14 +24,14 @@ IsUntyped i refusal = let kind = kind_of i.tnf i.kind in
 
 -- the record, where its payload is one of its type, or where and why it isn't
 abbrev pub Checked : Item → Answer → Type 0
-Checked i (Ok made) = (made ≡ i) × IsTyped i
+Checked i (Ok made) = (made ≡ i) × IsOfItsType i
 Checked i (Err (Refused (BadPayload refusal))) = IsUntyped i refusal
 Checked i (Err _) = ⊥
 
 -- what is made is checked, unless it is to be written unchecked
 abbrev pub MakesIf : (unchecked : Bool) → (makes : Answer → Type 0) → Answer → Type 0
 MakesIf true makes answer = makes answer
-MakesIf false makes (Ok i) = makes (Ok i) × IsTyped i
+MakesIf false makes (Ok i) = makes (Ok i) × IsOfItsType i
 MakesIf false makes (Err (Refused (BadPayload refusal))) = (i : Item) × makes (Ok i) × IsUntyped i refusal
 MakesIf false makes (Err fault) = makes (Err fault)
 

@@ -78,9 +78,9 @@ line_of TooLong = codes "fault: more than 1048576 bytes of payload\n"
 line_of Memory = codes "fault: memory\n"
 
 -- what is told
-abbrev pub told_text : Told → Text
-told_text (told.Text text) = text.now
-told_text (told.Line line) = line
+abbrev pub fault_text : Told → Text
+fault_text (told.Text text) = text.now
+fault_text (told.Line line) = line
 
 -- ---- the status
 

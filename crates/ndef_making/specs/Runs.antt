@@ -25,8 +25,8 @@ status_after false st = st
 status_after true st = status.Fault
 
 -- a text goes out, and this is the status
-abbrev pub Prints : Text → (before after : Option (List ℕ)) → Bool → Status → Type 0
-Prints text before after failed result = GoesOut before after failed text × (result ≡ status_after failed status.Made)
+abbrev pub PrintsAll : Text → (before after : Option (List ℕ)) → Bool → Status → Type 0
+PrintsAll text before after failed result = GoesOut before after failed text × (result ≡ status_after failed status.Made)
 
 -- for digits that are written because they go to a terminal
 abbrev pub note_line : Text
@@ -40,7 +40,7 @@ Notes _ before after failed = (after ≡ before) × (failed ≡ false)
 -- the message goes out
 abbrev pub TellsMade : Written → (written_before written_after : Option (List ℕ)) → Bool → (lines_before lines_after : Option (List ℕ)) → Bool → Status → Type 0
 TellsMade made written_before written_after sink_failed lines_before lines_after lines_failed result =
-    Prints made.text written_before written_after sink_failed result × Notes made.shown lines_before lines_after lines_failed
+    PrintsAll made.text written_before written_after sink_failed result × Notes made.shown lines_before lines_after lines_failed
 
 -- the message goes out, or the line of the fault to the other sink
 abbrev pub TellsOutcome : Result Written Fault → (written_before written_after : Option (List ℕ)) → Bool → (lines_before lines_after : Option (List ℕ)) → Bool → Status → Type 0
@@ -56,13 +56,13 @@ RunsFor words terminal before after source_failed written_before written_after s
     × TellsOutcome made written_before written_after sink_failed lines_before lines_after lines_failed result
 
 -- a page goes out, and the input is left; or what the words ask for
-abbrev pub RunsBy : Option Page → List Text → (terminal : Bool) → (before after : Supply) → Bool → (written_before written_after : Option (List ℕ)) → Bool → (lines_before lines_after : Option (List ℕ)) → Bool → Status → Type 0
-RunsBy (Some page) words terminal before after source_failed written_before written_after sink_failed lines_before lines_after lines_failed result =
-    (after ≡ before) × Prints (page_text page) written_before written_after sink_failed result × (lines_after ≡ lines_before) × (lines_failed ≡ false)
-RunsBy None words terminal before after source_failed written_before written_after sink_failed lines_before lines_after lines_failed result =
+abbrev pub RunsAsked : Option Page → List Text → (terminal : Bool) → (before after : Supply) → Bool → (written_before written_after : Option (List ℕ)) → Bool → (lines_before lines_after : Option (List ℕ)) → Bool → Status → Type 0
+RunsAsked (Some page) words terminal before after source_failed written_before written_after sink_failed lines_before lines_after lines_failed result =
+    (after ≡ before) × PrintsAll (page_text page) written_before written_after sink_failed result × (lines_after ≡ lines_before) × (lines_failed ≡ false)
+RunsAsked None words terminal before after source_failed written_before written_after sink_failed lines_before lines_after lines_failed result =
     RunsFor words terminal before after source_failed written_before written_after sink_failed lines_before lines_after lines_failed result
 
 -- what the words and the input come to
 abbrev pub Runs : List Text → (terminal : Bool) → (before after : Supply) → Bool → (written_before written_after : Option (List ℕ)) → Bool → (lines_before lines_after : Option (List ℕ)) → Bool → Status → Type 0
 Runs words terminal before after source_failed written_before written_after sink_failed lines_before lines_after lines_failed result =
-    RunsBy (page_asked words) words terminal before after source_failed written_before written_after sink_failed lines_before lines_after lines_failed result
+    RunsAsked (page_asked words) words terminal before after source_failed written_before written_after sink_failed lines_before lines_after lines_failed result

@@ -1,6 +1,6 @@
 //! Why no message is made, and the status of a run.
 ghost use Rattle.std.specs.Prelude.{◌≡◌};
-ghost use Rattle.ndef_making.specs.Faults.{encode_fault, input_fault, line_of, name_fault, payload_line, record_fault, status_of, text_fault, told_text};
+ghost use Rattle.ndef_making.specs.Faults.{encode_fault, input_fault, line_of, name_fault, payload_line, record_fault, status_of, text_fault, fault_text};
 ghost use Rattle.ndef_making.specs.declared.fault.Fault.TheVariants.{Memory};
 
 use ndef_message::InputError;
@@ -167,7 +167,7 @@ pub(crate) enum Told {
 impl Told {
     /// Its bytes.
     pub(crate) fn as_slice(&self) -> &[u8]
-        ensures { result.now ≡ told_text self.now }
+        ensures { result.now ≡ fault_text self.now }
     {
         match self {
             Told::Text(text) => text,
@@ -193,7 +193,7 @@ fn payload_line(refusal: Refusal) -> Line
 
 /// What is printed where what the words ask for can't be said.
 fn refused_line(refused: Refused) -> Told
-    ensures { told_text result ≡ line_of (Fault.Refused refused) }
+    ensures { fault_text result ≡ line_of (Fault.Refused refused) }
 {
     match refused {
         Refused::BadPayload(refusal) => Told::Line(payload_line(refusal)),
@@ -215,7 +215,7 @@ fn refused_line(refused: Refused) -> Told
 
 /// What is printed of a fault.
 pub(crate) fn line_of(fault: Fault) -> Told
-    ensures { told_text result ≡ line_of fault }
+    ensures { fault_text result ≡ line_of fault }
 {
     match fault {
         Fault::Usage => Told::Text(USAGE),

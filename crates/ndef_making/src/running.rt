@@ -2,7 +2,7 @@
 ghost use Rattle.std.specs.Prelude.{◌≡◌, false, map, string_bytes};
 ghost use Rattle.ndef_message.specs.Machine.Turns.{supply_of};
 ghost use Rattle.ndef_making.specs.Pages.{page_text};
-ghost use Rattle.ndef_making.specs.Runs.{GoesOut, Notes, Prints, Runs, RunsFor, TellsMade};
+ghost use Rattle.ndef_making.specs.Runs.{GoesOut, Notes, PrintsAll, Runs, RunsFor, TellsMade};
 
 use crate::Status;
 use crate::fault::{line_of, status_of};
@@ -14,7 +14,7 @@ use std::alloc::Global;
 /// Writes a text.
 fn print<K: Sink>(text: &[u8], sink: &mut K) -> Status
     ensures { K.has_failed sink.old ≡ false
-        → Prints text.now (K.written sink.old) (K.written sink.new) (K.has_failed sink.new) result }
+        → PrintsAll text.now (K.written sink.old) (K.written sink.new) (K.has_failed sink.new) result }
 {
     match send(0, text, sink) {
         Ok(_) => Status::Made,
@@ -25,7 +25,7 @@ fn print<K: Sink>(text: &[u8], sink: &mut K) -> Status
 /// Writes a page.
 fn print_page<K: Sink>(page: Page, sink: &mut K) -> Status
     ensures { K.has_failed sink.old ≡ false
-        → Prints (page_text page) (K.written sink.old) (K.written sink.new) (K.has_failed sink.new) result }
+        → PrintsAll (page_text page) (K.written sink.old) (K.written sink.new) (K.has_failed sink.new) result }
 {
     print(page_text(page), sink)
 }
