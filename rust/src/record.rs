@@ -30,8 +30,9 @@ pub struct Record<'a> {
 }
 
 impl<'a> Record<'a> {
-    /// The record that begins at a place of a message or of one within a payload.
-    #[inline]
+    /// The record that begins at a place of a message or of one within a payload. It is always inlined, so that parts
+    /// which nobody looks at are not made: that halves the time of a walk beyond the library's own.
+    #[inline(always)]
     pub(crate) fn at(message: &'a [u8], at: Size, profile: Profile) -> Self {
         let mut told = ffi::Record::default();
         promised(ffi::record_at(message, at, &mut told));
@@ -39,7 +40,7 @@ impl<'a> Record<'a> {
     }
 
     /// A record that the library told of a message.
-    #[inline]
+    #[inline(always)]
     pub(crate) fn of(message: &'a [u8], told: ffi::Record, profile: Profile) -> Self {
         Self {
             message,
