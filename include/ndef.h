@@ -484,8 +484,8 @@ uint32_t ndef_pieces(const uint8_t *bytes, ndef_size length, ndef_size at, ndef_
 uint32_t ndef_references(const uint8_t *payload, ndef_size length, ndef_part *parts, ndef_size size,
                          ndef_size *count);
 
-/* Tells the links of a message: for each index what ndef_link_at tells of the same message and payload, which are read
- * once.
+/* Tells the links of a message: for each index what ndef_link_at tells of the same message and payload. The payload is
+ * read once.
  * NDEF_OK, NDEF_NO_ROOM. NDEF_BAD_ARGUMENT: as ndef_link_at answers it. */
 uint32_t ndef_links(const uint8_t *bytes, ndef_size length, const uint8_t *payload, ndef_size payload_length,
                     ndef_link *links, ndef_size size, ndef_size *count);
@@ -527,7 +527,8 @@ typedef struct ndef_uri_parts {
 /* Tells the code and where the rest lies in the payload of a URI record (`U`). The URI that ndef_uri writes is the
  * prefix of the code and then the rest. Flags: as ndef_uri.
  * NDEF_OK, NDEF_REFUSED. NDEF_BAD_ARGUMENT: an unknown flag is set. */
-uint32_t ndef_uri_view(const uint8_t *payload, ndef_size length, uint32_t flags, ndef_uri_parts *out, ndef_checked *why);
+uint32_t ndef_uri_view(const uint8_t *payload, ndef_size length, uint32_t flags, ndef_uri_parts *out,
+                       ndef_checked *why);
 
 /* Writes the prefix of a code to the room, in ASCII, at most 26 bytes. Code 0 and the reserved codes, 36 to 255, have
  * the empty prefix.
@@ -544,14 +545,14 @@ typedef struct ndef_built {
 } ndef_built;
 
 /* Appends a record to the message that the room begins with, and tells in `built` what is known of the message then.
- * The room holds a whole message behind each call: the record that was the last says so no longer. The record is written
- * as ndef_write_record writes it; the only flag is NDEF_WRITE_LONG, since the call knows which record is first and last.
- * `built` and the room are those of the call before, all of `built` 0 for the first record. *count has the length of the
- * message with the record. Bytes of the room behind it are unchanged.
+ * The room holds a whole message behind each call: the record that was the last says so no longer. The record is
+ * written as ndef_write_record writes it; the only flag is NDEF_WRITE_LONG, since the call knows which record is first and
+ * which is last. `built` and the room are as the call before left them; for the first record all of `built` is 0.
+ * *count has the length of the message with the record. Bytes of the room behind it are unchanged.
  * NDEF_OK. NDEF_NO_ROOM: the room and `built` are unchanged.
- * NDEF_BAD_ARGUMENT: another flag is set; what ndef_write_record answers so; or `built` does not fit the room: its length
- *   is above `size`; the last bytes of the message, from last_at on, are not the chunk that ends a message; it has
- *   4294967295 records; or its length is 0 and the other members are not. */
+ * NDEF_BAD_ARGUMENT: another flag is set; what ndef_write_record answers so; or `built` does not fit the room: its
+ *   length is above `size`; the last bytes of the message, from last_at on, are not the chunk that ends a message; it
+ *   has 4294967295 records; or its length is 0 and the other members are not. */
 uint32_t ndef_append(ndef_built *built, const uint8_t *type, ndef_size type_length, const uint8_t *id,
                      ndef_size id_length, const uint8_t *payload, ndef_size payload_length, const ndef_writing *how,
                      uint8_t *room, ndef_size size, ndef_size *count);

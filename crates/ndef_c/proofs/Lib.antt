@@ -10,6 +10,7 @@ pub mod Errors
 pub mod Feeds
 pub mod Filled
 pub mod Followed
+pub mod Growing
 pub mod Handovers
 pub mod Linked
 pub mod LinkParts

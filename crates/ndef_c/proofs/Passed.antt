@@ -1,5 +1,5 @@
 -- Records that a walk passes.
-use Rattle.std.proofs.Common.{◌≡◌, ℕ, ◌∷◌, [], List, ◌++◌, drop}
+use Rattle.std.proofs.Common.{ℕ, ◌∷◌, [], List, ◌++◌, drop}
 use Rattle.std.specs.List.{AllByRecursion}
 use Rattle.ndef_format.specs.Records.{Run}
 use Rattle.ndef_c.specs.Finding.{IsPassed, PassesTo, Sought}

@@ -1,5 +1,5 @@
 -- What is told of the first record that has what is wanted.
-use Rattle.std.specs.Prelude.{◌≡◌, ◌≢◌, ℕ, ◌⊎◌, true, false, List, [], ◌∷◌, length, drop}
+use Rattle.std.specs.Prelude.{◌≡◌, ◌≢◌, ℕ, true, false, List, [], drop}
 use Rattle.std.specs.List.{AllByRecursion}
 use Rattle.ndef_format.specs.Messages.{Item, run_record}
 use Rattle.ndef_format.specs.Records.{Run, code}

@@ -6,6 +6,7 @@ pub mod Carriers
 pub mod Checks
 pub mod ErrorWrites
 pub mod Errors
+pub mod Growing
 pub mod HandoverWrites
 pub mod Handovers
 pub mod Links

@@ -1,5 +1,6 @@
 //! What holds of the calls together.
 ghost use Rattle.ndef_c.specs.Feeding.{FeedsAreChecks};
+ghost use Rattle.ndef_c.specs.Growing.{FirstIsHeld, OthersAreHeld};
 ghost use Rattle.ndef_c.specs.Links.{LinksAreTold};
 ghost use Rattle.ndef_c.specs.Walks.{ChecksAreWalked, OneRecordIsThere};
 ghost use Rattle.ndef_c.specs.Writes.{RecordsMakeAMessage};
@@ -36,6 +37,13 @@ pub fn one_record_is_there()
 /// `encode` and `encode_chunked` make of their message.
 pub fn records_make_a_message()
     ensures { RecordsMakeAMessage }
+{}
+
+/// What a room holds of the records that `ndef_append` appends to it: each written as it was asked, one
+/// behind another, the first and the last of them alone told as such.
+pub fn appended_records_are_held()
+    ensures first { FirstIsHeld }
+    ensures others { OthersAreHeld }
 {}
 
 /// Of a message that a check takes and its handover `ndef_link_at` tells the links that the message has,

@@ -7,7 +7,8 @@
 //! - `run.rt`, `record.rt`, `specs/Walks.antt`: the record at a place. `payload.rt`: its joined payload.
 //! - `pieces.rt`, `specs/Pieces.antt`: where its pieces lie. `specs/Arrays.antt`: what is written to an array.
 //! - `finding.rt`, `specs/Finding.antt`: the first record with a type or an id.
-//! - `writing.rt`, `specs/Writes.antt`: a record written. `building.rt`, `specs/Built.antt`: a message built in a room.
+//! - `writing.rt`, `specs/Writes.antt`: a record written. `building.rt`, `specs/Built.antt`, `specs/Growing.antt`: a
+//!   message built in a room.
 //! - `uri.rt`, `uri_view.rt`, `text.rt`, `carrier.rt`, `alternative.rt`, `request.rt`, `select.rt`, `poster.rt`,
 //!   `error.rt`: payloads of each kind. `numbers.rt` and `alternative_writing.rt`, `error_writing.rt`,
 //!   `handover_writing.rt`: those of records within posters and handovers, written.
@@ -69,8 +70,8 @@ pub use feeding::{NdefChecker, ndef_begin, ndef_feed};
 pub use finding::{ndef_find_id, ndef_find_type};
 pub use handover_writing::{REQUEST, SELECT, ndef_write_handover};
 pub use laws::{
-    checks_are_walked, feeds_are_checks, links_are_told, one_record_is_there,
-    records_make_a_message,
+    appended_records_are_held, checks_are_walked, feeds_are_checks, links_are_told,
+    one_record_is_there, records_make_a_message,
 };
 pub use limits::{NdefLimits, ndef_usual_limits};
 pub use link::{NdefLink, ndef_link_at};

@@ -1,4 +1,4 @@
-use Rattle.std.proofs.Common.{◌≡◌, ◌-◌, [], length, length-drop, drop, refl, sym, ◌∙◌, ap, subst, arith, true, true≢false}
+use Rattle.std.proofs.Common.{◌≡◌, ◌-◌, [], length, length-drop, refl, sym, ◌∙◌, ap, subst, arith, true≢false}
 use Rattle.ndef_c.specs.Finding.{Has, HasFirst}
 use Rattle.ndef_c.specs.Runs.{HasRun}
 use Rattle.ndef_c.specs.Walks.{BeginsWithRun}

@@ -1,4 +1,4 @@
-use Rattle.std.proofs.Common.{length, refl, sym, ◌∙◌, subst, Some}
+use Rattle.std.proofs.Common.{sym, subst, Some}
 use Rattle.ndef_format.specs.declared.profile.Profile.TheVariants.{Standard}
 use Rattle.ndef_types.specs.Links.{alternatives}
 use Rattle.ndef_c.specs.Nested.{LiesWithIndex, MayBeInPieces}

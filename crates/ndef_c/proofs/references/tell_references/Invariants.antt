@@ -1,4 +1,4 @@
-use Rattle.std.proofs.Common.{◌≡◌, ◌≤◌, ◌+◌, ◌∷◌, [], List, length, get_or}
+use Rattle.std.proofs.Common.{◌≡◌, ◌≤◌, ◌+◌, List, length}
 use Rattle.ndef_types.specs.Values.{AcValue, StandsForAc}
 use Rattle.ndef_c.specs.Alternatives.{LiesAt, references}
 use Rattle.ndef_c.specs.Arrays.{EachAt, set_over}

@@ -1,0 +1,51 @@
+-- What a room holds of the records that are appended to it.
+use Rattle.std.specs.Prelude.{◌≡◌, ℕ, ◌+◌, ◌≤◌, Bool, true, false, List, [], ◌∷◌, ◌++◌, length, take}
+use Rattle.ndef_format.specs.Messages.{Item}
+use Rattle.ndef_c.specs.Built.{AppendedBegins, GivesAppended, Holding, IsUnbuilt, appended_octets, is_first_of}
+use Rattle.ndef_c.specs.Writes.{form_of, record_octets, size_of}
+use Rattle.ndef_c.specs.declared.status.TheConstants.{OK}
+use Rattle.ndef_c.specs.declared.writing.NdefWriting.{NdefWriting}
+
+-- a record, and how it is written
+pub record Appended : Type 0 where
+  pub how : NdefWriting
+  pub item : Item
+
+-- NDEF 1.0, MB: the record behind these is the first of its message
+abbrev pub opens : Bool → List Appended → Bool
+opens first [] = first
+opens first (a ∷ others) = false
+
+-- NDEF 1.0, ME: the octets of records that others follow
+abbrev pub followed_octets : Bool → List Appended → List ℕ
+followed_octets first [] = []
+followed_octets first (a ∷ others) =
+    record_octets (form_of a.how) first false (size_of a.how) a.item ++ followed_octets false others
+
+-- NDEF 1.0, messages: the room begins with these records and a last one, each written as it was asked, and so it is told
+pub record HoldsRecords (records : List Appended) (last : Appended) (h : Holding) : Type 0 where
+  pub within : h.built.length ≤ length h.room
+  pub bytes : take h.built.length h.room
+      ≡ followed_octets true records ++ appended_octets (opens true records) last.how last.item
+  pub at : ℕ
+  pub begins : AppendedBegins (opens true records) last.how last.item at
+  pub last_at : h.built.last_at ≡ length (followed_octets true records) + at
+  pub count : h.built.records ≡ length records + 1
+
+-- the record was appended
+abbrev pub IsAppended : Appended → (before after : Holding) → ℕ → Type 0
+IsAppended a before after count =
+    GivesAppended (appended_octets (is_first_of before.built) a.how a.item)
+    (AppendedBegins (is_first_of before.built) a.how a.item) before after count OK
+
+-- ---- laws
+
+-- The first record that is appended is the message.
+abbrev pub FirstIsHeld : Type 0
+FirstIsHeld = (a : Appended) (before after : Holding) (count : ℕ) → IsUnbuilt before.built
+    → IsAppended a before after count → HoldsRecords [] a after
+
+-- Each further one is its last record, behind those that were there.
+abbrev pub OthersAreHeld : Type 0
+OthersAreHeld = (records : List Appended) (last a : Appended) (before after : Holding) (count : ℕ)
+    → HoldsRecords records last before → IsAppended a before after count → HoldsRecords (records ++ last ∷ []) a after
