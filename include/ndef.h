@@ -546,9 +546,9 @@ typedef struct ndef_built {
 
 /* Appends a record to the message that the room begins with, and tells in `built` what is known of the message then.
  * The room holds a whole message behind each call: the record that was the last says so no longer. The record is
- * written as ndef_write_record writes it; the only flag is NDEF_WRITE_LONG, since the call knows which record is first and
- * which is last. `built` and the room are as the call before left them; for the first record all of `built` is 0.
- * *count has the length of the message with the record. Bytes of the room behind it are unchanged.
+ * written as ndef_write_record writes it; the only flag is NDEF_WRITE_LONG, since the call knows which record is
+ * first and which is last. `built` and the room are as the call before left them; for the first record all of `built`
+ * is 0. *count has the length of the message with the record. Bytes of the room behind it are unchanged.
  * NDEF_OK. NDEF_NO_ROOM: the room and `built` are unchanged.
  * NDEF_BAD_ARGUMENT: another flag is set; what ndef_write_record answers so; or `built` does not fit the room: its
  *   length is above `size`; the last bytes of the message, from last_at on, are not the chunk that ends a message; it
