@@ -49,7 +49,14 @@ fn main(rt: HostRuntime) -> ExitCode {
     let mut source = StdSource::new(reader);
     let mut sink = StdSink::new(&mut writer);
     let mut lines = StdSink::new(rt.stderr());
-    let status = run(alloc, words.as_slice(), terminal, &mut source, &mut sink, &mut lines);
+    let status = run(
+        alloc,
+        words.as_slice(),
+        terminal,
+        &mut source,
+        &mut sink,
+        &mut lines,
+    );
     drop(sink);
     code_after(status, writer.flush())
 }

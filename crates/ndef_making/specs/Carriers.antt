@@ -34,7 +34,7 @@ carrier_said rows input = option_map (λ format. record {
   carried = input;
 }) (option_and_then format_named (first_of (codes "format") rows))
 
--- Connection Handover 1.2, Handover Carrier record: the payload of a carrier; none where its type or the payload is too long
+-- Connection Handover 1.2, Handover Carrier record: the payload of a carrier; none where a part is too long
 abbrev pub WritesData : CarrierValue → Result (List ℕ) Fault → Type 0
 WritesData v (Ok payload) = (length v.kind < 256) × (length payload < 2 ^ 32) × (payload ≡ carrier_payload v)
 WritesData v (Err (Refused PartTooLong)) = 256 ≤ length v.kind
@@ -51,4 +51,5 @@ abbrev pub MakesCarrier : Text → CarrierValue → Answer → Type 0
 MakesCarrier id v (Ok i) = (payload : List ℕ) × WritesData v (Ok payload) × MakesItem (carrier_item id payload) (Ok i)
 MakesCarrier id v (Err Memory) = ⊤
 MakesCarrier id v (Err fault) =
-    WritesData v (Err fault) ⊎ ((payload : List ℕ) × WritesData v (Ok payload) × MakesItem (carrier_item id payload) (Err fault))
+    WritesData v (Err fault)
+    ⊎ ((payload : List ℕ) × WritesData v (Ok payload) × MakesItem (carrier_item id payload) (Err fault))

@@ -1,4 +1,4 @@
--- Which payloads are written: those that a strict reader takes (NFC Forum, RTD Text, RTD URI, RTD Smart Poster and Connection Handover 1.2).
+-- Which payloads are written: those that a strict reader takes (RTD Text, URI, Smart Poster, Connection Handover 1.2).
 use Rattle.std.specs.Prelude.{◌≡◌, ◌&&◌, Bool, true, false, Ok, Err, codes}
 use Rattle.ndef_format.specs.Messages.{Item}
 use Rattle.ndef_format.specs.declared.profile.Profile.TheVariants.{Strict}

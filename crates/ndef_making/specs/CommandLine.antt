@@ -56,7 +56,8 @@ poster_app = with_rule (with_rule (with_rule titled_app (word_rule (codes "actio
 
 -- a type name format, a type and an id
 abbrev pub given_app : App
-given_app = with_rule (with_rule (with_rule (part_app (codes "record")) (asked_rule (codes "tnf"))) (word_rule (codes "type"))) (word_rule (codes "id"))
+given_app = with_rule (with_rule (with_rule (part_app (codes "record")) (asked_rule (codes "tnf")))
+    (word_rule (codes "type"))) (word_rule (codes "id"))
 
 -- the same, and whether the payload isn't checked
 abbrev pub record_app : App
@@ -64,7 +65,8 @@ record_app = with_rule given_app (flag_rule (codes "unchecked"))
 
 -- a carrier type format, a carrier type and an id
 abbrev pub carrier_app : App
-carrier_app = with_rule (with_rule (with_rule (part_app (codes "carrier")) (asked_rule (codes "format"))) (asked_rule (codes "type"))) (word_rule (codes "id"))
+carrier_app = with_rule (with_rule (with_rule (part_app (codes "carrier")) (asked_rule (codes "format")))
+    (asked_rule (codes "type"))) (word_rule (codes "id"))
 
 -- a subcommand is wanted as the first word, and none is for help
 abbrev pub empty_app : App
@@ -73,5 +75,5 @@ empty_app = let a = new_app (codes "ndef-make") in
 
 -- all of it
 abbrev pub make_app : App
-make_app =
-    with_subcommand (with_subcommand (with_subcommand (with_subcommand (with_subcommand empty_app text_app.top) uri_app.top) poster_app.top) record_app.top) carrier_app.top
+make_app = with_subcommand (with_subcommand (with_subcommand (with_subcommand (with_subcommand empty_app text_app.top)
+    uri_app.top) poster_app.top) record_app.top) carrier_app.top

@@ -60,7 +60,8 @@ usage_line = codes "usage: ndef-make text [--language L] [--utf16] TEXT | uri UR
 -- for a payload that isn't one of its type
 abbrev pub payload_line : Refusal → Text
 payload_line r =
-    codes "refused: payload at " ++ decimal r.at ++ codes ": " ++ decimal (reason_number r.reason) ++ codes " " ++ reason_name r.reason ++ codes "\n"
+    codes "refused: payload at " ++ decimal r.at ++ codes ": " ++ decimal (reason_number r.reason)
+    ++ codes " " ++ reason_name r.reason ++ codes "\n"
 
 -- the line of a fault
 abbrev pub line_of : Fault → Text

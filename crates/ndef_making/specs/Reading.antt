@@ -21,7 +21,7 @@ use Rattle.ndef_making.specs.Checking.{is_unchecked}
 use Rattle.ndef_making.specs.Making.{AreMade, IsMade, shown_in}
 use Rattle.ndef_making.specs.declared.making.Written.{Written}
 
--- RTD Smart Poster 1.0 and Connection Handover 1.2: the octets of the message in a payload, behind the version octet of a handover
+-- RTD Smart Poster 1.0, Connection Handover 1.2: the octets of the message in a payload, behind a version octet
 abbrev pub nested_octets : Kind → List ℕ → List ℕ
 nested_octets kinds.SmartPoster payload = payload
 nested_octets kinds.Request payload = drop 1 payload
@@ -30,7 +30,8 @@ nested_octets _ payload = []
 
 -- a message in the payload of the record has at most so many records
 abbrev pub HoldsFew : (records : ℕ) → Item → Type 0
-HoldsFew records i = (inner : List Item) → Spells Strict inner (nested_octets (kind_of i.tnf i.kind) i.payload) → length inner ≤ records
+HoldsFew records i =
+    (inner : List Item) → Spells Strict inner (nested_octets (kind_of i.tnf i.kind) i.payload) → length inner ≤ records
 
 -- limits that admit the records, each in one piece
 pub record Admits (limits : LimitValues) (items : List Item) : Type 0 where
@@ -39,7 +40,8 @@ pub record Admits (limits : LimitValues) (items : List Item) : Type 0 where
 
 -- a reader whose limits admit the records reads them, whatever follows them
 abbrev pub IsReadBack : Sets → Conditions → List Item → Type 0
-IsReadBack set holds items = (limits : LimitValues) (rest : List ℕ) (after : Option (List ℕ)) (result : Result Read ReadError)
+IsReadBack set holds items =
+    (limits : LimitValues) (rest : List ℕ) (after : Option (List ℕ)) (result : Result Read ReadError)
     → Admits limits items → ReadsInput set holds limits (canonical items ++ rest) after result
     → GivesBack items (canonical items) rest after result
 
@@ -50,6 +52,7 @@ ReadsBack set holds parts made = (input : List ℕ) × (items : List Item) × Ar
 
 -- What is made of words is read back as the records for which they ask, unless one of these is to be written unchecked.
 abbrev pub MadeIsRead : Sets → Conditions → Type 0
-MadeIsRead set holds = (words : List Text) (terminal : Bool) (before after : Supply) (failed : Bool) (made : Written) (parts : List AskedPart)
-    → IsMade words terminal before after failed (Ok made) → asked_of words ≡ Some parts → list_any is_unchecked parts ≡ false
-    → ReadsBack set holds parts made
+MadeIsRead set holds =
+    (words : List Text) (terminal : Bool) (before after : Supply) (failed : Bool) (made : Written) (parts : List AskedPart)
+    → IsMade words terminal before after failed (Ok made) → asked_of words ≡ Some parts
+    → list_any is_unchecked parts ≡ false → ReadsBack set holds parts made

@@ -156,8 +156,8 @@ fn words_behind(words: &[String]) -> &[String]
 
 /// What is written of the message for which the words ask, of which the first is the program's name.
 ///
-/// The source is read, to its end, exactly where one part is a `record` or a `carrier`. To a terminal digits are written,
-/// unless a part has the flag `raw`.
+/// The source is read, to its end, exactly where one part is a `record` or a `carrier`. To a terminal
+/// digits are written, unless a part has the flag `raw`.
 pub fn make<S: Source>(
     alloc: Global,
     words: &[String],
