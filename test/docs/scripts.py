@@ -89,7 +89,7 @@ def unproved_and_broken(copy):
 
 def built_once(copy):
     first = copy.run('ndef', 'show', '--hex')
-    yield from expect(first, 0, 'built show --hex\n', 'ndef: crate 3 of {}: ndef_lang, 120 of 183 functions'.format(count(first)))
+    yield from expect(first, 0, 'built show --hex\n', 'ndef: crate 4 of {}: ndef_lang, 120 of 183 functions'.format(count(first)))
     if 'processor minutes' not in first.stderr or 'ndef: proved and built in 0 minutes' not in first.stderr:
         yield f'no cost or no time in {first.stderr!r}'
     second = copy.run('ndef', 'show', has_rt=False)
