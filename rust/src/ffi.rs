@@ -2,14 +2,14 @@
 //!
 //! The header demands this of a caller, and it is kept so:
 //!
-//! - D1, "a pointer that comes with a length points to that many bytes (or elements)": the pointer and the length are
+//! - LEN, "a pointer that comes with a length points to that many bytes (or elements)": the pointer and the length are
 //!   those of one slice, or of the spare capacity of one `Vec`.
-//! - D2, "any other pointer points to one value of its type, and is not NULL": it comes from a reference.
-//! - D3, "what a call writes overlaps none of its other arguments": it is a local value, or behind a `&mut`.
-//! - D4, "the ndef_checker that ndef_feed is given holds what ndef_begin or ndef_feed left in it, or is a copy of one
+//! - ONE, "any other pointer points to memory for one value of its type", and none is NULL: it comes from a reference.
+//! - APART, "what a call writes overlaps none of its other arguments": it is a local value, or behind a `&mut`.
+//! - BEGUN, "the ndef_checker that ndef_feed is given holds what ndef_begin or ndef_feed left in it, or is a copy of one
 //!   that does; only one call at a time uses it": nothing but `begin` and `Clone` makes a `Checker`, its words are
 //!   private, and `feed` takes it by `&mut`.
-//! - D5, "no array has more than PTRDIFF_MAX bytes": no slice and no `Vec` has.
+//! - MAX, "no array has more than PTRDIFF_MAX bytes": no slice and no `Vec` has.
 //!
 //! `unsafe` relies on these promises of the header too:
 //!
@@ -221,7 +221,7 @@ pub(crate) fn version() -> u32 {
 
 pub(crate) fn usual_limits() -> Limits {
     let mut out = Limits::default();
-    // SAFETY: D2.
+    // SAFETY: ONE.
     unsafe { c::ndef_usual_limits(&mut out) };
     out
 }
@@ -231,21 +231,21 @@ pub(crate) fn usual_limits() -> Limits {
 /// Checks that the bytes begin with a message, and answers the status.
 #[inline]
 pub(crate) fn check(bytes: &[u8], limits: &Limits, out: &mut Checked) -> u32 {
-    // SAFETY: D1, D2, D5: a slice, and values of their types. D3: `out` is a `&mut`.
+    // SAFETY: LEN, ONE, MAX: a slice, and values of their types. APART: `out` is a `&mut`.
     unsafe { c::ndef_check(bytes.as_ptr(), size(bytes), limits, out) }
 }
 
 pub(crate) fn begin(limits: &Limits) -> Checker {
     let mut checker = Checker { words: [0; 29] };
-    // SAFETY: D2: values of their types. D3: `checker` is a local value.
+    // SAFETY: ONE: values of their types. APART: `checker` is a local value.
     unsafe { c::ndef_begin(limits, &mut checker) };
     checker
 }
 
 pub(crate) fn feed(checker: &mut Checker, bytes: &[u8]) -> (u32, Checked) {
     let mut out = Checked::default();
-    // SAFETY: D1, D2, D5: a slice, and values of their types. D3: `checker` is a `&mut`, and `out` is a local value.
-    // D4: `begin` or `Clone` made `checker`, and nothing else has it now.
+    // SAFETY: LEN, ONE, MAX: a slice, and values of their types. APART: `checker` is a `&mut`, and `out` is a local value.
+    // BEGUN: `begin` or `Clone` made `checker`, and nothing else has it now.
     let status = unsafe { c::ndef_feed(checker, bytes.as_ptr(), size(bytes), &mut out) };
     (status, out)
 }
@@ -255,7 +255,7 @@ pub(crate) fn feed(checker: &mut Checker, bytes: &[u8]) -> (u32, Checked) {
 /// Tells the record that begins at a place. An error is the status.
 #[inline]
 pub(crate) fn record_at(bytes: &[u8], at: Size, out: &mut Record) -> Result<(), u32> {
-    // SAFETY: D1, D2, D5: a slice, and a value of its type. D3: `out` is a `&mut`.
+    // SAFETY: LEN, ONE, MAX: a slice, and a value of its type. APART: `out` is a `&mut`.
     match unsafe { c::ndef_record_at(bytes.as_ptr(), size(bytes), at, out) } {
         OK => Ok(()),
         status => Err(status),
@@ -265,7 +265,7 @@ pub(crate) fn record_at(bytes: &[u8], at: Size, out: &mut Record) -> Result<(), 
 /// The first record with an id, from the one that begins at a place on.
 pub(crate) fn find_id(bytes: &[u8], at: Size, id: &[u8]) -> Option<Record> {
     let mut out = Record::default();
-    // SAFETY: D1, D2, D5: slices, and a value of its type. D3: `out` is a local value.
+    // SAFETY: LEN, ONE, MAX: slices, and a value of its type. APART: `out` is a local value.
     let status = unsafe { c::ndef_find_id(bytes.as_ptr(), size(bytes), at, id.as_ptr(), size(id), &mut out) };
     (status == OK).then_some(out)
 }
@@ -273,7 +273,7 @@ pub(crate) fn find_id(bytes: &[u8], at: Size, id: &[u8]) -> Option<Record> {
 /// Where the payload of each chunk of the record that begins at a place lies.
 pub(crate) fn pieces(bytes: &[u8], at: Size, parts: &mut [Part]) -> Result<usize, Unfilled> {
     let mut count = 0;
-    // SAFETY: D1, D2, D5: slices, and a value of its type. D3: `parts` is a `&mut`, and `count` is a local value.
+    // SAFETY: LEN, ONE, MAX: slices, and a value of its type. APART: `parts` is a `&mut`, and `count` is a local value.
     let status =
         unsafe { c::ndef_pieces(bytes.as_ptr(), size(bytes), at, parts.as_mut_ptr(), size(parts), &mut count) };
     filled(status, count, Checked::default())
@@ -345,7 +345,7 @@ impl Room for Vec<u8> {
 macro_rules! fills {
     ($($name:ident ($($argument:ident: $kind:ty),*) = $call:ident ($($given:expr),*);)*) => { $(
         pub(crate) fn $name($($argument: $kind,)* room: &mut (impl Room + ?Sized)) -> Result<usize, Unfilled> {
-            // SAFETY: D1, D2, D5: slices, values of their types, and the room. D3: `room` and `count` are `&mut`.
+            // SAFETY: LEN, ONE, MAX: slices, values of their types, and the room. APART: `room` and `count` are `&mut`.
             // Of `fill`: the call is one that fills a room.
             let (status, count) = unsafe { room.fill(|at, size, count| c::$call($($given,)* at, size, count)) };
             filled(status, count, Checked::default())
@@ -376,7 +376,7 @@ fills! {
 
 fn uri(payload: &[u8], flags: u32, room: &mut (impl Room + ?Sized)) -> Result<usize, Unfilled> {
     let mut why = Checked::default();
-    // SAFETY: D1, D2, D5: a slice, values of their types, and the room. D3: `room` and `count` are `&mut`, and `why` is
+    // SAFETY: LEN, ONE, MAX: a slice, values of their types, and the room. APART: `room` and `count` are `&mut`, and `why` is
     // a local value. Of `fill`: the call is one that fills a room.
     let (status, count) = unsafe {
         room.fill(|at, room, count| c::ndef_uri(payload.as_ptr(), size(payload), flags, at, room, count, &mut why))
@@ -411,7 +411,7 @@ pub(crate) fn uri_string(payload: &[u8], flags: u32) -> String {
 
 fn text_in_utf8(payload: &[u8], room: &mut (impl Room + ?Sized)) -> Result<usize, Unfilled> {
     let mut why = Checked::default();
-    // SAFETY: D1, D2, D5: a slice, values of their types, and the room. D3: `room` and `count` are `&mut`, and `why` is
+    // SAFETY: LEN, ONE, MAX: a slice, values of their types, and the room. APART: `room` and `count` are `&mut`, and `why` is
     // a local value. Of `fill`: the call is one that fills a room.
     let (status, count) = unsafe {
         room.fill(|at, room, count| c::ndef_text_in_utf8(payload.as_ptr(), size(payload), at, room, count, &mut why))
@@ -426,7 +426,7 @@ macro_rules! parts {
     ($($name:ident ($($argument:ident: $kind:ty),*) -> $out:ty = $call:ident;)*) => { $(
         pub(crate) fn $name(payload: &[u8], $($argument: $kind),*) -> Result<$out, Checked> {
             let (mut out, mut why) = (<$out>::default(), Checked::default());
-            // SAFETY: D1, D2, D5: a slice, and values of their types. D3: `out` and `why` are local values.
+            // SAFETY: LEN, ONE, MAX: a slice, and values of their types. APART: `out` and `why` are local values.
             match unsafe { c::$call(payload.as_ptr(), size(payload), $($argument,)* &mut out, &mut why) } {
                 OK => Ok(out),
                 _ => Err(why),
@@ -448,7 +448,7 @@ parts! {
 /// The reference with an index of an alternative carrier.
 pub(crate) fn reference(payload: &[u8], index: Size) -> Option<&[u8]> {
     let mut out = Part::default();
-    // SAFETY: D1, D2, D5: a slice, and a value of its type. D3: `out` is a local value.
+    // SAFETY: LEN, ONE, MAX: a slice, and a value of its type. APART: `out` is a local value.
     let status = unsafe { c::ndef_reference(payload.as_ptr(), size(payload), index, &mut out) };
     (status == OK).then(|| part(payload, out.at, out.length))
 }
@@ -456,7 +456,7 @@ pub(crate) fn reference(payload: &[u8], index: Size) -> Option<&[u8]> {
 /// The link with an index of a message, whose handover has the payload.
 pub(crate) fn link_at(bytes: &[u8], payload: &[u8], index: Size) -> Option<Link> {
     let mut out = Link::default();
-    // SAFETY: D1, D2, D5: slices, and a value of its type. D3: `out` is a local value.
+    // SAFETY: LEN, ONE, MAX: slices, and a value of its type. APART: `out` is a local value.
     let status =
         unsafe { c::ndef_link_at(bytes.as_ptr(), size(bytes), payload.as_ptr(), size(payload), index, &mut out) };
     (status == OK).then_some(out)
@@ -466,7 +466,7 @@ pub(crate) fn link_at(bytes: &[u8], payload: &[u8], index: Size) -> Option<Link>
 pub(crate) fn links(bytes: &[u8], payload: &[u8], links: &mut [Link]) -> Result<usize, Unfilled> {
     let (at, room) = (links.as_mut_ptr(), size(links));
     let mut count = 0;
-    // SAFETY: D1, D2, D5: slices, and a value of its type. D3: `links` is a `&mut`, and `count` is a local value.
+    // SAFETY: LEN, ONE, MAX: slices, and a value of its type. APART: `links` is a `&mut`, and `count` is a local value.
     let status =
         unsafe { c::ndef_links(bytes.as_ptr(), size(bytes), payload.as_ptr(), size(payload), at, room, &mut count) };
     filled(status, count, Checked::default())
