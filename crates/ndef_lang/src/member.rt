@@ -7,6 +7,7 @@ ghost use Rattle.ndef_format.specs.Handovers.{IsAlternative, AreReferences, IsEr
 ghost use Rattle.ndef_format.specs.Nested.{IsPayload};
 
 use super::ascii::is_ascii;
+use super::utf8;
 use ndef_format::Kind;
 use ndef_value::Profile;
 
@@ -27,7 +28,7 @@ const MOST_AT_ONCE: usize = 16384;
 fn is_long_utf8(bytes: &[u8]) -> bool
     ensures { IsTrue result → IsUtf8 bytes.now }
 {
-    bytes.len() <= MOST_AT_ONCE && simdutf8::is_utf8(bytes)
+    bytes.len() <= MOST_AT_ONCE && utf8::is_utf8(bytes)
 }
 
 /// Whether it is a UTF-8 text.

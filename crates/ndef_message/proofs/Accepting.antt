@@ -24,7 +24,7 @@ use Rattle.ndef_piece.specs.Whole.{IsSplit, shown}
 use Rattle.ndef_piece.specs.declared.head_reader.Step.TheVariants as steps
 use Rattle.ndef_piece.specs.declared.whole.WholePiece.{WholePiece}
 use Rattle.ndef_format.specs.Accepted.{IsMember, IsViable}
-use Rattle.ndef_message.specs.Feed.{Fronts, Leads, WhateverLed}
+use Rattle.ndef_message.specs.Machine.Fronts.{Fronts, Leads, WhateverLed}
 use Rattle.ndef_message.specs.Machine.Points.{Point, InHead, AtEnd, IsAtPoint}
 use Rattle.ndef_message.specs.Machine.Accepted.{AreTakenRecords, BeginsWith, Comes, EndsRecords, EndsRun, RunGoesOn, IsBehind, IsFresh, IsTakenRecord, IsRunEnd, LeadsBetween, record_of, with_payload}
 use Rattle.ndef_message.specs.Machine.Format.{FormatLaws}
@@ -139,7 +139,7 @@ module _ (set : Sets) (limits : LimitValues) (place : Place) (bytes : List ℕ) 
       }
 
 -- ---- a record in pieces
-pub run_start : (limits : LimitValues) (records count room : ℕ) (m : Item) (place : Place) (bytes : List ℕ) → place ≡ numbers (inside records count room m) → RunGoesOn limits records count room m place bytes bytes
+pub run_start : (limits : LimitValues) (records count room : ℕ) (m : Item) (place : Place) (bytes : List ℕ) → place ≡ numbers (inside records count room m) → RunGoesOn limits (inside records count room m) m place bytes bytes
 run_start limits records count room m place bytes e =
     let same : with_payload m [] ≡ m = ap (λ z. record { tnf = m.tnf; kind = m.kind; id = m.id; payload = z }) (append-nil m.payload) in
     record {
@@ -155,7 +155,7 @@ run_start limits records count room m place bytes e =
       walked = (refl, ap (inside records count room) same);
     }
 
-module _ (limits : LimitValues) (records count room : ℕ) (m : Item) (bytes rest : List ℕ) (place : Place) (g : RunGoesOn limits records count room m place bytes rest)
+module _ (limits : LimitValues) (records count room : ℕ) (m : Item) (bytes rest : List ℕ) (place : Place) (g : RunGoesOn limits (inside records count room m) m place bytes rest)
     (p : Piece) (short : Bool) (behind : List ℕ) (split : IsSplit p short behind rest) (stands : pieces.Stands (spot_of limits.profile place) p) where
   abbrev c : Before
   c = inside records g.pieces_left g.room_left (with_payload m g.payload)
@@ -175,7 +175,7 @@ module _ (limits : LimitValues) (records count room : ℕ) (m : Item) (bytes res
   all_spelled : SpellsPieces (g.later ++ p ∷ []) (g.front ++ split.front)
   all_spelled = spell_append g.later (p ∷ []) g.front split.front g.spelled (spelled_one p short split.front split.spells)
 
-  pub run_on : (place' : Place) → p.chunked ≡ true → place' ≡ behind_chunk place (length p.payload) → RunGoesOn limits records count room m place' bytes behind
+  pub run_on : (place' : Place) → p.chunked ≡ true → place' ≡ behind_chunk place (length p.payload) → RunGoesOn limits (inside records count room m) m place' bytes behind
   run_on place' e is = record {
     later = g.later ++ p ∷ [];
     payload = g.payload ++ p.payload;

@@ -16,7 +16,7 @@ use Rattle.ndef_piece.specs.Whole.{shown}
 use Rattle.ndef_piece.specs.declared.whole.WholePiece.{WholePiece}
 use Rattle.ndef_message.specs.Decoding.{EndsThere, Wants}
 use Rattle.ndef_format.specs.Accepted.{IsViable}
-use Rattle.ndef_message.specs.Feed.{WhateverLed}
+use Rattle.ndef_message.specs.Machine.Fronts.{WhateverLed}
 use Rattle.ndef_message.specs.Machine.Points.{Point, field_of, IsAtPoint, InType, InId, InPayload, before, octets_at, IsPartAt, IsProperAt, opened_at, IsBetweenRecords}
 use Rattle.ndef_message.specs.Machine.Accepted.{BeginsWith, IsFresh, LeadsBetween, record_of}
 use Rattle.ndef_message.specs.Machine.Checkers.{CheckerReached}

@@ -9,7 +9,7 @@ use Rattle.ndef_message.specs.Machine.Checkers.{CheckerReached}
 use Rattle.ndef_format.specs.Accepted.{IsAccepted, IsViable}
 use Rattle.ndef_message.specs.Machine.Points.{Point, IsAtPoint}
 use Rattle.ndef_message.specs.Machine.Moves.{point_with}
-use Rattle.ndef_message.specs.Feed.{SomeLed, Fronts, WhateverLed, Leads, Feeds}
+use Rattle.ndef_message.specs.Machine.Fronts.{SomeLed, Fronts, WhateverLed, Leads, Feeds}
 use Rattle.ndef_message.specs.Machine.State.{answer_of, Matches, Stands, Reached, Onward, Knows}
 use Rattle.ndef_message.specs.Machine.Format.{FormatLaws}
 use Rattle.ndef_format.specs.Refusals.{Refuses}

@@ -19,7 +19,7 @@ use Rattle.ndef_format.specs.HeadReasons.{conditions, lowest, reason_for}
 use Rattle.ndef_piece.specs.Conditions.{ConditionsAreInOrder}
 use Rattle.ndef_piece.specs.Field.{OneField}
 use Rattle.ndef_piece.specs.Heads.{IsViableHead}
-use Rattle.ndef_format.specs.Positions.{IsOpen, MayStand, record_so_far}
+use Rattle.ndef_format.specs.Positions.{IsOpen, record_so_far}
 use Rattle.ndef_piece.specs.Walk.{Before, spot}
 use Rattle.ndef_format.specs.Accepted.{IsViable}
 use Rattle.ndef_format.specs.Refusals.{IsReason}

@@ -4,7 +4,7 @@ use Rattle.ndef_format.specs.Messages.{Item}
 use Rattle.ndef_format.specs.Limits.{LimitValues}
 use Rattle.ndef_lang.specs.declared.language.Language.{Ghosts}
 use Rattle.ndef_piece.specs.Walk.{WalksAreCounted}
-use Rattle.ndef_message.specs.Feed.{WhateverLed}
+use Rattle.ndef_message.specs.Machine.Fronts.{WhateverLed}
 use Rattle.ndef_format.specs.Payloads.{Sets}
 use Rattle.ndef_format.specs.Accepted.{IsViable}
 use Rattle.ndef_message.specs.Opened.{IsTaken, HasLed}

@@ -1,4 +1,5 @@
 pub mod Accepting
+pub mod AllFed
 pub mod Answered
 pub mod Befores
 pub mod Bodies
@@ -20,6 +21,7 @@ pub mod Judged
 pub mod Led
 pub mod Lent
 pub mod Lists
+pub mod LoneRecords
 pub mod Moved
 pub mod Octets
 pub mod OpenRuns

@@ -14,7 +14,7 @@ use Rattle.ndef_format.specs.Positions.{IsOpen}
 use Rattle.ndef_piece.specs.Walk.{Before, start, record_with, inside, Walked}
 use Rattle.ndef_piece.specs.declared.head_reader.Step.TheVariants as steps
 use Rattle.ndef_format.specs.Accepted.{IsMember, IsViable}
-use Rattle.ndef_message.specs.Feed.{Leads, WhateverLed}
+use Rattle.ndef_message.specs.Machine.Fronts.{Leads, WhateverLed}
 use Rattle.ndef_message.specs.Machine.Accepted.{AreChunks, RunGoesOn, IsAtChunk, IsBehindChunks, with_payload}
 use Rattle.ndef_message.specs.Machine.Format.{FormatLaws}
 use Rattle.ndef_message.specs.Machine.Payload.{completes}
@@ -31,8 +31,8 @@ use Rattle.ndef_message.proofs.Rests.{spell_append}
 use Rattle.ndef_message.proofs.Viable.{viable}
 
 -- the run as far as it has come, without the bytes to come
-pub run_cut : (limits : LimitValues) (records count room : ℕ) (m : Item) (bytes rest : List ℕ) (place : Place) → RunGoesOn limits records count room m place bytes rest
-    → (n : ℕ) → n ≡ length bytes - length rest → RunGoesOn limits records count room m place (take n bytes) []
+pub run_cut : (limits : LimitValues) (records count room : ℕ) (m : Item) (bytes rest : List ℕ) (place : Place) → RunGoesOn limits (inside records count room m) m place bytes rest
+    → (n : ℕ) → n ≡ length bytes - length rest → RunGoesOn limits (inside records count room m) m place (take n bytes) []
 run_cut limits records count room m bytes rest place g n is = record {
   later = g.later;
   payload = g.payload;

@@ -5,6 +5,7 @@ pub mod DecoderState
 pub mod Decoders
 pub mod Faults
 pub mod Format
+pub mod Fronts
 pub mod Moves
 pub mod Open
 pub mod Payload
@@ -15,5 +16,6 @@ pub mod SeenLaws
 pub mod Slices
 pub mod State
 pub mod Streams
+pub mod Taken
 pub mod Turns
 pub mod Writing

@@ -5,12 +5,14 @@ ghost use Rattle.ndef_format.specs.HeadReasons.{is_set};
 ghost use Rattle.ndef_format.specs.Positions as pieces;
 ghost use Rattle.ndef_piece.specs.Whole.{IsSplit, shown};
 ghost use Rattle.ndef_format.specs.Accepted.{IsMember};
+ghost use Rattle.ndef_message.specs.Checkings.{HasRecords};
 ghost use Rattle.ndef_message.specs.Machine.Accepted.{AreChunks, AreTakenRecords, BeginsWith, IsTakenRecord, IsRunEnd, record_of};
 ghost use Rattle.ndef_message.specs.Machine.State.{spot_of};
 
+use crate::format::format_laws;
 use crate::phase::Place;
 use ndef_lang::{Kind, OuterLanguage};
-use ndef_piece::{WholePiece, whole_piece};
+use ndef_piece::{WholePiece, messages_are_walks, whole_piece};
 use ndef_value::Limits;
 
 /// The bytes with which the run at the place goes on to its end, and whether the message ends there;
@@ -99,6 +101,21 @@ pub(crate) fn whole_record<'a, L: OuterLanguage>(
         return None;
     }
     Some(piece)
+}
+
+/// The bytes of the message at the front of these, where it is a record in one piece that is seen at once to
+/// be right.
+pub(crate) fn lone_record<L: OuterLanguage>(limits: &Limits, bytes: &[u8]) -> Option<usize>
+    ensures within { IfSome result (λ taken. taken ≤ length bytes.now) }
+    ensures message { IfSome result (λ taken. HasRecords L.set limits.now (take taken bytes.now) 1) }
+{
+    format_laws(limits);
+    messages_are_walks();
+    let piece = whole_piece(bytes)?;
+    if !piece.is_last() || !is_record::<L>(limits, &Place::start(limits), &piece) {
+        return None;
+    }
+    Some(bytes.len() - piece.rest.len())
 }
 
 /// The bytes of the record at the front of these, in one piece or more, and whether it ends the message.

@@ -1,9 +1,10 @@
 //! The checker of a message: whole records and pieces, and else bytes of one field, one after another.
-ghost use Rattle.std.specs.Prelude.{◌≡◌, ◌+◌, ◌-◌, ◌<◌, ◌≤◌, ◌++◌, ◌∷◌, [], ℕ, List, length, take, None, IfSome, if◌then◌else◌};
-ghost use Rattle.ndef_format.specs.Limits.{greatest_length};
+ghost use Rattle.std.specs.Prelude.{◌≡◌, ◌+◌, ◌-◌, ◌<◌, ◌≤◌, ◌++◌, ◌∷◌, [], ℕ, List, length, take, None, if◌then◌else◌};
+ghost use Rattle.ndef_format.specs.Limits.{LimitValues, greatest_length};
 ghost use Rattle.ndef_format.specs.HeadReasons.{is_set};
-ghost use Rattle.ndef_message.specs.Feed.{Leads, SomeLed, WhateverLed, Feeds, Ends, IsLongestViable};
-ghost use Rattle.ndef_message.specs.Machine.Accepted.{BeginsWith, IsFresh, LeadsBetween, record_of};
+ghost use Rattle.ndef_message.specs.Feed.{Ends, IsLongestViable, Tells, TellsEnd, CountsRecords, CountsMessage};
+ghost use Rattle.ndef_message.specs.Machine.Fronts.{Leads, SomeLed, WhateverLed, Feeds};
+ghost use Rattle.ndef_message.specs.Machine.Accepted.{BeginsWith, IsFresh, LeadsBetween, passed, record_of};
 ghost use Rattle.ndef_message.specs.Machine.State.{answer_of, Knows, Onward};
 
 use crate::Fed;
@@ -12,7 +13,7 @@ use crate::phase::{Phase, Place};
 use crate::state::State;
 use ndef_lang::{Kind, Language, OuterLanguage};
 use ndef_piece::{HeadReader, WholePiece};
-use ndef_value::{Limits, Reason, Refusal};
+use ndef_value::{Limits, Reason, Refusal, one_meaning};
 
 /// Checks one message in memory of fixed size.
 #[derive(Debug, Drop)]
@@ -24,22 +25,71 @@ pub struct Checker<L: OuterLanguage> {
 }
 
 impl<L: OuterLanguage> Checker<L> {
-    ghost use Rattle.ndef_message.specs.Machine.Points.{start_point};
-    ghost use Rattle.ndef_message.specs.Machine.Checkers.{CheckerReached, checker_limits};
+    ghost use Rattle.ndef_message.specs.Machine.Taken.{WasFed};
 
     /// Before a message.
     pub fn new(limits: Limits) -> Self
+        ensures { WasFed result limits [] }
+    {
+        Checker::start(limits)
+    }
+
+    /// Takes the next bytes of the message, up to its last one or the first that is refused. After
+    /// the last byte it takes none, and after a refusal it repeats that refusal.
+    pub fn feed(&mut self, bytes: &[u8]) -> Fed
+        ensures fed { (limits : LimitValues) (front : List ℕ) → WasFed self.old limits front
+            → WasFed self.new limits (front ++ bytes.now) }
+        ensures tells { (limits : LimitValues) (front : List ℕ) → WasFed self.old limits front
+            → Tells L.set L.holds limits (front ++ bytes.now) (length front) result }
+    {
+        one_meaning();
+        self.feed_bytes(bytes)
+    }
+
+    /// What the input is, if it ends here.
+    pub fn end(&self) -> Result<(), Refusal>
+        ensures { (limits : LimitValues) (bytes : List ℕ) → WasFed self.now limits bytes
+            → TellsEnd L.set L.holds limits bytes result }
+    {
+        self.judge_end()
+    }
+
+    /// The records that have ended; after a refusal, before the refused byte.
+    pub fn records(&self) -> u32
+        ensures counted { (limits : LimitValues) (bytes : List ℕ) → WasFed self.now limits bytes
+            → CountsRecords L.set limits bytes result }
+        ensures message { (limits : LimitValues) (bytes : List ℕ) → WasFed self.now limits bytes
+            → CountsMessage L.set limits bytes result }
+    {
+        format_laws(&self.limits);
+        self.ended_records()
+    }
+
+    /// The bytes that were taken; after a refusal, those before the refused one. They are at most as
+    /// many as a message within the limits can have.
+    pub fn place(&self) -> u64
+        ensures longest { (limits : LimitValues) (bytes : List ℕ) → WasFed self.now limits bytes
+            → IsLongestViable L.set limits bytes result }
+        ensures bound { (limits : LimitValues) (bytes : List ℕ) → WasFed self.now limits bytes
+            → result ≤ greatest_length limits }
+    {
+        one_meaning();
+        self.accepted_bytes()
+    }
+}
+
+/// What these do, by the bytes that led to the checker, the records that they end and the point where they end.
+impl<L: OuterLanguage> Checker<L> {
+    ghost use Rattle.ndef_message.specs.Machine.Points.{start_point};
+    ghost use Rattle.ndef_message.specs.Machine.Checkers.{CheckerReached, checker_limits};
+
+    /// Before the first byte.
+    pub(crate) fn start(limits: Limits) -> Self
         ensures limits { checker_limits result ≡ limits }
         ensures reached { CheckerReached result [] [] (start_point limits) }
     {
         format_laws(&limits);
-        let place = Place {
-            first: true,
-            inside: false,
-            records: limits.records(),
-            pieces: limits.pieces(),
-            room: limits.payload(),
-        };
+        let place = Place::start(&limits);
         Checker {
             limits,
             state: State {
@@ -52,9 +102,8 @@ impl<L: OuterLanguage> Checker<L> {
         }
     }
 
-    /// Takes the next bytes of the message, up to its last one or the first that is refused. After
-    /// the last byte it takes none, and after a refusal it repeats that refusal.
-    pub fn feed(&mut self, bytes: &[u8]) -> Fed
+    /// Takes bytes up to the last one of the message or the first that is refused.
+    pub(crate) fn feed_bytes(&mut self, bytes: &[u8]) -> Fed
         ensures limits { checker_limits self.new ≡ checker_limits self.old }
         ensures fed { WhateverLed (CheckerReached self.old) (λ front given point.
             Feeds L.set L.holds (checker_limits self.old) (CheckerReached self.new) front bytes.now result) }
@@ -73,8 +122,8 @@ impl<L: OuterLanguage> Checker<L> {
         }
     }
 
-    /// What the input is, if it ends here.
-    pub fn end(&self) -> Result<(), Refusal>
+    /// What the bytes are, if the input ends with them.
+    pub(crate) fn judge_end(&self) -> Result<(), Refusal>
         ensures { WhateverLed (CheckerReached self.now) (λ front given point.
             Ends L.set L.holds (checker_limits self.now) front result) }
     {
@@ -89,8 +138,8 @@ impl<L: OuterLanguage> Checker<L> {
         }
     }
 
-    /// The records that have ended; after a refusal, before the refused byte.
-    pub fn records(&self) -> u32
+    /// The records that they end.
+    pub(crate) fn ended_records(&self) -> u32
         ensures { WhateverLed (CheckerReached self.now) (λ front given point. result ≡ length given) }
     {
         format_laws(&self.limits);
@@ -99,9 +148,8 @@ impl<L: OuterLanguage> Checker<L> {
             .saturating_sub(self.state.place.records)
     }
 
-    /// The bytes that were taken; after a refusal, those before the refused one. They are at most as
-    /// many as a message within the limits can have.
-    pub fn place(&self) -> u64
+    /// How many of them are accepted: all, or all but a refused one.
+    pub(crate) fn accepted_bytes(&self) -> u64
         ensures accepted { WhateverLed (CheckerReached self.now) (λ front given point.
             IsLongestViable L.set (checker_limits self.now) front result) }
         ensures bound { result ≤ greatest_length (checker_limits self.now) }
@@ -135,53 +183,29 @@ impl<L: OuterLanguage> Checker<L> {
         ensures onward { WhateverLed (CheckerReached self.old) (λ front given point.
             Leads (CheckerReached self.new) (front ++ take result bytes.now)) }
     {
-        let taken = self.take_pieces(bytes);
+        format_laws(&self.limits);
+        let taken = self.state.take_pieces(&self.limits, bytes);
+        self.taken += taken as u64;
         if taken > 0 {
             return taken;
         }
         self.step(bytes)
     }
 
-    /// Takes whole records at the front of the bytes where one may begin, and pieces of an open run where
-    /// one of them may, as many as are seen at once to be right; answers how many bytes they have.
-    fn take_pieces(&mut self, bytes: &[u8]) -> usize
-        requires going { answer_of self.old.state.phase 0 ≡ None }
-        ensures limits { self.new.limits ≡ self.old.limits }
-        ensures none { result ≡ 0 → answer_of self.new.state.phase 0 ≡ None }
-        ensures most { result ≤ length bytes.now }
-        ensures onward { WhateverLed (CheckerReached self.old) (λ front given point.
-            Leads (CheckerReached self.new) (front ++ take result bytes.now)) }
-    {
-        format_laws(&self.limits);
-        let taken = self.state.take_pieces(&self.limits, bytes);
-        self.taken += taken as u64;
-        taken
-    }
-
-    /// The record in one piece at the front of the bytes, where one may begin and it is seen at once to
-    /// be right.
-    pub(crate) fn whole_record<'a>(&self, bytes: &'a [u8]) -> Option<WholePiece<'a>>
-        ensures fresh { IfSome result (λ w. IsFresh self.now.state) }
-        ensures begins { IfSome result (λ w. BeginsWith L.set self.now.limits self.now.state.place bytes.now w) }
-    {
-        self.state.whole_record(&self.limits, bytes)
-    }
-
-    /// Goes on behind that record.
+    /// Goes on behind the record in one piece at the front of the bytes.
     pub(crate) fn pass_record(&mut self, bytes: &[u8], piece: &WholePiece<'_>)
         requires fresh { IsFresh self.old.state }
         requires begins { BeginsWith L.set self.old.limits self.old.state.place bytes.now piece.now }
         ensures limits { self.new.limits ≡ self.old.limits }
         ensures taken { self.new.taken ≡ self.old.taken + (length bytes.now - length piece.now.rest.now) }
         ensures phase { self.new.state.phase ≡ (if is_set 6 piece.now.header then Phase.Done else Phase.Head) }
-        ensures onward { WhateverLed (CheckerReached self.old) (λ front given point.
-            let count = length bytes.now - length piece.now.rest.now in
-            LeadsBetween (CheckerReached self.new) (front ++ take count bytes.now)
-            (given ++ record_of piece.now ∷ [])) }
+        ensures onward { WhateverLed (CheckerReached self.old) (λ front given point. LeadsBetween
+            (CheckerReached self.new) (front ++ passed bytes.now piece.now) (given ++ record_of piece.now ∷ [])) }
     {
         format_laws(&self.limits);
         let taken = bytes.len() - piece.rest.len();
-        self.state.pass_record(&self.limits, piece);
+        let place = self.state.place.behind_record(&self.limits);
+        self.state.go_behind(&self.limits, place, piece.is_last());
         self.taken += taken as u64;
     }
 

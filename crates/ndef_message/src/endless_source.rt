@@ -4,7 +4,7 @@ ghost use Rattle.std.specs.Borrow.{sem};
 ghost use Rattle.std.specs.Io.BufRead.{Rests};
 ghost use mir.Syntax.{named};
 ghost use Rattle.ndef_message.specs.Machine.Faults.{shown_next};
-ghost use Rattle.ndef_message.specs.Sources.{Shows, Filled, Drops, Counts, supply};
+ghost use Rattle.ndef_message.specs.Sources.{Shows, Filled, Drops, Counts, state_of};
 
 use crate::source::{Source, SourceFault};
 use std::marker::Model;
@@ -64,7 +64,7 @@ impl<'a> Source for EndlessSource<'a> {
     fn fill(&mut self) -> Result<&[u8], SourceFault>
         ensures shows { IfOk result (λ s. Shows None s.now) }
         ensures* after_borrow { sem 𝓛 (Rests (the_row (record { mir = named 1; lft = [] })) self.entry (λ new.
-            Filled (supply None self.old.taken) (supply None new.taken) false false new.shown result
+            Filled (state_of None self.old.taken false) (state_of None new.taken false) new.shown result
             × (new.rest ≡ shown_next self.old) × (new.pattern ≡ self.old.pattern))) }
         // What is left of the front, or of the pattern, which begins anew where nothing is.
         ensures next { IsOkAnd result (λ s. s.now ≡ shown_next self.old) }

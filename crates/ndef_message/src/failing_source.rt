@@ -64,7 +64,7 @@ impl<'a> FailingSource<'a> {
 }
 
 impl<'a> Source for FailingSource<'a> {
-    ghost use Rattle.ndef_message.specs.Machine.Slices.{slice_coming, slice_supply, up_to_cut};
+    ghost use Rattle.ndef_message.specs.Machine.Slices.{slice_coming, slice_state, up_to_cut};
     ghost use Rattle.ndef_message.specs.contracts.failing_source.FailingSource.{the_row};
 
     ghost coming = { λ s. slice_coming s.slice };
@@ -78,9 +78,8 @@ impl<'a> Source for FailingSource<'a> {
     fn fill(&mut self) -> Result<&[u8], SourceFault>
         ensures shows { IfOk result (λ s. Shows (slice_coming self.old.slice) s.now) }
         ensures* after_borrow { sem 𝓛 (Rests (the_row (record { mir = named 1; lft = [] })) self.entry (λ new.
-            Filled (slice_supply self.old.slice) (slice_supply new.slice)
-            self.old.failed new.failed new.slice.shown result
-            × ShowsAlone self.old.slice new.slice)) }
+            Filled (slice_state self.old.slice self.old.failed) (slice_state new.slice new.failed)
+            new.slice.shown result × ShowsAlone self.old.slice new.slice)) }
         // It goes up to the next cut behind what was taken.
         ensures cut { IfOk result (λ s. s.now ≡ up_to_cut self.old.slice) }
         // It fails exactly where no bytes are to come.

@@ -1,7 +1,7 @@
 //! All that a source gives.
 ghost use Rattle.std.specs.Prelude.{◌≡◌};
 ghost use Rattle.ndef_message.specs.Inputs.{bytes_of, IsWholeInput};
-ghost use Rattle.ndef_message.specs.Machine.Turns.{supply_of};
+ghost use Rattle.ndef_message.specs.States.{source_state};
 ghost use Rattle.ndef_message.specs.declared.input.InputError.TheVariants as errors;
 
 use crate::{Source, SourceFault};
@@ -44,7 +44,7 @@ pub fn read_all<S: Source>(
     source: &mut S,
     most: usize,
 ) -> Result<Vec<u8>, InputError>
-    ensures { IsWholeInput most (supply_of S.Source source.old) (supply_of S.Source source.new)
+    ensures { IsWholeInput most (source_state S.Source source.old) (source_state S.Source source.new)
         (S.has_failed source.new) (bytes_of result) }
 {
     let mut input = Vec::new(alloc);

@@ -1,6 +1,7 @@
 //! Views a message, where it lies.
 ghost use Rattle.ndef_message.specs.Views.{Views};
 
+use crate::accepted::lone_record;
 use crate::format::format_laws;
 use crate::{CheckError, SliceSource, View, check_message};
 use ndef_lang::OuterLanguage;
@@ -16,6 +17,9 @@ pub fn view<L: OuterLanguage>(bytes: &[u8], limits: Limits) -> Result<View<'_>, 
     ensures { Views L.set L.holds limits bytes.now result }
 {
     format_laws(&limits);
+    if let Some(taken) = lone_record::<L>(&limits, bytes) {
+        return Ok(View::new(&bytes[..taken], 1, limits.profile()));
+    }
     let mut source = SliceSource::whole(bytes);
     match check_message::<L, SliceSource<'_>>(&mut source, limits) {
         Ok(checked) => Ok(View::new(

@@ -1,10 +1,5 @@
 //! Whole records of a message, and bytes of one field of it.
-ghost use Rattle.std.specs.Prelude.{◌≡◌, ◌≢◌, ◌++◌, ◌∷◌, [], ◌-◌, ◌<◌, ◌≤◌, ◌^◌, ◌⊎◌, ◌↔◌, ℕ, List, length, take, IfNone, IfSome, IsTrue, true, false};
-ghost use Rattle.std.specs.List.{AllByRecursion};
-ghost use Rattle.ndef_format.specs.Messages.{Item};
-ghost use Rattle.ndef_format.specs.Records.{HeadFields};
-ghost use Rattle.ndef_format.specs.HeadReasons.{is_set};
-ghost use Rattle.ndef_piece.specs.Walk.{Before};
+ghost use Rattle.std.specs.Prelude.{◌≡◌, ◌≢◌, ◌++◌, ◌∷◌, [], ◌-◌, ◌<◌, ◌≤◌, ◌^◌, ◌↔◌, length, take, IfNone, IfSome, IsTrue, true, false};
 
 use crate::accepted::{accepted_chunks, accepted_records, whole_record};
 use crate::format::format_laws;
@@ -23,11 +18,9 @@ pub(crate) struct State<L: OuterLanguage> {
 }
 
 impl<L: OuterLanguage> State<L> {
-    ghost use Rattle.ndef_message.specs.Feed.{Leads, SomeLed, WhateverLed};
-    ghost use Rattle.ndef_message.specs.Machine.Points.{Point};
-    ghost use Rattle.ndef_message.specs.Machine.State.{Stands, StandsBehind, Stopped, Came, Onward, InBody, SomeBody, WholeHead, SomeWhole, IsWithinHead, CanGoOn, behind_record};
+    ghost use Rattle.ndef_message.specs.Machine.Fronts.{Leads, SomeLed, WhateverLed};
+    ghost use Rattle.ndef_message.specs.Machine.State.{Stands, SettlesBehind, EntersBehind, BeginsBehind, GoesBehind, Onward, InBody, SomeBody, WholeHead, SomeWhole, IsWithinHead, CanGoOn};
     ghost use Rattle.ndef_message.specs.Machine.Accepted.{BeginsWith, IsAtChunk, IsBehind, IsBehindChunks, IsFresh};
-    ghost use Rattle.ndef_format.specs.Accepted.{IsMember, IsViable};
 
     /// Whether a record may begin here, and no octet of it has come.
     fn is_fresh(&self) -> bool
@@ -37,7 +30,7 @@ impl<L: OuterLanguage> State<L> {
     }
 
     /// Goes on behind whole records, where another may begin or the message ends.
-    fn go_behind(&mut self, limits: &Limits, place: Place, last: bool)
+    pub(crate) fn go_behind(&mut self, limits: &Limits, place: Place, last: bool)
         requires { place.inside ≡ false }
         ensures { IsBehind limits.now self.new place last }
     {
@@ -139,14 +132,6 @@ impl<L: OuterLanguage> State<L> {
         whole_record::<L>(limits, &self.place, bytes)
     }
 
-    /// Goes on behind that record.
-    pub(crate) fn pass_record(&mut self, limits: &Limits, piece: &WholePiece<'_>)
-        ensures { IsBehind limits.now self.new (behind_record limits.now self.old.place) (is_set 6 piece.now.header) }
-    {
-        let place = self.place.behind_record(limits);
-        self.go_behind(limits, place, piece.is_last());
-    }
-
     /// Takes the next bytes, after `at` others, as far as they are of one field, up to the first that
     /// is refused; answers how many, a refused one too.
     pub(crate) fn step(&mut self, limits: &Limits, at: u64, bytes: &[u8]) -> usize
@@ -157,8 +142,7 @@ impl<L: OuterLanguage> State<L> {
         ensures most { result ≤ length bytes.now }
         ensures few { result < 2 ^ 32 }
         ensures onward { WhateverLed (Stands L.Language limits.now self.old) (λ front given point.
-            at ≡ length front
-            → self.old.phase ≢ Phase.Done
+            at ≡ length front → self.old.phase ≢ Phase.Done
             → Onward L.Language limits.now self.new front given point (take result bytes.now)) }
     {
         match self.phase {
@@ -259,15 +243,12 @@ impl<L: OuterLanguage> State<L> {
     /// Goes on behind a whole head.
     fn behind_head(&mut self, limits: &Limits, at: u64, head: Head)
         requires led { ∥ SomeWhole L.Language limits.now self.old head ∥₁ }
-        ensures entered { (bytes : List ℕ) (given : List Item) (point : Point) (b : ℕ) (c : Before) (f : HeadFields)
-            → Came L.Language limits.now at Reason.DoesNotFit bytes given point b
-            → WholeHead L.Language limits.now self.old head (bytes ++ b ∷ []) given c f
-            → StandsBehind L.Language limits.now self.new (bytes ++ b ∷ []) given c f [] [] []
-            ⊎ Stopped L.Language limits.now self.new (bytes ++ b ∷ []) given point }
+        ensures entered { GoesBehind L.Language limits.now self.new at
+            (WholeHead L.Language limits.now self.old head) }
     {
         format_laws(limits);
         if self.place.inside {
-            self.enter(limits, at, head, 0, head.payload_length, Reason::DoesNotFit);
+            self.enter(limits, at, head, 0, head.payload_length);
         } else {
             self.begin_record(limits, head);
         }
@@ -276,10 +257,8 @@ impl<L: OuterLanguage> State<L> {
     /// Goes on behind the whole head of a record's first piece, behind which any payload can be completed.
     fn begin_record(&mut self, limits: &Limits, head: Head)
         requires outside { self.old.place.inside ≡ false }
-        ensures stands { (bytes : List ℕ) (given : List Item) (c : Before) (f : HeadFields)
-            → WholeHead L.Language limits.now self.old head bytes given c f
-            → AllByRecursion (IsMember L.set limits.now) given
-            → StandsBehind L.Language limits.now self.new bytes given c f [] [] [] }
+        ensures stands { BeginsBehind L.Language limits.now self.new
+            (WholeHead L.Language limits.now self.old head) }
     {
         format_laws(limits);
         if head.kind_length > 0 {
@@ -374,35 +353,16 @@ impl<L: OuterLanguage> State<L> {
         self.payload = L::start(kind.kind(), limits.records(), limits.profile());
         let last = at + (count - 1) as u64;
         let id_left = head.id_length.unwrap_or(0);
-        self.enter(
-            limits,
-            last,
-            head,
-            id_left,
-            head.payload_length,
-            Reason::DoesNotFit,
-        );
+        self.enter(limits, last, head, id_left, head.payload_length);
         count
     }
 
     /// Goes on behind so much of the id and the payload of a piece, if what is left can complete the
-    /// payload.
-    fn enter(
-        &mut self,
-        limits: &Limits,
-        at: u64,
-        head: Head,
-        id_left: u8,
-        left: u32,
-        reason: Reason,
-    )
+    /// payload; else the octet at `at`, the last one, doesn't fit.
+    fn enter(&mut self, limits: &Limits, at: u64, head: Head, id_left: u8, left: u32)
         requires led { ∥ SomeBody L.Language limits.now self.old head id_left left ∥₁ }
-        ensures entered { (bytes : List ℕ) (given : List Item) (point : Point) (b : ℕ) (c : Before) (f : HeadFields)
-            (kind id payload : List ℕ)
-            → Came L.Language limits.now at reason bytes given point b
-            → InBody L.Language limits.now self.old head id_left left (bytes ++ b ∷ []) given c f kind id payload
-            → StandsBehind L.Language limits.now self.new (bytes ++ b ∷ []) given c f kind id payload
-            ⊎ Stopped L.Language limits.now self.new (bytes ++ b ∷ []) given point }
+        ensures entered { EntersBehind L.Language limits.now self.new at
+            (InBody L.Language limits.now self.old head id_left left) }
     {
         format_laws(limits);
         if self
@@ -412,17 +372,18 @@ impl<L: OuterLanguage> State<L> {
             self.settle(limits, head, id_left, left);
         } else {
             self.phase = Phase::Refused {
-                refusal: Refusal { at, reason },
+                refusal: Refusal {
+                    at,
+                    reason: Reason::DoesNotFit,
+                },
             };
         }
     }
 
     /// Goes on behind so much of the id and the payload of a piece.
     fn settle(&mut self, limits: &Limits, head: Head, id_left: u8, left: u32)
-        ensures stands { (bytes : List ℕ) (given : List Item) (c : Before) (f : HeadFields) (kind id payload : List ℕ)
-            → InBody L.Language limits.now self.old head id_left left bytes given c f kind id payload
-            → IsViable L.set limits.now bytes
-            → StandsBehind L.Language limits.now self.new bytes given c f kind id payload }
+        ensures stands { SettlesBehind L.Language limits.now self.new
+            (InBody L.Language limits.now self.old head id_left left) }
     {
         format_laws(limits);
         if id_left > 0 {

@@ -29,7 +29,8 @@ pub record AreWithin (f : HeadFields) (count : ℕ) (b : Bounds) : Type 0 where
 pub record AreBounds (spot : Spot) (xs : List ℕ) (b : Bounds) : Type 0 where
   pub sound : (f : HeadFields) (begun : BeginsHead spot xs f) → AreWithin f (length begun.rest) b
   pub full : (kind id payload : ℕ) → IsIn kind b.kind → IsIn id b.id → IsIn payload b.payload
-      → (f : HeadFields) × BeginsHead spot xs f × (f.kind_length ≡ kind) × (unwrap_or f.id_length 0 ≡ id) × (f.payload_length ≡ payload)
+      → (f : HeadFields) × BeginsHead spot xs f × (f.kind_length ≡ kind) × (unwrap_or f.id_length 0 ≡ id)
+      × (f.payload_length ≡ payload)
 
 -- NDEF 1.0, TYPE_LENGTH: the type lengths of a type name format, after these octets behind the header octet
 abbrev pub kind_range : ℕ → List ℕ → ℕ × ℕ
@@ -73,7 +74,8 @@ bounds_at h = record {
 
 -- The bounds after some octets are those of the heads that go on with them.
 abbrev pub BoundsOfFronts : Type 0
-BoundsOfFronts = (spot : Spot) (header : ℕ) (xs : List ℕ) → IsOpen spot (header ∷ xs) → AreBounds spot (header ∷ xs) (bounds_of spot header xs)
+BoundsOfFronts = (spot : Spot) (header : ℕ) (xs : List ℕ) → IsOpen spot (header ∷ xs)
+    → AreBounds spot (header ∷ xs) (bounds_of spot header xs)
 
 -- The bounds of a whole head are its lengths.
 abbrev pub BoundsOfHeads : Type 0

@@ -9,4 +9,5 @@ use Rattle.ndef_format.specs.HeadReasons.{conditions}
 -- The conditions stand by the numbers of their reasons, 1 to 14.
 abbrev pub ConditionsAreInOrder : Type 0
 ConditionsAreInOrder = (spot : Spot) (xs : List ℕ) (b : ℕ)
-    → map (λ c. reason_number c.0) (conditions spot xs b) ≡ 1 ∷ 2 ∷ 3 ∷ 4 ∷ 5 ∷ 6 ∷ 7 ∷ 8 ∷ 9 ∷ 10 ∷ 11 ∷ 12 ∷ 13 ∷ 14 ∷ []
+    → map (λ c. reason_number c.0) (conditions spot xs b)
+    ≡ 1 ∷ 2 ∷ 3 ∷ 4 ∷ 5 ∷ 6 ∷ 7 ∷ 8 ∷ 9 ∷ 10 ∷ 11 ∷ 12 ∷ 13 ∷ 14 ∷ []

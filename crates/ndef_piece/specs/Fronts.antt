@@ -7,7 +7,8 @@ use Rattle.ndef_format.specs.Positions.{Stands, spot_after}
 
 -- NDEF 1.0, messages: these are the pieces of a message within the limits
 abbrev pub AreMessage : LimitValues → List Piece → Type 0
-AreMessage limits ps = (runs : List Run) × (items : List Item) × (ps ≡ all_pieces runs) × IsMessage limits.profile runs items × IsWithin limits runs
+AreMessage limits ps = (runs : List Run) × (items : List Item) × (ps ≡ all_pieces runs)
+    × IsMessage limits.profile runs items × IsWithin limits runs
 
 -- NDEF 1.0, messages: these pieces, and then some more or none, are those of such a message
 abbrev pub BeginMessage : LimitValues → List Piece → Type 0
@@ -29,4 +30,5 @@ pub record IsPosition (limits : LimitValues) (ps : List Piece) : Type 0 where
 -- Wherever a message within the limits may be cut between pieces there is a spot,
 -- and the pieces that may stand at it are those with which some message within the limits goes on.
 abbrev pub FrontsHaveSpots : Type 0
-FrontsHaveSpots = (limits : LimitValues) (ps : List Piece) → AreInRange limits → BeginMessage limits ps → IsPosition limits ps
+FrontsHaveSpots = (limits : LimitValues) (ps : List Piece) → AreInRange limits → BeginMessage limits ps
+    → IsPosition limits ps

@@ -17,19 +17,24 @@ bit_test true = refl
 bit_test false = refl
 
 -- the digits, from the highest
-at_7 : (b e c s i t : ℕ) → b < 2 → e < 2 → c < 2 → s < 2 → i < 2 → t < 8 → (128 * b + 64 * e + 32 * c + 16 * s + 8 * i + t) / 128 % 2 ≡ b
+at_7 : (b e c s i t : ℕ) → b < 2 → e < 2 → c < 2 → s < 2 → i < 2 → t < 8
+    → (128 * b + 64 * e + 32 * c + 16 * s + 8 * i + t) / 128 % 2 ≡ b
 at_7 b e c s i t h1 h2 h3 h4 h5 h6 = omega arith
 
-at_6 : (b e c s i t : ℕ) → b < 2 → e < 2 → c < 2 → s < 2 → i < 2 → t < 8 → (128 * b + 64 * e + 32 * c + 16 * s + 8 * i + t) / 64 % 2 ≡ e
+at_6 : (b e c s i t : ℕ) → b < 2 → e < 2 → c < 2 → s < 2 → i < 2 → t < 8
+    → (128 * b + 64 * e + 32 * c + 16 * s + 8 * i + t) / 64 % 2 ≡ e
 at_6 b e c s i t h1 h2 h3 h4 h5 h6 = omega arith
 
-at_5 : (b e c s i t : ℕ) → b < 2 → e < 2 → c < 2 → s < 2 → i < 2 → t < 8 → (128 * b + 64 * e + 32 * c + 16 * s + 8 * i + t) / 32 % 2 ≡ c
+at_5 : (b e c s i t : ℕ) → b < 2 → e < 2 → c < 2 → s < 2 → i < 2 → t < 8
+    → (128 * b + 64 * e + 32 * c + 16 * s + 8 * i + t) / 32 % 2 ≡ c
 at_5 b e c s i t h1 h2 h3 h4 h5 h6 = omega arith
 
-at_4 : (b e c s i t : ℕ) → b < 2 → e < 2 → c < 2 → s < 2 → i < 2 → t < 8 → (128 * b + 64 * e + 32 * c + 16 * s + 8 * i + t) / 16 % 2 ≡ s
+at_4 : (b e c s i t : ℕ) → b < 2 → e < 2 → c < 2 → s < 2 → i < 2 → t < 8
+    → (128 * b + 64 * e + 32 * c + 16 * s + 8 * i + t) / 16 % 2 ≡ s
 at_4 b e c s i t h1 h2 h3 h4 h5 h6 = omega arith
 
-at_3 : (b e c s i t : ℕ) → b < 2 → e < 2 → c < 2 → s < 2 → i < 2 → t < 8 → (128 * b + 64 * e + 32 * c + 16 * s + 8 * i + t) / 8 % 2 ≡ i
+at_3 : (b e c s i t : ℕ) → b < 2 → e < 2 → c < 2 → s < 2 → i < 2 → t < 8
+    → (128 * b + 64 * e + 32 * c + 16 * s + 8 * i + t) / 8 % 2 ≡ i
 at_3 b e c s i t h1 h2 h3 h4 h5 h6 = omega arith
 
 at_tnf : (b e c s i t : ℕ) → t < 8 → (128 * b + 64 * e + 32 * c + 16 * s + 8 * i + t) % 8 ≡ t
@@ -47,11 +52,16 @@ pub record Parts (n : ℕ) (b e c s i : Bool) (t : ℕ) : Type 0 where
 -- the parts of a header octet are those that it was made of
 pub octet_parts : (b e c s i : Bool) (t : ℕ) → t < 8 → Parts (header_octet b e c s i t) b e c s i t
 octet_parts b e c s i t u = record {
-  begins = ap (λ x. x == 1) (at_7 (bit b) (bit e) (bit c) (bit s) (bit i) t (bit_below b) (bit_below e) (bit_below c) (bit_below s) (bit_below i) u) ∙ bit_test b;
-  ends = ap (λ x. x == 1) (at_6 (bit b) (bit e) (bit c) (bit s) (bit i) t (bit_below b) (bit_below e) (bit_below c) (bit_below s) (bit_below i) u) ∙ bit_test e;
-  chunked = ap (λ x. x == 1) (at_5 (bit b) (bit e) (bit c) (bit s) (bit i) t (bit_below b) (bit_below e) (bit_below c) (bit_below s) (bit_below i) u) ∙ bit_test c;
-  short = ap (λ x. x == 1) (at_4 (bit b) (bit e) (bit c) (bit s) (bit i) t (bit_below b) (bit_below e) (bit_below c) (bit_below s) (bit_below i) u) ∙ bit_test s;
-  id_there = ap (λ x. x == 1) (at_3 (bit b) (bit e) (bit c) (bit s) (bit i) t (bit_below b) (bit_below e) (bit_below c) (bit_below s) (bit_below i) u) ∙ bit_test i;
+  begins = ap (λ x. x == 1) (at_7 (bit b) (bit e) (bit c) (bit s) (bit i) t (bit_below b) (bit_below e) (bit_below c)
+      (bit_below s) (bit_below i) u) ∙ bit_test b;
+  ends = ap (λ x. x == 1) (at_6 (bit b) (bit e) (bit c) (bit s) (bit i) t (bit_below b) (bit_below e) (bit_below c)
+      (bit_below s) (bit_below i) u) ∙ bit_test e;
+  chunked = ap (λ x. x == 1) (at_5 (bit b) (bit e) (bit c) (bit s) (bit i) t (bit_below b) (bit_below e) (bit_below c)
+      (bit_below s) (bit_below i) u) ∙ bit_test c;
+  short = ap (λ x. x == 1) (at_4 (bit b) (bit e) (bit c) (bit s) (bit i) t (bit_below b) (bit_below e) (bit_below c)
+      (bit_below s) (bit_below i) u) ∙ bit_test s;
+  id_there = ap (λ x. x == 1) (at_3 (bit b) (bit e) (bit c) (bit s) (bit i) t (bit_below b) (bit_below e) (bit_below c)
+      (bit_below s) (bit_below i) u) ∙ bit_test i;
   tnf = at_tnf (bit b) (bit e) (bit c) (bit s) (bit i) t u;
 }
 
@@ -60,7 +70,8 @@ abbrev pub header : HeadFields → ℕ
 header h = header_octet h.first h.last h.chunked h.short (is_some h.id_length) h.tnf
 
 -- the parts of its header octet
-pub header_parts : (h : HeadFields) → h.tnf < 8 → Parts (header h) h.first h.last h.chunked h.short (is_some h.id_length) h.tnf
+pub header_parts : (h : HeadFields) → h.tnf < 8
+    → Parts (header h) h.first h.last h.chunked h.short (is_some h.id_length) h.tnf
 header_parts h t = octet_parts h.first h.last h.chunked h.short (is_some h.id_length) h.tnf t
 
 -- ---- sizes
@@ -77,7 +88,12 @@ id_size (Some d) = refl
 
 pub flags_size : (h : HeadFields) → length (octets h) ≡ 2 + cond h.short 1 4 + cond (is_some h.id_length) 1 0
 flags_size h =
-    omega (arith, length-append (payload_length_octets h.short h.payload_length) (id_length_octets h.id_length), length_size h.short h.payload_length, id_size h.id_length)
+    omega (
+      arith,
+      length-append (payload_length_octets h.short h.payload_length) (id_length_octets h.id_length),
+      length_size h.short h.payload_length,
+      id_size h.id_length,
+    )
 
 -- a header octet tells the size of the head
 pub octets_size : (h : HeadFields) → h.tnf < 8 → length (octets h) ≡ size (header h)

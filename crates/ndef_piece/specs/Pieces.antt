@@ -10,7 +10,8 @@ use Rattle.ndef_format.specs.Positions.{MayStand, IsOpen, Stands}
 
 -- A piece may stand at a spot exactly where its head may.
 abbrev pub HeadsOfPieces : Type 0
-HeadsOfPieces = (spot : Spot) (p : Piece) (short : Bool) → IsPiece p → FitsForm short (length p.payload) → Stands spot p ↔ MayStand spot (fields p short)
+HeadsOfPieces = (spot : Spot) (p : Piece) (short : Bool) → IsPiece p → FitsForm short (length p.payload) → Stands spot p
+    ↔ MayStand spot (fields p short)
 
 -- Each head that may stand is that of some piece, with any type, id and payload of its lengths.
 abbrev pub PiecesOfHeads : Type 0
@@ -20,9 +21,11 @@ PiecesOfHeads = (spot : Spot) (f : HeadFields) (p : Piece) → IsPiece p → fie
 -- Where the bytes of a piece that may stand go on after an open front with b, b is not refused.
 -- Where they are a whole head then, it is the head of the piece.
 abbrev pub HeadsOfBytes : Type 0
-HeadsOfBytes = (spot : Spot) (p : Piece) (short : Bool) (bytes xs rest : List ℕ) (b : ℕ) → SpellsPiece p short bytes → Stands spot p
+HeadsOfBytes = (spot : Spot) (p : Piece) (short : Bool) (bytes xs rest : List ℕ) (b : ℕ) → SpellsPiece p short bytes
+    → Stands spot p
     → IsOpen spot xs → bytes ≡ (xs ++ b ∷ []) ++ rest
-    → IsViableHead spot (xs ++ b ∷ []) × ((h : Head) → IsWholeHead spot (xs ++ b ∷ []) h → (h ≡ head (fields p short)) × (rest ≡ body p))
+    → IsViableHead spot (xs ++ b ∷ []) × ((h : Head) → IsWholeHead spot (xs ++ b ∷ []) h → (h ≡ head (fields p short))
+    × (rest ≡ body p))
 
 -- The payload lengths of the heads that go on after some octets are those of the pieces whose heads do.
 abbrev pub LengthsOfPieces : Type 0

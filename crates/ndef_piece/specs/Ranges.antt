@@ -3,7 +3,8 @@ use Rattle.std.specs.Prelude.{ℕ, ◌+◌, ◌-◌, ◌*◌, ◌^◌, ◌==◌,
 use Rattle.ndef_format.specs.declared.spot.Spot.{Spot}
 use Rattle.ndef_format.specs.HeadReasons.{tnf_number, width, least_from}
 
--- NDEF 1.0, PAYLOAD_LENGTH: the greatest number that n octets can spell, most significant first, of which these are the front
+-- NDEF 1.0, PAYLOAD_LENGTH: the greatest number that n octets can spell, most significant first, of which these are the
+-- front
 abbrev pub greatest_from : ℕ → List ℕ → ℕ
 greatest_from n [] = 256 ^ n - 1
 greatest_from n (x ∷ xs) = x * 256 ^ (n - 1) + greatest_from (n - 1) xs
@@ -19,4 +20,7 @@ abbrev pub range_of : Spot → List ℕ → ℕ × ℕ
 range_of spot [] = (0, spot.room)
 range_of spot (header ∷ xs) =
     if tnf_number header == 0 then (0, 0)
-    else (least_from (width header) (length_front (header ∷ xs)), min (greatest_from (width header) (length_front (header ∷ xs))) spot.room)
+    else (
+      least_from (width header) (length_front (header ∷ xs)),
+      min (greatest_from (width header) (length_front (header ∷ xs))) spot.room,
+    )

@@ -25,7 +25,14 @@ pub record Before : Type 0 where
 -- NDEF 1.0, chunked payloads: where a record begins, and where a run goes on
 abbrev pub outside : LimitValues → (first over : Bool) → (records : ℕ) → Before
 outside limits first over records =
-    record { first = first; over = over; records = records; pieces = limits.pieces; room = limits.payload; begun = None }
+    record {
+      first = first;
+      over = over;
+      records = records;
+      pieces = limits.pieces;
+      room = limits.payload;
+      begun = None;
+    }
 
 -- NDEF 1.0, chunked payloads: within a run that has begun this record
 abbrev pub inside : (records pieces room : ℕ) → Item → Before
@@ -66,19 +73,22 @@ after limits c p =
 abbrev pub Walk : LimitValues → Before → List Piece → List Item → Type 0
 Walk limits c [] items = (c.over ≡ true) × (items ≡ [])
 Walk limits c (p ∷ ps) items =
-    (c.over ≡ false) × Stands (spot limits.profile c) p × (rest : List Item) × (items ≡ ending_record c p ++ rest) × Walk limits (after limits c p) ps rest
+    (c.over ≡ false) × Stands (spot limits.profile c) p × (rest : List Item) × (items ≡ ending_record c p ++ rest)
+    × Walk limits (after limits c p) ps rest
 
 -- NDEF 1.0, messages: these pieces stand in turn, end these records, and then d is known
 abbrev pub Walked : LimitValues → Before → List Piece → List Item → Before → Type 0
 Walked limits c [] items d = (items ≡ []) × (d ≡ c)
 Walked limits c (p ∷ ps) items d =
-    (c.over ≡ false) × Stands (spot limits.profile c) p × (rest : List Item) × (items ≡ ending_record c p ++ rest) × Walked limits (after limits c p) ps rest d
+    (c.over ≡ false) × Stands (spot limits.profile c) p × (rest : List Item) × (items ≡ ending_record c p ++ rest)
+    × Walked limits (after limits c p) ps rest d
 
 -- what is known where these are the pieces of the open run, none where no run is open
 abbrev pub standing : LimitValues → (first over : Bool) → (records : ℕ) → List Piece → Before
 standing limits first over records [] = outside limits first over records
 standing limits first over records (p ∷ ps) =
-    inside records (limits.pieces - length (p ∷ ps)) (limits.payload - length (payload_of (p ∷ ps))) (run_record (record { initial = p; later = ps }))
+    inside records (limits.pieces - length (p ∷ ps)) (limits.payload - length (payload_of (p ∷ ps)))
+    (run_record (record { initial = p; later = ps }))
 
 -- the runs that a walk has completed, and the pieces of the one that it is in
 pub record IsCounted (limits : LimitValues) (ps : List Piece) (done : List Item) (d : Before) : Type 0 where
@@ -97,13 +107,15 @@ pub record IsCounted (limits : LimitValues) (ps : List Piece) (done : List Item)
 -- The pieces that walk from the start are those of the messages within the limits.
 abbrev pub WalksAreMessages : Type 0
 WalksAreMessages = (limits : LimitValues) (ps : List Piece) (items : List Item) → AreInRange limits
-    → Walk limits (start limits) ps items ↔ ((runs : List Run) × (ps ≡ all_pieces runs) × IsMessage limits.profile runs items × IsWithin limits runs)
+    → Walk limits (start limits) ps items ↔ ((runs : List Run) × (ps ≡ all_pieces runs)
+    × IsMessage limits.profile runs items × IsWithin limits runs)
 
 -- A walk can be cut after any of its pieces.
 abbrev pub WalksAreCut : Type 0
 WalksAreCut = (limits : LimitValues) (c : Before) (ps qs : List Piece) (items : List Item)
     → Walk limits c (ps ++ qs) items
-    ↔ ((done rest : List Item) × (d : Before) × (items ≡ done ++ rest) × Walked limits c ps done d × Walk limits d qs rest)
+    ↔ ((done rest : List Item) × (d : Before) × (items ≡ done ++ rest) × Walked limits c ps done d
+    × Walk limits d qs rest)
 
 -- The payload of an open run as far as it has come goes before what its pieces to come bring, and decides nothing else.
 abbrev pub RunsGoOn : Type 0
@@ -114,10 +126,12 @@ RunsGoOn = (limits : LimitValues) (records pieces room : ℕ) (m : Item) (ps : L
 
 -- What is known after a walk follows from the runs that it has completed, and from the pieces of the one that it is in.
 abbrev pub WalksAreCounted : Type 0
-WalksAreCounted = (limits : LimitValues) (ps : List Piece) (done : List Item) (d : Before) → Walked limits (start limits) ps done d
+WalksAreCounted = (limits : LimitValues) (ps : List Piece) (done : List Item) (d : Before)
+    → Walked limits (start limits) ps done d
     → IsCounted limits ps done d
 
 -- A message that is not over can be ended by one piece, with any payload that has room.
 abbrev pub WalksCanEnd : Type 0
-WalksCanEnd = (limits : LimitValues) (c : Before) (payload : List ℕ) → c.over ≡ false → AreOctets payload → length payload ≤ c.room → c.room < 2 ^ 32
+WalksCanEnd = (limits : LimitValues) (c : Before) (payload : List ℕ) → c.over ≡ false → AreOctets payload
+    → length payload ≤ c.room → c.room < 2 ^ 32
     → (p : Piece) × IsPiece p × (p.payload ≡ payload) × Walk limits c (p ∷ []) (record_with c.begun p ∷ [])

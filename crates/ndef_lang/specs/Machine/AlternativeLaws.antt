@@ -43,10 +43,12 @@ auxiliary_lengths : AreLengths AreAuxiliary (From 1)
 auxiliary_lengths = first_lengths AreOctets AreAuxiliary (λ h. h) octets_lengths (λ r h. (omega arith, h))
 
 reference_lengths : (left : ℕ) → AreLengths (CompletesAlternative (Reference left)) (From (1 + left))
-reference_lengths left = let t = any_lengths left 1 AreAuxiliary auxiliary_lengths in record { all = λ r h. omega (arith, t.all r h); each = λ k h. t.each k (omega arith) }
+reference_lengths left = let t = any_lengths left 1 AreAuxiliary auxiliary_lengths
+    in record { all = λ r h. omega (arith, t.all r h); each = λ k h. t.each k (omega arith) }
 
 pub are_alternative_lengths : (state : AcLang) → AreLengths (CompletesAlternative state) (alternative_lengths state)
-are_alternative_lengths Start = any_lengths 1 2 (Counted AreAuxiliary) (counted_lengths 1 AreAuxiliary auxiliary_lengths)
+are_alternative_lengths Start = any_lengths 1 2 (Counted AreAuxiliary)
+    (counted_lengths 1 AreAuxiliary auxiliary_lengths)
 are_alternative_lengths ReferenceLength = counted_lengths 1 AreAuxiliary auxiliary_lengths
 are_alternative_lengths (Reference left) = reference_lengths left
 are_alternative_lengths (Names left names) = any_lengths left names (AreReferences names) (references_lengths names)

@@ -24,4 +24,6 @@ completes_carrier_octets (TypeOctets left) = any_octets left AreOctets (λ r h. 
 pub are_carrier_lengths : (state : HcLang) → AreLengths (CompletesCarrier state) (carrier_lengths state)
 are_carrier_lengths Start = any_lengths 1 1 (Counted AreOctets) (counted_lengths 0 AreOctets octets_lengths)
 are_carrier_lengths TypeLength = counted_lengths 0 AreOctets octets_lengths
-are_carrier_lengths (TypeOctets left) = let e : left ≡ left + 0 = omega arith in let t = any_lengths left 0 AreOctets octets_lengths in record { all = λ r h. omega (arith, t.all r h); each = λ k h. t.each k (omega arith) }
+are_carrier_lengths (TypeOctets left) = let e : left ≡ left + 0 = omega arith
+    in let t = any_lengths left 0 AreOctets octets_lengths
+    in record { all = λ r h. omega (arith, t.all r h); each = λ k h. t.each k (omega arith) }

@@ -20,22 +20,27 @@ are_fixed_lengths (Some n) = octets_of_lengths n
 are_fixed_lengths None = record { all = λ r h. absurd h; each = λ k h. absurd h }
 
 -- all octets of a slice, where that many are missing
-fixed_behind : (n : ℕ) (s : List ℕ) → AreOctets s → length s ≤ n → Continues (AreOctetsOf n) (AreOctetsOf (n - length s)) s
+fixed_behind : (n : ℕ) (s : List ℕ) → AreOctets s → length s ≤ n
+    → Continues (AreOctetsOf n) (AreOctetsOf (n - length s)) s
 fixed_behind n s a l r = (
   λ h. (octets_append s r a h.0, omega (arith, h.1, length-append s r)),
   λ h. (octets_back s r h.0, omega (arith, h.1, length-append s r)),
 )
 
-pub fixed_all : (left : Option ℕ) (bytes : List ℕ) (lo hi : ℕ) → AreOctets bytes → length bytes ≤ lo → PassesBetween (CompletesFixed left) lo hi
-    → StepsAll (CompletesFixed left) (CompletesFixed (Some (unwrap_or left 0 - length bytes))) bytes lo hi (length bytes)
+pub fixed_all : (left : Option ℕ) (bytes : List ℕ) (lo hi : ℕ) → AreOctets bytes → length bytes ≤ lo
+    → PassesBetween (CompletesFixed left) lo hi
+    → StepsAll (CompletesFixed left) (CompletesFixed (Some (unwrap_or left 0 - length bytes))) bytes lo hi
+    (length bytes)
 fixed_all None bytes lo hi a l p = absurd p.passed
 fixed_all (Some n) bytes lo hi a l p =
     let least = p.least in
     let most = p.most in
     let count = p.passed.1 in
     let t = (octets_of_lengths (n - length bytes)).each (n - length bytes) (omega arith) in
-    steps_whole (AreOctetsOf n) (AreOctetsOf (n - length bytes)) bytes lo hi (fixed_behind n bytes a (omega arith)) (record { rest = t.0; passed = t.1.0; least = omega (arith, t.1.1); most = omega (arith, t.1.1) })
+    steps_whole (AreOctetsOf n) (AreOctetsOf (n - length bytes)) bytes lo hi (fixed_behind n bytes a (omega arith))
+    (record { rest = t.0; passed = t.1.0; least = omega (arith, t.1.1); most = omega (arith, t.1.1) })
 
 -- what fits can be completed
-pub fixed_fits : (left : Option ℕ) (lo hi : ℕ) → IsTrue (meets (fixed_lengths left) lo hi) → PassesBetween (CompletesFixed left) lo hi
+pub fixed_fits : (left : Option ℕ) (lo hi : ℕ) → IsTrue (meets (fixed_lengths left) lo hi)
+    → PassesBetween (CompletesFixed left) lo hi
 fixed_fits left lo hi = (lengths_fit (CompletesFixed left) (fixed_lengths left) lo hi (are_fixed_lengths left)).0

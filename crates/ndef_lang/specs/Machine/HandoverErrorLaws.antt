@@ -20,7 +20,8 @@ completes_error_octets Any r h = h
 completes_error_octets Refused r h = absurd h
 
 pub are_error_lengths : (state : ErrLang) → AreLengths (CompletesError state) (error_lengths state)
-are_error_lengths Start = first_lengths AreOctets IsError (λ h. h) octets_lengths (λ r h. (omega arith, (h, λ e. absurd (omega arith), λ e. absurd (omega arith), λ e. absurd (omega arith))))
+are_error_lengths Start = first_lengths AreOctets IsError (λ h. h) octets_lengths
+    (λ r h. (omega arith, (h, λ e. absurd (omega arith), λ e. absurd (omega arith), λ e. absurd (omega arith))))
 are_error_lengths (Data n) = octets_of_lengths n
 are_error_lengths Any = octets_lengths
 are_error_lengths Refused = record { all = λ r h. absurd h; each = λ k h. absurd h }

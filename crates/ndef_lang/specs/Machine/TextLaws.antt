@@ -58,7 +58,8 @@ all_texts (b ∷ r) h = omega arith
 
 some_text : (k : ℕ) → 1 ≤ k → (r : List ℕ) × (IsText r × (length r ≡ k))
 some_text zero l = absurd (omega arith)
-some_text (suc k) l = let t = narrow_lengths.each k (omega arith) in (0 ∷ t.0, ((omega arith, λ x. omega arith, t.1.0), ap suc t.1.1))
+some_text (suc k) l = let t = narrow_lengths.each k (omega arith)
+    in (0 ∷ t.0, ((omega arith, λ x. omega arith, t.1.0), ap suc t.1.1))
 
 pub are_text_lengths : (state : TextLang) → AreLengths (CompletesText state) (text_lengths state)
 are_text_lengths Start = record { all = all_texts; each = some_text }

@@ -30,7 +30,8 @@ zero_is_free Standard h = h
 
 some_uri : (profile : Profile) (k : ℕ) → 1 ≤ k → (r : List ℕ) × (IsUri profile r × (length r ≡ k))
 some_uri profile zero l = absurd (omega arith)
-some_uri profile (suc k) l = let t = (are_utf8_lengths Whole).each k (omega arith) in (0 ∷ t.0, ((omega arith, zero_is_free profile, t.1.0), ap suc t.1.1))
+some_uri profile (suc k) l = let t = (are_utf8_lengths Whole).each k (omega arith)
+    in (0 ∷ t.0, ((omega arith, zero_is_free profile, t.1.0), ap suc t.1.1))
 
 pub are_uri_lengths : (state : UriLang) → AreLengths (CompletesUri state) (uri_lengths state)
 are_uri_lengths (Start profile) = record { all = all_uris profile; each = some_uri profile }

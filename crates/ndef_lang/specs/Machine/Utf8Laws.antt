@@ -50,7 +50,8 @@ character_octets c ok =
 
 characters_octets : (cs : List ℕ) → scalars cs ≡ true → AreOctets (encodes cs)
 characters_octets [] ok = tt
-characters_octets (c ∷ cs) ok = let p = and_parts (scalar c) (scalars cs) ok in octets_append (encode c) (encodes cs) (character_octets c p.0) (characters_octets cs p.1)
+characters_octets (c ∷ cs) ok = let p = and_parts (scalar c) (scalars cs) ok
+    in octets_append (encode c) (encodes cs) (character_octets c p.0) (characters_octets cs p.1)
 
 pub utf8_octets : (r : List ℕ) → IsUtf8 r → AreOctets r
 utf8_octets r h = subst AreOctets h.1.1 (characters_octets h.0 h.1.0)
@@ -76,9 +77,11 @@ completes_utf8_octets Refused r h = absurd h
 -- some k octets end a character that lacks n of them
 some_end : (n least most k : ℕ) → n ≤ k → least ≤ most → (r : List ℕ) × (EndsCharacter n least most r × (length r ≡ k))
 some_end zero least most zero l h = ([], (IsUtf8-nil, refl))
-some_end zero least most (suc k) l h = let t = some_end zero least most k (omega arith) h in (97 ∷ t.0, (text_one 97 t.0 (omega arith) t.1.0, omega (arith, t.1.1)))
+some_end zero least most (suc k) l h = let t = some_end zero least most k (omega arith) h
+    in (97 ∷ t.0, (text_one 97 t.0 (omega arith) t.1.0, omega (arith, t.1.1)))
 some_end (suc n) least most zero l h = absurd (omega arith)
-some_end (suc n) least most (suc k) l h = let t = some_end n 0x80 0xbf k (omega arith) (omega arith) in (least ∷ t.0, ((omega arith, h, t.1.0), omega (arith, t.1.1)))
+some_end (suc n) least most (suc k) l h = let t = some_end n 0x80 0xbf k (omega arith) (omega arith)
+    in (least ∷ t.0, ((omega arith, h, t.1.0), omega (arith, t.1.1)))
 
 -- and fewer don't
 end_length : (n least most : ℕ) (r : List ℕ) → EndsCharacter n least most r → n ≤ length r

@@ -15,7 +15,7 @@ use Rattle.ndef_piece.specs.Whole.{IsSplit, shown}
 use Rattle.ndef_piece.specs.declared.head_reader.Step.TheVariants as steps
 use Rattle.ndef_piece.specs.declared.whole.WholePiece.{WholePiece}
 use Rattle.ndef_format.specs.Accepted.{IsMember}
-use Rattle.ndef_message.specs.Feed.{Fronts}
+use Rattle.ndef_message.specs.Machine.Fronts.{Fronts}
 use Rattle.ndef_message.specs.Machine.Points.{Point, IsBetweenRecords}
 use Rattle.ndef_message.specs.Machine.State.{numbers, spot_of}
 use Rattle.ndef_message.specs.declared.phase.Place.{Place}
@@ -26,8 +26,14 @@ use Rattle.ndef_message.specs.declared.state.State.{State}
 abbrev pub record_of : WholePiece → Item
 record_of w = record { tnf = tnf_of (tnf_number w.header); kind = w.kind.now; id = w.id.now; payload = w.payload.now }
 
--- NDEF 1.0, record layout: the bytes begin with a record in one piece, which may stand at the place, with a payload of its kind
-pub record BeginsWith (set : Sets) (limits : LimitValues) (place : Place) (bytes : List ℕ) (w : WholePiece) : Type 0 where
+-- the bytes up to the end of that piece
+abbrev pub passed : List ℕ → WholePiece → List ℕ
+passed bytes w = take (length bytes - length w.rest.now) bytes
+
+-- NDEF 1.0, record layout: the bytes begin with a record in one piece, which may stand at the place, with a payload of
+-- its kind
+pub record BeginsWith (set : Sets) (limits : LimitValues) (place : Place) (bytes : List ℕ)
+    (w : WholePiece) : Type 0 where
   pub outer : place.inside ≡ false
   pub split : IsSplit (shown w) (is_set 4 w.header) w.rest.now bytes
   pub no_id : is_set 3 w.header ≡ false → w.id.now ≡ []
@@ -35,9 +41,10 @@ pub record BeginsWith (set : Sets) (limits : LimitValues) (place : Place) (bytes
   pub one : is_set 5 w.header ≡ false
   pub member : IsMember set limits (record_of w)
 
--- NDEF 1.0, messages: the bytes are whole pieces, from where a record may begin to where one may or the message ends, and so many
--- records may still end then; these records have come, each with a payload of its kind
-pub record EndsRecords (set : Sets) (limits : LimitValues) (c : Before) (items : List Item) (left : ℕ) (last : Bool) (bytes : List ℕ) : Type 0 where
+-- NDEF 1.0, messages: the bytes are whole pieces, from where a record may begin to where one may or the message ends,
+-- and so many records may still end then; these records have come, each with a payload of its kind
+pub record EndsRecords (set : Sets) (limits : LimitValues) (c : Before) (items : List Item) (left : ℕ) (last : Bool)
+    (bytes : List ℕ) : Type 0 where
   pub pieces : List Piece
   pub spelled : SpellsPieces pieces bytes
   pub walked : Walked limits c pieces items (outside limits false last left)
@@ -49,14 +56,16 @@ EndsRecord set limits place last bytes = (c : Before) → place ≡ numbers c �
     → (item : Item) × EndsRecords set limits c (item ∷ []) (c.records - 1) last bytes
 
 -- one record has come, by so many of the bytes
-pub record IsTakenRecord (set : Sets) (limits : LimitValues) (place : Place) (bytes : List ℕ) (taken : ℕ) (last : Bool) : Type 0 where
+pub record IsTakenRecord (set : Sets) (limits : LimitValues) (place : Place) (bytes : List ℕ) (taken : ℕ)
+    (last : Bool) : Type 0 where
   pub some : 0 < taken
   pub within : taken ≤ length bytes
   pub outer : place.inside ≡ false
   pub ends : EndsRecord set limits place last (take taken bytes)
 
 -- no record or more have come, and this place is reached
-pub record Comes (set : Sets) (limits : LimitValues) (c : Before) (bytes : List ℕ) (place' : Place) (last : Bool) : Type 0 where
+pub record Comes (set : Sets) (limits : LimitValues) (c : Before) (bytes : List ℕ) (place' : Place)
+    (last : Bool) : Type 0 where
   pub there : Before
   pub place_is : place' ≡ numbers there
   pub no_run : there.begun ≡ None
@@ -69,9 +78,11 @@ pub record Comes (set : Sets) (limits : LimitValues) (c : Before) (bytes : List 
   pub members : AllByRecursion (IsMember set limits) items
 
 -- records have come, by so many of the bytes
-pub record AreTakenRecords (set : Sets) (limits : LimitValues) (place : Place) (bytes : List ℕ) (taken : ℕ) (place' : Place) (last : Bool) : Type 0 where
+pub record AreTakenRecords (set : Sets) (limits : LimitValues) (place : Place) (bytes : List ℕ) (taken : ℕ)
+    (place' : Place) (last : Bool) : Type 0 where
   pub within : taken ≤ length bytes
-  pub comes : (c : Before) → place ≡ numbers c → c.begun ≡ None → c.over ≡ false → Comes set limits c (take taken bytes) place' last
+  pub comes : (c : Before) → place ≡ numbers c → c.begun ≡ None → c.over ≡ false
+      → Comes set limits c (take taken bytes) place' last
 
 -- ---- the pieces of a run
 
@@ -80,33 +91,39 @@ abbrev pub with_payload : Item → List ℕ → Item
 with_payload m payload = record m { payload = m.payload ++ payload }
 
 -- NDEF 1.0, chunked payloads: the bytes are the pieces that an open run goes on by up to its end, with this payload
-pub record EndsRun (limits : LimitValues) (records pieces room : ℕ) (m : Item) (bytes : List ℕ) (last : Bool) : Type 0 where
+pub record EndsRun (limits : LimitValues) (records pieces room : ℕ) (m : Item) (bytes : List ℕ)
+    (last : Bool) : Type 0 where
   pub later : List Piece
   pub payload : List ℕ
   pub octets : AreOctets payload
   pub spelled : SpellsPieces later bytes
-  pub walked : Walked limits (inside records pieces room m) later (with_payload m payload ∷ []) (outside limits false last (records - 1))
+  pub walked : Walked limits (inside records pieces room m) later (with_payload m payload ∷ [])
+      (outside limits false last (records - 1))
 
 -- NDEF 1.0, chunked payloads: the bytes end the run that is open at the place
 abbrev pub IsRunEnd : LimitValues → Place → List ℕ → Bool → Type 0
-IsRunEnd limits place bytes last = (records pieces room : ℕ) (m : Item) → place ≡ numbers (inside records pieces room m) → EndsRun limits records pieces room m bytes last
+IsRunEnd limits place bytes last = (records pieces room : ℕ) (m : Item) → place ≡ numbers (inside records pieces room m)
+    → EndsRun limits records pieces room m bytes last
 
--- an open run as far as it has come, with the bytes to come
-pub record RunGoesOn (limits : LimitValues) (records pieces room : ℕ) (m : Item) (place : Place) (bytes rest : List ℕ) : Type 0 where
+-- what is known before a piece of an open run and the record so far, and how far the run goes on by some bytes, with
+-- the rest to come
+pub record RunGoesOn (limits : LimitValues) (c : Before) (m : Item) (place : Place) (bytes rest : List ℕ) : Type 0 where
   pub later : List Piece
   pub payload : List ℕ
   pub front : List ℕ
   pub pieces_left : ℕ
   pub room_left : ℕ
-  pub place_is : place ≡ numbers (inside records pieces_left room_left (with_payload m payload))
+  pub place_is : place ≡ numbers (inside c.records pieces_left room_left (with_payload m payload))
   pub joined : bytes ≡ front ++ rest
   pub octets : AreOctets payload
   pub spelled : SpellsPieces later front
-  pub walked : Walked limits (inside records pieces room m) later [] (inside records pieces_left room_left (with_payload m payload))
+  pub walked : Walked limits c later [] (inside c.records pieces_left room_left (with_payload m payload))
 
 -- NDEF 1.0, chunked payloads: the bytes are pieces that the run open at the place goes on by, up to this place
 abbrev pub AreChunks : LimitValues → Place → List ℕ → Place → Type 0
-AreChunks limits place bytes place' = (records pieces room : ℕ) (m : Item) → place ≡ numbers (inside records pieces room m) → RunGoesOn limits records pieces room m place' bytes []
+AreChunks limits place bytes place' = (records pieces room : ℕ) (m : Item)
+    → place ≡ numbers (inside records pieces room m)
+    → RunGoesOn limits (inside records pieces room m) m place' bytes []
 
 -- ---- a checker between records
 
@@ -119,7 +136,11 @@ pub record IsFresh {L : Type 0} (state : State L) : Type 0 where
 -- whole records have led to this place, where another may begin or the message ends
 pub record IsBehind {L : Type 0} (limits : LimitValues) (state : State L) (place : Place) (last : Bool) : Type 0 where
   pub place_is : state.place ≡ place
-  pub reader_is : last ≡ false → state.reader ≡ record { spot = spot_of limits.profile place; octets = []; answer = steps.More }
+  pub reader_is : last ≡ false → state.reader ≡ record {
+    spot = spot_of limits.profile place;
+    octets = [];
+    answer = steps.More;
+  }
   pub opens : last ≡ false → IsOpen (spot_of limits.profile place) []
   pub phase_is : state.phase ≡ (if last then phases.Done else phases.Head)
 

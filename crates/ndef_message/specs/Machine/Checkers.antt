@@ -2,7 +2,7 @@
 use Rattle.ndef_format.specs.Limits.{LimitValues}
 use Rattle.ndef_lang.specs.declared.language.Language.{Ghosts}
 use Rattle.ndef_message.specs.Machine.Points.{Point}
-use Rattle.ndef_message.specs.Feed.{Fronts}
+use Rattle.ndef_message.specs.Machine.Fronts.{Fronts}
 use Rattle.ndef_message.specs.Machine.State.{Knows}
 use Rattle.ndef_message.specs.declared.checker.Checker.{Checker}
 
@@ -10,7 +10,7 @@ use Rattle.ndef_message.specs.declared.checker.Checker.{Checker}
 abbrev pub checker_limits : {L : Type 0} {language : Ghosts L} → Checker L language → LimitValues
 checker_limits c = c.limits
 
--- these bytes led there, a refused one with them: they end these records, and this is the point before the next byte, or before the
--- refused one
+-- these bytes led there, a refused one with them: they end these records, and this is the point before the next byte,
+-- or before the refused one
 abbrev pub CheckerReached : {L : Type 0} {language : Ghosts L} → Checker L language → Fronts Point
 CheckerReached {language = language} c = Knows language c.limits c.state c.taken

@@ -3,11 +3,10 @@ use Rattle.std.specs.Prelude.{◌≡◌, ◌+◌, ℕ, List, ◌∷◌, [], ◌+
 use Rattle.ndef_format.specs.Messages.{Item}
 use Rattle.ndef_format.specs.Limits.{LimitValues}
 use Rattle.ndef_format.specs.Payloads.{Sets}
-use Rattle.ndef_format.specs.Reasons.{Conditions}
 use Rattle.ndef_lang.specs.declared.language.Language.{Ghosts}
 use Rattle.ndef_message.specs.Decoding.{EndsThere, Wants}
 use Rattle.ndef_format.specs.Accepted.{IsAccepted, IsViable}
-use Rattle.ndef_message.specs.Feed.{Fronts}
+use Rattle.ndef_message.specs.Machine.Fronts.{Fronts}
 use Rattle.ndef_message.specs.Machine.Points.{Point, IsAtPoint, opened_at}
 use Rattle.ndef_message.specs.Machine.Checkers.{CheckerReached}
 use Rattle.ndef_message.specs.Opened.{Opened, no_octets, AreRecords}
@@ -26,23 +25,30 @@ event_of None phases.Done = Some event.Over
 event_of None (phases.Refused refusal) = Some (event.Refused refusal)
 event_of None _ = None
 
--- What is answered to these bytes after that front: they end no record; the last of them ends the next one, and maybe the
--- message; or it is refused; or memory was.
-abbrev pub Takes : Sets → Conditions → LimitValues → Fronts Point → (front : List ℕ) → (given : List Item) → (bytes : List ℕ) → Took → Type 0
-Takes set holds limits new front given bytes took.More = (next : Point) × new (front ++ bytes) given next
-Takes set holds limits new front given bytes (took.Whole item last) =
-    EndsThere set limits (front ++ bytes) (given ++ item ∷ []) last × AreRecords limits (front ++ bytes) (given ++ item ∷ []) × ((next : Point) × new (front ++ bytes) (given ++ item ∷ []) next)
-Takes set holds limits new front given bytes (took.Refused refusal) = (refusal.at + 1 ≡ length (front ++ bytes)) × ((next : Point) × new (front ++ bytes) given next)
-Takes set holds limits new front given bytes took.Failed = Wants set limits front given bytes
+-- What is answered to these bytes after that front: they end no record; the last of them ends the next one, and maybe
+-- the message; or it is refused; or memory was.
+abbrev pub Takes : Sets → LimitValues → (new : Fronts Point) → (front : List ℕ) → (given : List Item)
+    → (bytes : List ℕ) → Took → Type 0
+Takes set limits new front given bytes took.More = (next : Point) × new (front ++ bytes) given next
+Takes set limits new front given bytes (took.Whole item last) =
+    EndsThere set limits (front ++ bytes) (given ++ item ∷ []) last
+    × AreRecords limits (front ++ bytes) (given ++ item ∷ [])
+    × ((next : Point) × new (front ++ bytes) (given ++ item ∷ []) next)
+Takes set limits new front given bytes (took.Refused refusal) = (refusal.at + 1 ≡ length (front ++ bytes))
+    × ((next : Point) × new (front ++ bytes) given next)
+Takes set limits new front given bytes took.Failed = Wants set limits front given bytes
 
 -- memory was refused behind these bytes, and nothing is kept
-pub record Failed (set : Sets) (limits : LimitValues) (place : ℕ) (bytes : List ℕ) (given : List Item) (point : Point) : Type 0 where
+pub record Failed (set : Sets) (limits : LimitValues) (place : ℕ) (bytes : List ℕ) (given : List Item)
+    (point : Point) : Type 0 where
   pub place_is : place ≡ length bytes
   pub at : IsAtPoint limits bytes given point
   pub viable : IsViable set limits bytes
   pub unended : ¬ IsAccepted set limits bytes
 
 -- these bytes led to a checker and to what is kept of the open record; or memory was refused at a place
-abbrev pub DecoderKnows : {L : Type 0} {language : Ghosts L} → Checker L language → (failed : Option ℕ) (open_record : Opened) → Fronts Point
+abbrev pub DecoderKnows : {L : Type 0} {language : Ghosts L} → Checker L language
+    → (failed : Option ℕ) (open_record : Opened) → Fronts Point
 DecoderKnows c None o bytes given point = CheckerReached c bytes given point × (o ≡ opened_at point)
-DecoderKnows {language = language} c (Some at) o bytes given point = Failed language.set c.limits at bytes given point × (o ≡ no_octets)
+DecoderKnows {language = language} c (Some at) o bytes given point = Failed language.set c.limits at bytes given point
+    × (o ≡ no_octets)

@@ -11,7 +11,8 @@ pub record Failing : Type 0 where
 
 -- ---- a source without an end
 
--- what is left of its front, or of the pattern that comes again and again; how many bytes are shown, and how many were taken
+-- what is left of its front, or of the pattern that comes again and again; how many bytes are shown, and how many were
+-- taken
 pub record Endless : Type 0 where
   pub rest : List ℕ
   pub pattern : List ℕ

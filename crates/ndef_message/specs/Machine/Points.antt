@@ -59,7 +59,15 @@ id_of (Some n) id = Some id
 -- NDEF 1.0, record layout: the piece with this head and these parts
 abbrev pub piece : HeadFields → (kind id payload : List ℕ) → Piece
 piece f kind id payload =
-    record { first = f.first; last = f.last; chunked = f.chunked; tnf = f.tnf; kind = kind; id = id_of f.id_length id; payload = payload }
+    record {
+      first = f.first;
+      last = f.last;
+      chunked = f.chunked;
+      tnf = f.tnf;
+      kind = kind;
+      id = id_of f.id_length id;
+      payload = payload;
+    }
 
 -- NDEF 1.0, record layout: the octets are a front of the piece, which may stand there
 pub record IsPartAt (limits : LimitValues) (c : Before) (f : HeadFields) (kind id payload : List ℕ) : Type 0 where
@@ -73,9 +81,11 @@ pub record IsPartAt (limits : LimitValues) (c : Before) (f : HeadFields) (kind i
 abbrev pub IsProperAt : LimitValues → Point → Type 0
 IsProperAt limits (InHead c xs) = (c.over ≡ false) × IsOpen (spot limits.profile c) xs
 IsProperAt limits (InType c f kind) = IsPartAt limits c f kind [] [] × (length kind < f.kind_length)
-IsProperAt limits (InId c f kind id) = IsPartAt limits c f kind id [] × (length kind ≡ f.kind_length) × (length id < unwrap_or f.id_length 0)
+IsProperAt limits (InId c f kind id) = IsPartAt limits c f kind id [] × (length kind ≡ f.kind_length)
+    × (length id < unwrap_or f.id_length 0)
 IsProperAt limits (InPayload c f kind id payload) =
-    IsPartAt limits c f kind id payload × (length kind ≡ f.kind_length) × (length id ≡ unwrap_or f.id_length 0) × (length payload < f.payload_length)
+    IsPartAt limits c f kind id payload × (length kind ≡ f.kind_length) × (length id ≡ unwrap_or f.id_length 0)
+    × (length payload < f.payload_length)
 IsProperAt limits (AtEnd c) = c.over ≡ true
 
 -- The octets are whole pieces, which end these records, and a proper front of one more, or the end of the message.
@@ -89,7 +99,8 @@ pub record IsAtPoint (limits : LimitValues) (bytes : List ℕ) (given : List Ite
 
 -- why an octet there is refused
 abbrev pub IsReasonAt : Conditions → LimitValues → Point → ℕ → Reason → Type 0
-IsReasonAt holds limits point b reason = IsReasonOf holds limits (spot limits.profile (before point)) (before point).begun (field_of point) b reason
+IsReasonAt holds limits point b reason = IsReasonOf holds limits (spot limits.profile (before point))
+    (before point).begun (field_of point) b reason
 
 -- what has come of the record
 abbrev pub opened_at : Point → Opened

@@ -20,10 +20,20 @@ use Rattle.ndef_piece.specs.HeaderLaws.{id_count}
 -- ---- the parts of a piece
 -- the head of a piece
 pub piece_head : (p : Piece) (short : Bool) (bytes : List ℕ) → SpellsPiece p short bytes → CanBeSpelled (fields p short)
-piece_head p short bytes s = record { tnf = s.piece.tnf; kind = s.piece.kind_length; payload = s.piece.payload_length; form = s.form; id = rw (id_count p.id) s.piece.id_length }
+piece_head p short bytes s = record {
+  tnf = s.piece.tnf;
+  kind = s.piece.kind_length;
+  payload = s.piece.payload_length;
+  form = s.form;
+  id = rw (id_count p.id) s.piece.id_length;
+}
 
 pub body_length : (p : Piece) → length (body p) ≡ length p.kind + length (unwrap_or p.id []) + length p.payload
-body_length p = omega (arith, length-append p.kind (unwrap_or p.id [] ++ p.payload), length-append (unwrap_or p.id []) p.payload)
+body_length p = omega (
+  arith,
+  length-append p.kind (unwrap_or p.id [] ++ p.payload),
+  length-append (unwrap_or p.id []) p.payload,
+)
 
 -- ---- heads
 payload_told : (short : Bool) (n : ℕ) (o : Option ℕ) (h k : ℕ) (z : List ℕ) → n < 2 ^ 32
@@ -43,9 +53,11 @@ head_told : (f : HeadFields) (z : List ℕ) → CanBeSpelled f → fields_with (
 head_told f z l =
     let p = header_parts f l.tnf in
     let n : payload_length_at (is_set 4 (header f)) (octets f ++ z) ≡ f.payload_length =
-    ap (λ s. payload_length_at s (octets f ++ z)) p.short ∙ payload_told f.short f.payload_length f.id_length (header f) f.kind_length z l.payload in
+    ap (λ s. payload_length_at s (octets f ++ z)) p.short
+    ∙ payload_told f.short f.payload_length f.id_length (header f) f.kind_length z l.payload in
     let i : id_length_at (is_set 3 (header f)) (is_set 4 (header f)) (octets f ++ z) ≡ f.id_length =
-    ap₂ (λ t s. id_length_at t s (octets f ++ z)) p.id_there p.short ∙ id_told f.short f.payload_length f.id_length (header f) f.kind_length z in
+    ap₂ (λ t s. id_length_at t s (octets f ++ z)) p.id_there p.short
+    ∙ id_told f.short f.payload_length f.id_length (header f) f.kind_length z in
     λ j. record {
       first = p.begins j;
       last = p.ends j;
@@ -64,17 +76,20 @@ abbrev behind_head : Piece → List ℕ → List ℕ
 behind_head p rest = p.kind ++ (unwrap_or p.id [] ++ (p.payload ++ rest))
 
 -- its head, and what follows it
-head_first : (p : Piece) (short : Bool) (front rest : List ℕ) → SpellsPiece p short front → front ++ rest ≡ octets (fields p short) ++ behind_head p rest
+head_first : (p : Piece) (short : Bool) (front rest : List ℕ) → SpellsPiece p short front
+    → front ++ rest ≡ octets (fields p short) ++ behind_head p rest
 head_first p short front rest s =
     ap (λ x. x ++ rest) s.spelled
     ∙ append_assoc (octets (fields p short)) (body p) rest
-    ∙ ap (λ x. octets (fields p short) ++ x) (append_assoc p.kind (unwrap_or p.id [] ++ p.payload) rest ∙ ap (λ x. p.kind ++ x) (append_assoc (unwrap_or p.id []) p.payload rest))
+    ∙ ap (λ x. octets (fields p short) ++ x) (append_assoc p.kind (unwrap_or p.id [] ++ p.payload) rest
+    ∙ ap (λ x. p.kind ++ x) (append_assoc (unwrap_or p.id []) p.payload rest))
 
 same_id : (i : Option (List ℕ)) → id_of (option_map length i) (unwrap_or i []) ≡ i
 same_id None = refl
 same_id (Some x) = refl
 
-same_piece : (p : Piece) (short : Bool) (k i n : List ℕ) → k ≡ p.kind → i ≡ unwrap_or p.id [] → n ≡ p.payload → piece (fields p short) k i n ≡ p
+same_piece : (p : Piece) (short : Bool) (k i n : List ℕ) → k ≡ p.kind → i ≡ unwrap_or p.id [] → n ≡ p.payload
+    → piece (fields p short) k i n ≡ p
 same_piece p short k i n e1 e2 e3 = rw (e1, e2, e3) (ap (λ x. record p { id = x }) (same_id p.id))
 
 -- what follows its head tells it
@@ -100,25 +115,31 @@ piece_told p short front rest s =
     ap piece_at (head_first p short front rest s) ∙ ap₂ piece_with (head_told f z l) behind ∙ parts_told p short rest
 
 -- how many octets a piece has is told by them, whatever follows
-size_told : (p : Piece) (short : Bool) (front rest : List ℕ) → SpellsPiece p short front → size_at (front ++ rest) ≡ length front
+size_told : (p : Piece) (short : Bool) (front rest : List ℕ) → SpellsPiece p short front
+    → size_at (front ++ rest) ≡ length front
 unfolding size_at
 size_told p short front rest s =
     let f = fields p short in
     let z = behind_head p rest in
     let l = piece_head p short front s in
     let n = id_count p.id in
-    let a : size_at (octets f ++ z) ≡ size (header f) + body_size f = ap (λ f'. size (header f) + body_size f') (head_told f z l) in
+    let a : size_at (octets f ++ z) ≡ size (header f) + body_size f = ap (λ f'. size (header f) + body_size f')
+    (head_told f z l) in
     let o = octets_size f l.tnf in
     let whole = ap length s.spelled ∙ length-append (octets f) (body p) in
     let m = body_length p in
     ap size_at (head_first p short front rest s) ∙ a ∙ omega (arith, n, o, whole, m)
 
 -- the piece at the front of some bytes is told by them, and so is what follows it
-pub same_split : (p q : Piece) (s t : Bool) (x y bytes : List ℕ) → IsSplit p s x bytes → IsSplit q t y bytes → (p ≡ q) × (x ≡ y)
+pub same_split : (p q : Piece) (s t : Bool) (x y bytes : List ℕ) → IsSplit p s x bytes → IsSplit q t y bytes → (p ≡ q)
+    × (x ≡ y)
 same_split p q s t x y bytes a b =
     let e : a.front ++ x ≡ b.front ++ y = sym a.joined ∙ b.joined in
-    let n : length a.front ≡ length b.front = sym (size_told p s a.front x a.spells) ∙ ap size_at e ∙ size_told q t b.front y b.spells in
-    (sym (piece_told p s a.front x a.spells) ∙ ap piece_at e ∙ piece_told q t b.front y b.spells, (cut_alike a.front b.front x y n e).1)
+    let n : length a.front ≡ length b.front = sym (size_told p s a.front x a.spells) ∙ ap size_at e
+    ∙ size_told q t b.front y b.spells in (
+      sym (piece_told p s a.front x a.spells) ∙ ap piece_at e ∙ piece_told q t b.front y b.spells,
+      (cut_alike a.front b.front x y n e).1,
+    )
 
 front_is_some : (p : Piece) (short : Bool) (front : List ℕ) → SpellsPiece p short front → 0 < length front
 front_is_some p short front s = let e = ap length s.spelled in omega (arith, e)
@@ -134,12 +155,15 @@ drop_one : (n b : ℕ) (bytes : List ℕ) → 0 < n → drop n (b ∷ bytes) ≡
 drop_one zero b bytes h = absurd (omega (arith, h))
 drop_one (suc n) b bytes h = let e : n ≡ suc n - 1 = omega arith in ap (λ k. drop k bytes) e
 
-pieces_step : (bytes : List ℕ) → 0 < length bytes → 0 < size_at bytes → pieces_of bytes ≡ piece_at bytes ∷ pieces_of (drop (size_at bytes) bytes)
+pieces_step : (bytes : List ℕ) → 0 < length bytes → 0 < size_at bytes
+    → pieces_of bytes ≡ piece_at bytes ∷ pieces_of (drop (size_at bytes) bytes)
 pieces_step [] h n = absurd (omega (arith, h))
 pieces_step (b ∷ bytes) h n =
-    ap (λ ps. piece_at (b ∷ bytes) ∷ ps) (pieces_skip (size_at (b ∷ bytes) - 1) bytes ∙ ap pieces_of (sym (drop_one (size_at (b ∷ bytes)) b bytes n)))
+    ap (λ ps. piece_at (b ∷ bytes) ∷ ps) (pieces_skip (size_at (b ∷ bytes) - 1) bytes
+    ∙ ap pieces_of (sym (drop_one (size_at (b ∷ bytes)) b bytes n)))
 
-first_told : (p : Piece) (short : Bool) (front rest : List ℕ) → SpellsPiece p short front → pieces_of (front ++ rest) ≡ p ∷ pieces_of rest
+first_told : (p : Piece) (short : Bool) (front rest : List ℕ) → SpellsPiece p short front
+    → pieces_of (front ++ rest) ≡ p ∷ pieces_of rest
 first_told p short front rest s =
     let some = front_is_some p short front s in
     let n = size_told p short front rest s in
@@ -157,25 +181,31 @@ begin_alone : (p : Piece) (rs : List Run) → p.chunked ≡ false → begin_run 
 begin_alone p [] c = refl
 begin_alone p (r ∷ rs) c = rw c refl
 
-pub run_told : (p : Piece) (later rest : List Piece) → Follow p.chunked later → runs_of ((p ∷ later) ++ rest) ≡ record { initial = p; later = later } ∷ runs_of rest
+pub run_told : (p : Piece) (later rest : List Piece) → Follow p.chunked later
+    → runs_of ((p ∷ later) ++ rest) ≡ record { initial = p; later = later } ∷ runs_of rest
 run_told p [] rest c = begin_alone p (runs_of rest) c
 run_told p (q ∷ later) rest (c, l, more) = ap (begin_run p) (run_told q later rest more) ∙ rw c refl
 
-pub runs_told : (rs : List Run) → AllByRecursion (λ r. Follow r.initial.chunked r.later) rs → runs_of (all_pieces rs) ≡ rs
+pub runs_told : (rs : List Run) → AllByRecursion (λ r. Follow r.initial.chunked r.later) rs
+    → runs_of (all_pieces rs) ≡ rs
 runs_told [] h = refl
 runs_told (r ∷ rs) h = run_told r.initial r.later (all_pieces rs) h.0 ∙ ap (λ x. r ∷ x) (runs_told rs h.1)
 
-pub follow_of_read : (rs : List Run) → AllByRecursion IsSeenRecord rs → AllByRecursion (λ r. Follow r.initial.chunked r.later) rs
+pub follow_of_read : (rs : List Run) → AllByRecursion IsSeenRecord rs
+    → AllByRecursion (λ r. Follow r.initial.chunked r.later) rs
 follow_of_read [] h = tt
 follow_of_read (r ∷ rs) h = (h.0.follow, follow_of_read rs h.1)
 
-follow_of_run : (profile : Profile) (rs : List Run) → AllByRecursion (IsRun profile) rs → AllByRecursion (λ r. Follow r.initial.chunked r.later) rs
+follow_of_run : (profile : Profile) (rs : List Run) → AllByRecursion (IsRun profile) rs
+    → AllByRecursion (λ r. Follow r.initial.chunked r.later) rs
 follow_of_run profile [] h = tt
 follow_of_run profile (r ∷ rs) h = (h.0.follow, follow_of_run profile rs h.1)
 
 -- the runs of a message are told by its bytes
-pub flat_told : (profile : Profile) (rs : List Run) (items : List Item) (bytes : List ℕ) → SpellsBy profile rs items bytes → runs_of (pieces_of bytes) ≡ rs
-flat_told profile rs items bytes f = ap runs_of (pieces_told (all_pieces rs) bytes f.spelled) ∙ runs_told rs (follow_of_run profile rs f.message.each_run)
+pub flat_told : (profile : Profile) (rs : List Run) (items : List Item) (bytes : List ℕ)
+    → SpellsBy profile rs items bytes → runs_of (pieces_of bytes) ≡ rs
+flat_told profile rs items bytes f = ap runs_of (pieces_told (all_pieces rs) bytes f.spelled)
+    ∙ runs_told rs (follow_of_run profile rs f.message.each_run)
 
 -- a run of some bytes is told by them
 pub run_is : (r : Run) (bytes : List ℕ) → SpellsPieces (pieces r) bytes → run_of bytes ≡ r
@@ -197,7 +227,8 @@ pub first_of : (p : Piece) (ps : List Piece) (bytes : List ℕ) → SpellsPieces
 first_of p ps bytes (short, front, rest, e, s, more) =
     record { short = short; rest = rest; split = record { front = front; spells = s; joined = e }; more = more }
 
-pub first_of_some : (ps : List Piece) (bytes : List ℕ) → 0 < length bytes → SpellsPieces ps bytes → (p : Piece) × (later : List Piece) × First p later bytes
+pub first_of_some : (ps : List Piece) (bytes : List ℕ) → 0 < length bytes → SpellsPieces ps bytes → (p : Piece)
+    × (later : List Piece) × First p later bytes
 first_of_some [] bytes n e = absurd (let h = ap length e in omega (arith, n, h))
 first_of_some (p ∷ ps) bytes n s = (p, ps, first_of p ps bytes s)
 
@@ -205,11 +236,13 @@ pub begins : {p : Piece} {ps : List Piece} {bytes : List ℕ} → First p ps byt
 begins {p} f = record { piece = p; short = f.short; rest = f.rest; split = f.split }
 
 -- it is the one that is shown
-pub first_shown : {p : Piece} {ps : List Piece} {bytes : List ℕ} (f : First p ps bytes) (q : Piece) (short : Bool) (x : List ℕ) → IsSplit q short x bytes → (q ≡ p) × (x ≡ f.rest)
+pub first_shown : {p : Piece} {ps : List Piece} {bytes : List ℕ} (f : First p ps bytes) (q : Piece) (short : Bool)
+    (x : List ℕ) → IsSplit q short x bytes → (q ≡ p) × (x ≡ f.rest)
 first_shown {p} {ps} {bytes} f q short x i = same_split q p short f.short x f.rest bytes i f.split
 
 -- what is told behind it
-pub told_behind : {p : Piece} {ps : List Piece} {bytes : List ℕ} (f : First p ps bytes) → pieces_of bytes ≡ p ∷ pieces_of f.rest
+pub told_behind : {p : Piece} {ps : List Piece} {bytes : List ℕ} (f : First p ps bytes)
+    → pieces_of bytes ≡ p ∷ pieces_of f.rest
 told_behind {p} f = ap pieces_of f.split.joined ∙ first_told p f.short f.split.front f.rest f.split.spells
 
 -- something of it is taken

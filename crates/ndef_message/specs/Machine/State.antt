@@ -1,10 +1,11 @@
 -- What the fields of a checker say of the bytes that led there.
 use Rattle.std.specs.Prelude.{◌≡◌, ◌≢◌, ◌+◌, ◌-◌, ◌≤◌, ◌==◌, ◌||◌, nat_lt, ℕ, Bool, true, false, List, [], ◌∷◌, ◌++◌, length, Option, Some, None, is_some, unwrap_or, ⊤, ◌⊎◌, ◌↔◌, if◌then◌else◌}
+use Rattle.std.specs.List.{AllByRecursion}
 use Rattle.ndef_format.specs.Messages.{Item, SpellsPieces}
 use Rattle.ndef_format.specs.Records.{Piece, HeadFields, octets, tnf_of}
 use Rattle.ndef_format.specs.Limits.{LimitValues}
 use Rattle.ndef_format.specs.declared.profile.Profile.{Profile}
-use Rattle.ndef_format.specs.declared.reason.Reason.{Reason}
+use Rattle.ndef_format.specs.declared.reason.Reason.TheVariants.{DoesNotFit}
 use Rattle.ndef_format.specs.declared.refusal.Refusal.{Refusal}
 use Rattle.ndef_format.specs.declared.kind.Kind.TheVariants.{Other}
 use Rattle.ndef_lang.specs.declared.kind.KindReader.{KindReader}
@@ -20,7 +21,7 @@ use Rattle.ndef_piece.specs.Heads as heads
 use Rattle.ndef_piece.specs.Heads.{head, BeginsHead}
 use Rattle.ndef_format.specs.Positions.{MayStand, record_so_far}
 use Rattle.ndef_piece.specs.Walk.{Before, start, spot, Walked}
-use Rattle.ndef_format.specs.Accepted.{IsViable}
+use Rattle.ndef_format.specs.Accepted.{IsMember, IsViable}
 use Rattle.ndef_message.specs.Machine.Points.{Point, InHead, InType, InId, InPayload, AtEnd, part_octets, IsPartAt, IsAtPoint, IsReasonAt}
 use Rattle.ndef_message.specs.Machine.Moves.{Moves, given_next, point_next, point_with}
 use Rattle.ndef_message.specs.Machine.Payload.{completes, most_left}
@@ -38,15 +39,34 @@ numbers c = record { first = c.first; inside = is_some c.begun; records = c.reco
 -- the spot of the piece
 abbrev pub spot_of : Profile → Place → Spot
 spot_of profile p =
-    record { profile = profile; first = p.first; inside = p.inside; last_piece = p.pieces == 1; last_record = p.records == 1; room = p.room }
+    record {
+      profile = profile;
+      first = p.first;
+      inside = p.inside;
+      last_piece = p.pieces == 1;
+      last_record = p.records == 1;
+      room = p.room;
+    }
 
 -- what is kept behind a record
 abbrev pub behind_record : LimitValues → Place → Place
-behind_record limits p = record { first = false; inside = false; records = p.records - 1; pieces = limits.pieces; room = limits.payload }
+behind_record limits p = record {
+  first = false;
+  inside = false;
+  records = p.records - 1;
+  pieces = limits.pieces;
+  room = limits.payload;
+}
 
 -- what is kept behind a piece with so many payload octets, behind which its record goes on
 abbrev pub behind_chunk : Place → ℕ → Place
-behind_chunk p n = record { first = false; inside = true; records = p.records; pieces = p.pieces - 1; room = p.room - n }
+behind_chunk p n = record {
+  first = false;
+  inside = true;
+  records = p.records;
+  pieces = p.pieces - 1;
+  room = p.room - n;
+}
 
 -- what is kept behind a piece with this head
 abbrev pub next : LimitValues → Place → Head → Place
@@ -72,15 +92,18 @@ greatest_of b room = if b.chunked || nat_lt room b.payload.1 then room else b.pa
 
 -- the payload can be completed by the piece of some head that goes on after these octets
 abbrev pub SomeHead : (List ℕ → Type 0) → Spot → List ℕ → Type 0
-SomeHead pass spot xs = (f : HeadFields) × BeginsHead spot xs f × PassesBetween pass f.payload_length (most_left f.chunked spot.room f.payload_length f.payload_length)
+SomeHead pass spot xs = (f : HeadFields) × BeginsHead spot xs f
+    × PassesBetween pass f.payload_length (most_left f.chunked spot.room f.payload_length f.payload_length)
 
 -- the reader stands within a head that can go on
 abbrev pub IsWithinHead : {L : Type 0} → State L → Type 0
-IsWithinHead state = (state.reader.octets ≢ []) × (state.reader.spot.room ≡ state.place.room) × heads.IsViableHead state.reader.spot state.reader.octets
+IsWithinHead state = (state.reader.octets ≢ []) × (state.reader.spot.room ≡ state.place.room)
+    × heads.IsViableHead state.reader.spot state.reader.octets
 
 -- the payload of an open run can be completed by the piece of a head that goes on so
 abbrev pub CanGoOn : {L : Type 0} (language : Ghosts L) → State L → Type 0
-CanGoOn language state = state.place.inside ≡ true → SomeHead (language.future state.payload) state.reader.spot state.reader.octets
+CanGoOn language state = state.place.inside ≡ true
+    → SomeHead (language.future state.payload) state.reader.spot state.reader.octets
 
 -- the language has read the payload of the record so far
 pub record Speaks {L : Type 0} (language : Ghosts L) (limits : LimitValues) (payload : L) (m : Item) : Type 0 where
@@ -95,19 +118,26 @@ SpeaksIf language limits payload (Some m) = Speaks language limits payload m
 -- the reader of a type's name has read these octets
 pub record Reads (reader : KindReader) (f : HeadFields) (kind : List ℕ) (left : ℕ) : Type 0 where
   pub missing : missing_of reader ≡ left
-  pub kinds : (more : List ℕ) → kind_after reader more ≡ (if length more == left then kind_of (tnf_of f.tnf) (kind ++ more) else Other)
+  pub kinds : (more : List ℕ) → kind_after reader more ≡
+      (if length more == left then kind_of (tnf_of f.tnf) (kind ++ more) else Other)
 
 module _ {L : Type 0} (language : Ghosts L) (limits : LimitValues) (state : State L) where
   -- the fields of the state tell the point
   abbrev pub Matches : Point → Type 0
   Matches (InHead c xs) =
-      (state.place ≡ numbers c) × (state.phase ≡ phases.Head) × (state.reader ≡ record { spot = spot limits.profile c; octets = xs; answer = steps.More }) × SpeaksIf language limits state.payload c.begun
+      (state.place ≡ numbers c) × (state.phase ≡ phases.Head)
+      × (state.reader ≡ record { spot = spot limits.profile c; octets = xs; answer = steps.More })
+      × SpeaksIf language limits state.payload c.begun
   Matches (InType c f kind) =
-      (state.place ≡ numbers c) × (c.begun ≡ None) × (r : KindReader) × (state.phase ≡ phases.Type (head f) (f.kind_length - length kind) r) × Reads r f kind (f.kind_length - length kind)
+      (state.place ≡ numbers c) × (c.begun ≡ None) × (r : KindReader)
+      × (state.phase ≡ phases.Type (head f) (f.kind_length - length kind) r)
+      × Reads r f kind (f.kind_length - length kind)
   Matches (InId c f kind id) =
-      (state.place ≡ numbers c) × (state.phase ≡ phases.Id (head f) (unwrap_or f.id_length 0 - length id)) × Speaks language limits state.payload (record_so_far c.begun f kind id [])
+      (state.place ≡ numbers c) × (state.phase ≡ phases.Id (head f) (unwrap_or f.id_length 0 - length id))
+      × Speaks language limits state.payload (record_so_far c.begun f kind id [])
   Matches (InPayload c f kind id payload) =
-      (state.place ≡ numbers c) × (state.phase ≡ phases.Payload (head f) (f.payload_length - length payload)) × Speaks language limits state.payload (record_so_far c.begun f kind id payload)
+      (state.place ≡ numbers c) × (state.phase ≡ phases.Payload (head f) (f.payload_length - length payload))
+      × Speaks language limits state.payload (record_so_far c.begun f kind id payload)
   Matches (AtEnd c) = (state.place ≡ numbers c) × (state.phase ≡ phases.Done)
 
   -- these bytes led here, and none was refused
@@ -130,22 +160,26 @@ module _ {L : Type 0} (language : Ghosts L) (limits : LimitValues) (state : Stat
     pub counted : state.place.records + length given ≡ limits.records
     pub reason : IsReasonAt language.holds limits point byte refusal.reason
 
-  -- these bytes led here: they end these records, and this is the point before the next byte, or before the one that was refused
+  -- these bytes led here: they end these records, and this is the point before the next byte, or before the one that
+  -- was refused
   abbrev pub Reached : List ℕ → List Item → Point → Type 0
   Reached bytes given point = Stands bytes given point ⊎ Stopped bytes given point
 
   -- these bytes led behind these parts of a piece
   abbrev pub StandsBehind : List ℕ → List Item → Before → HeadFields → (kind id payload : List ℕ) → Type 0
-  StandsBehind bytes given c f kind id payload = Stands bytes (given_next limits given c f kind id payload) (point_next limits c f kind id payload)
+  StandsBehind bytes given c f kind id payload =
+      Stands bytes (given_next limits given c f kind id payload) (point_next limits c f kind id payload)
 
   -- after octets of the field behind these bytes: all of them lead on, or the last of them was refused
   abbrev pub Onward : List ℕ → List Item → Point → List ℕ → Type 0
   Onward bytes given point t =
-      ((given' : List Item) × (point' : Point) × Moves limits given point t given' point' × Stands (bytes ++ t) given' point')
+      ((given' : List Item) × (point' : Point) × Moves limits given point t given' point'
+      × Stands (bytes ++ t) given' point')
       ⊎ ((s : List ℕ) × (b : ℕ) × (t ≡ s ++ b ∷ []) × Stopped (bytes ++ t) given (point_with point s))
 
   -- where so much is left of the id and the payload of a piece with this head
-  pub record InBody (h : Head) (id_left left : ℕ) (bytes : List ℕ) (given : List Item) (c : Before) (f : HeadFields) (kind id payload : List ℕ) : Type 0 where
+  pub record InBody (h : Head) (id_left left : ℕ) (bytes : List ℕ) (given : List Item) (c : Before) (f : HeadFields)
+      (kind id payload : List ℕ) : Type 0 where
     pub pieces : List Piece
     pub done : List ℕ
     pub walked : Walked limits (start limits) pieces given c
@@ -194,16 +228,59 @@ module _ {L : Type 0} (language : Ghosts L) (limits : LimitValues) (state : Stat
     pub fields : HeadFields
     pub whole : WholeHead h bytes given before fields
 
--- an octet came after these bytes, and this is its reason if it is refused
-pub record Came {L : Type 0} (language : Ghosts L) (limits : LimitValues) (at : ℕ) (reason : Reason) (bytes : List ℕ) (given : List Item) (point : Point) (b : ℕ) : Type 0 where
+-- an octet came after these bytes, and if it is refused, so
+pub record Came {L : Type 0} (language : Ghosts L) (limits : LimitValues) (refusal : Refusal) (bytes : List ℕ)
+    (given : List Item) (point : Point) (b : ℕ) : Type 0 where
   pub at_is : IsAtPoint limits bytes given point
   pub viable : IsViable language.set limits bytes
-  pub place_is : at ≡ length bytes
-  pub reason_is : IsReasonAt language.holds limits point b reason
+  pub place_is : refusal.at ≡ length bytes
+  pub reason_is : IsReasonAt language.holds limits point b refusal.reason
+
+-- an octet there doesn't fit
+abbrev pub unfit_at : ℕ → Refusal
+unfit_at at = record { at = at; reason = DoesNotFit }
+
+-- what is said of bytes that end these records and lead behind parts of a piece, or behind a whole head, by what is
+-- known before the piece
+abbrev pub Bodies : Type 1
+Bodies = List ℕ → List Item → Before → HeadFields → (kind id payload : List ℕ) → Type 0
+
+abbrev pub WholeHeads : Type 1
+WholeHeads = List ℕ → List Item → Before → HeadFields → Type 0
+
+module _ {L : Type 0} (language : Ghosts L) (limits : LimitValues) (new : State L) where
+  -- it stands behind such parts of a piece, where the bytes can be completed
+  abbrev pub SettlesBehind : Bodies → Type 0
+  SettlesBehind body = (bytes : List ℕ) (given : List Item) (c : Before) (f : HeadFields) (kind id payload : List ℕ)
+      → body bytes given c f kind id payload → IsViable language.set limits bytes
+      → StandsBehind language limits new bytes given c f kind id payload
+
+  -- it stands behind them, or has refused the last octet of them
+  abbrev pub EntersBehind : (at : ℕ) → Bodies → Type 0
+  EntersBehind at body = (bytes : List ℕ) (given : List Item) (point : Point) (b : ℕ) (c : Before) (f : HeadFields)
+      (kind id payload : List ℕ) → Came language limits (unfit_at at) bytes given point b
+      → body (bytes ++ b ∷ []) given c f kind id payload
+      → StandsBehind language limits new (bytes ++ b ∷ []) given c f kind id payload
+      ⊎ Stopped language limits new (bytes ++ b ∷ []) given point
+
+  -- it stands behind such a whole head, where the records have payloads of their kinds
+  abbrev pub BeginsBehind : WholeHeads → Type 0
+  BeginsBehind head = (bytes : List ℕ) (given : List Item) (c : Before) (f : HeadFields) → head bytes given c f
+      → AllByRecursion (IsMember language.set limits) given
+      → StandsBehind language limits new bytes given c f [] [] []
+
+  -- it stands behind such a whole head, or has refused the last octet of it
+  abbrev pub GoesBehind : (at : ℕ) → WholeHeads → Type 0
+  GoesBehind at head = (bytes : List ℕ) (given : List Item) (point : Point) (b : ℕ) (c : Before) (f : HeadFields)
+      → Came language limits (unfit_at at) bytes given point b → head (bytes ++ b ∷ []) given c f
+      → StandsBehind language limits new (bytes ++ b ∷ []) given c f [] [] []
+      ⊎ Stopped language limits new (bytes ++ b ∷ []) given point
 
 -- these bytes, so many, led there
-abbrev pub Knows : {L : Type 0} (language : Ghosts L) → LimitValues → State L → (taken : ℕ) → List ℕ → List Item → Point → Type 0
-Knows language limits state taken bytes given point = (taken ≡ length bytes) × Reached language limits state bytes given point
+abbrev pub Knows : {L : Type 0} (language : Ghosts L) → LimitValues → State L → (taken : ℕ) → List ℕ → List Item → Point
+    → Type 0
+Knows language limits state taken bytes given point = (taken ≡ length bytes)
+    × Reached language limits state bytes given point
 
 -- the answer that a phase gives before it sees another byte
 abbrev pub answer_of : Phase → ℕ → Option Fed

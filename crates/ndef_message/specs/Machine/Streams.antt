@@ -12,27 +12,34 @@ abbrev pub bytes_in : List ℕ → Window → List ℕ
 bytes_in copy window = slice_range copy window.start window.end
 
 -- the bytes that are shown
-abbrev pub bytes_shown : {R : Type 0} {buffered : BufferedOf R} {reading : ReadingOf R} → StdSource R buffered reading → List ℕ
+abbrev pub bytes_shown : {R : Type 0} {buffered : BufferedOf R} {reading : ReadingOf R} → StdSource R buffered reading
+    → List ℕ
 bytes_shown s = bytes_in s.copy s.window
 
 -- the bytes to come of a source
-abbrev pub reader_coming : {R : Type 0} {buffered : BufferedOf R} {reading : ReadingOf R} → StdSource R buffered reading → Option (List ℕ)
-reader_coming {buffered = buffered} {reading} s = left_of (reading.remaining s.reader) (buffered.consumable_len s.reader) s.fresh (bytes_shown s) s.pending
+abbrev pub reader_coming : {R : Type 0} {buffered : BufferedOf R} {reading : ReadingOf R} → StdSource R buffered reading
+    → Option (List ℕ)
+reader_coming {buffered = buffered} {reading} s =
+    left_of (reading.remaining s.reader) (buffered.consumable_len s.reader) s.fresh (bytes_shown s) s.pending
 
 -- how many bytes were taken of it
-abbrev pub reader_taken : {R : Type 0} {buffered : BufferedOf R} {reading : ReadingOf R} → StdSource R buffered reading → ℕ
+abbrev pub reader_taken : {R : Type 0} {buffered : BufferedOf R} {reading : ReadingOf R} → StdSource R buffered reading
+    → ℕ
 reader_taken s = s.count
 
 -- how many it shows that are not taken yet
-abbrev pub reader_shown : {R : Type 0} {buffered : BufferedOf R} {reading : ReadingOf R} → StdSource R buffered reading → ℕ
+abbrev pub reader_shown : {R : Type 0} {buffered : BufferedOf R} {reading : ReadingOf R} → StdSource R buffered reading
+    → ℕ
 reader_shown s = s.window.end - s.window.start
 
 -- it has failed
-abbrev pub reader_failed : {R : Type 0} {buffered : BufferedOf R} {reading : ReadingOf R} → StdSource R buffered reading → Bool
+abbrev pub reader_failed : {R : Type 0} {buffered : BufferedOf R} {reading : ReadingOf R} → StdSource R buffered reading
+    → Bool
 reader_failed s = s.has_failed
 
 -- what its reader has left
-abbrev pub reader_left : {R : Type 0} {buffered : BufferedOf R} {reading : ReadingOf R} → StdSource R buffered reading → Option (List ℕ)
+abbrev pub reader_left : {R : Type 0} {buffered : BufferedOf R} {reading : ReadingOf R} → StdSource R buffered reading
+    → Option (List ℕ)
 reader_left {reading = reading} s = reading.remaining s.reader
 
 -- how many bytes were taken of it that its reader has left still
@@ -40,7 +47,8 @@ abbrev pub waiting : {R : Type 0} {buffered : BufferedOf R} {reading : ReadingOf
 waiting s = s.pending
 
 -- its reader showed its bytes, and none was taken since
-abbrev pub is_fresh : {R : Type 0} {buffered : BufferedOf R} {reading : ReadingOf R} → StdSource R buffered reading → Bool
+abbrev pub is_fresh : {R : Type 0} {buffered : BufferedOf R} {reading : ReadingOf R} → StdSource R buffered reading
+    → Bool
 is_fresh s = s.fresh
 
 -- the writer of a sink

@@ -1,51 +1,60 @@
 -- What is read and checked of a source, turn by turn.
-use Rattle.std.specs.Prelude.{◌≡◌, ◌<◌, ◌≤◌, ◌-◌, ℕ, Bool, true, false, List, [], ◌++◌, length, take, IfSome}
-use Rattle.ndef_format.specs.Messages.{Item}
+use Rattle.std.specs.Prelude.{◌≡◌, ◌<◌, ◌≤◌, ◌-◌, ℕ, true, false, List, [], ◌++◌, length, take, IfSome}
 use Rattle.ndef_format.specs.Limits.{LimitValues}
-use Rattle.ndef_format.specs.Payloads.{Sets}
-use Rattle.ndef_format.specs.Reasons.{Conditions}
-use Rattle.ndef_message.specs.Decoding.{Decodes}
 use Rattle.ndef_format.specs.Accepted.{IsAccepted, IsViable}
-use Rattle.ndef_message.specs.Feed.{Fronts, Leads}
-use Rattle.ndef_message.specs.Machine.Points.{Point}
 use Rattle.ndef_format.specs.Refusals.{Refuses}
-use Rattle.ndef_message.specs.Sources.{Gave, Supply, supply}
+use Rattle.ndef_lang.specs.declared.language.Language.{Ghosts}
+use Rattle.ndef_message.specs.Decoding.{SoFar, onward}
+use Rattle.ndef_message.specs.Machine.Checkers.{CheckerReached, checker_limits}
+use Rattle.ndef_message.specs.Machine.Fronts.{Leads, WhateverLed}
+use Rattle.ndef_message.specs.Sources.{Gave, SourceState}
+use Rattle.ndef_message.specs.declared.checker.Checker.{Checker}
+use Rattle.ndef_message.specs.declared.event.Event.{Event}
 use Rattle.ndef_message.specs.declared.message_checking.Look.{Look}
 use Rattle.ndef_message.specs.declared.message_checking.Look.TheVariants as looks
 use Rattle.ndef_message.specs.declared.message_reading.Turn.{Turn}
 use Rattle.ndef_message.specs.declared.message_reading.Turn.TheVariants as turns
-use Rattle.ndef_message.specs.declared.source.Source.{Ghosts as SourceOf}
-
--- what is known of a source
-abbrev pub supply_of : {S : Type 0} (source : SourceOf S) → S → Supply
-supply_of source s = supply (source.coming s) (source.taken s)
 
 -- the source showed these bytes, and this many of them were taken
-pub record Shown (before after : Supply) (bytes : List ℕ) (count : ℕ) : Type 0 where
+pub record Shown (before after : SourceState) (bytes : List ℕ) (count : ℕ) : Type 0 where
   pub some : 0 < length bytes
   pub within : count ≤ length bytes
   pub begins : IfSome before.coming (λ input. (rest : List ℕ) × (input ≡ bytes ++ rest))
   pub taken : Gave before after (take count bytes)
 
--- what a turn did after a front: the source failed, or has ended, or the bytes that it showed were decoded
-abbrev pub Turned : Sets → Conditions → LimitValues → (new : Fronts Point) → (no_memory : Bool) → (before after : Supply) → (failed : Bool) → (front : List ℕ) → (given : List Item) → Point → Turn → Type 0
-Turned set holds limits new no_memory before after failed front given point turns.Fault = (failed ≡ true) × (after.taken ≡ before.taken)
-Turned set holds limits new no_memory before after failed front given point turns.End =
-    (failed ≡ false) × Gave before after [] × IfSome before.coming (λ input. input ≡ []) × new front given point
-Turned set holds limits new no_memory before after failed front given point (turns.Fed event) =
-    (failed ≡ false) × (bytes : List ℕ) × (count : ℕ) × Shown before after bytes count × Decodes set holds limits new no_memory front given point bytes count event
+-- What a turn did that began with what was read so far: the source failed, or has ended, or some of the bytes that it
+-- showed were taken, and this was answered to them.
+abbrev pub Turned : (new : SoFar → Type 0) → (brings : List ℕ → ℕ → Event → Type 0) → SoFar
+    → (before after : SourceState) → Turn → Type 0
+Turned new brings s before after turns.Fault = (after.failed ≡ true) × (after.taken ≡ before.taken)
+Turned new brings s before after turns.End =
+    (after.failed ≡ false) × Gave before after [] × IfSome before.coming (λ input. input ≡ []) × new s
+Turned new brings s before after (turns.Fed event) =
+    (after.failed ≡ false) × (bytes : List ℕ) × (count : ℕ) × Shown before after bytes count
+    × brings bytes count event × new (onward s bytes count event)
 
--- what a turn did after a front: the source failed, or has ended, or the bytes that it showed go on, or some of them end the
--- message, or one of them is refused
-abbrev pub Looked : Sets → Conditions → LimitValues → (new : Fronts Point) → (before after : Supply) → (failed : Bool) → (front : List ℕ) → (given : List Item) → Point → Look → Type 0
-Looked set holds limits new before after failed front given point looks.Fault = (failed ≡ true) × (after.taken ≡ before.taken)
-Looked set holds limits new before after failed front given point looks.End =
-    (failed ≡ false) × Gave before after [] × IfSome before.coming (λ input. input ≡ []) × new front given point
-Looked set holds limits new before after failed front given point looks.More =
-    (failed ≡ false) × (bytes : List ℕ) × (0 < length bytes) × Gave before after bytes
-    × IsViable set limits (front ++ bytes) × (¬ IsAccepted set limits (front ++ bytes)) × Leads new (front ++ bytes)
-Looked set holds limits new before after failed front given point looks.Done =
-    (failed ≡ false) × (bytes : List ℕ) × Gave before after bytes × IsAccepted set limits (front ++ bytes) × Leads new (front ++ bytes)
-Looked set holds limits new before after failed front given point (looks.Refused refusal) =
-    (failed ≡ false) × (bytes : List ℕ) × Shown before after bytes (refusal.at - length front)
-    × (refusal.at < length (front ++ bytes)) × Refuses set holds limits (front ++ bytes) refusal
+-- What a turn did behind a front: the source failed, or has ended, or the bytes that it showed go on, or some of them
+-- end the message, or one of them is refused.
+abbrev pub Looked : {L : Type 0} → Ghosts L → LimitValues → (new : List ℕ → Type 0) → (front : List ℕ)
+    → (before after : SourceState) → Look → Type 0
+Looked language limits new front before after looks.Fault = (after.failed ≡ true) × (after.taken ≡ before.taken)
+Looked language limits new front before after looks.End =
+    (after.failed ≡ false) × Gave before after [] × IfSome before.coming (λ input. input ≡ []) × new front
+Looked language limits new front before after looks.More =
+    (after.failed ≡ false) × (bytes : List ℕ) × (0 < length bytes) × Gave before after bytes
+    × IsViable language.set limits (front ++ bytes) × (¬ IsAccepted language.set limits (front ++ bytes))
+    × new (front ++ bytes)
+Looked language limits new front before after looks.Done =
+    (after.failed ≡ false) × (bytes : List ℕ) × Gave before after bytes
+    × IsAccepted language.set limits (front ++ bytes) × new (front ++ bytes)
+Looked language limits new front before after (looks.Refused refusal) =
+    (after.failed ≡ false) × (bytes : List ℕ) × Shown before after bytes (refusal.at - length front)
+    × (refusal.at < length (front ++ bytes))
+    × Refuses language.set language.holds limits (front ++ bytes) refusal
+
+-- what a turn of a checker did, behind any front that can be completed
+abbrev pub LooksOn : {L : Type 0} {language : Ghosts L} (old new : Checker L language) → (before after : SourceState)
+    → Look → Type 0
+LooksOn {language = language} old new before after look = WhateverLed (CheckerReached old) (λ front given point.
+    IsViable language.set (checker_limits old) front
+    → Looked language (checker_limits old) (Leads (CheckerReached new)) front before after look)

@@ -7,4 +7,5 @@ use Rattle.ndef_message.specs.declared.writing.Standing.{Standing}
 
 -- the first piece of a record that stands there, with this part of its payload
 abbrev pub standing_piece : Standing → Item → List ℕ → Piece
-standing_piece standing item part = first_piece standing.first (standing.alone && standing.last) (not standing.alone) item part
+standing_piece standing item part = first_piece standing.first (standing.alone && standing.last)
+    (not standing.alone) item part

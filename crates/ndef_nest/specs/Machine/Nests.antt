@@ -61,15 +61,17 @@ IsVersionedSelect n = (n.context.table ≡ Select) × (n.phase ≡ phases.Start)
 
 -- ---- laws
 
--- The lengths of what completes a payload are those from a least to a greatest, or none. The only exceptions are a select
--- before its version octet, of 1 octet or 4 and more, and behind it, of 0 or 3 and more.
+-- The lengths of what completes a payload are those from a least to a greatest, or none. The only exceptions are a
+-- select before its version octet, of 1 octet or 4 and more, and behind it, of 0 or 3 and more.
 abbrev pub LengthsHaveRanges : Type 0
 LengthsHaveRanges = (n : Nest)
-    → ((span : ℕ × ℕ) × IsSpan (future n) span) ⊎ (IsUnreadSelect n × IsGap (future n) 1 4) ⊎ (IsVersionedSelect n × IsGap (future n) 0 3)
+    → ((span : ℕ × ℕ) × IsSpan (future n) span) ⊎ (IsUnreadSelect n × IsGap (future n) 1 4)
+    ⊎ (IsVersionedSelect n × IsGap (future n) 0 3)
 
 -- No octet has led to a select before its version octet, and one to a select behind it.
 abbrev pub SelectsAreTold : Type 0
-SelectsAreTold = (n : Nest) (kind : Kind) (records : ℕ) (profile : Profile) (s : List ℕ) → reached n kind records profile s
+SelectsAreTold = (n : Nest) (kind : Kind) (records : ℕ) (profile : Profile) (s : List ℕ)
+    → reached n kind records profile s
     → (IsUnreadSelect n → s ≡ []) × (IsVersionedSelect n → (version : ℕ) × (s ≡ version ∷ []))
 
 -- What completes a payload is octets.

@@ -6,10 +6,17 @@ use Rattle.ndef_piece.specs.declared.head_reader.HeadReader.TheInside.{Inside}
 use Rattle.ndef_piece.specs.Machine.Inside.{reading, padded, inside_fields, IsConsistent}
 
 -- so many of seven octets are as many
-pub octets_counted : (octets : List ℕ) (count : ℕ) → count ≤ 7 → octets ≡ padded (take count octets) → length (take count octets) ≡ count
+pub octets_counted : (octets : List ℕ) (count : ℕ) → count ≤ 7 → octets ≡ padded (take count octets)
+    → length (take count octets) ≡ count
 octets_counted octets count few zeros =
     let t = take count octets in
-    omega (arith, length-take count octets, ap length zeros, length-append t (replicate (7 - length t) 0), length-replicate {A = ℕ} (7 - length t) 0)
+    omega (
+      arith,
+      length-take count octets,
+      ap length zeros,
+      length-append t (replicate (7 - length t) 0),
+      length-replicate {A = ℕ} (7 - length t) 0,
+    )
 
 -- fields are told by their parts
 same_fields : (r : Inside) (octets : List ℕ) (count : ℕ) → octets ≡ r.octets → count ≡ r.count
@@ -18,4 +25,5 @@ same_fields r octets count e f = rw (e, f) refl
 
 -- they are those that it has
 pub fields_are_told : (r : Inside) → IsConsistent r → inside_fields (reading r) ≡ r
-fields_are_told r c = same_fields r (padded (take r.count r.octets)) (length (take r.count r.octets)) (sym c.zeros) (octets_counted r.octets r.count c.few c.zeros)
+fields_are_told r c = same_fields r (padded (take r.count r.octets)) (length (take r.count r.octets)) (sym c.zeros)
+    (octets_counted r.octets r.count c.few c.zeros)

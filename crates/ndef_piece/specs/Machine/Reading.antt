@@ -45,4 +45,5 @@ OneAnswer = (spot : Spot) (xs : List ℕ) (b : ℕ) (s t : Step) → IsAnswer sp
 
 -- Where a head is open, no condition holds of an octet exactly where some head goes on with it.
 abbrev pub ConditionsAreExact : Type 0
-ConditionsAreExact = (spot : Spot) (xs : List ℕ) (b : ℕ) → b < 256 → IsOpen spot xs → (reason_for spot xs b ≡ None) ↔ IsViableHead spot (xs ++ b ∷ [])
+ConditionsAreExact = (spot : Spot) (xs : List ℕ) (b : ℕ) → b < 256 → IsOpen spot xs → (reason_for spot xs b ≡ None)
+    ↔ IsViableHead spot (xs ++ b ∷ [])

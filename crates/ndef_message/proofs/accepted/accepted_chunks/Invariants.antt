@@ -10,7 +10,7 @@ invariant-loop-piece l = record {
   shorter : length l.rest ≤ length l.bytes;
   going_on : l.found.inside ≡ true;
   later : length l.rest < length l.bytes → l.found.first ≡ false;
-  goes_on : (records pieces room : ℕ) (m : Item) → l.fn.place ≡ numbers (inside records pieces room m) → RunGoesOn l.limits records pieces room m l.found l.bytes l.rest;
+  goes_on : (records pieces room : ℕ) (m : Item) → l.fn.place ≡ numbers (inside records pieces room m) → RunGoesOn l.limits (inside records pieces room m) m l.found l.bytes l.rest;
 }
 
 abbrev pub decreases-loop-piece : goal.decreases-loop-piece

@@ -9,5 +9,5 @@ abbrev pub invariant-loop : goal.invariant-loop
 invariant-loop l = record {
   shorter : length l.rest ≤ length l.bytes;
   going_on : l.at.inside ≡ true;
-  goes_on : (records pieces room : ℕ) (m : Item) → l.fn.place ≡ numbers (inside records pieces room m) → RunGoesOn l.limits records pieces room m l.at l.bytes l.rest;
+  goes_on : (records pieces room : ℕ) (m : Item) → l.fn.place ≡ numbers (inside records pieces room m) → RunGoesOn l.limits (inside records pieces room m) m l.at l.bytes l.rest;
 }

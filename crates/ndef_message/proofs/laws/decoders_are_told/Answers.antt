@@ -1,5 +1,13 @@
+use Rattle.std.proofs.Math.Logic.{∥∥₁_map}
+use Rattle.ndef_message.specs.Opened.{HasLed}
+use Rattle.ndef_message.proofs.Decoded.{some_read, told_of}
 use Rattle.ndef_message.proofs.Led.{decoder_led}
 use Rattle.ndef_message.proofs.laws.decoders_are_told.Goals as goal
 
 pub returns : goal.returns
-returns g c = decoder_led c.messages_are_walks.ensures.counted c.args.decoder.now
+returns g c =
+    let s = c.args.decoder.now in
+    record {
+      some = ∥∥₁_map s.led (some_read s);
+      records = told_of s (λ limits front given. HasLed g.L.Language.set limits front given) (decoder_led c.messages_are_walks.ensures.counted s);
+    }

@@ -1,5 +1,9 @@
+use Rattle.ndef_message.proofs.AllFed.{one_count}
 use Rattle.ndef_message.proofs.Fronts.{one_led, one_held}
 use Rattle.ndef_message.proofs.laws.fronts_are_told.Goals as goal
 
 pub returns : goal.returns
-returns g c = record { led = one_led c.fields_are_told.ensures.one g.L.Language.set; held = one_held c.fields_are_told.ensures.one g.L.Language.set }
+returns g c =
+    let one = c.fields_are_told.ensures.one in
+    let set = g.L.Language.set in
+    record { counted = one_count one set; led = one_led one set; held = one_held one set }

@@ -1,6 +1,6 @@
 use Rattle.std.specs.Prelude.{◌≡◌, false, None}
 use Rattle.ndef_message.specs.Machine.Faults.{shown_next}
-use Rattle.ndef_message.specs.Sources.{Filled, supply}
+use Rattle.ndef_message.specs.Sources.{Filled, state_of}
 use Rattle.ndef_message.specs.contracts.endless_source.EndlessSource.{the_row}
 use Rattle.ndef_message.specs.contracts.endless_source.EndlessSourceSource.fill as fill
 use Rattle.ndef_message.proofs.Lent.{rests_less, less, turns}
@@ -22,5 +22,5 @@ fill-meets = λ g c.
     (sep g.world.𝓤 (fill.ensures-next 𝓛 (c.lifetimes.0, (g.lifetime.n1, tt)) memory returns s (record { entry = s; exit = e.0 }) r)
     (fill.ensures-some 𝓛 (c.lifetimes.0, (g.lifetime.n1, tt)) memory returns s (record { entry = s; exit = e.0 }) r)) _
     (rests_less 𝓛 (the_row x) s.ghost_name
-    (λ new. Filled (supply None s.now.taken) (supply None new.taken) false false new.shown r × (new.rest ≡ shown_next s.now) × (new.pattern ≡ s.now.pattern))
-    (λ new. Filled (supply None s.now.taken) (supply None new.taken) false false new.shown r) (λ n p. p.0)))
+    (λ new. Filled (state_of None s.now.taken false) (state_of None new.taken false) new.shown r × (new.rest ≡ shown_next s.now) × (new.pattern ≡ s.now.pattern))
+    (λ new. Filled (state_of None s.now.taken false) (state_of None new.taken false) new.shown r) (λ n p. p.0)))

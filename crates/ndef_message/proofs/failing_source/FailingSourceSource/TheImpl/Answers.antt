@@ -1,4 +1,4 @@
-use Rattle.ndef_message.specs.Machine.Slices.{ShowsAlone, slice_supply}
+use Rattle.ndef_message.specs.Machine.Slices.{ShowsAlone, slice_state}
 use Rattle.ndef_message.specs.Sources.{Filled}
 use Rattle.ndef_message.specs.contracts.failing_source.FailingSource.{the_row}
 use Rattle.ndef_message.specs.contracts.failing_source.FailingSourceSource.fill as fill
@@ -21,5 +21,5 @@ fill-meets = λ g c.
     (sep g.world.𝓤 (fill.ensures-cut 𝓛 (c.lifetimes.0, (g.lifetime.n1, tt)) memory returns s (record { entry = s; exit = e.0 }) r)
     (fill.ensures-fails 𝓛 (c.lifetimes.0, (g.lifetime.n1, tt)) memory returns s (record { entry = s; exit = e.0 }) r)) _
     (rests_less 𝓛 (the_row x) s.ghost_name
-    (λ new. Filled (slice_supply s.now.slice) (slice_supply new.slice) s.now.failed new.failed new.slice.shown r × ShowsAlone s.now.slice new.slice)
-    (λ new. Filled (slice_supply s.now.slice) (slice_supply new.slice) s.now.failed new.failed new.slice.shown r) (λ n p. p.0)))
+    (λ new. Filled (slice_state s.now.slice s.now.failed) (slice_state new.slice new.failed) new.slice.shown r × ShowsAlone s.now.slice new.slice)
+    (λ new. Filled (slice_state s.now.slice s.now.failed) (slice_state new.slice new.failed) new.slice.shown r) (λ n p. p.0)))

@@ -1,5 +1,5 @@
 use Rattle.std.specs.Prelude.{false}
-use Rattle.ndef_message.specs.Machine.Slices.{ShowsAlone, slice_supply}
+use Rattle.ndef_message.specs.Machine.Slices.{ShowsAlone, slice_state}
 use Rattle.ndef_message.specs.Sources.{Filled}
 use Rattle.ndef_message.specs.contracts.slice_source.SliceSource.{the_row}
 use Rattle.ndef_message.specs.contracts.slice_source.SliceSourceSource.fill as fill
@@ -19,5 +19,5 @@ fill-meets = λ g c.
     turns g.world.𝓤 _ _ _ _ (λ r e.
     less g.world.𝓤 (fill.ensures-shows 𝓛 (c.lifetimes.0, (g.lifetime.n1, tt)) memory returns s (record { entry = s; exit = e.0 }) r) _ (fill.ensures-cut 𝓛 (c.lifetimes.0, (g.lifetime.n1, tt)) memory returns s (record { entry = s; exit = e.0 }) r) _
     (rests_less 𝓛 (the_row x) s.ghost_name
-    (λ new. Filled (slice_supply s.now) (slice_supply new) false false new.shown r × ShowsAlone s.now new)
-    (λ new. Filled (slice_supply s.now) (slice_supply new) false false new.shown r) (λ n p. p.0)))
+    (λ new. Filled (slice_state s.now false) (slice_state new false) new.shown r × ShowsAlone s.now new)
+    (λ new. Filled (slice_state s.now false) (slice_state new false) new.shown r) (λ n p. p.0)))

@@ -1,6 +1,6 @@
 use Rattle.std.proofs.Common.{◌≡◌, ◌≤◌, ◌∙◌, ap, subst, sym, arith, take, length-take}
 use Rattle.std.proofs.lemmas.List.{take-take, length-take-le}
-use Rattle.ndef_message.specs.Feed.{SomeLed}
+use Rattle.ndef_message.specs.Machine.Fronts.{SomeLed}
 use Rattle.ndef_message.specs.Machine.State.{Onward, Stands}
 use Rattle.ndef_message.proofs.Feeding.{take_one}
 use Rattle.ndef_message.proofs.Octets as octets

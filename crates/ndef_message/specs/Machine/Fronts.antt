@@ -1,0 +1,40 @@
+-- What is said of the bytes that led to a machine.
+use Rattle.std.specs.Prelude.{◌<◌, ◌≤◌, ◌+◌, ℕ, List, ◌++◌, length, take}
+use Rattle.ndef_format.specs.Messages.{Item}
+use Rattle.ndef_format.specs.Limits.{LimitValues}
+use Rattle.ndef_format.specs.Payloads.{Sets}
+use Rattle.ndef_format.specs.Reasons.{Conditions}
+use Rattle.ndef_format.specs.Accepted.{IsAccepted, IsViable}
+use Rattle.ndef_format.specs.Refusals.{Refuses}
+use Rattle.ndef_message.specs.declared.fed.Fed.{Fed}
+use Rattle.ndef_message.specs.declared.fed.Fed.TheVariants as fed
+
+-- what is reached by bytes, with the records that they end and the point of a machine
+abbrev pub Fronts : Type 0 → Type 1
+Fronts Point = List ℕ → List Item → Point → Type 0
+
+-- whatever bytes led there, the records that they end and the point: this holds of them
+abbrev pub WhateverLed : {Point : Type 0} → Fronts Point → Fronts Point → Type 0
+WhateverLed {Point} reached claim = (front : List ℕ) (given : List Item) (point : Point) → reached front given point
+    → claim front given point
+
+-- some bytes led there
+abbrev pub SomeLed : {Point : Type 0} → Fronts Point → Type 0
+SomeLed {Point} reached = (front : List ℕ) × (given : List Item) × (point : Point) × reached front given point
+
+-- the bytes led there
+abbrev pub Leads : {Point : Type 0} → Fronts Point → List ℕ → Type 0
+Leads {Point} reached bytes = (given : List Item) × (point : Point) × reached bytes given point
+
+-- What is answered to these bytes after that front: the first of them complete a message, so many; or more bytes can
+-- still complete one, and these don't; or front and bytes are refused. The new front has the bytes that were taken, a
+-- refused one too.
+abbrev pub Feeds : {Point : Type 0} → Sets → Conditions → LimitValues → Fronts Point → (front bytes : List ℕ) → Fed
+    → Type 0
+Feeds set holds limits new front bytes fed.More =
+    IsViable set limits (front ++ bytes) × (¬ IsAccepted set limits (front ++ bytes)) × Leads new (front ++ bytes)
+Feeds set holds limits new front bytes (fed.Done taken) =
+    (taken ≤ length bytes) × IsAccepted set limits (front ++ take taken bytes) × Leads new (front ++ take taken bytes)
+Feeds set holds limits new front bytes (fed.Refused refusal) =
+    (refusal.at < length (front ++ bytes)) × Refuses set holds limits (front ++ bytes) refusal
+    × Leads new (take (refusal.at + 1) (front ++ bytes))
