@@ -1,6 +1,6 @@
 -- The payloads of handovers, and the messages for which they stand.
-use Rattle.std.proofs.Common.{◌≡◌, ◌≢◌, ℕ, ◌^◌, ◌<◌, ◌≤◌, ◌⊎◌, List, [], ◌∷◌, length, drop, get_or, sym, subst, inr, Result, Ok, Err, arith, refl, Option, Some, None}
-use Rattle.std.specs.Prelude.{IfSome, IsErrAnd}
+use Rattle.std.proofs.Common.{◌≡◌, ◌≢◌, ℕ, ◌^◌, ◌<◌, ◌≤◌, ◌⊎◌, List, [], ◌∷◌, length, drop, get_or, sym, ap, ◌∙◌, true, false, subst, inl, inr, Result, Ok, Err, arith, refl, Option, Some, None}
+use Rattle.std.specs.Prelude.{◌==◌, IfSome, IsErrAnd}
 use Rattle.std.specs.List.{AllByRecursion}
 use Rattle.ndef_format.specs.Messages.{Item}
 use Rattle.ndef_format.specs.declared.profile.Profile.{Profile}
@@ -35,6 +35,14 @@ handover_parts SmartPoster profile payload f h = absurd (f refl)
 handover_parts Request profile payload f h = let p = request_parts profile payload h in (p.0, p.1, p.2, inr p.3)
 handover_parts Select profile [] f h = absurd h
 handover_parts Select profile (v ∷ s) f h = (omega arith, h.0.0, h.0.1, h.1)
+
+pub nested_behind : (table : Table) (profile : Profile) (payload bytes : List ℕ) → table ≢ SmartPoster → IsNest table 65535 profile payload → bytes ≡ drop 1 payload → (length bytes == 0) ≡ false
+    → Nested table 65535 profile (drop 1 payload)
+nested_behind table profile payload bytes f h e some =
+    elim (handover_parts table profile payload f h).3 [
+      | inl none ↦ let t : true ≡ false = sym (ap (λ s. length s == 0) (e ∙ none)) ∙ some in absurd (cc)
+      | inr n ↦ n
+    ]
 
 pub selected_strict : HandoversAreStrict → (profile : Profile) (message : Option (List Item)) → IfSome message (HasContents Select profile) → IfSome message (HasContents Select Strict)
 selected_strict strict profile None h = tt

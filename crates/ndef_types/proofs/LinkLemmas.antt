@@ -1,12 +1,15 @@
 -- Links, record by record.
-use Rattle.std.proofs.Common.{◌≡◌, ◌≢◌, ℕ, ◌+◌, false, List, [], ◌∷◌, ◌++◌, take, refl, ◌∙◌, ap, Some, append-nil}
+use Rattle.std.proofs.Common.{◌≡◌, ◌≢◌, ℕ, zero, suc, false, List, [], ◌∷◌, drop, map, refl, sym, ◌∙◌, ap, None, Some, append-nil}
 use Rattle.std.specs.Prelude.{slice_get, if◌then◌else◌}
-use Rattle.ndef_format.specs.Messages.{Item}
+use Rattle.std.specs.List.{AllByRecursion}
+use Rattle.ndef_format.specs.Handovers.{IsAlternative}
+use Rattle.ndef_format.specs.Messages.{Item, payload_of, run_record}
+use Rattle.ndef_format.specs.Records.{Piece, Run, pieces}
 use Rattle.ndef_format.specs.Kinds.{kind_of}
 use Rattle.ndef_format.specs.declared.kind.Kind.{Kind}
 use Rattle.ndef_format.specs.declared.kind.Kind.TheVariants as kinds
-use Rattle.ndef_types.proofs.ContentsLemmas.{filter_grows}
-use Rattle.ndef_types.specs.Links.{IsIndexOf, AreLinks, alternatives, is_alternative}
+use Rattle.ndef_message.specs.Views.{only_payload}
+use Rattle.ndef_types.specs.Links.{AreLinks, HasWholeCarrier, IsIndexOf, alternatives, is_alternative}
 use Rattle.ndef_types.specs.Values.{StandsForAc}
 use Rattle.ndef_types.specs.declared.link.Link.{Link}
 
@@ -14,21 +17,42 @@ not_alternative : (kind : Kind) → kind ≢ kinds.Alternative → is_alternativ
 not_alternative kinds.Alternative h = absurd (h refl)
 not_alternative _ h = refl
 
-links_grow : (outer items : List Item) (links : List Link) (i : Item) (l : Link) → AreLinks outer items links → StandsForAc i.payload l.ac → IsIndexOf outer l.ac.reference l.index → AreLinks outer (items ++ i ∷ []) (links ++ l ∷ [])
-links_grow outer [] [] i l h s x = (s, x, tt)
-links_grow outer [] (m ∷ links) i l h s x = absurd h
-links_grow outer (j ∷ items) [] i l h s x = absurd h
-links_grow outer (j ∷ items) (m ∷ links) i l h s x = (h.0, h.1, links_grow outer items links i l h.2 s x)
+-- one alternative carrier more in front
+pub link_here : (outer items : List Item) (i : Item) (k : Link) (links : List Link) → kind_of i.tnf i.kind ≡ kinds.Alternative → StandsForAc i.payload k.ac → IsIndexOf outer k.ac.reference k.index
+    → AreLinks outer (alternatives items) links → AreLinks outer (alternatives (i ∷ items)) (k ∷ links)
+link_here outer items i k links a s x h =
+    let e : alternatives (i ∷ items) ≡ i ∷ alternatives items = ap (λ kind. if is_alternative kind then i ∷ alternatives items else alternatives items) a in
+    rw e (s, x, h)
 
-pub link_more : (outer items : List Item) (n : ℕ) (i : Item) (links : List Link) (k : Link) → slice_get items n ≡ Some i → kind_of i.tnf i.kind ≡ kinds.Alternative
-    → AreLinks outer (alternatives (take n items)) links → StandsForAc i.payload k.ac → IsIndexOf outer k.ac.reference k.index → AreLinks outer (alternatives (take (n + 1) items)) (links ++ k ∷ [])
-link_more outer items n i links k e a h s x =
-    let g : alternatives (take (n + 1) items) ≡ alternatives (take n items) ++ i ∷ [] = filter_grows (λ j. is_alternative (kind_of j.tnf j.kind)) items n i e ∙ ap (λ kind. alternatives (take n items) ++ (if is_alternative kind then i ∷ [] else [])) a in
-    rw g (links_grow outer (alternatives (take n items)) links i k h s x)
+-- another record in front
+pub link_later : (outer items : List Item) (i : Item) (links : List Link) → kind_of i.tnf i.kind ≢ kinds.Alternative → AreLinks outer (alternatives items) links → AreLinks outer (alternatives (i ∷ items)) links
+link_later outer items i links a h =
+    let e : alternatives (i ∷ items) ≡ alternatives items =
+    ap (λ b. if b then i ∷ alternatives items else alternatives items) (not_alternative (kind_of i.tnf i.kind) a) in
+    rw e h
 
-pub link_same : (outer items : List Item) (n : ℕ) (i : Item) (links : List Link) → slice_get items n ≡ Some i → kind_of i.tnf i.kind ≢ kinds.Alternative
-    → AreLinks outer (alternatives (take n items)) links → AreLinks outer (alternatives (take (n + 1) items)) links
-link_same outer items n i links e a h =
-    let g : alternatives (take (n + 1) items) ≡ alternatives (take n items) =
-    filter_grows (λ j. is_alternative (kind_of j.tnf j.kind)) items n i e ∙ ap (λ b. alternatives (take n items) ++ (if b then i ∷ [] else [])) (not_alternative (kind_of i.tnf i.kind) a) ∙ append-nil (alternatives (take n items)) in
-    rw g h
+-- ---- the index of a record
+
+-- what is in front of the records that are left stands at their place
+pub at_front : (items : List Item) (n : ℕ) (i : Item) (rest : List Item) → drop n items ≡ i ∷ rest → (slice_get items n ≡ Some i) × (drop (suc n) items ≡ rest)
+at_front [] zero i rest e = absurd (cc)
+at_front [] (suc n) i rest e = absurd (cc)
+at_front (j ∷ items) zero i rest e = (cc, cc)
+at_front (j ∷ items) (suc n) i rest e = at_front items n i rest e
+
+-- ---- the payload of a carrier
+
+only_of : (p : Piece) (later : List Piece) (s : List ℕ) → Some s ≡ only_payload (p ∷ later) → s ≡ payload_of (p ∷ later)
+only_of p [] s e = let x : s ≡ p.payload = cc in x ∙ sym (append-nil p.payload)
+only_of p (q ∷ later) s e = absurd (cc)
+
+pub only_is_whole : (r : Run) (s : List ℕ) → Some s ≡ only_payload (pieces r) → s ≡ (run_record r).payload
+only_is_whole r s e = only_of r.initial r.later s e
+
+pub one_is_shown : (r : Run) → r.later ≡ [] → None ≡ only_payload (pieces r) → ⊥
+one_is_shown r l e = let x : None ≡ Some r.initial.payload = e ∙ ap (λ later. only_payload (r.initial ∷ later)) l in cc
+
+pub whole_carriers : (runs : List Run) → AllByRecursion (λ r. r.later ≡ []) runs → AllByRecursion (λ i. kind_of i.tnf i.kind ≡ kinds.Alternative → IsAlternative i.payload) (map run_record runs)
+    → AllByRecursion HasWholeCarrier runs
+whole_carriers [] s h = tt
+whole_carriers (r ∷ runs) s h = (λ e. (s.0, h.0 e), whole_carriers runs s.1 h.1)

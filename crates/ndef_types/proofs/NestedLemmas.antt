@@ -1,7 +1,7 @@
 -- A nested message is a message of one piece a record, whatever its payloads.
 use Rattle.std.proofs.Common.{◌≡◌, ℕ, ◌≤◌, List, [], ◌∷◌, ◌++◌, length, map, refl, sym, subst, ◌<◌, ◌^◌, ◌∙◌, ap, arith, append-nil, suc, take, Ok, Err}
 use Rattle.std.specs.List.{AllByRecursion, flat_map}
-use Rattle.ndef_format.specs.Messages.{Item, IsMessage, IsShaped, SpellsPieces, all_pieces, payload_of, run_record}
+use Rattle.ndef_format.specs.Messages.{Item, IsMessage, IsShaped, SpellsBy, SpellsPieces, all_pieces, payload_of, run_record}
 use Rattle.ndef_format.specs.Records.{Piece, Run, IsPiece, pieces, AreOctets}
 use Rattle.ndef_format.specs.Canonical.{AreItems, IsItem}
 use Rattle.ndef_format.specs.Limits.{LimitValues}
@@ -52,10 +52,11 @@ are_members : (table : Table) (profile : Profile) (items : List Item) → AllByR
 are_members table profile [] h = tt
 are_members table profile (i ∷ items) h = (payload_octets (kind_in table i.tnf i.kind) profile i.payload h.0, are_members table profile items h.1)
 
-pub nested_is_deep : (table : Table) (profile : Profile) (runs : List Run) (items : List Item) (bytes : List ℕ) → IsNestedBy table 65535 profile runs items bytes → Accepted opaque (nested_limits 65535 profile) items bytes
-nested_is_deep table profile runs items bytes h = record {
+-- the bytes, by their name or as all of themselves
+nested_is_deep : (table : Table) (profile : Profile) (runs : List Run) (items : List Item) (bytes whole : List ℕ) → bytes ≡ whole → IsNestedBy table 65535 profile runs items bytes → Accepted opaque (nested_limits 65535 profile) items whole
+nested_is_deep table profile runs items bytes whole e h = record {
   runs = runs;
-  spelling = h.spelling;
+  spelling = subst (SpellsBy profile runs items) e h.spelling;
   within = record {
     few_records = omega (arith, h.few, map_length runs, ap length h.spelling.message.items);
     few_pieces = few runs h.single;
@@ -96,20 +97,16 @@ nested_items table profile runs items bytes h =
 
 -- ---- what is seen
 
-whole_is_deep : (table : Table) (profile : Profile) (runs : List Run) (items : List Item) (bytes : List ℕ) → IsNestedBy table 65535 profile runs items bytes
-    → Accepted opaque (nested_limits 65535 profile) items (take (length bytes) bytes)
-whole_is_deep table profile runs items bytes h = rw take-length (nested_is_deep table profile runs items bytes h)
-
 pub is_seen : (holds : Conditions) (limits : LimitValues) (table : Table) (profile : Profile) (runs : List Run) (items : List Item) (bytes : List ℕ) (v : Viewed)
-    → OneView opaque holds → limits ≡ nested_limits 65535 profile → IsNestedBy table 65535 profile runs items bytes → Views opaque holds limits bytes (Ok v) → map run_record v.runs ≡ items
-is_seen holds limits table profile runs items bytes v one l h r =
-    let whole = whole_is_deep table profile runs items bytes h in
-    let accepted : Accepted opaque limits items (take (length bytes) bytes) = rw l whole in
-    sym (one limits bytes v items (length bytes) r (omega arith) accepted).items_are
+    → OneView opaque holds → limits ≡ nested_limits 65535 profile → Views opaque holds limits bytes (Ok v) → IsNestedBy table 65535 profile runs items bytes → (v.runs ≡ runs) × (map run_record v.runs ≡ items)
+unfolding nested_is_deep
+is_seen holds limits table profile runs items bytes v one l r h =
+    let seen = one (nested_limits 65535 profile) bytes v items (length bytes) (subst (λ x. Views opaque holds x bytes (Ok v)) l r) (omega arith)
+    (nested_is_deep table profile runs items bytes (take (length bytes) bytes) (sym (take-length bytes)) h) in
+    (sym seen.runs_are, sym seen.items_are)
 
 pub is_not_refused : (holds : Conditions) (limits : LimitValues) (table : Table) (profile : Profile) (bytes : List ℕ) (refusal : Refusal)
     → NeverRefusedInView opaque holds → limits ≡ nested_limits 65535 profile → Nested table 65535 profile bytes → Views opaque holds limits bytes (Err refusal) → ⊥
 is_not_refused holds limits table profile bytes refusal never l h r =
-    let whole = whole_is_deep table profile h.0 h.1 bytes h.2 in
-    let accepted : Accepted opaque limits h.1 (take (length bytes) bytes) = rw l whole in
-    never limits bytes refusal (length bytes) r (h.1, accepted)
+    let whole = nested_is_deep table profile h.0 h.1 bytes (take (length bytes) bytes) (sym (take-length bytes)) h.2 in
+    never (nested_limits 65535 profile) bytes refusal (length bytes) (subst (λ x. Views opaque holds x bytes (Err refusal)) l r) (h.1, whole)

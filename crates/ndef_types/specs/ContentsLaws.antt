@@ -11,7 +11,8 @@ use Rattle.ndef_format.specs.declared.table.Table.TheVariants.{SmartPoster}
 use Rattle.ndef_types.specs.Contents.{IsOfKind, Lack}
 
 -- what holds of each record holds of that at k
-pub has_at : (P : Item → Type 0) (items : List Item) (k : ℕ) (i : Item) → AllByRecursion P items → slice_get items k ≡ Some i → P i
+pub has_at : (P : Item → Type 0) (items : List Item) (k : ℕ) (i : Item) → AllByRecursion P items
+    → slice_get items k ≡ Some i → P i
 has_at P [] k i h e = absurd (cc)
 has_at P (j ∷ items) zero i h e = let p : j ≡ i = cc in subst P p h.0
 has_at P (j ∷ items) (suc k) i h e = has_at P items k i h.1 e

@@ -3,7 +3,12 @@ use Rattle.std.specs.Prelude.{◌≡◌, ◌^◌, ◌<◌, ◌≤◌, ◌⊎◌,
 use Rattle.ndef_format.specs.declared.reason.Reason.{Reason}
 use Rattle.ndef_format.specs.declared.reason.Reason.TheVariants.{DoesNotFit}
 use Rattle.ndef_format.specs.declared.refusal.Refusal.{Refusal}
+use Rattle.ndef_format.specs.Nested.{IsNest}
+use Rattle.ndef_format.specs.NestedReasons.{NestReason}
+use Rattle.ndef_format.specs.declared.profile.Profile.{Profile}
+use Rattle.ndef_format.specs.declared.table.Table.{Table}
 use Rattle.ndef_lang.specs.Place.{IsRefused}
+use Rattle.ndef_value.specs.declared.limits.TheConstants.{MOST_RECORDS}
 use Rattle.ndef_types.specs.declared.error.DecodeError.{DecodeError}
 use Rattle.ndef_types.specs.declared.error.DecodeError.TheVariants as errors
 
@@ -25,7 +30,8 @@ Writing V = V → List ℕ → Type 0
 
 -- ---- what is answered
 
--- NDEF 1.0, PAYLOAD_LENGTH: no payload is this long; or the first octet is told after which nothing of its length is in the set
+-- NDEF 1.0, PAYLOAD_LENGTH: no payload is this long; or the first octet is told after which nothing of its length is in
+-- the set
 abbrev pub RefusesPayload : Payloads → Reasons → List ℕ → Refusal → Type 0
 RefusesPayload set holds payload refusal =
     ((2 ^ 32 ≤ length payload) × (refusal.at ≡ 0) × (refusal.reason ≡ DoesNotFit))
@@ -52,7 +58,8 @@ GivesValueBack value (Err errors.NoMemory) = ⊤
 -- What was written for a value is decoded to it.
 abbrev pub ValuesRoundTrip : {V : Type 0} → Payloads → Reasons → Meaning V → (values : V → Type 0) → Writing V → Type 0
 ValuesRoundTrip {V} set holds stands values written =
-    (value : V) (payload : List ℕ) (result : Result V DecodeError) → values value → written value payload → length payload < 2 ^ 32
+    (value : V) (payload : List ℕ) (result : Result V DecodeError) → values value → written value payload
+    → length payload < 2 ^ 32
     → DecodesTo set holds stands payload result → GivesValueBack value result
 
 -- A payload stands for at most one value.
@@ -66,4 +73,22 @@ EachHasValue {V} set stands values = (payload : List ℕ) → set payload → (v
 -- One payload is written for each value.
 abbrev pub OnePayload : {V : Type 0} → (values : V → Type 0) → Writing V → Type 0
 OnePayload {V} values written =
-    (value : V) → values value → (payload : List ℕ) × (written value payload × ((other : List ℕ) → written value other → other ≡ payload))
+    (value : V) → values value → (payload : List ℕ)
+    × (written value payload × ((other : List ℕ) → written value other → other ≡ payload))
+
+-- Each payload of the set stands for exactly one value, and what was written for a value is decoded to it.
+pub record AreExact {V : Type 0} (set : Payloads) (holds : Reasons) (stands : Meaning V) (values : V → Type 0)
+    (written : Writing V) : Type 0 where
+  pub one : OneValue set stands
+  pub each : EachHasValue set stands values
+  pub round_trip : ValuesRoundTrip set holds stands values written
+
+-- RTD Smart Poster 1.0 and Connection Handover 1.2: each payload that holds a nested message stands for exactly one
+-- value, and what was written for a value is decoded, for either profile, to it
+pub record NestsAreExact {V : Type 0} (table : Table) (stands : Profile → Meaning V) (values : V → Type 0)
+    (written : Writing V) : Type 0 where
+  pub one : (profile : Profile) → OneValue (IsNest table MOST_RECORDS profile) (stands profile)
+  pub each : (profile : Profile) → EachHasValue (IsNest table MOST_RECORDS profile) (stands profile) values
+  pub round_trip : (profile : Profile) →
+      ValuesRoundTrip (IsNest table MOST_RECORDS profile) (NestReason table MOST_RECORDS profile) (stands profile)
+      values written

@@ -30,7 +30,8 @@ pub record IsRequestValue (v : RequestValue) : Type 0 where
 -- Connection Handover 1.2, Handover Request record: a version octet and a message
 abbrev pub StandsForRequest : Profile → List ℕ → RequestValue → Type 0
 StandsForRequest profile [] v = ⊥
-StandsForRequest profile (version ∷ bytes) v = (version ≡ version_octet v.minor) × StandsForMessage profile bytes (Some v.items)
+StandsForRequest profile (version ∷ bytes) v = (version ≡ version_octet v.minor)
+    × StandsForMessage profile bytes (Some v.items)
 
 -- Connection Handover 1.2, Handover Request record: the payload that is written
 abbrev pub WritesRequest : RequestValue → List ℕ → Type 0
@@ -38,7 +39,8 @@ WritesRequest v payload = payload ≡ version_octet v.minor ∷ canonical v.item
 
 -- a request of the message, or the message back with the first record that is wrong
 abbrev pub MakesRequest : ℕ → List Item → Result RequestValue NotHandover → Type 0
-MakesRequest minor items (Ok request) = (request ≡ record { minor = minor; items = items }) × HasContents tables.Request Strict items
+MakesRequest minor items (Ok request) = (request ≡ record { minor = minor; items = items })
+    × HasContents tables.Request Strict items
 MakesRequest minor items (Err fault) = (fault.message ≡ items) × IsFirstWrong tables.Request items fault.index
 
 -- Connection Handover 1.2, Collision Resolution record, which is the first: two octets, most significant first
@@ -66,7 +68,8 @@ pub record IsSelectValue (v : SelectValue) : Type 0 where
 -- Connection Handover 1.2, Handover Select record: a version octet, alone or with a message
 abbrev pub StandsForSelect : Profile → List ℕ → SelectValue → Type 0
 StandsForSelect profile [] v = ⊥
-StandsForSelect profile (version ∷ bytes) v = (version ≡ version_octet v.minor) × StandsForMessage profile bytes v.message
+StandsForSelect profile (version ∷ bytes) v = (version ≡ version_octet v.minor)
+    × StandsForMessage profile bytes v.message
 
 -- NDEF 1.0: the canonical spelling of a message, if there is one
 abbrev pub canonical_or_none : Option (List Item) → List ℕ
@@ -79,5 +82,7 @@ WritesSelect v payload = payload ≡ version_octet v.minor ∷ canonical_or_none
 
 -- a select of the message, if there is one, or the message back with the first record that is wrong
 abbrev pub MakesSelect : ℕ → Option (List Item) → Result SelectValue NotHandover → Type 0
-MakesSelect minor message (Ok select) = (select ≡ record { minor = minor; message = message }) × IfSome message (HasContents tables.Select Strict)
-MakesSelect minor message (Err fault) = (message ≡ Some fault.message) × IsFirstWrong tables.Select fault.message fault.index
+MakesSelect minor message (Ok select) = (select ≡ record { minor = minor; message = message })
+    × IfSome message (HasContents tables.Select Strict)
+MakesSelect minor message (Err fault) = (message ≡ Some fault.message)
+    × IsFirstWrong tables.Select fault.message fault.index

@@ -1,6 +1,9 @@
--- The links of a message: the alternative carriers of its handover, and the records that they refer to (NFC Forum, Connection Handover 1.2).
+-- The links of a message: the alternative carriers of its handover, and the records that they refer to (NFC Forum,
+-- Connection Handover 1.2).
 use Rattle.std.specs.Prelude.{◌≡◌, ◌≢◌, ◌^◌, ◌<◌, ℕ, Bool, true, false, List, [], ◌∷◌, length, filter, Option, Some, None, ⊤, ◌⊎◌, Result, Ok, Err}
-use Rattle.ndef_format.specs.Messages.{Item}
+use Rattle.ndef_format.specs.Messages.{Item, run_record}
+use Rattle.ndef_format.specs.Records.{Run}
+use Rattle.ndef_format.specs.Handovers.{IsAlternative}
 use Rattle.ndef_format.specs.declared.profile.Profile.{Profile}
 use Rattle.ndef_value.specs.declared.limits.TheConstants.{MOST_RECORDS}
 use Rattle.ndef_format.specs.Kinds.{kind_of}
@@ -43,31 +46,44 @@ is_alternative _ = false
 abbrev pub alternatives : List Item → List Item
 alternatives = filter (λ i. is_alternative (kind_of i.tnf i.kind))
 
--- Connection Handover 1.2: the links are those of the alternative carriers, in order, each with the index of the record that it refers to
+-- Connection Handover 1.2: the links are those of the alternative carriers, in order, each with the index of the record
+-- that it refers to
 abbrev pub AreLinks : List Item → List Item → List Link → Type 0
 AreLinks outer [] [] = ⊤
-AreLinks outer (i ∷ items) (l ∷ links) = StandsForAc i.payload l.ac × IsIndexOf outer l.ac.reference l.index × AreLinks outer items links
+AreLinks outer (i ∷ items) (l ∷ links) = StandsForAc i.payload l.ac × IsIndexOf outer l.ac.reference l.index
+    × AreLinks outer items links
 AreLinks outer _ _ = ⊥
+
+-- Connection Handover 1.2: an alternative carrier is one piece with a payload of its own
+abbrev pub HasWholeCarrier : Run → Type 0
+HasWholeCarrier r = kind_of (run_record r).tnf (run_record r).kind ≡ kinds.Alternative
+    → (r.later ≡ []) × IsAlternative (run_record r).payload
 
 -- the records of a message, if there is one
 abbrev pub records_of : Option (List Item) → List Item
 records_of None = []
 records_of (Some items) = items
 
--- Connection Handover 1.2: the links to records of the outer message in the payload of a handover, a version octet and a message
+-- Connection Handover 1.2: the links to records of the outer message in the payload of a handover, a version octet and
+-- a message
 abbrev pub StandsForLinks : Profile → List Item → List ℕ → List Link → Type 0
 StandsForLinks profile outer [] links = ⊥
 StandsForLinks profile outer (version ∷ bytes) links =
-    (message : Option (List Item)) × StandsForMessage profile bytes message × AreLinks outer (alternatives (records_of message)) links
+    (message : Option (List Item)) × StandsForMessage profile bytes message
+    × AreLinks outer (alternatives (records_of message)) links
 
 -- the links of the handover, if there is one, unless memory is wanting; or its payload is refused
 abbrev pub LinksOf : Profile → List Item → Option Item → Result (List Link) LinkError → Type 0
 LinksOf profile outer None result = result ≡ Ok []
-LinksOf profile outer (Some i) (Ok links) = IsNest (table_of (kind_of i.tnf i.kind)) MOST_RECORDS profile i.payload × StandsForLinks profile outer i.payload links
+LinksOf profile outer (Some i) (Ok links) = IsNest (table_of (kind_of i.tnf i.kind)) MOST_RECORDS profile i.payload
+    × StandsForLinks profile outer i.payload links
 LinksOf profile outer (Some i) (Err (errors.Refused refusal)) =
-    RefusesPayload (IsNest (table_of (kind_of i.tnf i.kind)) MOST_RECORDS profile) (NestReason (table_of (kind_of i.tnf i.kind)) MOST_RECORDS profile) i.payload refusal
-LinksOf profile outer (Some i) (Err errors.NoMemory) = (length i.payload < 2 ^ 32) × IsNest (table_of (kind_of i.tnf i.kind)) MOST_RECORDS profile i.payload
+    RefusesPayload (IsNest (table_of (kind_of i.tnf i.kind)) MOST_RECORDS profile)
+    (NestReason (table_of (kind_of i.tnf i.kind)) MOST_RECORDS profile) i.payload refusal
+LinksOf profile outer (Some i) (Err errors.NoMemory) = (length i.payload < 2 ^ 32)
+    × IsNest (table_of (kind_of i.tnf i.kind)) MOST_RECORDS profile i.payload
 
 -- Connection Handover 1.2: the links of a message are those of its first handover request or select
 abbrev pub FindsLinks : Profile → List Item → Result (List Link) LinkError → Type 0
-FindsLinks profile outer result = (i : Option Item) × IsFirstOf IsHandoverRecord outer i × LinksOf profile outer i result
+FindsLinks profile outer result = (i : Option Item) × IsFirstOf IsHandoverRecord outer i
+    × LinksOf profile outer i result

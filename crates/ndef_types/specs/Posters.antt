@@ -34,11 +34,15 @@ plain_payload (code ∷ rest) = plain_code code ∷ rest
 
 -- RTD URI 1.0: the record of a URI with a reserved code read as 0
 abbrev pub plain : Item → Item
-plain i = record i { payload = if is_uri (kind_in SmartPoster i.tnf i.kind) then plain_payload i.payload else i.payload }
+plain i = record i {
+  payload = if is_uri (kind_in SmartPoster i.tnf i.kind) then plain_payload i.payload
+      else i.payload;
+}
 
 -- RTD Smart Poster 1.0: the payload is the message, but for reserved codes
 abbrev pub StandsForPoster : Profile → List ℕ → List Item → Type 0
-StandsForPoster profile payload items = (runs : List Run) × (read : List Item) × SpellsBy profile runs read payload × (items ≡ map plain read)
+StandsForPoster profile payload items = (runs : List Run) × (read : List Item) × SpellsBy profile runs read payload
+    × (items ≡ map plain read)
 
 -- NDEF 1.0: the payload that is written is the canonical spelling
 abbrev pub WritesPoster : List Item → List ℕ → Type 0
@@ -55,13 +59,15 @@ pub record LacksUri (items : List Item) (index : ℕ) : Type 0 where
 -- a poster of the message; or the message back, with the first record that is wrong, or the number of records
 abbrev pub MakesPoster : List Item → Result (List Item) NotPoster → Type 0
 MakesPoster items (Ok poster) = (poster ≡ items) × HasContents SmartPoster Strict items
-MakesPoster items (Err fault) = (fault.message ≡ items) × (IsFirstWrong SmartPoster items fault.index ⊎ LacksUri items fault.index)
+MakesPoster items (Err fault) = (fault.message ≡ items)
+    × (IsFirstWrong SmartPoster items fault.index ⊎ LacksUri items fault.index)
 
 -- ---- readers
 
 -- RTD Smart Poster 1.0: what the first record of the kind says, if there is one
 abbrev pub Says : {V : Type 0} → Kind → (Item → V) → List Item → Option V → Type 0
-Says kind value items result = (i : Option Item) × IsFirstOf (IsOfKind SmartPoster kind) items i × (result ≡ option_map value i)
+Says kind value items result = (i : Option Item) × IsFirstOf (IsOfKind SmartPoster kind) items i
+    × (result ≡ option_map value i)
 
 -- RTD Smart Poster 1.0, recommended action record: do, save for later, open for editing
 abbrev pub action_of : ℕ → Action

@@ -26,4 +26,5 @@ Begins text prefix = (rest : List ℕ) × (text ≡ prefix ++ rest)
 pub record IsLongest (text : List ℕ) (code : ℕ) : Type 0 where
   pub known : code ≤ 0x23
   pub begins : Begins text (prefix_of code)
-  pub longest : (other : ℕ) → other ≤ 0x23 → Begins text (prefix_of other) → other ≢ code → length (prefix_of other) < length (prefix_of code)
+  pub longest : (other : ℕ) → other ≤ 0x23 → Begins text (prefix_of other) → other ≢ code
+      → length (prefix_of other) < length (prefix_of code)

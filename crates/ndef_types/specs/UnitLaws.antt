@@ -15,20 +15,29 @@ big_octets u h = let x : u / 256 % 256 ≡ u / 256 = omega arith in λ i. x i �
 
 -- one unit more of some
 pub spelled_more : (us : List ℕ) (u i : ℕ) (front octets : List ℕ) → i < length us → u ≡ get_or us i 0 → u < 65536
-    → octets ≡ front ++ spelled false (take i us) → octets ++ to_be_bytes w16 u ≡ front ++ spelled false (take (i + 1) us)
+    → octets ≡ front ++ spelled false (take i us)
+    → octets ++ to_be_bytes w16 u ≡ front ++ spelled false (take (i + 1) us)
 spelled_more us u i front octets l e small h =
     (λ k. h k ++ big_octets u small k) ∙ append_assoc front (spelled false (take i us)) ((u / 256) ∷ (u % 256) ∷ [])
-    ∙ ap (λ t. front ++ t) (ap (λ v. spelled false (take i us) ++ (v / 256) ∷ (v % 256) ∷ []) e ∙ sym (flat_map-append (unit_octets false) (take i us) (get_or us i 0 ∷ [])) ∙ ap (spelled false) (sym (take_more us i 0 l)))
+    ∙ ap (λ t. front ++ t) (ap (λ v. spelled false (take i us) ++ (v / 256) ∷ (v % 256) ∷ []) e
+    ∙ sym (flat_map-append (unit_octets false) (take i us) (get_or us i 0 ∷ []))
+    ∙ ap (spelled false) (sym (take_more us i 0 l)))
 
 -- one character more of some
 pub text_more : (cs : List ℕ) (c : ℕ) (front octets : List ℕ) → octets ≡ front ++ spelled false (units_of cs)
     → octets ++ spelled false (encode_utf16 c) ≡ front ++ spelled false (units_of (cs ++ c ∷ []))
 text_more cs c front octets h =
-    (λ k. h k ++ spelled false (encode_utf16 c)) ∙ append_assoc front (spelled false (units_of cs)) (spelled false (encode_utf16 c))
-    ∙ ap (λ t. front ++ t) (sym (flat_map-append (unit_octets false) (units_of cs) (encode_utf16 c)) ∙ ap (spelled false) (flat_map_more encode_utf16 [] cs c))
+    (λ k. h k ++ spelled false (encode_utf16 c)) ∙ append_assoc front (spelled false (units_of cs))
+    (spelled false (encode_utf16 c))
+    ∙ ap (λ t. front ++ t) (sym (flat_map-append (unit_octets false) (units_of cs) (encode_utf16 c))
+    ∙ ap (spelled false) (flat_map_more encode_utf16 [] cs c))
 
 pub small_units : (c : ℕ) → c < 1114112 → (i : ℕ) → get_or (encode_utf16 c) i 0 < 65536
-small_units c l i = elim (cases_lt c 0x10000) [ inl a ↦ rw (lt-ltb c 0x10000 a) (alone i a) | inr a ↦ rw (le-ltb c 0x10000 a) (paired i _ _ (omega arith) (omega arith)) ]
+small_units c l i = elim (cases_lt c 0x10000) [
+  | inl a ↦ rw (lt-ltb c 0x10000 a) (alone i a)
+  | inr a ↦ rw (le-ltb c 0x10000 a)
+      (paired i _ _ (omega arith) (omega arith))
+]
   where
     alone : (i : ℕ) → c < 0x10000 → get_or (c ∷ []) i 0 < 65536
     alone zero a = omega arith

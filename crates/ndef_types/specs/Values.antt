@@ -141,7 +141,8 @@ power_code Active = 1
 power_code Activating = 2
 power_code Unknown = 3
 
--- Connection Handover 1.2, Alternative Carrier record: a power state, a carrier reference, auxiliary references, and octets behind them
+-- Connection Handover 1.2, Alternative Carrier record: a power state, a carrier reference, auxiliary references, and
+-- octets behind them
 pub record AcValue : Type 0 where
   pub power : Power
   pub reference : List ℕ
@@ -172,7 +173,8 @@ StandForAuxiliary (n ∷ s) names rest = StandForNames n s names rest
 
 -- Connection Handover 1.2, Alternative Carrier record: the six high bits of the first octet are reserved, and ignored
 abbrev pub StandsForAc : List ℕ → AcValue → Type 0
-StandsForAc (octet ∷ n ∷ s) v = (octet % 4 ≡ power_code v.power) × (take n s ≡ v.reference) × StandForAuxiliary (drop n s) v.auxiliary v.rest
+StandsForAc (octet ∷ n ∷ s) v = (octet % 4 ≡ power_code v.power) × (take n s ≡ v.reference)
+    × StandForAuxiliary (drop n s) v.auxiliary v.rest
 StandsForAc _ v = ⊥
 
 -- Connection Handover 1.2, Alternative Carrier record: a reference behind its length
@@ -181,7 +183,8 @@ counted name = length name ∷ name
 
 -- Connection Handover 1.2, Alternative Carrier record: the payload of a value, its reserved bits 0
 abbrev pub ac_payload : AcValue → List ℕ
-ac_payload v = power_code v.power ∷ (counted v.reference ++ length v.auxiliary ∷ (flat_map counted v.auxiliary ++ v.rest))
+ac_payload v = power_code v.power ∷ (counted v.reference
+    ++ length v.auxiliary ∷ (flat_map counted v.auxiliary ++ v.rest))
 
 -- Connection Handover 1.2, Alternative Carrier record: what is written for a value
 abbrev pub WritesAc : AcValue → List ℕ → Type 0

@@ -4,7 +4,8 @@ ghost use Rattle.ndef_format.specs.Messages.{run_record};
 ghost use Rattle.ndef_value.specs.declared.limits.TheConstants.{MOST_RECORDS};
 ghost use Rattle.ndef_types.specs.Decoding.{RefusesPayload};
 
-use ndef_lang::{Kind, Language, refusal_of};
+use crate::TestedLanguage;
+use ndef_lang::{Kind, refusal_of};
 use ndef_message::Item;
 use ndef_value::{MOST_PAYLOAD, MOST_RECORDS, Profile, Reason, Refusal};
 
@@ -13,7 +14,11 @@ pub(crate) const MOST: usize = MOST_PAYLOAD as usize;
 
 /// Nothing where the payload is in the set of its kind and of at most 4294967295 bytes, else where and
 /// why it is refused.
-pub fn accept<L: Language>(kind: Kind, profile: Profile, payload: &[u8]) -> Result<(), Refusal>
+pub fn accept<L: TestedLanguage>(
+    kind: Kind,
+    profile: Profile,
+    payload: &[u8],
+) -> Result<(), Refusal>
     ensures ok { OnOk result ((length payload.now < 2 ^ 32) × L.set kind MOST_RECORDS profile payload.now) }
     ensures err { IfErr result
         (RefusesPayload (L.set kind MOST_RECORDS profile) (L.holds kind MOST_RECORDS profile) payload.now) }
@@ -24,6 +29,9 @@ pub fn accept<L: Language>(kind: Kind, profile: Profile, payload: &[u8]) -> Resu
             reason: Reason::DoesNotFit,
         });
     }
+    if L::has(kind, profile, payload) {
+        return Ok(());
+    }
     match refusal_of::<L>(kind, MOST_RECORDS, profile, payload) {
         Some(refusal) => Err(refusal),
         None => Ok(()),
@@ -31,7 +39,7 @@ pub fn accept<L: Language>(kind: Kind, profile: Profile, payload: &[u8]) -> Resu
 }
 
 /// What `accept` answers of the payload of a record that is viewed, whose pieces are judged where they lie.
-pub(crate) fn accept_item<L: Language>(
+pub(crate) fn accept_item<L: TestedLanguage>(
     kind: Kind,
     profile: Profile,
     item: &Item<'_>,
@@ -41,6 +49,9 @@ pub(crate) fn accept_item<L: Language>(
     ensures err { IfErr result (RefusesPayload (L.set kind MOST_RECORDS profile)
         (L.holds kind MOST_RECORDS profile) (run_record item.now).payload) }
 {
+    if let Some(payload) = item.whole() {
+        return accept::<L>(kind, profile, payload);
+    }
     let mut state = L::start(kind, MOST_RECORDS, profile);
     let mut left = u64::from(item.length());
     if !state.fits(left, left) {

@@ -1,8 +1,10 @@
 //! The records of nested messages.
-ghost use Rattle.std.specs.Prelude.{◌≡◌, ◌↔◌, length, option_map, IsTrue, MatchOption};
+ghost use Rattle.std.specs.Prelude.{◌≡◌, ◌<◌, ◌^◌, ◌↔◌, length, option_map, IsTrue, MatchOption};
+ghost use Rattle.ndef_format.specs.Nested.{IsPayload};
+ghost use Rattle.ndef_format.specs.declared.profile.Profile.TheVariants.{Strict};
 ghost use Rattle.ndef_types.specs.Contents.{AreInOrder, IsFirstOf, IsFirstWrong, IsInOrder, IsOfKind, MayFollow};
 
-use ndef_lang::{Kind, Leaf, refusal_of};
+use ndef_lang::{Kind, Leaf, OuterLanguage, refusal_of};
 use ndef_nest::Table;
 use ndef_value::{Profile, Record};
 
@@ -38,14 +40,22 @@ fn may_follow(table: Table, before: &[Record], kind: Kind) -> bool
     }
 }
 
+/// Whether the payload is one of the kind, as a strict reader takes it.
+fn is_payload(kind: Kind, payload: &[u8]) -> bool
+    requires { length payload.now < 2 ^ 32 }
+    ensures { IsTrue result ↔ IsPayload kind Strict payload.now }
+{
+    Leaf::has(kind, 1, Profile::Strict, payload)
+        || refusal_of::<Leaf>(kind, 1, Profile::Strict, payload).is_none()
+}
+
 /// Whether a record has a payload of its kind, as a strict reader takes it, and may stand behind
 /// others.
 fn is_in_order(table: Table, before: &[Record], item: &Record) -> bool
     ensures { IsTrue result ↔ IsInOrder table before.now item.now }
 {
     let kind = table.kind(item.tnf(), item.kind());
-    let refusal = refusal_of::<Leaf>(kind, 1, Profile::Strict, item.payload());
-    refusal.is_none() && may_follow(table, before, kind)
+    is_payload(kind, item.payload()) && may_follow(table, before, kind)
 }
 
 /// The index of the first record that isn't in order.

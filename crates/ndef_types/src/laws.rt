@@ -6,16 +6,14 @@ ghost use Rattle.ndef_format.specs.Reasons.{NoReason};
 ghost use Rattle.ndef_format.specs.Texts.{IsText};
 ghost use Rattle.ndef_format.specs.PayloadReasons.{TextReason, UriReason};
 ghost use Rattle.ndef_format.specs.Uris.{IsUri};
-ghost use Rattle.ndef_types.specs.Decoding.{OneValue, EachHasValue, OnePayload, ValuesRoundTrip};
+ghost use Rattle.ndef_types.specs.Decoding.{AreExact, EachHasValue, OnePayload, OneValue, ValuesRoundTrip};
 ghost use Rattle.ndef_types.specs.Equality.{EqualAlternativesAreSame, EqualTextsAreSame};
 ghost use Rattle.ndef_types.specs.Values.{StandsForText, IsTextValue, WritesText, StandsForUri, WritesUri, StandsForError, IsErrorValue, WritesError, StandsForCarrier, IsCarrierValue, WritesCarrier, StandsForAc, IsAcValue, WritesAc};
 
 /// A payload of a Text record stands for one text, and what `Text::encode` writes is decoded to the
 /// text that was written.
 pub fn texts_are_exact()
-    ensures one { OneValue IsText StandsForText }
-    ensures each { EachHasValue IsText StandsForText IsTextValue }
-    ensures round_trip { ValuesRoundTrip IsText TextReason StandsForText IsTextValue WritesText }
+    ensures { AreExact IsText TextReason StandsForText IsTextValue WritesText }
 {}
 
 /// A payload of a URI record stands for one URI, and what `Uri::encode` writes is decoded, for either
@@ -31,25 +29,19 @@ pub fn uris_are_exact()
 /// A payload of a handover error record stands for one error, and what `HandoverError::encode` writes
 /// is decoded to the error that was written.
 pub fn errors_are_exact()
-    ensures one { OneValue IsError StandsForError }
-    ensures each { EachHasValue IsError StandsForError IsErrorValue }
-    ensures round_trip { ValuesRoundTrip IsError (λ s b. NoReason) StandsForError IsErrorValue WritesError }
+    ensures { AreExact IsError (λ s b. NoReason) StandsForError IsErrorValue WritesError }
 {}
 
 /// A payload of a handover carrier record stands for one carrier, and what `Carrier::encode` writes is
 /// decoded to the carrier that was written.
 pub fn carriers_are_exact()
-    ensures one { OneValue IsCarrier StandsForCarrier }
-    ensures each { EachHasValue IsCarrier StandsForCarrier IsCarrierValue }
-    ensures round_trip { ValuesRoundTrip IsCarrier (λ s b. NoReason) StandsForCarrier IsCarrierValue WritesCarrier }
+    ensures { AreExact IsCarrier (λ s b. NoReason) StandsForCarrier IsCarrierValue WritesCarrier }
 {}
 
 /// A payload of an alternative carrier record stands for one value, and what `Ac::encode` writes is
 /// decoded to the value that was written.
 pub fn alternatives_are_exact()
-    ensures one { OneValue IsAlternative StandsForAc }
-    ensures each { EachHasValue IsAlternative StandsForAc IsAcValue }
-    ensures round_trip { ValuesRoundTrip IsAlternative (λ s b. NoReason) StandsForAc IsAcValue WritesAc }
+    ensures { AreExact IsAlternative (λ s b. NoReason) StandsForAc IsAcValue WritesAc }
 {}
 
 /// Texts and alternative carriers are equal, by `==`, exactly where all their parts are the same.

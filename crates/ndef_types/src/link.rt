@@ -6,7 +6,6 @@ ghost use Rattle.std.specs.List.{AllByRecursion, find};
 ghost use Rattle.ndef_format.specs.Messages.{run_record};
 ghost use Rattle.ndef_format.specs.declared.profile.Profile.TheVariants.{Strict};
 ghost use Rattle.ndef_value.specs.declared.limits.TheConstants.{MOST_RECORDS};
-ghost use Rattle.ndef_format.specs.Handovers.{IsAlternative};
 ghost use Rattle.ndef_format.specs.Kinds.{kind_of};
 ghost use Rattle.ndef_format.specs.declared.kind.Kind.TheVariants as kinds;
 ghost use Rattle.ndef_format.specs.Nested.{IsNest};
@@ -14,14 +13,14 @@ ghost use Rattle.ndef_format.specs.declared.table.Table.{Table};
 ghost use Rattle.ndef_format.specs.declared.table.Table.TheVariants.{SmartPoster};
 ghost use Rattle.ndef_types.specs.Contents.{IsFirstOf};
 ghost use Rattle.ndef_types.specs.declared.link.LinkError.TheVariants as errors;
-ghost use Rattle.ndef_types.specs.Links.{AreLinks, FindsLinks, IsHandoverRecord, IsIndexOf, LinksOf, StandsForLinks, alternatives, is_handover};
+ghost use Rattle.ndef_types.specs.Links.{AreLinks, FindsLinks, HasWholeCarrier, IsHandoverRecord, IsIndexOf, LinksOf, StandsForLinks, alternatives, is_handover};
 
 use crate::Ac;
 use crate::accepting::{accept, accept_item};
 use crate::alternative::read_ac;
 use crate::contents::is_kind;
 use crate::fields::behind_first;
-use crate::nested::read_optional;
+use crate::nested::view_nested;
 use ndef_lang::Kind;
 use ndef_message::{Item, View};
 use ndef_nest::Nest;
@@ -144,32 +143,69 @@ impl From<NoMemory> for LinkError {
     }
 }
 
-/// The index of the first record with the id; the empty id is none's.
-fn index_of(records: &[Record], id: &[u8]) -> Option<usize>
-    ensures { IsIndexOf records.now id.now result }
-{
-    if id.is_empty() {
-        return None;
-    }
-    for (index, item) in records.iter().enumerate() {
-        if item.id() == id {
-            return Some(index);
+/// The records to which the carriers of a handover refer.
+trait Outer {
+    ghost use Rattle.std.specs.Prelude.{List};
+    ghost use Rattle.ndef_format.specs.Messages.{Item as Each};
+
+    /// The records.
+    ghost items: { Self → List Each };
+
+    /// The index of the first record with the id; the empty id is none's.
+    fn index_of(&self, id: &[u8]) -> Option<usize>
+        ensures { IsIndexOf (items self.now) id.now result };
+}
+
+impl Outer for Message {
+    ghost items = { λ message. message };
+
+    fn index_of(&self, id: &[u8]) -> Option<usize> {
+        if id.is_empty() {
+            return None;
         }
+        for (index, item) in self.records().iter().enumerate() {
+            if item.id() == id {
+                return Some(index);
+            }
+        }
+        None
     }
-    None
+}
+
+impl<'a> Outer for View<'a> {
+    ghost use Rattle.ndef_format.specs.Messages.{run_record};
+    ghost use Rattle.std.specs.Prelude.{map};
+
+    ghost items = { λ view. map run_record view.runs };
+
+    fn index_of(&self, id: &[u8]) -> Option<usize> {
+        if id.is_empty() {
+            return None;
+        }
+        let mut index = 0;
+        for item in self.items() {
+            if item.id() == id {
+                return Some(index);
+            }
+            index += 1;
+        }
+        None
+    }
 }
 
 /// The links of the alternative carriers of a handover, to records of the outer message.
-fn links_of(alloc: Global, outer: &[Record], handover: &[Record]) -> Result<Links, NoMemory>
-    requires { AllByRecursion
-        (λ i. kind_of i.tnf i.kind ≡ kinds.Alternative → IsAlternative i.payload) handover.now }
-    ensures { IfOk result (AreLinks outer.now (alternatives handover.now)) }
+fn links_of<O: Outer>(alloc: Global, outer: &O, handover: &View<'_>) -> Result<Links, NoMemory>
+    requires { AllByRecursion HasWholeCarrier handover.now.runs }
+    ensures { IfOk result (AreLinks (O.items outer.now) (alternatives (map run_record handover.now.runs))) }
 {
     let mut links = Links::new(alloc);
-    for item in handover {
+    for item in handover.items() {
         if is_kind(Kind::of(item.tnf(), item.kind()), Kind::Alternative) {
-            let ac = read_ac(alloc, item.payload())?;
-            let index = index_of(outer, ac.reference().as_slice());
+            let Some(payload) = item.whole() else {
+                unreachable!()
+            };
+            let ac = read_ac(alloc, payload)?;
+            let index = outer.index_of(ac.reference().as_slice());
             links.push(Link { ac, index })?;
         }
     }
@@ -177,19 +213,20 @@ fn links_of(alloc: Global, outer: &[Record], handover: &[Record]) -> Result<Link
 }
 
 /// The links in the payload of a handover, to records of the outer message.
-fn read_links(
+fn read_links<O: Outer>(
     alloc: Global,
-    outer: &[Record],
+    outer: &O,
     payload: &[u8],
     profile: Profile,
 ) -> Result<Links, NoMemory>
     requires { (table : Table) × (table ≢ SmartPoster) × IsNest table MOST_RECORDS profile payload.now }
-    ensures { IfOk result (StandsForLinks profile outer.now payload.now) }
+    ensures { IfOk result (StandsForLinks profile (O.items outer.now) payload.now) }
 {
-    match read_optional(alloc, behind_first(payload), profile)? {
-        Some(handover) => links_of(alloc, outer, handover.records()),
-        None => Ok(Links::new(alloc)),
+    let bytes = behind_first(payload);
+    if bytes.is_empty() {
+        return Ok(Links::new(alloc));
     }
+    links_of(alloc, outer, &view_nested(bytes, profile))
 }
 
 /// Whether a record is a handover request or select.
@@ -215,7 +252,7 @@ fn first_handover(records: &[Record]) -> Option<&Record>
 /// The links of a handover record, to records of the outer message.
 fn links_of_handover(
     alloc: Global,
-    outer: &[Record],
+    outer: &Message,
     handover: &Record,
     profile: Profile,
 ) -> Result<Links, LinkError>
@@ -244,9 +281,8 @@ pub fn carriers(alloc: Global, message: &Message) -> Result<Links, LinkError>
 pub fn carriers_as(alloc: Global, message: &Message, profile: Profile) -> Result<Links, LinkError>
     ensures { FindsLinks profile message.now result }
 {
-    let outer = message.records();
-    match first_handover(outer) {
-        Some(handover) => links_of_handover(alloc, outer, handover, profile),
+    match first_handover(message.records()) {
+        Some(handover) => links_of_handover(alloc, message, handover, profile),
         None => Ok(Links::new(alloc)),
     }
 }
@@ -273,18 +309,30 @@ fn viewed_handover<'a>(view: &View<'a>) -> Option<Item<'a>>
     None
 }
 
+/// The links of a handover record that is viewed, to records of the outer message.
+fn links_of_viewed(alloc: Global, outer: &View<'_>, handover: &Item<'_>) -> Result<Links, LinkError>
+    requires { IsHandoverRecord (run_record handover.now) }
+    ensures { LinksOf outer.now.profile (map run_record outer.now.runs) (Some (run_record handover.now)) result }
+{
+    let profile = outer.profile();
+    let kind = Kind::of(handover.tnf(), handover.kind());
+    if let Err(refusal) = accept_item::<Nest>(kind, profile, handover) {
+        return Err(LinkError::Refused(refusal));
+    }
+    if let Some(payload) = handover.whole() {
+        return Ok(read_links(alloc, outer, payload, profile)?);
+    }
+    let payload = handover.joined(alloc)?;
+    Ok(read_links(alloc, outer, payload.as_slice(), profile)?)
+}
+
 /// The links of a message that is viewed, for a reader of the view's profile. Without a handover there
 /// are none, and no memory is taken. Refusals as for `carriers`: they come before `NoMemory`.
 pub fn carriers_view(alloc: Global, view: &View<'_>) -> Result<Links, LinkError>
     ensures { FindsLinks view.now.profile (map run_record view.now.runs) result }
 {
-    let Some(handover) = viewed_handover(view) else {
-        return Ok(Links::new(alloc));
-    };
-    let kind = Kind::of(handover.tnf(), handover.kind());
-    if let Err(refusal) = accept_item::<Nest>(kind, view.profile(), &handover) {
-        return Err(LinkError::Refused(refusal));
+    match viewed_handover(view) {
+        Some(handover) => links_of_viewed(alloc, view, &handover),
+        None => Ok(Links::new(alloc)),
     }
-    let message = view.to_message(alloc)?;
-    carriers_as(alloc, &message, view.profile())
 }

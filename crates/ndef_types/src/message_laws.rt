@@ -1,10 +1,6 @@
 //! Laws of the values that hold messages: what was written for a value is decoded to it.
-ghost use Rattle.ndef_format.specs.declared.profile.Profile.{Profile};
-ghost use Rattle.ndef_value.specs.declared.limits.TheConstants.{MOST_RECORDS};
-ghost use Rattle.ndef_format.specs.NestedReasons.{NestReason};
-ghost use Rattle.ndef_format.specs.Nested.{IsNest};
 ghost use Rattle.ndef_format.specs.declared.table.Table.TheVariants.{SmartPoster, Request, Select};
-ghost use Rattle.ndef_types.specs.Decoding.{EachHasValue, OneValue, ValuesRoundTrip};
+ghost use Rattle.ndef_types.specs.Decoding.{NestsAreExact};
 ghost use Rattle.ndef_types.specs.Handovers.{IsRequestValue, IsSelectValue, StandsForRequest, StandsForSelect, WritesRequest, WritesSelect};
 ghost use Rattle.ndef_types.specs.Posters.{IsPosterValue, StandsForPoster, WritesPoster};
 
@@ -14,12 +10,7 @@ use ndef_value::{canonical_is_a_spelling, one_meaning};
 /// A payload of a Smart Poster record stands for one poster, and what `SmartPoster::encode` writes is
 /// decoded, for either profile, to the poster that was written.
 pub fn posters_are_exact()
-    ensures one { (profile : Profile) → OneValue (IsNest SmartPoster MOST_RECORDS profile) (StandsForPoster profile) }
-    ensures each { (profile : Profile) →
-        EachHasValue (IsNest SmartPoster MOST_RECORDS profile) (StandsForPoster profile) IsPosterValue }
-    ensures round_trip { (profile : Profile) →
-        ValuesRoundTrip (IsNest SmartPoster MOST_RECORDS profile) (NestReason SmartPoster MOST_RECORDS profile)
-        (StandsForPoster profile) IsPosterValue WritesPoster }
+    ensures { NestsAreExact SmartPoster StandsForPoster IsPosterValue WritesPoster }
 {
     one_meaning();
     canonical_is_a_spelling();
@@ -29,12 +20,7 @@ pub fn posters_are_exact()
 /// A payload of a Handover Request record stands for one request, and what `Request::encode` writes is
 /// decoded, for either profile, to the request that was written.
 pub fn requests_are_exact()
-    ensures one { (profile : Profile) → OneValue (IsNest Request MOST_RECORDS profile) (StandsForRequest profile) }
-    ensures each { (profile : Profile) →
-        EachHasValue (IsNest Request MOST_RECORDS profile) (StandsForRequest profile) IsRequestValue }
-    ensures round_trip { (profile : Profile) →
-        ValuesRoundTrip (IsNest Request MOST_RECORDS profile) (NestReason Request MOST_RECORDS profile)
-        (StandsForRequest profile) IsRequestValue WritesRequest }
+    ensures { NestsAreExact Request StandsForRequest IsRequestValue WritesRequest }
 {
     one_meaning();
     canonical_is_a_spelling();
@@ -44,12 +30,7 @@ pub fn requests_are_exact()
 /// A payload of a Handover Select record stands for one select, and what `Select::encode` writes is
 /// decoded, for either profile, to the select that was written.
 pub fn selects_are_exact()
-    ensures one { (profile : Profile) → OneValue (IsNest Select MOST_RECORDS profile) (StandsForSelect profile) }
-    ensures each { (profile : Profile) →
-        EachHasValue (IsNest Select MOST_RECORDS profile) (StandsForSelect profile) IsSelectValue }
-    ensures round_trip { (profile : Profile) →
-        ValuesRoundTrip (IsNest Select MOST_RECORDS profile) (NestReason Select MOST_RECORDS profile)
-        (StandsForSelect profile) IsSelectValue WritesSelect }
+    ensures { NestsAreExact Select StandsForSelect IsSelectValue WritesSelect }
 {
     one_meaning();
     canonical_is_a_spelling();

@@ -1,16 +1,18 @@
 //! Messages within payloads.
-ghost use Rattle.std.specs.Prelude.{◌≡◌, ◌+◌, ◌^◌, ◌≤◌, ◌↔◌, ◌∷◌, ◌⊎◌, [], Some, length, IfOk, IfSome, IsErrOf};
+ghost use Rattle.std.specs.Prelude.{◌≡◌, ◌+◌, ◌^◌, ◌≤◌, ◌↔◌, ◌∷◌, ◌⊎◌, List, [], Some, length, map, IfOk, IfSome, IsErrOf};
 ghost use Rattle.ndef_format.specs.Canonical.{canonical};
 ghost use Rattle.ndef_value.specs.declared.limits.TheConstants.{MOST_RECORDS};
 ghost use Rattle.ndef_format.specs.NestedReasons.{nested_limits};
-ghost use Rattle.ndef_format.specs.Nested.{HasContents, Nested};
+ghost use Rattle.ndef_format.specs.Messages.{Item, run_record};
+ghost use Rattle.ndef_format.specs.Records.{Run};
+ghost use Rattle.ndef_format.specs.Nested.{HasContents, IsNestedBy, Nested};
 ghost use Rattle.ndef_format.specs.declared.table.Table.{Table};
 ghost use Rattle.ndef_types.specs.Contents.{StandsForMessage};
 
 use crate::EncodeError;
 use crate::accepting::MOST;
 use ndef_lang::Opaque;
-use ndef_message::{Form, encode, encoded_length, short_is_canonical, view, views_are_exact};
+use ndef_message::{Form, View, encode, encoded_length, short_is_canonical, view, views_are_exact};
 use ndef_value::{Bytes, Limits, MOST_PAYLOAD, MOST_RECORDS, Message, NoMemory, Profile};
 use std::alloc::Global;
 
@@ -20,6 +22,20 @@ fn nested_limits(profile: Profile) -> Limits
 {
     match Limits::new(MOST_PAYLOAD, MOST_RECORDS, 1) {
         Ok(limits) => limits.with(profile),
+        Err(_) => unreachable!(),
+    }
+}
+
+/// The view of a nested message.
+pub(crate) fn view_nested(bytes: &[u8], profile: Profile) -> View<'_>
+    requires { (table : Table) × Nested table MOST_RECORDS profile bytes.now }
+    ensures { (table : Table) (runs : List Run) (items : List Item)
+        → IsNestedBy table MOST_RECORDS profile runs items bytes.now
+        → (result.runs ≡ runs) × (map run_record result.runs ≡ items) }
+{
+    views_are_exact::<Opaque>();
+    match view::<Opaque>(bytes, nested_limits(profile)) {
+        Ok(view) => view,
         Err(_) => unreachable!(),
     }
 }
@@ -35,11 +51,7 @@ pub(crate) fn read_nested(
     ensures contents { IfOk result
         (λ message. (table : Table) → Nested table MOST_RECORDS profile bytes.now → HasContents table profile message) }
 {
-    views_are_exact::<Opaque>();
-    match view::<Opaque>(bytes, nested_limits(profile)) {
-        Ok(view) => view.to_message(alloc),
-        Err(_) => unreachable!(),
-    }
+    view_nested(bytes, profile).to_message(alloc)
 }
 
 /// The nested message that the bytes spell, and none where there are no bytes. Only memory may fail.

@@ -90,7 +90,8 @@ impl Request {
         payload: &[u8],
         profile: Profile,
     ) -> Result<Request, DecodeError>
-        ensures { DecodesTo (IsNest tables.Request MOST_RECORDS profile) (NestReason tables.Request MOST_RECORDS profile)
+        ensures { DecodesTo (IsNest tables.Request MOST_RECORDS profile)
+            (NestReason tables.Request MOST_RECORDS profile)
             (StandsForRequest profile) payload.now result }
     {
         accept::<Nest>(Kind::Request, profile, payload)?;

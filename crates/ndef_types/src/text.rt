@@ -68,9 +68,8 @@ fn read_utf8(alloc: Global, octets: &[u8]) -> Result<String, NoMemory>
     requires { IsUtf8 octets.now }
     ensures { IfOk result (λ text. string_bytes text ≡ octets.now) }
 {
-    let Ok(text) = simdutf8::basic::from_utf8(octets) else {
-        unreachable!()
-    };
+    // The octets are UTF-8, as is required.
+    let text = unsafe { str::from_utf8_unchecked(octets) };
     Ok(String::from_str(alloc, text)?)
 }
 

@@ -39,9 +39,8 @@ pub(crate) fn read_uri(alloc: Global, payload: &[u8], profile: Profile) -> Resul
     requires { IsUri profile payload.now }
     ensures { IfOk result (StandsForUri payload.now) }
 {
-    let Ok(rest) = simdutf8::basic::from_utf8(&payload[1..]) else {
-        unreachable!()
-    };
+    // What is behind the code of a URI is UTF-8.
+    let rest = unsafe { str::from_utf8_unchecked(&payload[1..]) };
     let mut text = String::from_str(alloc, prefix(payload[0]))?;
     text.push_str(rest)?;
     Ok(Uri { text })

@@ -22,7 +22,7 @@ loop-piece-init g c =
 pub step_all-count-requires-clause-enough : goal.step_all-count-requires-clause-enough
 step_all-count-requires-clause-enough g c =
     let l = c.loop-piece in
-    lemmas.piece_within (run_record c.args.item.now).payload c.in-Some.piece.now (concat c.next.new.self) l.at l.left l.invariant.counted (l.invariant.rest ∙ ap concat c.in-Some.ensures.steps)
+    lemmas.piece_within (run_record c.args.item.now).payload c.in-Some-piece.piece.now (concat c.next.new.self) l.at l.left l.invariant.counted (l.invariant.rest ∙ ap concat c.in-Some-piece.ensures.steps)
 
 pub step_all-count-requires-clause-fits : goal.step_all-count-requires-clause-fits
 step_all-count-requires-clause-fits g c =
@@ -40,7 +40,7 @@ returns-then-count-piece-clause-err g c =
     let lowest = c.step_all-count.ensures.reason c.if-count-piece.true c.args.kind 65535 c.args.profile _ l.invariant.reached in
     inr (
       omega arith,
-      lemmas.refused_in payload c.in-Some.piece.now (concat c.next.new.self) l.at l.left l.invariant.counted (l.invariant.rest ∙ ap concat c.in-Some.ensures.steps)
+      lemmas.refused_in payload c.in-Some-piece.piece.now (concat c.next.new.self) l.at l.left l.invariant.counted (l.invariant.rest ∙ ap concat c.in-Some-piece.ensures.steps)
           set (L.future l.state) (L.future c.step_all-count.new.self) l.invariant.stepped holds c.step_all-count.result c.reason.result c.step_all-count.ensures.steps c.if-count-piece.true
           (rw c.reason.ensures lowest),
     )
@@ -50,9 +50,9 @@ loop-piece-preserved g c =
     let L = g.L.Language in
     let l = c.loop-piece in
     let payload = (run_record c.args.item.now).payload in
-    let piece = c.in-Some.piece.now in
+    let piece = c.in-Some-piece.piece.now in
     let behind = concat c.next.new.self in
-    let split = l.invariant.rest ∙ ap concat c.in-Some.ensures.steps in
+    let split = l.invariant.rest ∙ ap concat c.in-Some-piece.ensures.steps in
     let set = L.set c.args.kind 65535 c.args.profile in
     let new = L.future c.step_all-count.new.self in
     let old_reached = L.reached l.state c.args.kind 65535 c.args.profile in

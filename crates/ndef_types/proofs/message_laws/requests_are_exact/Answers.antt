@@ -1,11 +1,9 @@
 use Rattle.ndef_types.proofs.MessageLaws.{each_request, one_request, requests_round_trip}
 use Rattle.ndef_types.proofs.message_laws.requests_are_exact.Goals as goal
 
-pub returns-clause-one : goal.returns-clause-one
-returns-clause-one c = one_request c.one_meaning.ensures.once
-
-pub returns-clause-each : goal.returns-clause-each
-returns-clause-each c = each_request c.strict_contents_are_read.ensures.handovers
-
-pub returns-clause-round_trip : goal.returns-clause-round_trip
-returns-clause-round_trip c = requests_round_trip c.one_meaning.ensures.once c.canonical_is_a_spelling.ensures c.strict_contents_are_read.ensures.strict
+pub returns : goal.returns
+returns c = record {
+  one = one_request c.one_meaning.ensures.once;
+  each = each_request c.strict_contents_are_read.ensures.handovers;
+  round_trip = requests_round_trip c.one_meaning.ensures.once c.canonical_is_a_spelling.ensures c.strict_contents_are_read.ensures.strict;
+}
