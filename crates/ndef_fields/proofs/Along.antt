@@ -47,11 +47,11 @@ module _ (depth : ℕ) (own : Piece → List Part) where
       ∙ sym e
 
 -- ---- nested messages
-inner_owns : (table : Table) (ps : List Piece) → AllByRecursion (λ p. IsInnerOwn table p (inner_own table p)) ps
+pub inner_owns : (table : Table) (ps : List Piece) → AllByRecursion (λ p. IsInnerOwn table p (inner_own table p)) ps
 inner_owns table [] = tt
 inner_owns table (p ∷ ps) = (refl, inner_owns table ps)
 
-inner_leaves : (table : Table) (ps : List Piece) → AllByRecursion (λ p. joined (inner_own table p) ≡ p.payload) ps
+pub inner_leaves : (table : Table) (ps : List Piece) → AllByRecursion (λ p. joined (inner_own table p) ≡ p.payload) ps
 inner_leaves table [] = tt
 inner_leaves table (p ∷ ps) = (leaf_joined 1 _ p.payload, inner_leaves table ps)
 

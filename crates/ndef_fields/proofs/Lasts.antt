@@ -1,5 +1,5 @@
 -- The field of the last of some bytes.
-use Rattle.std.proofs.Common.{◌≡◌, ◌≢◌, ℕ, zero, suc, ◌-◌, ◌<◌, ◌≤◌, true, false, refl, sym, ◌∙◌, ap, ap₂, subst, arith, List, [], ◌∷◌, ◌++◌, length, take, drop, drop_at, append_assoc, length-append}
+use Rattle.std.proofs.Common.{◌≡◌, ℕ, zero, suc, ◌-◌, ◌<◌, ◌≤◌, true, false, refl, sym, ◌∙◌, ap, ap₂, subst, arith, List, [], ◌∷◌, ◌++◌, length, take, drop, drop_at, append_assoc, length-append}
 use Rattle.std.proofs.lemmas.List.{append-nil, take_all, drop_all}
 use Rattle.std.proofs.Math.Seq.{take-nil, drop-nil}
 use Rattle.ndef_format.specs.Records.{octets, tnf_of}
@@ -40,7 +40,7 @@ no_references depth zero = refl
 no_references depth (suc n) = no_references depth n
 
 -- a payload with no octets has no parts
-nothing_staged : (depth : ℕ) (stage : Stage) → stage_parts depth stage [] ≡ []
+pub nothing_staged : (depth : ℕ) (stage : Stage) → stage_parts depth stage [] ≡ []
 nothing_staged depth stages.Done = refl
 nothing_staged depth (stages.Whole name) = refl
 nothing_staged depth stages.Status = refl

@@ -48,7 +48,7 @@ open_head apart spot xs o w =
     let a = ap length h.1 ∙ length-append (body p ++ w.rest) (o.next ∷ o.rest) in
     omega (arith, a)
 
-empty_begins : ¬ BeginWithPiece []
+pub empty_begins : ¬ BeginWithPiece []
 empty_begins w =
     let i = w.split in
     let a = ap length i.joined ∙ length-append i.front w.rest in

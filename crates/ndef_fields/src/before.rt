@@ -41,7 +41,7 @@ pub(crate) fn behind(octets: &[u8], count: usize) -> &[u8]
 }
 
 /// The first `count` octets, all where there are fewer.
-fn front(octets: &[u8], count: usize) -> &[u8]
+pub(crate) fn front_of(octets: &[u8], count: usize) -> &[u8]
     ensures { result.now ≡ take count octets.now }
 {
     octets.split_at(count.min(octets.len())).0
@@ -60,7 +60,7 @@ fn payload_before(header: u8, kind_length: u8, tail: &[u8]) -> PayloadBefore<'_>
     PayloadBefore {
         chunked: header >> 5 & 1 == 1,
         tnf: header_tnf(header),
-        kind: front(body, kind_length),
+        kind: front_of(body, kind_length),
         count: behind(body, kind_length + id_length).len(),
     }
 }
@@ -93,7 +93,7 @@ pub(crate) fn next_field(bytes: &[u8]) -> Before<'_>
 pub(crate) fn before_last(bytes: &[u8]) -> Before<'_>
     ensures { IsBeforeLast bytes.now result }
 {
-    next_field(front(bytes, bytes.len().saturating_sub(1)))
+    next_field(front_of(bytes, bytes.len().saturating_sub(1)))
 }
 
 /// The field of the byte behind these, where they are a front of a message (NDEF 1.0, record layout).

@@ -1,0 +1,131 @@
+-- The fields of a front of a message, where the next octet stands in a field.
+use Rattle.std.proofs.Common.{◌≡◌, ℕ, ◌+◌, ◌<◌, refl, sym, ◌∙◌, ap, ap₂, arith, List, [], ◌∷◌, ◌++◌, length, length-append, take, drop, take_at, drop_at}
+use Rattle.std.specs.Prelude.{slice_index, unwrap_or}
+use Rattle.std.proofs.lemmas.List.{append-nil, drop_all, drop-drop, take_all}
+use Rattle.std.proofs.Math.Seq.{drop-nil, take-nil}
+use Rattle.ndef_format.specs.Records.{HeadFields, octets}
+use Rattle.ndef_format.specs.Messages.{all_pieces}
+use Rattle.ndef_format.specs.declared.spot.Spot.{Spot}
+use Rattle.ndef_format.specs.Positions.{Field, AtEnd, CanBeSpelled, InHead, InId, InPayload, InType, IsOpen, IsProper, octets_so_far, spot_after}
+use Rattle.ndef_piece.specs.Header.{size}
+use Rattle.ndef_piece.specs.HeaderLaws.{header, octets_size}
+use Rattle.ndef_piece.specs.Heads.{HeadsAreApart}
+use Rattle.ndef_fields.specs.declared.name.FieldName.TheVariants as names
+use Rattle.ndef_fields.specs.Befores.{body_given}
+use Rattle.ndef_fields.specs.Fronts.{ArePayloadFront, content_come, front_parts, kind_begun}
+use Rattle.ndef_fields.specs.Parts.{Part, joined, told}
+use Rattle.ndef_fields.specs.Refusals.{id_given, lengths_width}
+use Rattle.ndef_fields.specs.SoFar.{FrontsAreSoFar, head_parts, parts_so_far}
+use Rattle.ndef_fields.proofs.FrontLaws.{payload_front_joined, same_pieces, some_payload_front}
+use Rattle.ndef_fields.proofs.Fronts.{Come, come, head_come}
+use Rattle.ndef_fields.proofs.Proper.{not_whole}
+use Rattle.ndef_fields.proofs.Slices.{AreSome}
+
+-- parts with no octets are none
+no_part : (parts : List Part) → AreSome parts → joined parts ≡ [] → parts ≡ []
+no_part [] h e = refl
+no_part (part ∷ parts) h e = absurd (let n = ap length e in let m = length-append part.octets (joined parts) in let some = h.0 in omega (arith, n, m, some))
+
+-- where no octet of a payload has come it has no parts
+pub no_payload : (s : List ℕ) (payload : List Part) → ArePayloadFront (kind_begun s) (content_come s) payload → content_come s ≡ [] → payload ≡ []
+no_payload s payload h e =
+    no_part payload (some_payload_front (kind_begun s) (content_come s) payload h) (payload_front_joined (kind_begun s) (content_come s) payload h ∙ e)
+
+-- ---- in TYPE, and in ID
+
+in_type : (f : HeadFields) (kind : List ℕ) → CanBeSpelled f → length kind < f.kind_length → Come f kind [] [] (octets f ++ kind)
+in_type f kind c l =
+    let s = octets f ++ kind in
+    let h = slice_index s 0 in
+    let tail = drop 2 s in
+    let b = head_come f kind c in
+    let behind_kind : drop f.kind_length (body_given h tail) ≡ [] = ap (drop f.kind_length) b.body ∙ drop_all f.kind_length kind (omega (arith, l)) in
+    record {
+      payload_length = b.payload_length;
+      id_length = b.id_length;
+      kind_is = ap (take f.kind_length) b.body ∙ take_all f.kind_length kind (omega (arith, l));
+      id_is = ap (take (id_given h tail)) behind_kind ∙ take-nil (id_given h tail);
+      content_is =
+          sym (drop-drop (id_given h tail) f.kind_length (body_given h tail))
+          ∙ ap (drop (id_given h tail)) behind_kind
+          ∙ drop-nil (id_given h tail);
+    }
+
+in_id : (f : HeadFields) (kind id : List ℕ) → CanBeSpelled f → length kind ≡ f.kind_length → length id < unwrap_or f.id_length 0
+    → Come f kind id [] (octets f ++ (kind ++ id))
+in_id f kind id c lk li =
+    let s = octets f ++ (kind ++ id) in
+    let h = slice_index s 0 in
+    let tail = drop 2 s in
+    let b = head_come f (kind ++ id) c in
+    let i = b.id_count in
+    let behind_kind : drop f.kind_length (body_given h tail) ≡ id = ap (drop f.kind_length) b.body ∙ drop_at kind id f.kind_length (omega (arith, lk)) in
+    record {
+      payload_length = b.payload_length;
+      id_length = b.id_length;
+      kind_is = ap (take f.kind_length) b.body ∙ take_at kind id f.kind_length (omega (arith, lk));
+      id_is = ap (take (id_given h tail)) behind_kind ∙ take_all (id_given h tail) id (omega (arith, i, li));
+      content_is =
+          sym (drop-drop (id_given h tail) f.kind_length (body_given h tail))
+          ∙ ap (drop (id_given h tail)) behind_kind
+          ∙ drop_all (id_given h tail) id (omega (arith, i, li));
+    }
+
+-- ---- in the head
+
+no_content : (s : List ℕ) → length (drop 2 s) < lengths_width (slice_index s 0) → content_come s ≡ []
+no_content s l =
+    let h = slice_index s 0 in
+    let tail = drop 2 s in
+    let k = slice_index s 1 + id_given h tail in
+    ap (drop k) (drop_all (lengths_width h) tail (omega (arith, l))) ∙ drop-nil k
+
+in_head : (spot : Spot) (s : List ℕ) → IsOpen spot s → content_come s ≡ []
+in_head spot [] p = drop-nil (slice_index [] 1 + id_given (slice_index [] 0) [])
+in_head spot (h ∷ []) p =
+    let k = slice_index (h ∷ []) 1 + id_given h [] in
+    ap (drop k) (drop-nil (lengths_width h)) ∙ drop-nil k
+in_head spot (h ∷ k ∷ s) p =
+    let n = octets_size p.fields p.stands.spelled.tnf in
+    let e : header p.fields ≡ h = let w = p.spelled in cc in
+    let z = ap size e in
+    let m = ap length p.spelled ∙ length-append (h ∷ k ∷ s) (p.next ∷ p.rest) in
+    no_content (h ∷ k ∷ s) (omega (arith, n, z, m))
+
+-- ---- any field
+
+-- the parts of a piece of which these have come
+parts_come : (f : HeadFields) (kind id content s z : List ℕ) (payload : List Part) → s ≡ octets f ++ z → Come f kind id content (octets f ++ z)
+    → front_parts 0 s payload ≡ head_parts f (told 0 names.Kind kind ++ (told 0 names.Id id ++ payload))
+parts_come f kind id content s z payload e c = rw e (rw (c.payload_length, c.id_length, c.kind_is, c.id_is) refl)
+
+so_far : (spot : Spot) (field : Field) (s : List ℕ) (payload : List Part) → IsProper spot field → s ≡ octets_so_far field
+    → ArePayloadFront (kind_begun s) (content_come s) payload → front_parts 0 s payload ≡ parts_so_far field payload
+so_far spot (InHead front) s payload p e h =
+    ap₂ (front_parts 0) e (no_payload s payload h (ap content_come e ∙ in_head spot front p))
+so_far spot (InType f kind) s payload p e h =
+    let c = in_type f kind p.0.stands.spelled p.1 in
+    parts_come f kind [] [] s kind payload e c
+    ∙ ap (λ x. head_parts f (told 0 names.Kind kind ++ x)) (no_payload s payload h (ap content_come e ∙ c.content_is))
+    ∙ ap (head_parts f) (append-nil (told 0 names.Kind kind))
+so_far spot (InId f kind id) s payload p e h =
+    let c = in_id f kind id p.0.stands.spelled p.1 p.2 in
+    parts_come f kind id [] s (kind ++ id) payload e c
+    ∙ ap (λ x. head_parts f (told 0 names.Kind kind ++ (told 0 names.Id id ++ x))) (no_payload s payload h (ap content_come e ∙ c.content_is))
+    ∙ ap (λ x. head_parts f (told 0 names.Kind kind ++ x)) (append-nil (told 0 names.Id id))
+so_far spot (InPayload f kind id content) s payload p e h =
+    parts_come f kind id content s (kind ++ (id ++ content)) payload e (come f kind id content p.0.stands.spelled p.1 p.2)
+so_far spot AtEnd s payload p e h =
+    ap₂ (front_parts 0) e (no_payload s payload h (ap content_come e ∙ drop-nil (slice_index [] 1 + id_given (slice_index [] 0) [])))
+
+pub fronts_are_so_far : HeadsAreApart → FrontsAreSoFar
+fronts_are_so_far apart limits bytes parts f runs begun field a =
+    let w = f.whole in
+    let spot = spot_after limits runs begun in
+    let same = same_pieces w.pieces (all_pieces runs ++ begun) w.front a.front f.rest (octets_so_far field) w.spelled a.spelled (sym w.split ∙ a.split)
+    w.ended (not_whole apart spot field a.proper) in
+    record {
+      pieces_are = same.pieces;
+      rest_is = same.rest;
+      parts_are = so_far spot field f.rest f.payload a.proper same.rest f.content;
+    }

@@ -1,0 +1,112 @@
+-- In which field each octet of a front of a message stands.
+use Rattle.std.specs.Prelude.{◌≡◌, ℕ, List, ◌++◌, take, drop, slice_index}
+use Rattle.ndef_format.specs.Records.{tnf_of}
+use Rattle.ndef_format.specs.Kinds.{kind_of, outer_kind}
+use Rattle.ndef_format.specs.HeadReasons.{is_set, tnf_number, width}
+use Rattle.ndef_format.specs.Nested.{kind_in}
+use Rattle.ndef_format.specs.declared.kind.Kind.{Kind}
+use Rattle.ndef_format.specs.declared.kind.Kind.TheVariants as kinds
+use Rattle.ndef_format.specs.declared.table.Table.{Table}
+use Rattle.ndef_format.specs.declared.table.Table.TheVariants as tables
+use Rattle.ndef_format.specs.declared.tnf.Tnf.{Tnf}
+use Rattle.ndef_fields.specs.declared.front.HeadOctets.{HeadOctets}
+use Rattle.ndef_fields.specs.declared.front.PieceFront.{PieceFront}
+use Rattle.ndef_fields.specs.declared.name.FieldName.TheVariants as names
+use Rattle.ndef_fields.specs.Befores.{body_given, content_given}
+use Rattle.ndef_fields.specs.Lasts.{kind_there}
+use Rattle.ndef_fields.specs.Messages.{AreParts, IsInnerOwn, IsOuterOwn}
+use Rattle.ndef_fields.specs.Parts.{Part, told}
+use Rattle.ndef_fields.specs.Payloads.{leaf_parts}
+use Rattle.ndef_fields.specs.Refusals.{AreWholeBefore, id_given, id_length_width}
+
+-- ---- a front of a piece
+
+-- NDEF 1.0, PAYLOAD_LENGTH: its octets that have come of a piece that begins with these octets
+abbrev pub payload_length_come : List ℕ → List ℕ
+payload_length_come s = take (width (slice_index s 0)) (drop 2 s)
+
+-- NDEF 1.0, ID_LENGTH: its octet, if it has come
+abbrev pub id_length_come : List ℕ → List ℕ
+id_length_come s = take (id_length_width (slice_index s 0)) (drop (width (slice_index s 0)) (drop 2 s))
+
+-- NDEF 1.0, TYPE: its octets that have come, behind the lengths
+abbrev pub kind_come : List ℕ → List ℕ
+kind_come s = take (slice_index s 1) (body_given (slice_index s 0) (drop 2 s))
+
+-- NDEF 1.0, ID: its octets that have come, behind TYPE
+abbrev pub id_come : List ℕ → List ℕ
+id_come s =
+    take (id_given (slice_index s 0) (drop 2 s)) (drop (slice_index s 1) (body_given (slice_index s 0) (drop 2 s)))
+
+-- NDEF 1.0, PAYLOAD: its octets that have come, behind ID
+abbrev pub content_come : List ℕ → List ℕ
+content_come s = content_given (slice_index s 0) (slice_index s 1) (drop 2 s)
+
+-- NDEF 1.0, TNF: the type name format in the header octet
+abbrev pub tnf_come : List ℕ → Tnf
+tnf_come s = tnf_of (tnf_number (slice_index s 0))
+
+-- NDEF 1.0, record layout: the fields of a front of a piece, with the parts of what has come of its payload
+abbrev pub front_parts : ℕ → List ℕ → List Part → List Part
+front_parts depth s payload =
+    told depth names.Header (take 1 s)
+    ++ (told depth names.KindLength (take 1 (drop 1 s))
+    ++ (told depth names.PayloadLength (payload_length_come s)
+    ++ (told depth names.IdLength (id_length_come s)
+    ++ (told depth names.Kind (kind_come s) ++ (told depth names.Id (id_come s) ++ payload)))))
+
+-- the octets of the fields before its payload
+pub record IsHeadOctets (s : List ℕ) (head : HeadOctets) : Type 0 where
+  pub header : head.header.now ≡ take 1 s
+  pub kind_length : head.kind_length.now ≡ take 1 (drop 1 s)
+  pub payload_length : head.payload_length.now ≡ payload_length_come s
+  pub id_length : head.id_length.now ≡ id_length_come s
+  pub kind : head.kind.now ≡ kind_come s
+  pub id : head.id.now ≡ id_come s
+
+-- these, its header octet, and what has come of its payload
+pub record IsPieceFront (s : List ℕ) (front : PieceFront) : Type 0 where
+  pub header : front.header ≡ slice_index s 0
+  pub head : IsHeadOctets s front.head
+  pub content : front.content.now ≡ content_come s
+
+-- ---- a front of a payload
+
+-- RTD Smart Poster 1.0 and Connection Handover 1.2: the parts of what has come of a payload in a nested message
+abbrev pub inner_come : Table → List ℕ → List Part
+inner_come table s = leaf_parts 1 (kind_in table (tnf_come s) (kind_come s)) (content_come s)
+
+-- RTD Smart Poster 1.0 and Connection Handover 1.2: the parts of a front of a nested message: those of whole pieces,
+-- and those of a front of one more
+pub record AreNestedFront (table : Table) (bytes : List ℕ) (parts : List Part) : Type 0 where
+  pub rest : List ℕ
+  pub whole : AreWholeBefore bytes rest
+  pub before : List Part
+  pub spelled : AreParts 1 (IsInnerOwn table) whole.pieces whole.front before
+  pub parts_are : parts ≡ before ++ front_parts 1 rest (inner_come table rest)
+
+-- Connection Handover 1.2: the parts of a front of the payload of a handover: a version octet, and a nested message
+abbrev pub AreHandoverFront : Table → List ℕ → List Part → Type 0
+AreHandoverFront table s parts =
+    (inner : List Part) × (parts ≡ told 0 names.Version (take 1 s) ++ inner) × AreNestedFront table (drop 1 s) inner
+
+-- RTD Smart Poster 1.0 and Connection Handover 1.2: the parts of a front of a payload, by its kind
+abbrev pub ArePayloadFront : Kind → List ℕ → List Part → Type 0
+ArePayloadFront kinds.SmartPoster s parts = AreNestedFront tables.SmartPoster s parts
+ArePayloadFront kinds.Request s parts = AreHandoverFront tables.Request s parts
+ArePayloadFront kinds.Select s parts = AreHandoverFront tables.Select s parts
+ArePayloadFront kind s parts = parts ≡ leaf_parts 0 (outer_kind kind) s
+
+-- NDEF 1.0, chunked payloads: the kind of a payload of which a front has come; none in several pieces is looked into
+abbrev pub kind_begun : List ℕ → Kind
+kind_begun s = kind_there (is_set 5 (slice_index s 0)) (kind_of (tnf_come s) (kind_come s))
+
+-- NDEF 1.0, messages: the parts of a front of a message: those of whole pieces, and those of a front of one more
+pub record AreFrontParts (bytes : List ℕ) (parts : List Part) : Type 0 where
+  pub rest : List ℕ
+  pub whole : AreWholeBefore bytes rest
+  pub before : List Part
+  pub spelled : AreParts 0 IsOuterOwn whole.pieces whole.front before
+  pub payload : List Part
+  pub content : ArePayloadFront (kind_begun rest) (content_come rest) payload
+  pub parts_are : parts ≡ before ++ front_parts 0 rest payload

@@ -1,0 +1,57 @@
+//! The fields of a piece of which all or a front has come.
+ghost use Rattle.std.specs.Prelude.{◌≡◌, length, slice_index};
+ghost use Rattle.ndef_format.specs.Kinds.{kind_of};
+ghost use Rattle.ndef_fields.specs.Fronts.{IsPieceFront, kind_begun, kind_come, tnf_come};
+
+use crate::before::{behind, front_of};
+use crate::heads::id_length_in;
+use crate::left::{id_width, width};
+use crate::stage::first;
+use ndef_lang::Kind;
+use ndef_piece::header_tnf;
+use ndef_value::Tnf;
+
+/// The octets of the fields of a piece before its payload, as far as they have come.
+#[derive(Clone, Copy, Debug)]
+pub(crate) struct HeadOctets<'a> {
+    pub header: &'a [u8],
+    pub kind_length: &'a [u8],
+    pub payload_length: &'a [u8],
+    pub id_length: &'a [u8],
+    pub kind: &'a [u8],
+    pub id: &'a [u8],
+}
+
+/// A piece, as far as it has come.
+#[derive(Clone, Copy, Debug)]
+pub(crate) struct PieceFront<'a> {
+    /// The header octet; 0 where it has not come.
+    pub header: u8,
+    /// The fields before the payload.
+    pub head: HeadOctets<'a>,
+    /// The octets of the payload, and those behind it.
+    pub content: &'a [u8],
+}
+
+/// The fields of the piece with which these octets begin.
+pub(crate) fn piece_front(octets: &[u8]) -> PieceFront<'_>
+    ensures { IsPieceFront octets.now result }
+{
+    let (header, tail) = (first(octets), behind(octets, 2));
+    let (lengths, there) = (width(header), id_width(header));
+    let kind_length = usize::from(first(behind(octets, 1)));
+    let id_length = usize::from(id_length_in(header, tail));
+    let body = behind(tail, lengths + there);
+    PieceFront {
+        header,
+        head: HeadOctets {
+            header: front_of(octets, 1),
+            kind_length: front_of(behind(octets, 1), 1),
+            payload_length: front_of(tail, lengths),
+            id_length: front_of(behind(tail, lengths), there),
+            kind: front_of(body, kind_length),
+            id: front_of(behind(body, kind_length), id_length),
+        },
+        content: behind(body, kind_length + id_length),
+    }
+}
