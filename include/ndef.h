@@ -557,6 +557,56 @@ uint32_t ndef_append(ndef_built *built, const uint8_t *type, ndef_size type_leng
                      ndef_size id_length, const uint8_t *payload, ndef_size payload_length, const ndef_writing *how,
                      uint8_t *room, ndef_size size, ndef_size *count);
 
+/* Appends the record of a text (`T`), whose payload is written where it belongs, so it needs no room of its own. The
+ * text is given in UTF-8. Flags: as ndef_write_text. The record is written in one piece, with no id where the id has
+ * length 0. *count, `built` and the room: as ndef_append.
+ * NDEF_OK. NDEF_NO_ROOM: the room and `built` are unchanged.
+ * NDEF_BAD_ARGUMENT: what ndef_write_text answers so; the id has more than 255 bytes; or `built` does not fit the room,
+ *   as with ndef_append. */
+uint32_t ndef_append_text(ndef_built *built, const uint8_t *id, ndef_size id_length, const uint8_t *language,
+                          ndef_size language_length, const uint8_t *text, ndef_size text_length, uint32_t flags,
+                          uint8_t *room, ndef_size size, ndef_size *count);
+
+/* Appends the record of a URI (`U`) in the same way.
+ * NDEF_OK. NDEF_NO_ROOM: the room and `built` are unchanged.
+ * NDEF_BAD_ARGUMENT: what ndef_write_uri answers so; the id has more than 255 bytes; or `built` does not fit the room,
+ *   as with ndef_append. */
+uint32_t ndef_append_uri(ndef_built *built, const uint8_t *id, ndef_size id_length, const uint8_t *uri,
+                         ndef_size uri_length, uint8_t *room, ndef_size size, ndef_size *count);
+
+/* ---- titles and media types of smart posters
+ *
+ * The payload is that of a Smart Poster record (`Sp`), its chunks joined. Reserved values are treated as the standard
+ * says. Places count from the front of this payload. */
+
+/* Tells the titles of a smart poster, one text in each of several languages: where the parts of each lie, in the order
+ * of their records. It fills the array as the calls above do.
+ * NDEF_OK, NDEF_NO_ROOM. NDEF_BAD_ARGUMENT: it is no such payload; ndef_poster with NDEF_STANDARD tells where and
+ *   why. */
+uint32_t ndef_poster_titles(const uint8_t *payload, ndef_size length, ndef_text_parts *titles, ndef_size size,
+                            ndef_size *count);
+
+/* Tells the first title in a language, such as "en". Upper and lower case are the same in the language code.
+ * NDEF_OK. NDEF_END: the poster has no title in the language. NDEF_BAD_ARGUMENT: it is no such payload. */
+uint32_t ndef_title(const uint8_t *payload, ndef_size length, const uint8_t *language, ndef_size language_length,
+                    ndef_text_parts *out);
+
+/* Tells where the media type (`t`) of what the URI leads to lies, such as "text/html", in UTF-8; of several the first.
+ * NDEF_OK. NDEF_END: the poster has none. NDEF_BAD_ARGUMENT: it is no such payload. */
+uint32_t ndef_poster_media_type(const uint8_t *payload, ndef_size length, ndef_part *out);
+
+/* ---- a message written again */
+
+/* Writes the message that the bytes begin with again, each record in one chunk. Other bytes may follow the message.
+ * Without a flag that is its shortest spelling: payload lengths below 256 in one byte, and no empty ids. Flags:
+ * NDEF_WRITE_LONG: all payload lengths in four bytes.
+ * NDEF_OK, NDEF_NO_ROOM.
+ * NDEF_BAD_ARGUMENT: another flag is set; the bytes don't begin with whole records up to one that is the last; one of
+ *   the records can't be written so, as ndef_write_record would refuse it; or the length would need more than 64
+ *   bits. */
+uint32_t ndef_rewrite(const uint8_t *bytes, ndef_size length, uint32_t flags, uint8_t *room, ndef_size size,
+                      ndef_size *count);
+
 #ifdef __cplusplus
 }
 #endif

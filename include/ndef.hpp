@@ -561,6 +561,13 @@ public:
         return told.has_size ? std::optional(told.size) : std::nullopt;
     }
 
+    /// The media type of what the URI leads to, such as "text/html".
+    std::optional<std::string_view> media_type() const noexcept {
+        ndef_part found;
+        const std::uint32_t answer = ndef_poster_media_type(whole.data(), whole.size(), &found);
+        return answer == NDEF_OK ? std::optional(part(found.at, found.length).text()) : std::nullopt;
+    }
+
     /// Its titles, each in a language.
     views<text> titles() const noexcept { return views<text>(records()); }
 
@@ -823,6 +830,15 @@ inline result<message> write_message(room &to, std::initializer_list<new_record>
     return write_message<std::initializer_list<new_record>>(to, records);
 }
 
+/// The message again, each record in one chunk, as ndef_rewrite writes it.
+inline result<message> rewrite(room &to, const message &from, bool is_long = false) noexcept {
+    const bytes whole = from.octets();
+    const std::uint32_t flags = is_long ? NDEF_WRITE_LONG : 0;
+    return detail::put(to, ndef_rewrite, whole.data(), whole.size(), flags).transform([](bytes made) {
+        return message::unchecked(made);
+    });
+}
+
 /// A message that is built in memory of the caller, and is whole behind each record, as ndef_append leaves it.
 class builder {
 public:
@@ -837,8 +853,27 @@ public:
             ndef_append(&built, detail::octets(one.type.data()), one.type.size(), detail::octets(one.id.data()),
                         one.id.size(), one.payload.data(), one.payload.size(), &how, memory.data(), memory.size(),
                         &count);
-        if (answer != NDEF_OK) return detail::failure(answer, {}, count);
-        return made();
+        return after(answer, count);
+    }
+
+    /// Appends the record of a text, given in UTF-8, whose payload is written where it belongs.
+    result<message> add_text(std::string_view language, std::string_view text, encoding how = encoding::utf8,
+                             std::string_view id = {}) noexcept {
+        ndef_size count = 0;
+        const std::uint32_t answer =
+            ndef_append_text(&built, detail::octets(id.data()), id.size(), detail::octets(language.data()),
+                             language.size(), detail::octets(text.data()), text.size(), static_cast<std::uint32_t>(how),
+                             memory.data(), memory.size(), &count);
+        return after(answer, count);
+    }
+
+    /// Appends the record of a URI in the same way.
+    result<message> add_uri(std::string_view uri, std::string_view id = {}) noexcept {
+        ndef_size count = 0;
+        const std::uint32_t answer =
+            ndef_append_uri(&built, detail::octets(id.data()), id.size(), detail::octets(uri.data()), uri.size(),
+                            memory.data(), memory.size(), &count);
+        return after(answer, count);
     }
 
     /// The message so far.
@@ -847,6 +882,11 @@ public:
     }
 
 private:
+    result<message> after(std::uint32_t answer, ndef_size needed) const noexcept {
+        if (answer != NDEF_OK) return detail::failure(answer, {}, needed);
+        return made();
+    }
+
     room memory;
     ndef_built built = {};
 };

@@ -119,6 +119,22 @@ static void write_from(const uint8_t *bytes, ndef_size length, ndef_size size) {
     WRITTEN(size, ndef_write_collision(number * 40503u, to, size, &count));
 }
 
+static void mix_built(const ndef_built *built) { mix(built->length), mix(built->last_at), mix(built->records); }
+
+/* Appends two texts and a URI of the bytes to a message. */
+static void append_from(const uint8_t *bytes, ndef_size length, ndef_size size) {
+    ndef_built built = { 0, 0, 0 };
+    const ndef_size two = length < 2 ? length : 2;
+    ndef_size count = 77;
+    marked(size);
+    for (uint32_t flags = 0; flags < 3; flags++) {
+        mix_status(ndef_append_text(&built, bytes, length / 3, bytes, two, bytes, length, flags, room, size, &count));
+        mix(count), mix_built(&built);
+    }
+    mix_status(ndef_append_uri(&built, bytes, length % 5, bytes, length, room, size, &count));
+    mix(count), mix_built(&built), mix_bytes(room, size + MARKS);
+}
+
 /* The calls that fill an array: with none, with too small a one and with a large one. */
 enum { ELEMENTS = 64 };
 static ndef_part parts[ELEMENTS];
@@ -158,6 +174,26 @@ static void fill_links(const uint8_t *bytes, ndef_size length, const uint8_t *ha
     }
 }
 
+static void mix_text(const ndef_text_parts *text) {
+    mix(text->language_at), mix(text->language_length), mix(text->text_at), mix(text->text_length), mix(text->utf16);
+}
+
+/* The titles of a poster, one of them by its language, and the media type. */
+static void look_at_titles(const uint8_t *bytes, ndef_size length) {
+    static ndef_text_parts titles[ELEMENTS];
+    const ndef_text_parts mark = { 7, 7, 7, 7, 7 };
+    ndef_text_parts title = mark;
+    ndef_part media = { 7, 7 };
+    for (int i = 0; i < 3; i++) {
+        ndef_size count = 77;
+        for (int k = 0; k < ELEMENTS; k++) titles[k] = mark;
+        mix_status(ndef_poster_titles(bytes, length, titles, sizes[i], &count)), mix(count);
+        for (int k = 0; k < ELEMENTS; k++) mix_text(titles + k);
+    }
+    mix_status(ndef_title(bytes, length, (const uint8_t *)"EN", 2, &title)), mix_text(&title);
+    mix_status(ndef_poster_media_type(bytes, length, &media)), mix(media.at), mix(media.length);
+}
+
 static void look_at_payload(const uint8_t *bytes, ndef_size length, ndef_size size) {
     for (uint32_t flags = 0; flags < 3; flags++) {
         ndef_checked why = { 77, 77, 77 };
@@ -169,6 +205,8 @@ static void look_at_payload(const uint8_t *bytes, ndef_size length, ndef_size si
     fill_parts(bytes, length, 0);
     read_without_flags(bytes, length, size);
     write_from(bytes, length, size);
+    append_from(bytes, length, size);
+    look_at_titles(bytes, length);
 }
 
 static void follow_links(const uint8_t *bytes, ndef_size length, const uint8_t *handover, ndef_size handover_length) {
@@ -218,13 +256,15 @@ static void build(const uint8_t *bytes, const ndef_record *record) {
         ndef_size count = 77;
         mix_status(ndef_append(&built, bytes + record->type_at, record->type_length, bytes + record->id_at, record->id_length,
                                copy, record->payload_length, &how, room, i ? size : size / 2, &count));
-        mix(count), mix(built.length), mix(built.last_at), mix(built.records);
+        mix(count), mix_built(&built);
     }
     mix_bytes(room, size + MARKS);
 }
 
 static void walk(const uint8_t *bytes, ndef_size length, int is_nested) {
     ndef_size at = 0;
+    for (uint32_t flags = 0; flags < 5; flags += 2)
+        WRITTEN(1000, ndef_rewrite(bytes, length, flags, to, 1000, &count));
     for (int i = 0; i < 12; i++) {
         ndef_record record = { 7, 7, 7, 7, 7, 7, 7, 7, 7, 7, 7, 7 };
         uint32_t status = mix_status(ndef_record_at(bytes, length, at, &record));

@@ -239,6 +239,115 @@ static void built(void) {
     expect(count == 77 && memcmp(room, marks, sizeof room) == 0 && state.length == 25, "built: a wrong argument leaves something else");
 }
 
+/* ---- texts and URIs that are appended */
+
+/* A text "Hi" in "de" with the id "ab", then the URI http://www.x.y, then a text in UTF-16. */
+static void appended(void) {
+    static const uint8_t one[] = { 0xd9, 1, 5, 2, 'T', 'a', 'b', 2, 'd', 'e', 'H', 'i' };
+    static const uint8_t three[] = {
+        0x99, 1, 5, 2, 'T', 'a', 'b', 2, 'd', 'e', 'H', 'i',
+        0x11, 1, 4, 'U', 1, 'x', '.', 'y',
+        0x59, 1, 8, 1, 'T', 'c', 0x81, 'f', 0xfe, 0xff, 0x20, 0xac, 0, 'A' };
+    ndef_built state = { 0, 0, 0 }, kept;
+    uint8_t room[40], marks[40];
+    ndef_size count = 77;
+    memset(room, 0xa5, sizeof room);
+    expect(ndef_append_text(&state, octets("ab"), 2, octets("de"), 2, octets("Hi"), 2, 0, room, 11, &count) == NDEF_NO_ROOM && count == 12,
+           "appended: a text needs another length");
+    expect(state.length == 0 && state.records == 0 && room[0] == 0xa5, "appended: a small room is written");
+    expect(ndef_append_text(&state, octets("ab"), 2, octets("de"), 2, octets("Hi"), 2, 0, room, 12, &count) == NDEF_OK && count == 12, "appended: a text isn't");
+    expect(memcmp(room, one, sizeof one) == 0 && room[12] == 0xa5, "appended: a text is another message");
+    expect(state.length == 12 && state.last_at == 0 && state.records == 1, "appended: a text is told otherwise");
+    memcpy(marks, room, sizeof room);
+    expect(ndef_append_uri(&state, NULL, 0, octets("http://www.x.y"), 14, room, 19, &count) == NDEF_NO_ROOM && count == 20, "appended: a URI needs another length");
+    expect(memcmp(room, marks, sizeof room) == 0 && state.length == 12 && state.records == 1, "appended: a room that is too small for a URI is written");
+    expect(ndef_append_uri(&state, NULL, 0, octets("http://www.x.y"), 14, room, 20, &count) == NDEF_OK && count == 20, "appended: a URI isn't");
+    expect(state.length == 20 && state.last_at == 12 && state.records == 2, "appended: a URI is told otherwise");
+    expect(ndef_append_text(&state, octets("c"), 1, octets("f"), 1, octets("\xe2\x82\xac" "A"), 4, NDEF_AS_UTF16, room, 33, &count) == NDEF_NO_ROOM && count == 34,
+           "appended: UTF-16 needs another length");
+    expect(ndef_append_text(&state, octets("c"), 1, octets("f"), 1, octets("\xe2\x82\xac" "A"), 4, NDEF_AS_UTF16, room, 34, &count) == NDEF_OK && count == 34,
+           "appended: UTF-16 isn't");
+    expect(memcmp(room, three, sizeof three) == 0 && room[34] == 0xa5, "appended: the three are another message");
+    expect(state.length == 34 && state.last_at == 20 && state.records == 3, "appended: UTF-16 is told otherwise");
+    memcpy(marks, room, sizeof room);
+    count = 77;
+    expect(ndef_append_text(&state, NULL, 0, octets("f"), 1, octets("A"), 1, 2, room, sizeof room, &count) == NDEF_BAD_ARGUMENT, "appended: an unknown flag is taken");
+    expect(ndef_append_text(&state, NULL, 0, octets("\x80"), 1, octets("A"), 1, 0, room, sizeof room, &count) == NDEF_BAD_ARGUMENT, "appended: a language beyond ASCII is taken");
+    expect(ndef_append_text(&state, NULL, 0, octets("f"), 1, octets("\xff"), 1, 0, room, sizeof room, &count) == NDEF_BAD_ARGUMENT, "appended: a text beyond UTF-8 is taken");
+    expect(ndef_append_uri(&state, NULL, 0, octets("\xff"), 1, room, sizeof room, &count) == NDEF_BAD_ARGUMENT, "appended: a URI beyond UTF-8 is taken");
+    expect(ndef_append_uri(&state, message, 256, octets("x"), 1, room, sizeof room, &count) == NDEF_BAD_ARGUMENT, "appended: an id of 256 bytes is taken");
+    kept = state, kept.length--;
+    expect(ndef_append_uri(&kept, NULL, 0, octets("x"), 1, room, sizeof room, &count) == NDEF_BAD_ARGUMENT, "appended: another length is taken");
+    expect(ndef_append_text(&kept, NULL, 0, octets("f"), 1, octets("A"), 1, 0, room, sizeof room, &count) == NDEF_BAD_ARGUMENT, "appended: another length is taken for a text");
+    expect(count == 77 && memcmp(room, marks, sizeof room) == 0 && state.length == 34, "appended: a wrong argument leaves something else");
+}
+
+/* ---- titles and media types of posters */
+
+static int same_text(const ndef_text_parts *text, ndef_size language_at, ndef_size language_length, ndef_size text_at, ndef_size text_length, uint32_t utf16) {
+    return text->language_at == language_at && text->language_length == language_length && text->text_at == text_at && text->text_length == text_length
+        && text->utf16 == utf16;
+}
+
+/* A poster: a URI, "Hallo" in "de", a size, "Hi" in "en-GB" in UTF-16, the media type a/b, "Hey" in "EN-gb". */
+static void titles(void) {
+    static const uint8_t payload[] = {
+        0x91, 1, 2, 'U', 1, 'x',
+        0x11, 1, 8, 'T', 2, 'd', 'e', 'H', 'a', 'l', 'l', 'o',
+        0x11, 1, 4, 's', 0, 0, 0, 9,
+        0x11, 1, 10, 'T', 0x85, 'e', 'n', '-', 'G', 'B', 0, 'H', 0, 'i',
+        0x11, 1, 3, 't', 'a', '/', 'b',
+        0x51, 1, 9, 'T', 5, 'E', 'N', '-', 'g', 'b', 'H', 'e', 'y' };
+    ndef_text_parts told[4], marks[4], one;
+    ndef_part part = { 7, 7 };
+    ndef_size count = 77;
+    memset(told, 0x5a, sizeof told);
+    memcpy(marks, told, sizeof marks);
+    expect(ndef_poster_titles(payload, sizeof payload, told, 2, &count) == NDEF_NO_ROOM && count == 3, "titles: two are enough for three");
+    expect(memcmp(told, marks, sizeof marks) == 0, "titles: a small array is written");
+    expect(ndef_poster_titles(payload, sizeof payload, told, 3, &count) == NDEF_OK && count == 3, "titles: three aren't told");
+    expect(same_text(told, 11, 2, 13, 5, 0) && same_text(told + 1, 31, 5, 36, 4, 1) && same_text(told + 2, 52, 5, 57, 3, 0), "titles: they lie elsewhere");
+    expect(memcmp(told + 3, marks, sizeof told[3]) == 0, "titles: behind the last is another");
+    expect(ndef_title(payload, sizeof payload, octets("EN-GB"), 5, &one) == NDEF_OK && same_text(&one, 31, 5, 36, 4, 1), "titles: the first in a language is another");
+    expect(ndef_title(payload, sizeof payload, octets("De"), 2, &one) == NDEF_OK && same_text(&one, 11, 2, 13, 5, 0), "titles: the case of a language matters");
+    one = told[0];
+    expect(ndef_title(payload, sizeof payload, octets("en"), 2, &one) == NDEF_END && same_text(&one, 11, 2, 13, 5, 0), "titles: a part of a language is found");
+    expect(ndef_title(payload, sizeof payload - 1, octets("de"), 2, &one) == NDEF_BAD_ARGUMENT && same_text(&one, 11, 2, 13, 5, 0), "titles: a part of a poster has one");
+    expect(ndef_poster_media_type(payload, sizeof payload, &part) == NDEF_OK && same_part(&part, 44, 3), "titles: the media type lies elsewhere");
+    part.at = 7;
+    expect(ndef_poster_media_type(octets("\xd1\1\2U\1x"), 6, &part) == NDEF_END && part.at == 7, "titles: a poster without media type has one");
+    expect(ndef_poster_media_type(octets("\xd1\1\2T\1x"), 6, &part) == NDEF_BAD_ARGUMENT && part.at == 7, "titles: a poster without URI has a media type");
+    count = 77;
+    expect(ndef_poster_titles(octets("\xd1\1\2T\1x"), 6, told, 4, &count) == NDEF_BAD_ARGUMENT && count == 77, "titles: a poster without URI has titles");
+    expect(ndef_poster_titles(octets("\xd1\1\2U\1x"), 6, told, 0, &count) == NDEF_OK && count == 0, "titles: a poster without titles has some");
+}
+
+/* ---- a message written again */
+
+/* A text in chunks of 3, 0 and 2 bytes, with an empty id; a record in the long form, with an id; and bytes behind them. */
+static void rewritten(void) {
+    static const uint8_t chunked[] = {
+        0xb9, 1, 3, 0, 'T', 2, 'e', 'n', 0x36, 0, 0, 0x16, 0, 2, 'H', 'i',
+        0x4c, 1, 0, 0, 0, 1, 2, 'x', 'a', 'b', 7, 0xff };
+    static const uint8_t joined[] = { 0x91, 1, 5, 'T', 2, 'e', 'n', 'H', 'i', 0x5c, 1, 1, 2, 'x', 'a', 'b', 7 };
+    static const uint8_t wide[] = { 0x81, 1, 0, 0, 0, 5, 'T', 2, 'e', 'n', 'H', 'i', 0x4c, 1, 0, 0, 0, 1, 2, 'x', 'a', 'b', 7 };
+    uint8_t room[32];
+    ndef_size count = 77;
+    memset(room, 0xa5, sizeof room);
+    expect(ndef_rewrite(chunked, sizeof chunked, 0, room, 16, &count) == NDEF_NO_ROOM && count == 17, "rewritten: another length is needed");
+    expect(room[0] == 0xa5, "rewritten: a small room is written");
+    expect(ndef_rewrite(chunked, sizeof chunked, 0, room, 17, &count) == NDEF_OK && count == 17, "rewritten: a message isn't");
+    expect(memcmp(room, joined, sizeof joined) == 0 && room[17] == 0xa5, "rewritten: it is another message");
+    expect(ndef_rewrite(chunked, sizeof chunked, NDEF_WRITE_LONG, room, 22, &count) == NDEF_NO_ROOM && count == 23, "rewritten: the long form needs another length");
+    expect(ndef_rewrite(chunked, sizeof chunked, NDEF_WRITE_LONG, room, 23, &count) == NDEF_OK && count == 23, "rewritten: the long form isn't");
+    expect(memcmp(room, wide, sizeof wide) == 0 && room[23] == 0xa5, "rewritten: the long form is another message");
+    count = 77;
+    expect(ndef_rewrite(chunked, sizeof chunked, 1, room, 32, &count) == NDEF_BAD_ARGUMENT, "rewritten: the flag of the first is taken");
+    expect(ndef_rewrite(chunked, sizeof chunked - 2, 0, room, 32, &count) == NDEF_BAD_ARGUMENT, "rewritten: half a record is taken");
+    expect(ndef_rewrite(octets("\xd1\0\0"), 3, 0, room, 32, &count) == NDEF_BAD_ARGUMENT, "rewritten: a record without type is taken");
+    expect(count == 77 && memcmp(room, wide, sizeof wide) == 0, "rewritten: a wrong argument leaves something else");
+}
+
 int main(void) {
     make_message();
     pieces();
@@ -249,5 +358,8 @@ int main(void) {
     names();
     uris();
     built();
+    appended();
+    titles();
+    rewritten();
     return failed != 0;
 }

@@ -78,6 +78,7 @@ static void more_calls(int way, const uint8_t *none, ndef_part *no_parts, ndef_l
     const ndef_writing how = { NDEF_TNF_UNKNOWN, 0, 0 };
     ndef_record record;
     ndef_uri_parts uri;
+    ndef_text_parts text;
     ndef_built built = { 0, 0, 0 };
     answer(way, ndef_pieces(none, 0, 0, no_parts, 0, &count));
     answer(way, ndef_pieces((const uint8_t *)"\xd0\0", 3, 0, no_parts, 0, &count));
@@ -91,6 +92,11 @@ static void more_calls(int way, const uint8_t *none, ndef_part *no_parts, ndef_l
     answer(way, ndef_uri_view(none, 0, 0, &uri, &why));
     answer(way, ndef_uri_prefix(0, room, 0, &count));
     answer(way, ndef_append(&built, none, 0, none, 0, none, 0, &how, room, size, &count));
+    answer(way, ndef_append_text(&built, none, 0, none, 0, none, 0, 0, room, size, &count));
+    answer(way, ndef_append_uri(&built, none, 0, none, 0, room, size, &count));
+    answer(way, ndef_title(none, 0, none, 0, &text));
+    answer(way, ndef_rewrite(none, 0, 0, room, size, &count));
+    answer(way, ndef_title((const uint8_t *)"\xd1\1\1U\0", 5, none, 0, &text));
 }
 
 int main(void) {

@@ -212,6 +212,33 @@ static bool is_built() {
         ndef::message::check(second->octets())->record_count() == 2;
 }
 
+/// Texts and URIs are appended in place, and a poster tells its media type.
+static bool are_appended() {
+    std::uint8_t few[20];
+    ndef::builder builder{ndef::room(few)};
+    const auto first = builder.add_text("de", "Hi", ndef::encoding::utf8, "i");
+    if (!first || hex(first->octets()) != "D9010501" "54" "69" "0264654869") return false;
+    const auto failed = builder.add_text("f", "A", ndef::encoding::utf16);
+    if (failed || failed.error().what != NDEF_NO_ROOM || failed.error().needed != 21) return false;
+    const auto second = builder.add_uri("http://www.x");
+    return second && hex(second->octets()) == "99010501" "54" "69" "0264654869" "510102" "55" "0178";
+}
+
+/// A message is written again, its chunks joined.
+static bool is_rewritten() {
+    const std::uint8_t chunked[] = {0xb1, 1, 1, 'T', 0, 0x56, 0, 1, 'x'};
+    ndef::room room(memory);
+    const auto joined = ndef::rewrite(room, ndef::message::unchecked(chunked));
+    const auto wide = ndef::rewrite(room, ndef::message::unchecked(chunked), true);
+    return joined && hex(joined->octets()) == "D10102" "54" "0078" && wide && hex(wide->octets()) == "C10100000002" "54" "0078";
+}
+
+static bool has_media_type() {
+    const std::uint8_t payload[] = {0x91, 1, 2, 'U', 1, 'x', 0x51, 1, 3, 't', 'a', '/', 'b'};
+    const auto poster = ndef::poster::read(payload), other = ndef::poster::read(ndef::bytes(payload + 6, 7));
+    return poster && poster->media_type() == "a/b" && !other;
+}
+
 /// A select with an error.
 static bool has_error() {
     const std::uint8_t payload[] = {0x12, 0xd1, 3, 5, 'e', 'r', 'r', 2, 0, 0, 1, 4};
@@ -245,6 +272,9 @@ int main() {
     if (!are_refused()) failed++, std::cout << "a wrong value is written\n";
     if (!are_chunked()) failed++, std::cout << "a record in chunks is another one\n";
     if (!is_built()) failed++, std::cout << "a message is built otherwise\n";
+    if (!are_appended()) failed++, std::cout << "texts and URIs are appended otherwise\n";
+    if (!is_rewritten()) failed++, std::cout << "a message is written again otherwise\n";
+    if (!has_media_type()) failed++, std::cout << "a poster's media type is told otherwise\n";
     if (!has_error()) failed++, std::cout << "a select's error is told otherwise\n";
     std::cout << "values " << run << ", failed " << failed << '\n';
     return failed || !run;

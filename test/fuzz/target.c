@@ -122,6 +122,27 @@ static uint32_t check(const uint8_t *bytes, ndef_size length, const ndef_limits 
 
 /* ---- payloads: each is read as every type, and what is read is written and read again */
 
+/* A record that is appended in place, twice, is what ndef_append makes of the payload that was written; with a byte too
+ * few the message stays as it was. The call names `state`, `room`, `size` and `count`. */
+#define APPENDED(type, payload, payload_length, call) do { \
+    const ndef_writing how = { NDEF_TNF_WELL_KNOWN, 0, 0 }; \
+    ndef_built one = { 0, 0, 0 }, other = { 0, 0, 0 }; \
+    const ndef_size most = 2 * (16 + (payload_length)); \
+    uint8_t *room = filled(most, 0x5a), *same = filled(most, 0x5a); \
+    for (int i = 0; i < 2; i++) { \
+        ndef_built *state = &one; \
+        ndef_size size = most, count = 0, needed = 0; \
+        HOLDS(ndef_append(&other, (const uint8_t *)(type), 1, NULL, 0, payload, payload_length, &how, same, most, \
+                          &needed) == NDEF_OK); \
+        size = needed - 1; \
+        HOLDS((call) == NDEF_NO_ROOM && count == needed && one.records == (uint32_t)i); \
+        size = needed; \
+        HOLDS((call) == NDEF_OK && count == needed && memcmp(room, same, most) == 0); \
+        HOLDS(one.length == other.length && one.last_at == other.last_at && one.records == other.records); \
+    } \
+    free(room), free(same); \
+} while (0)
+
 static void look_at_text(const uint8_t *payload, ndef_size length) {
     ndef_text_parts parts, again;
     ndef_checked why, other;
@@ -141,6 +162,9 @@ static void look_at_text(const uint8_t *payload, ndef_size length) {
                                        flags, room, size, &count));
         HOLDS(written.status == NDEF_OK && ndef_text(written.bytes, written.length, &again, &why) == NDEF_OK);
         HOLDS(again.language_length == parts.language_length && again.utf16 == flags);
+        APPENDED("T", written.bytes, written.length,
+                 ndef_append_text(state, NULL, 0, payload + parts.language_at, parts.language_length, text.bytes,
+                                  text.length, flags, room, size, &count));
         MAKE(&back, ndef_text_in_utf8(written.bytes, written.length, room, size, &count, &why));
         HOLDS(is_same(&back, text.bytes, text.length));
         discard(&written), discard(&back);
@@ -175,6 +199,8 @@ static void look_at_uri(const uint8_t *payload, ndef_size length, uint32_t flags
     }
     MAKE(&written, ndef_write_uri(uri.bytes, uri.length, room, size, &count));
     HOLDS(written.status == NDEF_OK && written.length <= uri.length + 1);
+    APPENDED("U", written.bytes, written.length,
+             ndef_append_uri(state, NULL, 0, uri.bytes, uri.length, room, size, &count));
     MAKE(&back, ndef_uri(written.bytes, written.length, 0, room, size, &count, &why));
     HOLDS(is_same(&back, uri.bytes, uri.length));
     discard(&uri), discard(&written), discard(&back);
@@ -236,11 +262,42 @@ static void look_at_error(const uint8_t *payload, ndef_size length) {
     discard(&written);
 }
 
+/* The titles of a poster and its media type are the records of these types. */
+static void look_at_titles(const uint8_t *payload, ndef_size length, uint32_t status) {
+    ndef_text_parts *titles, told, first;
+    ndef_size number, found = 0, at = 0;
+    ndef_record record = { 0, 0, 0, 0, 0, 0, 0, 0, 0, 0, 0, 0 };
+    ndef_checked why;
+    ndef_part media = { 0, 0 };
+    LIST(titles, number, ndef_poster_titles(payload, length, array, size, &count));
+    HOLDS(status == NDEF_OK || number == 0);
+    const uint32_t answer = ndef_poster_media_type(payload, length, &media);
+    const uint32_t there = ndef_find_type(payload, length, 0, NDEF_TNF_WELL_KNOWN, (const uint8_t *)"t", 1, &record);
+    HOLDS(answer == (status == NDEF_OK ? there : (uint32_t)NDEF_BAD_ARGUMENT));
+    HOLDS(answer != NDEF_OK || (media.at == record.payload_at && media.length == record.payload_length));
+    record.last = status != NDEF_OK;
+    while (!record.last
+           && ndef_find_type(payload, length, at, NDEF_TNF_WELL_KNOWN, (const uint8_t *)"T", 1, &record) == NDEF_OK) {
+        const uint8_t *part = payload + record.payload_at;
+        HOLDS(found < number && ndef_text(part, record.payload_length, &told, &why) == NDEF_OK);
+        const ndef_text_parts *title = titles + found++;
+        HOLDS(title->language_at == record.payload_at + told.language_at);
+        HOLDS(title->text_at == record.payload_at + told.text_at && title->text_length == told.text_length);
+        HOLDS(title->language_length == told.language_length && title->utf16 == told.utf16);
+        HOLDS(ndef_title(payload, length, part + told.language_at, told.language_length, &first) == NDEF_OK);
+        HOLDS(first.language_at <= title->language_at && first.language_length == told.language_length);
+        at = record.end;
+    }
+    HOLDS(found == number);
+    free(titles);
+}
+
 static void look_at_poster(const uint8_t *payload, ndef_size length, uint32_t flags) {
     ndef_poster_parts parts;
     ndef_checked why;
     ndef_size count;
     uint8_t byte;
+    if (flags == NDEF_STANDARD) look_at_titles(payload, length, ndef_poster(payload, length, flags, &parts, &why));
     if (ndef_poster(payload, length, flags, &parts, &why) != NDEF_OK) return;
     HOLDS(is_within(parts.uri_at, parts.uri_length, length));
     const uint32_t status = ndef_uri(payload + parts.uri_at, parts.uri_length, flags, &byte, 0, &count, &why);
@@ -429,6 +486,35 @@ static ndef_size walk(const uint8_t *bytes, ndef_size length, uint32_t chunk, ui
     return at;
 }
 
+/* A message written again has the same records, each in one chunk, and stays as it is when it is written so once more. */
+static void rewrite(const uint8_t *bytes, ndef_size length, uint32_t records) {
+    for (uint32_t flags = 0; flags <= NDEF_WRITE_LONG; flags += NDEF_WRITE_LONG) {
+        struct made made, again, payload, same;
+        ndef_record one, other;
+        MAKE(&made, ndef_rewrite(bytes, length, flags, room, size, &count));
+        if (made.status != NDEF_OK) {
+            HOLDS(made.status == NDEF_BAD_ARGUMENT);
+            continue;
+        }
+        MAKE(&again, ndef_rewrite(made.bytes, made.length, flags, room, size, &count));
+        HOLDS(is_same(&again, made.bytes, made.length));
+        ndef_size at = 0, to = 0;
+        for (uint32_t i = 0; i < records; i++) {
+            HOLDS(ndef_record_at(bytes, length, at, &one) == NDEF_OK);
+            HOLDS(ndef_record_at(made.bytes, made.length, to, &other) == NDEF_OK);
+            HOLDS(other.pieces == 1 && other.tnf == one.tnf && other.last == one.last);
+            HOLDS(other.type_length == one.type_length && other.id_length == one.id_length);
+            MAKE(&payload, ndef_payload(bytes, length, at, room, size, &count));
+            MAKE(&same, ndef_payload(made.bytes, made.length, to, room, size, &count));
+            HOLDS(is_same(&same, payload.bytes, payload.length));
+            discard(&payload), discard(&same);
+            at = one.end, to = other.end;
+        }
+        HOLDS(to == made.length);
+        discard(&made), discard(&again);
+    }
+}
+
 int LLVMFuzzerTestOneInput(const uint8_t *data, size_t size) {
     if (size < 2) return 0;
     const ndef_size length = size - 2, cut = length ? data[1] % (length + 1) : 0;
@@ -440,6 +526,7 @@ int LLVMFuzzerTestOneInput(const uint8_t *data, size_t size) {
     const uint32_t status = check(bytes, length, data[0] & 4 ? &small : &usual, cut, &checked);
     const ndef_size end = walk(bytes, length, 1 + (data[0] >> 3), &records, &is_last);
     HOLDS(status != NDEF_OK || (is_last && end == checked.place && records == checked.records));
+    if (is_last) rewrite(bytes, length, records);
     look_at_payload(bytes, length, bytes, length);
     return 0;
 }

@@ -8,8 +8,7 @@ use Rattle.ndef_format.specs.Positions.{CanBeSpelled}
 use Rattle.ndef_piece.specs.Heads.{HeadsAreApart}
 use Rattle.ndef_piece.specs.Whole.{IsSplit, BeginWithPiece}
 use Rattle.ndef_c.specs.Walks.{BeginsWithRun, OneRecordIsThere, ends_message}
-use Rattle.std.specs.Prelude.{unwrap_or, Option, None, Some}
-use Rattle.std.specs.Option.{option_map}
+use Rattle.std.specs.Prelude.{unwrap_or}
 use Rattle.ndef_piece.specs.HeaderLaws.{id_count}
 
 -- ---- one piece

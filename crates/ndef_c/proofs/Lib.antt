@@ -14,7 +14,9 @@ pub mod Growing
 pub mod Handovers
 pub mod Linked
 pub mod LinkParts
+pub mod Made
 pub mod Messages
+pub mod Mixed
 pub mod OneCheck
 pub mod Passed
 pub mod PieceParts
@@ -23,6 +25,8 @@ pub mod Posters
 pub mod Prefixed
 pub mod Puts
 pub mod Records
+pub mod Rewritten
 pub mod Stepped
 pub mod Texts
+pub mod TitleTexts
 pub mod Walked

@@ -19,14 +19,16 @@ IsPartWithin size part = part.at + part.length ≤ size
 abbrev pub MayBeReference : (size : ℕ) → NdefPart → Type 0
 MayBeReference size part = IsPartWithin size part × (part.length < 256)
 
--- Connection Handover 1.2, Alternative Carrier record: a power state of two bits, a carrier data reference and up to 255 auxiliary ones
+-- Connection Handover 1.2, Alternative Carrier record: a power state of two bits, a carrier data reference and up to
+-- 255 auxiliary ones
 pub record MayBeAlternative (power : ℕ) (bytes : List ℕ) (parts : List NdefPart) : Type 0 where
   pub two_bits : power < 4
   pub some : 1 ≤ length parts
   pub few : length parts ≤ 256
   pub references : All (MayBeReference (length bytes)) parts
 
--- Connection Handover 1.2, Alternative Carrier record: it has this power state and these references, and nothing behind them
+-- Connection Handover 1.2, Alternative Carrier record: it has this power state and these references, and nothing behind
+-- them
 pub record IsAlternativeOf (power : ℕ) (bytes : List ℕ) (parts : List NdefPart) (v : AcValue) : Type 0 where
   pub value : IsAcValue v
   pub power_is : power_code v.power ≡ power
@@ -40,7 +42,8 @@ pub record WritesAlternative (v : AcValue) (payload : List ℕ) : Type 0 where
   pub stands : StandsForAc payload v
 
 -- what is written for that alternative carrier is given
-pub record GivesAlternative (power : ℕ) (bytes : List ℕ) (parts : List NdefPart) (before after : List ℕ) (count status : ℕ) : Type 0 where
+pub record GivesAlternative (power : ℕ) (bytes : List ℕ) (parts : List NdefPart) (before after : List ℕ)
+    (count status : ℕ) : Type 0 where
   pub alternative : AcValue
   pub is : IsAlternativeOf power bytes parts alternative
   pub gives : GivesFor WritesAlternative alternative before after count status

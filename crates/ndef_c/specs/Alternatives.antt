@@ -11,7 +11,8 @@ use Rattle.ndef_c.specs.declared.part.NdefPart.{NdefPart}
 abbrev pub references : AcValue → List (List ℕ)
 references v = v.reference ∷ v.auxiliary
 
--- Connection Handover 1.2, Alternative Carrier record: the payload is that of an alternative carrier: its power state, and how many references it has
+-- Connection Handover 1.2, Alternative Carrier record: the payload is that of an alternative carrier: its power state,
+-- and how many references it has
 pub record IsAlternativeAt (payload : List ℕ) (out : NdefAlternative) : Type 0 where
   pub in_set : IsAlternative payload
   pub short : length payload < 2 ^ 32
@@ -22,9 +23,11 @@ pub record IsAlternativeAt (payload : List ℕ) (out : NdefAlternative) : Type 0
 
 -- the name with the index lies there
 abbrev pub LiesAt : List ℕ → List (List ℕ) → ℕ → NdefPart → Type 0
-LiesAt payload names index part = (name : List ℕ) × (slice_get names index ≡ Some name) × Lies payload part.at part.length name
+LiesAt payload names index part = (name : List ℕ) × (slice_get names index ≡ Some name)
+    × Lies payload part.at part.length name
 
--- Connection Handover 1.2, Alternative Carrier record: the payload is that of an alternative carrier, and where the reference with the index lies
+-- Connection Handover 1.2, Alternative Carrier record: the payload is that of an alternative carrier, and where the
+-- reference with the index lies
 pub record IsReferenceAt (payload : List ℕ) (index : ℕ) (out : NdefPart) : Type 0 where
   pub in_set : IsAlternative payload
   pub short : length payload < 2 ^ 32
@@ -32,7 +35,8 @@ pub record IsReferenceAt (payload : List ℕ) (index : ℕ) (out : NdefPart) : T
   pub stands : StandsForAc payload alternative
   pub lies : LiesAt payload (references alternative) index out
 
--- Connection Handover 1.2, Alternative Carrier record: the payload is that of an alternative carrier with no such reference
+-- Connection Handover 1.2, Alternative Carrier record: the payload is that of an alternative carrier with no such
+-- reference
 pub record HasNoReference (payload : List ℕ) (index : ℕ) : Type 0 where
   pub in_set : IsAlternative payload
   pub short : length payload < 2 ^ 32

@@ -79,3 +79,13 @@ pub record GivesAppended (octets : List ℕ) (begins : ℕ → Type 0) (before a
       × (after.room ≡ reopened before ++ (octets ++ drop count before.room))
       × IsGrown octets begins before.built after.built
   pub too_small : length before.room < count → (status ≡ NO_ROOM) × (after ≡ before)
+
+-- a well-known record is asked for in one piece, in the short form where that tells its length
+abbrev pub whole : NdefWriting
+whole = record { tnf = 1; flags = 0; chunk = 0 }
+
+-- the record is written so behind the message
+abbrev pub GivesWhole : Item → (before after : Holding) (count status : ℕ) → Type 0
+GivesWhole m before after count status =
+    GivesAppended (appended_octets (is_first_of before.built) whole m)
+    (AppendedBegins (is_first_of before.built) whole m) before after count status

@@ -15,7 +15,8 @@ pub record IsCarrierAt (payload : List ℕ) (out : NdefCarrier) : Type 0 where
   pub kind : Lies payload out.type_at out.type_length carrier.kind
   pub carried : Lies payload out.data_at out.data_length carrier.carried
 
--- Connection Handover 1.2, Handover Carrier record: a format of three bits and a type of up to 255 octets that leave room in a payload
+-- Connection Handover 1.2, Handover Carrier record: a format of three bits and a type of up to 255 octets that leave
+-- room in a payload
 pub record MayBeCarrier (format : ℕ) (kind carried : List ℕ) : Type 0 where
   pub three_bits : format < 8
   pub short : length kind < 256

@@ -30,7 +30,8 @@ abbrev pub MayBeSet : NdefLimits → Type 0
 MayBeSet n = AreInRange (limits_of n) × (n.flags ≤ 3)
 
 -- NDEF 1.0, messages: the bytes begin with a message of so many bytes and records
-pub record TakesMessage (set : Sets) (holds : Conditions) (limits : LimitValues) (bytes : List ℕ) (out : NdefChecked) : Type 0 where
+pub record TakesMessage (set : Sets) (holds : Conditions) (limits : LimitValues) (bytes : List ℕ)
+    (out : NdefChecked) : Type 0 where
   pub viewed : Viewed
   pub views : Views set holds limits bytes (Ok viewed)
   pub place : out.place ≡ viewed.taken
@@ -38,7 +39,8 @@ pub record TakesMessage (set : Sets) (holds : Conditions) (limits : LimitValues)
   pub reason : out.reason ≡ 0
 
 -- they are refused, there and for that reason
-pub record RefusesAt (set : Sets) (holds : Conditions) (limits : LimitValues) (bytes : List ℕ) (out : NdefChecked) : Type 0 where
+pub record RefusesAt (set : Sets) (holds : Conditions) (limits : LimitValues) (bytes : List ℕ)
+    (out : NdefChecked) : Type 0 where
   pub refusal : Refusal
   pub refused : Refuses set holds limits bytes refusal
   pub place : out.place ≡ refusal.at
@@ -48,4 +50,5 @@ pub record RefusesAt (set : Sets) (holds : Conditions) (limits : LimitValues) (b
 -- one or the other, as the status says
 abbrev pub ChecksTo : Sets → Conditions → LimitValues → List ℕ → (status : ℕ) → NdefChecked → Type 0
 ChecksTo set holds limits bytes status out =
-    ((status ≡ OK) × TakesMessage set holds limits bytes out) ⊎ ((status ≡ REFUSED) × RefusesAt set holds limits bytes out)
+    ((status ≡ OK) × TakesMessage set holds limits bytes out)
+    ⊎ ((status ≡ REFUSED) × RefusesAt set holds limits bytes out)

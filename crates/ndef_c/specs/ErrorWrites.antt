@@ -8,7 +8,8 @@ use Rattle.ndef_c.specs.Payloads.{GivesFor}
 abbrev pub error_of : (reason : ℕ) → List ℕ → ErrorValue
 error_of reason detail = record { reason = reason; detail = detail }
 
--- Connection Handover 1.2, Error record: a reason of one octet and the data that go with it, which leave room in a payload
+-- Connection Handover 1.2, Error record: a reason of one octet and the data that go with it, which leave room in a
+-- payload
 pub record MayBeError (reason : ℕ) (detail : List ℕ) : Type 0 where
   pub error : IsErrorValue (error_of reason detail)
   pub fits : 1 + length detail < 2 ^ 32

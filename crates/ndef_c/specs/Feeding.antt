@@ -1,15 +1,11 @@
 -- What is answered of a message whose bytes come in parts.
-use Rattle.std.specs.Prelude.{◌≡◌, ◌≢◌, ℕ, ◌<◌, ◌≤◌, ◌==◌, ◌⊎◌, ◌↔◌, if◌then◌else◌, List, length, take}
+use Rattle.std.specs.Prelude.{◌≡◌, ◌≢◌, ℕ, ◌<◌, ◌≤◌, ◌==◌, ◌⊎◌, ◌↔◌, if◌then◌else◌, List, length}
 use Rattle.ndef_format.specs.Records.{AreOctets}
 use Rattle.ndef_format.specs.Limits.{LimitValues}
 use Rattle.ndef_format.specs.Payloads.{Sets, IsTypedPayload}
 use Rattle.ndef_format.specs.Reasons.{Conditions, NoReason}
-use Rattle.ndef_lang.specs.declared.language.Language.{Ghosts}
 use Rattle.ndef_format.specs.NestedReasons.{TypedReason}
-use Rattle.ndef_format.specs.Accepted.{IsAccepted, IsViable}
-use Rattle.ndef_message.specs.Feed.{Fronts, Leads}
-use Rattle.ndef_message.specs.Machine.Checkers.{CheckerReached, checker_limits}
-use Rattle.ndef_message.specs.declared.checker.Checker.{Checker}
+use Rattle.ndef_message.specs.Machine.Taken.{WasFed}
 use Rattle.ndef_c.specs.Checks.{limits_of, MayBeSet, ChecksTo}
 use Rattle.ndef_c.specs.declared.status.TheConstants.{OK, REFUSED, BAD_ARGUMENT, MORE}
 use Rattle.ndef_c.specs.declared.limits.NdefLimits.{NdefLimits}
@@ -23,18 +19,7 @@ pub record SoFar : Type 0 where
   pub limits : NdefLimits
   pub bytes : List ℕ
 
--- So many of the bytes led there: all of them, or the first that are a message, or the first that can't be completed to one.
-pub record HaveCome {Point : Type 0} (set : Sets) (limits : LimitValues) (reached : Fronts Point) (bytes : List ℕ) : Type 0 where
-  pub count : ℕ
-  pub within : count ≤ length bytes
-  pub led : Leads reached (take count bytes)
-  pub settled : (count ≡ length bytes) ⊎ IsAccepted set limits (take count bytes) ⊎ (¬ IsViable set limits (take count bytes))
-
--- a checker with these limits was fed these bytes
-abbrev pub WasFed : {L : Type 0} {language : Ghosts L} → Checker L language → LimitValues → List ℕ → Type 0
-WasFed {language = language} c limits bytes = (checker_limits c ≡ limits) × HaveCome language.set limits (CheckerReached c) bytes
-
--- it was, where the limits are any; 2 asks for a look into no payload
+-- a checker with these limits was fed these bytes, where the limits are any; 2 asks for a look into no payload
 abbrev pub HasLooked : Looking → NdefLimits → List ℕ → Type 0
 HasLooked looking.Nothing limits bytes = ¬ MayBeSet limits
 HasLooked (looking.Typed c) limits bytes = MayBeSet limits × (limits.flags < 2) × WasFed c (limits_of limits) bytes
@@ -52,9 +37,10 @@ BeginsTo limits status = (MayBeSet limits × (status ≡ OK)) ⊎ ((¬ MayBeSet 
 abbrev pub checked_status : ℕ → ℕ
 checked_status status = if status == MORE then REFUSED else status
 
--- NDEF 1.0, messages: what is answered of all the bytes so far is what a check of them answers, and that more are wanted where they
--- are refused only because they end.
-pub record FeedsTo (set : Sets) (holds : Conditions) (limits : LimitValues) (bytes : List ℕ) (status : ℕ) (out : NdefChecked) : Type 0 where
+-- NDEF 1.0, messages: what is answered of all the bytes so far is what a check of them answers, and that more are
+-- wanted where they are refused only because they end.
+pub record FeedsTo (set : Sets) (holds : Conditions) (limits : LimitValues) (bytes : List ℕ) (status : ℕ)
+    (out : NdefChecked) : Type 0 where
   pub checks : ChecksTo set holds limits bytes (checked_status status) out
   pub more : (status ≡ MORE) ↔ ((status ≢ OK) × (out.place ≡ length bytes))
 
@@ -69,7 +55,8 @@ NoCondition kind records profile s b = NoReason
 pub record AnswersFed (limits : NdefLimits) (bytes : List ℕ) (status : ℕ) (before after : NdefChecked) : Type 0 where
   pub bad : (status ≡ BAD_ARGUMENT) ↔ (¬ MayBeSet limits)
   pub kept : status ≡ BAD_ARGUMENT → after ≡ before
-  pub typed : MayBeSet limits → limits.flags < 2 → FeedsTo IsTypedPayload TypedReason (limits_of limits) bytes status after
+  pub typed : MayBeSet limits → limits.flags < 2
+      → FeedsTo IsTypedPayload TypedReason (limits_of limits) bytes status after
   pub opaque : MayBeSet limits → 2 ≤ limits.flags → FeedsTo AnyPayload NoCondition (limits_of limits) bytes status after
 
 -- ---- law
@@ -77,4 +64,5 @@ pub record AnswersFed (limits : NdefLimits) (bytes : List ℕ) (status : ℕ) (b
 -- A check of all the bytes so far answers the same, but that it has no status for more that are wanted.
 abbrev pub FeedsAreChecks : Sets → Conditions → Type 0
 FeedsAreChecks set holds = (limits : LimitValues) (bytes : List ℕ) (fed checked : ℕ) (out other : NdefChecked)
-    → FeedsTo set holds limits bytes fed out → ChecksTo set holds limits bytes checked other → (checked ≡ checked_status fed) × (other ≡ out)
+    → FeedsTo set holds limits bytes fed out → ChecksTo set holds limits bytes checked other
+    → (checked ≡ checked_status fed) × (other ≡ out)

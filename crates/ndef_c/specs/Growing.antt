@@ -1,6 +1,9 @@
 -- What a room holds of the records that are appended to it.
-use Rattle.std.specs.Prelude.{◌≡◌, ℕ, ◌+◌, ◌≤◌, Bool, true, false, List, [], ◌∷◌, ◌++◌, length, take}
-use Rattle.ndef_format.specs.Messages.{Item}
+use Rattle.std.specs.Prelude.{◌≡◌, ℕ, ◌+◌, ◌≤◌, Bool, true, false, List, [], ◌∷◌, ◌++◌, length, map, take}
+use Rattle.std.specs.List.{AllByRecursion}
+use Rattle.ndef_format.specs.Canonical.{IsItem}
+use Rattle.ndef_format.specs.Messages.{Item, Spells}
+use Rattle.ndef_format.specs.declared.profile.Profile.{Profile}
 use Rattle.ndef_c.specs.Built.{AppendedBegins, GivesAppended, Holding, IsUnbuilt, appended_octets, is_first_of}
 use Rattle.ndef_c.specs.Writes.{form_of, record_octets, size_of}
 use Rattle.ndef_c.specs.declared.status.TheConstants.{OK}
@@ -22,7 +25,8 @@ followed_octets first [] = []
 followed_octets first (a ∷ others) =
     record_octets (form_of a.how) first false (size_of a.how) a.item ++ followed_octets false others
 
--- NDEF 1.0, messages: the room begins with these records and a last one, each written as it was asked, and so it is told
+-- NDEF 1.0, messages: the room begins with these records and a last one, each written as it was asked, and so it is
+-- told
 pub record HoldsRecords (records : List Appended) (last : Appended) (h : Holding) : Type 0 where
   pub within : h.built.length ≤ length h.room
   pub bytes : take h.built.length h.room
@@ -49,3 +53,9 @@ FirstIsHeld = (a : Appended) (before after : Holding) (count : ℕ) → IsUnbuil
 abbrev pub OthersAreHeld : Type 0
 OthersAreHeld = (records : List Appended) (last a : Appended) (before after : Holding) (count : ℕ)
     → HoldsRecords records last before → IsAppended a before after count → HoldsRecords (records ++ last ∷ []) a after
+
+-- NDEF 1.0, messages: The records that a room holds, each in the form and the pieces that were asked, are a message.
+abbrev pub HeldAreAMessage : Type 0
+HeldAreAMessage = (profile : Profile) (records : List Appended) (last : Appended) (h : Holding)
+    → HoldsRecords records last h → AllByRecursion (λ a. IsItem a.item) (records ++ last ∷ [])
+    → Spells profile (map (λ a. a.item) (records ++ last ∷ [])) (take h.built.length h.room)

@@ -17,7 +17,8 @@ AsksForHandover number Request = number ≡ REQUEST
 AsksForHandover number Select = number ≡ SELECT
 AsksForHandover number _ = ⊥
 
--- Connection Handover 1.2, Handover Request and Select records: a version octet and a message that a strict reader takes, which leave room in a payload
+-- Connection Handover 1.2, Handover Request and Select records: a version octet and a message that a strict reader
+-- takes, which leave room in a payload
 pub record MayBeHandover (number major minor : ℕ) (message : List ℕ) : Type 0 where
   pub table : Table
   pub asked : AsksForHandover number table

@@ -21,11 +21,13 @@ use Rattle.ndef_c.specs.declared.select.NdefSelect.{NdefSelect}
 abbrev pub IsHandoverPayload : List ℕ → Type 0
 IsHandoverPayload payload = IsNest Request MOST_RECORDS Standard payload ⊎ IsNest Select MOST_RECORDS Standard payload
 
--- Connection Handover 1.2, Handover Request and Select records: behind the version octet these records, a select may have none
+-- Connection Handover 1.2, Handover Request and Select records: behind the version octet these records, a select may
+-- have none
 abbrev pub HasMessage : Profile → List Item → List ℕ → Type 0
 HasMessage profile items payload = MayBeInPieces profile items (drop 1 payload)
 
--- Connection Handover 1.2, Handover Request and Select records: the message is these records, each with a payload of its kind, and those are there that must be
+-- Connection Handover 1.2, Handover Request and Select records: the message is these records, each with a payload of
+-- its kind, and those are there that must be
 pub record AreHandoverContents (table : Table) (profile : Profile) (items : List Item) (message : List ℕ) : Type 0 where
   pub pieces : MayBeInPieces profile items message
   pub contents : HasContents table profile items
@@ -35,7 +37,8 @@ pub record TellsVersion (payload : List ℕ) (major minor : ℕ) : Type 0 where
   pub octet : slice_index payload 0 ≡ 16 * major + minor
   pub four_bits : minor < 16
 
--- Connection Handover 1.2, Handover Request record: the payload is that of a request: its version, its random number, and its alternative carriers
+-- Connection Handover 1.2, Handover Request record: the payload is that of a request: its version, its random number,
+-- and its alternative carriers
 pub record IsRequestAt (profile : Profile) (payload : List ℕ) (out : NdefRequest) : Type 0 where
   pub in_set : IsNest Request MOST_RECORDS profile payload
   pub short : length payload < 2 ^ 32
@@ -51,7 +54,8 @@ TellsError payload None has reason at count = (has ≡ 0) × (reason ≡ 0) × (
 TellsError payload (Some i) has reason at count =
     (has ≡ 1) × (v : ErrorValue) × StandsForError i.payload v × (reason ≡ v.reason) × Lies payload at count v.detail
 
--- Connection Handover 1.2, Handover Select record: the payload is that of a select: its version, its first error, and its alternative carriers
+-- Connection Handover 1.2, Handover Select record: the payload is that of a select: its version, its first error, and
+-- its alternative carriers
 pub record IsSelectAt (profile : Profile) (payload : List ℕ) (out : NdefSelect) : Type 0 where
   pub in_set : IsNest Select MOST_RECORDS profile payload
   pub short : length payload < 2 ^ 32

@@ -33,7 +33,8 @@ HasRuns bytes = (runs : List Run) × BeginsWithRuns runs bytes
 -- these runs lie one behind another from a place to another
 abbrev pub LieBetween : List ℕ → (at : ℕ) → List Run → (end : ℕ) → Type 0
 LieBetween bytes at [] end = at ≡ end
-LieBetween bytes at (r ∷ rs) end = (next : ℕ) × BeginsWithRun r (drop next bytes) (drop at bytes) × LieBetween bytes next rs end
+LieBetween bytes at (r ∷ rs) end = (next : ℕ) × BeginsWithRun r (drop next bytes) (drop at bytes)
+    × LieBetween bytes next rs end
 
 -- the run with the index begins at the place, behind those before it
 pub record IsPlaceOf (bytes : List ℕ) (runs : List Run) (p : Place) : Type 0 where
@@ -66,7 +67,8 @@ pub record MayHaveLinks (bytes payload : List ℕ) : Type 0 where
   pub short : length payload < 2 ^ 32
   pub message : HasRuns bytes
 
--- Connection Handover 1.2, Alternative Carrier record: the one with the index lies there in the payload, and refers to that record
+-- Connection Handover 1.2, Alternative Carrier record: the one with the index lies there in the payload, and refers to
+-- that record
 pub record IsLinkAt (bytes payload : List ℕ) (index : ℕ) (out : NdefLink) : Type 0 where
   pub handover : IsHandoverPayload payload
   pub short : length payload < 2 ^ 32
@@ -110,11 +112,14 @@ pub record IsLink (payload : List ℕ) (link : Link) (out : NdefLink) : Type 0 w
 -- the links that are told are these
 pub record AreLinksTold (bytes payload : List ℕ) (links : List Link) : Type 0 where
   pub may : MayHaveLinks bytes payload
-  pub each : (index : ℕ) (out : NdefLink) → IsLinkAt bytes payload index out → (link : Link) × (slice_get links index ≡ Some link) × IsLink payload link out
+  pub each : (index : ℕ) (out : NdefLink) → IsLinkAt bytes payload index out → (link : Link)
+      × (slice_get links index ≡ Some link) × IsLink payload link out
   pub end : (index : ℕ) → HasNoLink bytes payload index → length links ≤ index
 
 -- Of a message that a check takes and its handover the links are told that it has.
 abbrev pub LinksAreTold : Sets → Conditions → Type 0
-LinksAreTold set holds = (limits : LimitValues) (bytes : List ℕ) (v : Viewed) (handover : Item) (links : List Link) → Views set holds limits bytes (Ok v)
-    → IsHandoverRecord handover → length handover.payload < 2 ^ 32 → LinksOf limits.profile (map run_record v.runs) (Some handover) (Ok links)
+LinksAreTold set holds = (limits : LimitValues) (bytes : List ℕ) (v : Viewed) (handover : Item) (links : List Link)
+    → Views set holds limits bytes (Ok v)
+    → IsHandoverRecord handover → length handover.payload < 2 ^ 32
+    → LinksOf limits.profile (map run_record v.runs) (Some handover) (Ok links)
     → AreLinksTold bytes handover.payload links

@@ -39,7 +39,8 @@ pub record IsTextAt (payload : List ℕ) (out : NdefText) : Type 0 where
   pub utf16 : out.utf16 ≡ bit (is_wide (slice_index payload 0))
 
 -- what is written for the value is given
-pub record GivesFor {V : Type 0} (written : Writing V) (value : V) (before after : List ℕ) (count status : ℕ) : Type 0 where
+pub record GivesFor {V : Type 0} (written : Writing V) (value : V) (before after : List ℕ)
+    (count status : ℕ) : Type 0 where
   pub payload : List ℕ
   pub is : written value payload
   pub short : length payload < 2 ^ 32

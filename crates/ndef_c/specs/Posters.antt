@@ -15,11 +15,13 @@ use Rattle.ndef_c.specs.declared.poster.NdefPoster.{NdefPoster}
 
 -- RTD Smart Poster 1.0: the payload is a poster of these records
 abbrev pub HasPosterRecords : Profile → List Item → List ℕ → Type 0
-HasPosterRecords profile items payload = (runs : List Run) × IsNestedBy SmartPoster MOST_RECORDS profile runs items payload
+HasPosterRecords profile items payload = (runs : List Run)
+    × IsNestedBy SmartPoster MOST_RECORDS profile runs items payload
 
 -- RTD Smart Poster 1.0: what the first action record of a poster says, as a number
 abbrev pub TellsAction : List Item → (has number : ℕ) → Type 0
-TellsAction items has number = (a : Option ℕ) × Says kinds.Action action_in items (option_map action_of a) × TellsNumber a has number
+TellsAction items has number = (a : Option ℕ) × Says kinds.Action action_in items (option_map action_of a)
+    × TellsNumber a has number
 
 -- RTD Smart Poster 1.0: what the first size record of a poster says
 abbrev pub TellsSize : List Item → (has number : ℕ) → Type 0

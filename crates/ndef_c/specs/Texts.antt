@@ -32,10 +32,14 @@ encoding_of flags = if flags == 1 then Utf16 else Utf8
 abbrev pub asked_text : (flags : ℕ) (language text : List ℕ) → TextValue
 asked_text flags language text = record { encoding = encoding_of flags; language = language; text = chars text }
 
--- RTD Text 1.0: a language code of up to 63 octets of ASCII and a text, given in UTF-8, that leave room in a payload
-pub record MayBeText (flags : ℕ) (language text : List ℕ) : Type 0 where
+-- RTD Text 1.0: a language code of up to 63 octets of ASCII and a text, given in UTF-8
+pub record MayBeSpelled (flags : ℕ) (language text : List ℕ) : Type 0 where
   pub known : flags ≤ 1
   pub short : length language ≤ 63
   pub ascii : IsAscii language
   pub utf8 : IsUtf8 text
+
+-- RTD Text 1.0: and they leave room in a payload
+pub record MayBeText (flags : ℕ) (language text : List ℕ) : Type 0 where
+  pub spelled : MayBeSpelled flags language text
   pub fits : length (text_payload (asked_text flags language text)) < 2 ^ 32

@@ -32,7 +32,8 @@ pub record Lies (bytes : List ℕ) (at count : ℕ) (part : List ℕ) : Type 0 w
   pub are : take count (drop at bytes) ≡ part
   pub count_is : count ≡ length part
 
--- NDEF 1.0, record layout and chunked payloads: this is the record at the place, and where its parts lie, one behind another
+-- NDEF 1.0, record layout and chunked payloads: this is the record at the place, and where its parts lie, one behind
+-- another
 pub record IsRecordAt (bytes : List ℕ) (at : ℕ) (r : NdefRecord) : Type 0 where
   pub run : Run
   pub begins : BeginsWithRun run (drop r.end bytes) (drop at bytes)
@@ -60,7 +61,8 @@ pub record GivesPayload (bytes : List ℕ) (at : ℕ) (before after : List ℕ) 
 
 -- At a place begins one record, and it ends at one place.
 abbrev pub OneRecordIsThere : Type 0
-OneRecordIsThere = (r s : Run) (x y bytes : List ℕ) → BeginsWithRun r x bytes → BeginsWithRun s y bytes → (r ≡ s) × (x ≡ y)
+OneRecordIsThere = (r s : Run) (x y bytes : List ℕ) → BeginsWithRun r x bytes → BeginsWithRun s y bytes → (r ≡ s)
+    × (x ≡ y)
 
 -- no run follows
 abbrev pub is_last_run : List Run → Bool
@@ -71,9 +73,11 @@ is_last_run (r ∷ rs) = false
 abbrev pub AreWalked : List ℕ → (at : ℕ) → List Run → (end : ℕ) → Type 0
 AreWalked bytes at [] end = at ≡ end
 AreWalked bytes at (r ∷ rs) end =
-    (next : ℕ) × BeginsWithRun r (drop next bytes) (drop at bytes) × (ends_message r.initial r.later ≡ is_last_run rs) × AreWalked bytes next rs end
+    (next : ℕ) × BeginsWithRun r (drop next bytes) (drop at bytes) × (ends_message r.initial r.later ≡ is_last_run rs)
+    × AreWalked bytes next rs end
 
 -- What a check takes is walked from 0 to its end, in bytes that go no less far.
 abbrev pub ChecksAreWalked : Sets → Conditions → Type 0
-ChecksAreWalked set holds = (limits : LimitValues) (input : List ℕ) (v : Viewed) (count : ℕ) → Views set holds limits input (Ok v)
+ChecksAreWalked set holds = (limits : LimitValues) (input : List ℕ) (v : Viewed) (count : ℕ)
+    → Views set holds limits input (Ok v)
     → v.taken ≤ count → AreWalked (take count input) 0 v.runs v.taken

@@ -79,4 +79,5 @@ one_by_one form first size (m ∷ ms) = record_octets form first (is_nil ms) siz
 
 -- Records that are written one after another are the bytes of their message.
 abbrev pub RecordsMakeAMessage : Type 0
-RecordsMakeAMessage = (form : Form) (size : Option ℕ) (m : List Item) → one_by_one form true size m ≡ cut_octets form size m
+RecordsMakeAMessage = (form : Form) (size : Option ℕ) (m : List Item)
+    → one_by_one form true size m ≡ cut_octets form size m

@@ -1,9 +1,11 @@
 //! A message that is built in the room of its caller, whole behind each record.
 ghost use Rattle.std.specs.Prelude.{◌≡◌, ◌≢◌, ◌≤◌, ◌↔◌, length, take, drop, Some, IsTrue};
 ghost use Rattle.ndef_format.specs.Canonical.{HasLengths};
-ghost use Rattle.ndef_c.specs.Built.{AppendedBegins, EndsWithPiece, GivesAppended, MayBeAppended, MayBeGrown, appended_octets, held, is_first_of, reopened};
+ghost use Rattle.ndef_c.specs.Built.{AppendedBegins, EndsWithPiece, GivesAppended, GivesWhole, MayBeAppended, MayBeGrown, appended_octets, held, is_first_of, reopened};
+ghost use Rattle.ndef_c.specs.Made.{IsMade, made_item};
 ghost use Rattle.ndef_c.specs.Writes.{LastBegins, asked, item_of, octets_by};
 
+use crate::making::{Ends, Made, made_length, put_made};
 use crate::status::{BAD_ARGUMENT, NO_ROOM, OK};
 use crate::writing::{NdefWriting, Parts, Way, asked_parts, put_record, record_length, way_of};
 use ndef_piece::{heads_are_apart, whole_piece};
@@ -42,7 +44,7 @@ fn ends_with_piece(bytes: &[u8], at: u64) -> bool
 }
 
 /// Whether a record can be appended.
-fn may_grow(room: &[u8], built: &NdefBuilt) -> bool
+pub(crate) fn may_grow(room: &[u8], built: &NdefBuilt) -> bool
     ensures { IsTrue result ↔ MayBeGrown (held room.now built.now) }
 {
     if built.length == 0 {
@@ -92,6 +94,35 @@ fn append(
     *built = NdefBuilt {
         length: end as u64,
         last_at: last as u64,
+        records: built.records + 1,
+    };
+    OK
+}
+
+/// Appends a well-known record in one piece, its payload written in place.
+pub(crate) fn append_made(
+    room: &mut [u8],
+    built: &mut NdefBuilt,
+    made: &Made<'_>,
+    count: &mut usize,
+) -> u32
+    requires grow { MayBeGrown (held room.old built.old) }
+    requires made { IsMade made.now }
+    ensures { GivesWhole (made_item made.now) (held room.old built.old) (held room.new built.new) count.new result }
+{
+    let start = built.length as usize;
+    let first = built.length == 0;
+    let ends = Ends { first, last: true };
+    let end = start + made_length(made, ends);
+    *count = end;
+    if room.len() < end {
+        return NO_ROOM;
+    }
+    reopen(room, built);
+    let _end = put_made(room, start, made, ends);
+    *built = NdefBuilt {
+        length: end as u64,
+        last_at: start as u64,
         records: built.records + 1,
     };
     OK

@@ -4,7 +4,8 @@ ghost use Rattle.std.specs.Borrow.{full_share, sem};
 ghost use Rattle.std.specs.Ptr.{lies_at, room_at};
 ghost use Rattle.ndef_format.specs.Limits.{LimitValues};
 ghost use Rattle.ndef_c.specs.Checks.{limits_of, MayBeSet};
-ghost use Rattle.ndef_c.specs.Feeding.{AnswersFed, BeginsTo, FeedsTo, WasFed, IsFed, SoFar};
+ghost use Rattle.ndef_c.specs.Feeding.{AnswersFed, BeginsTo, FeedsTo, IsFed, SoFar};
+ghost use Rattle.ndef_message.specs.Machine.Taken.{WasFed};
 ghost use Rattle.ndef_c.specs.contracts.feeding.NdefChecker as NdefCheckers;
 
 use crate::checking::NdefChecked;
@@ -12,7 +13,7 @@ use crate::limits::{NdefLimits, limits_of};
 use crate::refusal::refused_by;
 use crate::status::{BAD_ARGUMENT, MORE, OK, REFUSED};
 use ndef_lang::{Language, Opaque, OuterLanguage};
-use ndef_message::{Checker, Fed, answers_are_told, checkers_are_told, places_are_told};
+use ndef_message::{Checker, Fed, places_are_told};
 use ndef_nest::Typed;
 use ndef_value::{Reason, Refusal};
 use std::mem::{align_of, size_of};
@@ -46,10 +47,7 @@ fn feed<L: OuterLanguage>(checker: &mut Checker<L>, bytes: &[u8], out: &mut Ndef
         × FeedsTo L.set L.holds limits (front ++ bytes.now) result out.new }
 {
     places_are_told::<L>();
-    answers_are_told::<L>();
-    let fed = checker.feed(bytes);
-    checkers_are_told(checker);
-    match fed {
+    match checker.feed(bytes) {
         Fed::More => {
             *out = refused_by(Refusal {
                 at: checker.place(),

@@ -11,7 +11,7 @@ use ndef_types::accept;
 use ndef_value::Profile;
 
 /// Whether the payload is one of this kind, as the standard reads it.
-fn is_nest(kind: Kind, payload: &[u8]) -> bool
+pub(crate) fn is_nest(kind: Kind, payload: &[u8]) -> bool
     ensures { IsTrue result
         ↔ (IsNest (table_of kind) MOST_RECORDS Standard payload.now × (length payload.now < 2 ^ 32)) }
 {

@@ -1,12 +1,12 @@
 //! What holds of the calls together.
 ghost use Rattle.ndef_c.specs.Feeding.{FeedsAreChecks};
-ghost use Rattle.ndef_c.specs.Growing.{FirstIsHeld, OthersAreHeld};
+ghost use Rattle.ndef_c.specs.Growing.{FirstIsHeld, HeldAreAMessage, OthersAreHeld};
 ghost use Rattle.ndef_c.specs.Links.{LinksAreTold};
 ghost use Rattle.ndef_c.specs.Walks.{ChecksAreWalked, OneRecordIsThere};
 ghost use Rattle.ndef_c.specs.Writes.{RecordsMakeAMessage};
 
 use ndef_lang::OuterLanguage;
-use ndef_message::{answers_are_told, views_are_exact};
+use ndef_message::{answers_are_told, views_are_exact, writing_is_spelling};
 use ndef_nest::strict_contents_are_read;
 use ndef_piece::heads_are_apart;
 use ndef_types::alternatives_are_exact;
@@ -45,6 +45,13 @@ pub fn appended_records_are_held()
     ensures first { FirstIsHeld }
     ensures others { OthersAreHeld }
 {}
+
+/// The records that a room holds are a message, whatever form and pieces were asked for each of them.
+pub fn held_records_are_a_message()
+    ensures { HeldAreAMessage }
+{
+    writing_is_spelling();
+}
 
 /// Of a message that a check takes and its handover `ndef_link_at` tells the links that the message has,
 /// in their order, and no more.

@@ -8,10 +8,13 @@
 //! - `pieces.rt`, `specs/Pieces.antt`: where its pieces lie. `specs/Arrays.antt`: what is written to an array.
 //! - `finding.rt`, `specs/Finding.antt`: the first record with a type or an id.
 //! - `writing.rt`, `specs/Writes.antt`: a record written. `building.rt`, `specs/Built.antt`, `specs/Growing.antt`: a
-//!   message built in a room.
+//!   message built in a room. `making.rt`, `specs/Made.antt`, `content.rt`, `specs/Contents.antt`: a record whose
+//!   payload is written in place. `appending.rt`, `specs/Appending.antt`: texts and URIs appended so.
+//! - `rewriting.rt`, `specs/Rewrites.antt`: a message written again, each record in one piece.
 //! - `uri.rt`, `uri_view.rt`, `text.rt`, `carrier.rt`, `alternative.rt`, `request.rt`, `select.rt`, `poster.rt`,
 //!   `error.rt`: payloads of each kind. `numbers.rt` and `alternative_writing.rt`, `error_writing.rt`,
 //!   `handover_writing.rt`: those of records within posters and handovers, written.
+//! - `titles.rt`, `specs/Titles.antt`: the titles and the media type of a poster, where they lie.
 //! - `utf16.rt`: texts from and to UTF-16.
 //! - `link.rt`: the links of a message. `message.rt`: its records. `handover.rt`: what requests and
 //!   selects share. `links.rt`, `references.rt`: all links of a message, all references of an alternative carrier.
@@ -22,9 +25,11 @@
 
 mod alternative;
 mod alternative_writing;
+mod appending;
 mod building;
 mod carrier;
 mod checking;
+mod content;
 mod error;
 mod error_writing;
 mod feeding;
@@ -35,6 +40,7 @@ mod laws;
 mod limits;
 mod link;
 mod links;
+mod making;
 mod message;
 mod nested;
 mod numbers;
@@ -47,12 +53,14 @@ mod record;
 mod references;
 mod refusal;
 mod request;
+mod rewriting;
 mod room;
 mod run;
 mod select;
 mod status;
 mod status_name;
 mod text;
+mod titles;
 mod uri;
 mod uri_view;
 mod utf16;
@@ -61,6 +69,7 @@ mod writing;
 
 pub use alternative::{NdefAlternative, ndef_alternative, ndef_reference};
 pub use alternative_writing::ndef_write_alternative;
+pub use appending::{ndef_append_text, ndef_append_uri};
 pub use building::{NdefBuilt, ndef_append};
 pub use carrier::{NdefCarrier, ndef_carrier, ndef_write_carrier};
 pub use checking::{NdefChecked, ndef_check};
@@ -70,8 +79,8 @@ pub use feeding::{NdefChecker, ndef_begin, ndef_feed};
 pub use finding::{ndef_find_id, ndef_find_type};
 pub use handover_writing::{REQUEST, SELECT, ndef_write_handover};
 pub use laws::{
-    appended_records_are_held, checks_are_walked, feeds_are_checks, links_are_told,
-    one_record_is_there, records_make_a_message,
+    appended_records_are_held, checks_are_walked, feeds_are_checks, held_records_are_a_message,
+    links_are_told, one_record_is_there, records_make_a_message,
 };
 pub use limits::{NdefLimits, ndef_usual_limits};
 pub use link::{NdefLink, ndef_link_at};
@@ -85,10 +94,12 @@ pub use reasons::ndef_reason_name;
 pub use record::{NdefRecord, ndef_record_at};
 pub use references::ndef_references;
 pub use request::{NdefRequest, ndef_request};
+pub use rewriting::ndef_rewrite;
 pub use select::{NdefSelect, ndef_select};
 pub use status::{BAD_ARGUMENT, END, MORE, NO_ROOM, OK, REFUSED};
 pub use status_name::ndef_status_name;
 pub use text::{NdefText, ndef_text, ndef_text_in_utf8, ndef_write_text};
+pub use titles::{ndef_poster_media_type, ndef_poster_titles, ndef_title};
 pub use uri::{ndef_uri, ndef_write_uri};
 pub use uri_view::{NdefUri, ndef_uri_prefix, ndef_uri_view};
 pub use version::{MAJOR, MINOR, PATCH, ndef_version};

@@ -1,8 +1,8 @@
 //! The joined payload of a record.
-ghost use Rattle.std.specs.Prelude.{◌≡◌, ◌≢◌, ◌≤◌, ◌↔◌, length, List, ℕ};
+ghost use Rattle.std.specs.Prelude.{◌≡◌, ◌≢◌, ◌+◌, ◌≤◌, ◌↔◌, length, List, ℕ};
 ghost use Rattle.ndef_format.specs.Records.{Run};
 ghost use Rattle.ndef_format.specs.Messages.{run_record};
-ghost use Rattle.ndef_c.specs.Rooms.{written_over};
+ghost use Rattle.ndef_c.specs.Rooms.{IsPut};
 ghost use Rattle.ndef_c.specs.Runs.{HasRun};
 ghost use Rattle.ndef_c.specs.Walks.{BeginsWithRun, IsRecordThere, GivesPayload};
 
@@ -12,17 +12,21 @@ use crate::run::first_run;
 use crate::status::{BAD_ARGUMENT, NO_ROOM, OK};
 use ndef_piece::{heads_are_apart, whole_piece};
 
-/// Copies the payloads of the pieces of the run with which the bytes begin to the front of the room.
-fn copy_pieces(bytes: &[u8], room: &mut [u8])
+/// Copies the payloads of the pieces of the run with which the bytes begin to a place of the room, and
+/// answers the place behind them.
+pub(crate) fn copy_pieces(bytes: &[u8], room: &mut [u8], from: usize) -> usize
     requires run { HasRun bytes.now }
     requires room { (run : Run) (rest : List ℕ) → BeginsWithRun run rest bytes.now
-        → length (run_record run).payload ≤ length room.old }
-    ensures { (run : Run) (rest : List ℕ) → BeginsWithRun run rest bytes.now
-        → room.new ≡ written_over (run_record run).payload room.old }
+        → from + length (run_record run).payload ≤ length room.old }
+    ensures put { (run : Run) (rest : List ℕ) → BeginsWithRun run rest bytes.now
+        → IsPut from (run_record run).payload room.old room.new }
+    ensures size { length room.new ≡ length room.old }
+    ensures behind { (run : Run) (rest : List ℕ) → BeginsWithRun run rest bytes.now
+        → result ≡ from + length (run_record run).payload }
 {
     heads_are_apart();
     let mut rest = bytes;
-    let mut at = 0;
+    let mut at = from;
     loop {
         let Some(piece) = whole_piece(rest) else {
             unreachable!()
@@ -30,7 +34,7 @@ fn copy_pieces(bytes: &[u8], room: &mut [u8])
         at = put(room, at, piece.payload);
         rest = piece.rest;
         if !piece.is_chunked() {
-            return;
+            return at;
         }
     }
 }
@@ -55,6 +59,6 @@ pub extern "C" fn ndef_payload(bytes: &[u8], at: usize, room: &mut [u8], count: 
         return NO_ROOM;
     }
     one_record_is_there();
-    copy_pieces(behind, room);
+    let _end = copy_pieces(behind, room, 0);
     OK
 }

@@ -49,7 +49,8 @@ fn number_of(octets: &[u8]) -> u16
 
 /// The random number of the first record of a request.
 fn collision_of(message: &[u8]) -> u32
-    requires { (profile : Profile) × (items : List Item) × AreHandoverContents tables.Request profile items message.now }
+    requires { (profile : Profile) × (items : List Item)
+        × AreHandoverContents tables.Request profile items message.now }
     ensures { (profile : Profile) (items : List Item) → AreHandoverContents tables.Request profile items message.now
         → IsCollisionOf items result }
 {

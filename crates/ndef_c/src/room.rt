@@ -28,6 +28,24 @@ pub(crate) fn give(bytes: &[u8], room: &mut [u8], count: &mut usize) -> u32
     OK
 }
 
+/// Writes three parts, one behind another, at a place of the room, and answers the place behind them.
+pub(crate) fn put_parts(
+    room: &mut [u8],
+    at: usize,
+    first: &[u8],
+    second: &[u8],
+    third: &[u8],
+) -> usize
+    requires { at + length (first.now ++ (second.now ++ third.now)) ≤ length room.old }
+    ensures put { IsPut at (first.now ++ (second.now ++ third.now)) room.old room.new }
+    ensures size { length room.new ≡ length room.old }
+    ensures behind { result ≡ at + length (first.now ++ (second.now ++ third.now)) }
+{
+    let after_first = put(room, at, first);
+    let after_second = put(room, after_first, second);
+    put(room, after_second, third)
+}
+
 /// Writes three parts, one behind another, to the room where it is large enough, tells how many bytes
 /// they are, and answers the status.
 pub(crate) fn give_parts(
@@ -47,8 +65,6 @@ pub(crate) fn give_parts(
     if room.len() < needed {
         return NO_ROOM;
     }
-    let after_first = put(room, 0, first);
-    let after_second = put(room, after_first, second);
-    let _end = put(room, after_second, third);
+    let _end = put_parts(room, 0, first, second, third);
     OK
 }

@@ -2,7 +2,6 @@
 ghost use Rattle.std.specs.Prelude.{◌≡◌, ◌≤◌, ◌<◌, ◌↔◌, length, IfNone, IfSome, IsTrue};
 ghost use Rattle.ndef_format.specs.Records.{IsInitial, IsLater};
 ghost use Rattle.ndef_format.specs.declared.profile.Profile.TheVariants.{Standard};
-ghost use Rattle.ndef_format.specs.HeadReasons.{is_set};
 ghost use Rattle.ndef_piece.specs.Whole.{shown};
 ghost use Rattle.ndef_c.specs.Runs.{HasRun, IsFirstRun};
 
@@ -39,13 +38,6 @@ fn is_later(piece: &WholePiece<'_>) -> bool
     piece.header % 8 == 6 && piece.kind.is_empty() && !has_id
 }
 
-/// ME: whether the piece ends its message.
-fn is_last(piece: &WholePiece<'_>) -> bool
-    ensures { result ≡ is_set 6 piece.now.header }
-{
-    piece.header >> 6 & 1 == 1
-}
-
 /// The run with which the bytes begin, if all of it is there.
 pub(crate) fn first_run(bytes: &[u8]) -> Option<FirstRun<'_>>
     ensures none { IfNone result (¬ HasRun bytes.now) }
@@ -76,7 +68,7 @@ pub(crate) fn first_run(bytes: &[u8]) -> Option<FirstRun<'_>>
         first,
         payload,
         pieces,
-        last: is_last(&piece),
+        last: piece.is_last(),
         rest: piece.rest,
     })
 }

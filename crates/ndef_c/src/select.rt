@@ -59,7 +59,8 @@ struct Detail {
 fn error_in(payload: &[u8]) -> Detail
     requires nest { (profile : Profile) × IsNest tables.Select MOST_RECORDS profile payload.now }
     requires short { length payload.now < 2 ^ 32 }
-    ensures { (profile : Profile) (items : List Item) → AreHandoverContents tables.Select profile items (drop 1 payload.now)
+    ensures { (profile : Profile) (items : List Item)
+        → AreHandoverContents tables.Select profile items (drop 1 payload.now)
         → (error : Option Item) × IsFirstOf (IsOfKind tables.Select kinds.Error) items error
         × TellsError payload.now error result.has result.reason result.at result.length }
 {

@@ -1,19 +1,20 @@
 //! The payloads of Text records (RTD Text 1.0).
-ghost use Rattle.std.specs.Prelude.{◌≡◌, ◌≢◌, ◌<◌, ◌≤◌, ◌^◌, ◌↔◌, ◌⊎◌, length};
+ghost use Rattle.std.specs.Prelude.{◌≡◌, ◌≢◌, ◌<◌, ◌^◌, ◌↔◌, ◌⊎◌, length, IfNone, IfSome};
 ghost use Rattle.ndef_format.specs.Texts.{IsText};
 ghost use Rattle.ndef_format.specs.PayloadReasons.{TextReason};
 ghost use Rattle.ndef_types.specs.Values.{WritesText, text_payload};
 ghost use Rattle.ndef_c.specs.Payloads.{GivesFor, IsTextAt, RefusesWith};
-ghost use Rattle.ndef_c.specs.Rooms.{Gives};
-ghost use Rattle.ndef_c.specs.Texts.{GivesText, MayBeText, asked_text};
+ghost use Rattle.ndef_c.specs.Contents.{IsContent, content_octets};
+ghost use Rattle.ndef_c.specs.Texts.{GivesText, MayBeSpelled, MayBeText, asked_text};
 
 use crate::checking::NdefChecked;
+use crate::content::{Content, give_content};
 use crate::refusal::refused_by;
-use crate::room::{give, give_parts, put};
+use crate::room::give;
 use crate::status::{BAD_ARGUMENT, NO_ROOM, OK, REFUSED};
-use crate::utf16::{give_in_utf8, put_units};
+use crate::utf16::give_in_utf8;
 use ndef_lang::{Kind, TextLang};
-use ndef_types::{accept, split_language, texts_are_exact, units_len, unmark};
+use ndef_types::{accept, split_language, texts_are_exact, unmark};
 use ndef_value::Profile;
 
 /// A text, by places and lengths in its payload.
@@ -33,7 +34,7 @@ pub struct NdefText {
 }
 
 /// Where the parts of a text lie in its payload.
-fn text_at(payload: &[u8]) -> NdefText
+pub(crate) fn text_at(payload: &[u8]) -> NdefText
     requires text { IsText payload.now }
     requires short { length payload.now < 2 ^ 32 }
     ensures { IsTextAt payload.now result }
@@ -109,50 +110,28 @@ pub extern "C" fn ndef_text_in_utf8(
     }
 }
 
-/// Writes the payload of a text in UTF-8 to the room.
-fn write_utf8(language: &[u8], text: &str, room: &mut [u8], count: &mut usize) -> u32
-    requires { length language.now ≤ 63 }
-    ensures bad { result ≡ BAD_ARGUMENT
-        ↔ (2 ^ 32 ≤ length (text_payload (asked_text 0 language.now text.now))) }
-    ensures kept { result ≡ BAD_ARGUMENT → (room.new ≡ room.old) × (count.new ≡ count.old) }
-    ensures payload { result ≢ BAD_ARGUMENT
-        → Gives (text_payload (asked_text 0 language.now text.now)) room.old room.new count.new result }
+/// What is written for a text, which is given in UTF-8, if the numbers and its parts may be so.
+pub(crate) fn text_content<'a>(
+    language: &'a [u8],
+    text: &'a [u8],
+    flags: u32,
+) -> Option<Content<'a>>
+    ensures none { IfNone result (¬ MayBeSpelled flags language.now text.now) }
+    ensures may { IfSome result (λ _. MayBeSpelled flags language.now text.now) }
+    ensures content { IfSome result IsContent }
+    ensures payload { IfSome result (λ c. content_octets c ≡ text_payload (asked_text flags language.now text.now)) }
 {
-    if text.len() >= u32::MAX as usize - language.len() {
-        return BAD_ARGUMENT;
+    if flags > 1 || language.len() > 63 || !language.is_ascii() {
+        return None;
     }
-    give_parts(
-        &[language.len() as u8],
-        language,
-        text.as_bytes(),
-        room,
-        count,
-    )
-}
-
-/// Writes the payload of a text in UTF-16, big-endian behind its byte order mark, to the room.
-fn write_utf16(language: &[u8], text: &str, room: &mut [u8], count: &mut usize) -> u32
-    requires { length language.now ≤ 63 }
-    ensures bad { result ≡ BAD_ARGUMENT
-        ↔ (2 ^ 32 ≤ length (text_payload (asked_text 1 language.now text.now))) }
-    ensures kept { result ≡ BAD_ARGUMENT → (room.new ≡ room.old) × (count.new ≡ count.old) }
-    ensures payload { result ≢ BAD_ARGUMENT
-        → Gives (text_payload (asked_text 1 language.now text.now)) room.old room.new count.new result }
-{
-    let units = units_len(text);
-    if units > (u64::from(u32::MAX) - 3 - language.len() as u64) / 2 {
-        return BAD_ARGUMENT;
+    let Ok(text) = simdutf8::basic::from_utf8(text) else {
+        return None;
+    };
+    if flags == 0 {
+        Some(Content::Utf8 { language, text })
+    } else {
+        Some(Content::Utf16 { language, text })
     }
-    let needed = 3 + language.len() + 2 * units as usize;
-    *count = needed;
-    if room.len() < needed {
-        return NO_ROOM;
-    }
-    let after_status = put(room, 0, &[128 + language.len() as u8]);
-    let after_language = put(room, after_status, language);
-    let after_mark = put(room, after_language, &[0xfe, 0xff]);
-    let _end = put_units(room, after_mark, text);
-    OK
 }
 
 /// Writes the payload of a Text record to the room. The text is given in UTF-8.
@@ -169,15 +148,8 @@ pub extern "C" fn ndef_write_text(
     ensures payload { MayBeText flags language.now text.now
         → GivesFor WritesText (asked_text flags language.now text.now) room.old room.new count.new result }
 {
-    if flags > 1 || language.len() > 63 || !language.is_ascii() {
-        return BAD_ARGUMENT;
-    }
-    let Ok(text) = simdutf8::basic::from_utf8(text) else {
+    let Some(content) = text_content(language, text, flags) else {
         return BAD_ARGUMENT;
     };
-    if flags == 0 {
-        write_utf8(language, text, room, count)
-    } else {
-        write_utf16(language, text, room, count)
-    }
+    give_content(&content, room, count)
 }

@@ -10,6 +10,7 @@ ghost use Rattle.ndef_c.specs.Payloads.{GivesFor, GivesUri, RefusesWith};
 ghost use Rattle.ndef_c.specs.Rooms.{Gives};
 
 use crate::checking::NdefChecked;
+use crate::content::{Content, give_content};
 use crate::limits::profile_of;
 use crate::refusal::refused_by;
 use crate::room::give_parts;
@@ -70,8 +71,5 @@ pub extern "C" fn ndef_write_uri(uri: &[u8], room: &mut [u8], count: &mut usize)
         return BAD_ARGUMENT;
     };
     let (code, rest) = split(text);
-    if rest.len() >= u32::MAX as usize {
-        return BAD_ARGUMENT;
-    }
-    give_parts(&[], &[code], rest, room, count)
+    give_content(&Content::Uri { code, rest }, room, count)
 }

@@ -1,8 +1,9 @@
 //! Writes a record.
 ghost use Rattle.std.specs.Prelude.{◌≡◌, ◌≢◌, ◌+◌, ◌*◌, ◌≤◌, ◌<◌, ◌^◌, ◌++◌, ◌&&◌, [], not, take, drop, length, unwrap_or, Some, IfNone, IfSome, IsNone, IsTrue, ◌↔◌, ℕ};
-ghost use Rattle.ndef_format.specs.Records.{FitsForm, fields, tnf_of};
+ghost use Rattle.ndef_format.specs.Records.{FitsForm, HasShape, fields, tnf_of};
 ghost use Rattle.ndef_format.specs.Messages.{IsShaped};
 ghost use Rattle.ndef_format.specs.Canonical.{HasLengths};
+ghost use Rattle.ndef_format.specs.declared.tnf.Tnf.TheVariants.{Unchanged};
 ghost use Rattle.ndef_piece.specs.Heads.{written_fields};
 ghost use Rattle.ndef_message.specs.Cut.{first_piece, later_piece};
 ghost use Rattle.ndef_message.specs.Written.{is_short};
@@ -63,16 +64,28 @@ fn tnf_of(number: u32) -> Option<Tnf>
     }
 }
 
+/// Whether parts of such lengths go with a type name format (NDEF 1.0, TNF).
+pub(crate) fn has_shape(tnf: Tnf, kind: usize, id: usize, payload: usize) -> bool
+    ensures { IsTrue result ↔ ((tnf ≢ Unchanged) × HasShape tnf kind id payload) }
+{
+    match tnf {
+        Tnf::Empty => kind == 0 && id == 0 && payload == 0,
+        Tnf::WellKnown | Tnf::Media | Tnf::AbsoluteUri | Tnf::External => kind > 0,
+        Tnf::Unknown => kind == 0,
+        Tnf::Unchanged => false,
+    }
+}
+
 /// Whether the parts go together.
 fn is_shaped(parts: &Parts<'_>) -> bool
     ensures { IsTrue result ↔ IsShaped (item_of parts.now) }
 {
-    match parts.tnf {
-        Tnf::Empty => parts.kind.is_empty() && parts.id.is_empty() && parts.payload.is_empty(),
-        Tnf::WellKnown | Tnf::Media | Tnf::AbsoluteUri | Tnf::External => !parts.kind.is_empty(),
-        Tnf::Unknown => parts.kind.is_empty(),
-        Tnf::Unchanged => false,
-    }
+    has_shape(
+        parts.tnf,
+        parts.kind.len(),
+        parts.id.len(),
+        parts.payload.len(),
+    )
 }
 
 /// Whether a piece can tell their lengths.
@@ -83,7 +96,7 @@ fn has_lengths(parts: &Parts<'_>) -> bool
 }
 
 /// Whether a piece of so many payload bytes is written in the short form.
-fn is_short(form: Form, length: usize) -> bool
+pub(crate) fn is_short(form: Form, length: usize) -> bool
     ensures { result ≡ is_short form length }
 {
     match form {
@@ -137,7 +150,14 @@ fn later_head(way: Way, ends: bool, part: &[u8]) -> Head
 }
 
 /// Writes a piece at a place of the room, and answers the place behind it.
-fn put_piece(room: &mut [u8], at: usize, head: &Head, kind: &[u8], id: &[u8], part: &[u8]) -> usize
+pub(crate) fn put_piece(
+    room: &mut [u8],
+    at: usize,
+    head: &Head,
+    kind: &[u8],
+    id: &[u8],
+    part: &[u8],
+) -> usize
     requires form { FitsForm head.now.short head.now.payload_length }
     requires room { at + length (piece_octets head.now kind.now id.now part.now) ≤ length room.old }
     ensures put { IsPut at (piece_octets head.now kind.now id.now part.now) room.old room.new }
@@ -153,7 +173,7 @@ fn put_piece(room: &mut [u8], at: usize, head: &Head, kind: &[u8], id: &[u8], pa
 }
 
 /// The bytes of a piece.
-fn piece_length(head: &Head, kind: &[u8], id: &[u8], part: &[u8]) -> usize
+pub(crate) fn piece_length(head: &Head, kind: &[u8], id: &[u8], part: &[u8]) -> usize
     requires form { FitsForm head.now.short head.now.payload_length }
     requires part { length part.now < 2 ^ 32 }
     requires kind { length kind.now < 256 }

@@ -1,4 +1,4 @@
-use Rattle.std.proofs.Common.{◌≡◌, ℕ, List, length}
+use Rattle.std.proofs.Common.{◌≡◌, ◌+◌, ℕ, List, length}
 use Rattle.ndef_format.specs.Records.{Run}
 use Rattle.ndef_format.specs.Messages.{run_record}
 use Rattle.ndef_c.specs.Rooms.{IsPut}
@@ -13,8 +13,8 @@ invariant-loop-piece l = record {
   begins : BeginsWithRun run end l.bytes;
   done : List ℕ;
   copying : Copying (run_record run).payload end l.rest done;
-  put : IsPut 0 done l.fn.room l.room;
-  at : l.at ≡ length done;
+  put : IsPut l.from done l.fn.room l.room;
+  at : l.at ≡ l.from + length done;
   size : length l.room ≡ length l.fn.room;
 }
 

@@ -1,0 +1,158 @@
+-- The records of a message, each written in one piece.
+use Rattle.std.proofs.Common.{◌≡◌, ℕ, ◌+◌, ◌≤◌, Bool, true, false, List, [], ◌∷◌, ◌++◌, None, length, length-append, refl, sym, ◌∙◌, ap, ap₂, subst, arith, append-nil, append_assoc}
+use Rattle.std.specs.List.{AllByRecursion}
+use Rattle.std.proofs.lemmas.List.{append_cancel_left, map-append}
+use Rattle.ndef_format.specs.Messages.{Item, run_record}
+use Rattle.ndef_format.specs.Records.{Run, fields, tnf_of}
+use Rattle.ndef_format.specs.declared.tnf.Tnf.{Tnf}
+use Rattle.ndef_piece.specs.Whole.{shown}
+use Rattle.ndef_piece.specs.Heads.{written_fields}
+use Rattle.ndef_piece.specs.declared.head.Head.{Head}
+use Rattle.ndef_message.specs.declared.form.Form.{Form}
+use Rattle.ndef_message.specs.Cut.{first_piece}
+use Rattle.ndef_message.specs.Written.{is_short}
+use Rattle.ndef_c.specs.Links.{BeginsWithRuns}
+use Rattle.ndef_c.specs.Rewrites.{IsWhole, IsWritable, records_of}
+use Rattle.ndef_c.specs.Runs.{IsFirstRun}
+use Rattle.ndef_c.specs.Walks.{is_last_run}
+use Rattle.ndef_c.specs.Writes.{one_by_one, piece_octets, record_octets}
+use Rattle.ndef_c.specs.declared.run.FirstRun.{FirstRun}
+use Rattle.ndef_c.proofs.Made.{whole_as}
+use Rattle.ndef_c.proofs.Messages.{Left, Onward, id_of}
+
+-- the octets of the first of some records, and of the others
+next_octets : (form : Form) (first : Bool) (run : Run) (more : List Run)
+    → one_by_one form first None (records_of (run ∷ more)) ≡ record_octets form first (is_last_run more) None (run_record run) ++ one_by_one form false None (records_of more)
+next_octets form first run [] = refl
+next_octets form first run (r ∷ more) = refl
+
+-- the record, by the parts that are shown of its first piece
+abbrev pub shown_item : FirstRun → List ℕ → Item
+shown_item found payload = record { tnf = tnf_of (shown found.first).tnf; kind = found.first.kind.now; id = found.first.id.now; payload = payload }
+
+with_parts : (t u : Tnf) (k l i j payload : List ℕ) → t ≡ u → k ≡ l → i ≡ j → ◌≡◌ {A = Item} (record { tnf = t; kind = k; id = i; payload = payload }) (record { tnf = u; kind = l; id = j; payload = payload })
+with_parts t u k l i j payload e f g = rw (e, f, g) refl
+
+pub item_is : {bytes : List ℕ} {found : FirstRun} (x : IsFirstRun bytes found) → shown_item found (run_record x.run).payload ≡ run_record x.run
+item_is {bytes} {found} x = with_parts _ _ _ _ _ _ (run_record x.run).payload (ap (λ q. tnf_of q.tnf) x.initial) (ap (λ q. q.kind) x.initial) (sym (id_of found x))
+
+-- the front of the piece, and the joined payload behind it, are the octets of the record
+front_and_payload : {bytes : List ℕ} {found : FirstRun} (x : IsFirstRun bytes found) (form : Form) (first : Bool) (head : Head)
+    → written_fields head ≡ fields (first_piece first found.last false (run_record x.run) (run_record x.run).payload) (is_short form (length (run_record x.run).payload))
+    → piece_octets head found.first.kind.now found.first.id.now [] ++ (run_record x.run).payload ≡ record_octets form first found.last None (run_record x.run)
+front_and_payload {bytes} {found} x form first head e =
+    ap₂ (λ k i. piece_octets head k i [] ++ (run_record x.run).payload) (ap (λ q. q.kind) x.initial) (sym (id_of found x))
+    ∙ whole_as form first found.last (run_record x.run) head (run_record x.run).payload refl e
+
+-- what is written of a record, and of those behind it
+pub record Part (form : Form) (first : Bool) (left : List Run) (run : Run) (more : List Run) (part : List ℕ) : Type 0 where
+  pub are : left ≡ run ∷ more
+  pub octets : one_by_one form first None (records_of left) ≡ part ++ one_by_one form false None (records_of more)
+
+pub part_of : {bytes found_at : List ℕ} {runs done : List Run} {at next : ℕ} {found : FirstRun} (l : Left bytes runs at done) (x : IsFirstRun found_at found) (o : Onward bytes runs next done x.run) (form : Form) (first : Bool) (head : Head)
+    → written_fields head ≡ fields (first_piece first found.last false (run_record x.run) (run_record x.run).payload) (is_short form (length (run_record x.run).payload))
+    → Part form first l.more x.run o.more (piece_octets head found.first.kind.now found.first.id.now [] ++ (run_record x.run).payload)
+part_of {bytes} {found_at} {runs} {done} {at} {next} {found} l x o form first head e =
+    let are : l.more ≡ x.run ∷ o.more = append_cancel_left done l.more (x.run ∷ o.more) (sym l.all ∙ o.all) in
+    record {
+      are = are;
+      octets = ap (λ rs. one_by_one form first None (records_of rs)) are ∙ next_octets form first x.run o.more
+          ∙ ap (λ b. record_octets form first b None (run_record x.run) ++ one_by_one form false None (records_of o.more)) (sym (x.last ∙ o.ends))
+          ∙ ap (λ y. y ++ one_by_one form false None (records_of o.more)) (sym (front_and_payload x form first head e));
+    }
+
+-- those that are left behind it
+pub left_are : {bytes : List ℕ} {runs done : List Run} {run : Run} {next : ℕ} (o : Onward bytes runs next done run) (k : Left bytes runs next (done ++ run ∷ [])) → k.more ≡ o.more
+left_are {bytes} {runs} {done} {run} {next} o k =
+    append_cancel_left (done ++ run ∷ []) k.more o.more (sym k.all ∙ o.all ∙ sym (append_assoc done (run ∷ []) o.more))
+
+-- behind the last there are none
+pub none_more : (more : List Run) → is_last_run more ≡ true → more ≡ []
+none_more [] e = refl
+none_more (r ∷ more) e = absurd (cc)
+
+-- ---- records that can be in one piece
+
+all-append : (P : Item → Type 0) (xs : List Item) (i : Item) → AllByRecursion P xs → P i → AllByRecursion P (xs ++ i ∷ [])
+all-append P [] i h p = (p, tt)
+all-append P (x ∷ xs) i h p = (h.0, all-append P xs i h.1 p)
+
+pub writable_on : (done : List Run) (run : Run) → AllByRecursion IsWritable (records_of done) → IsWritable (run_record run) → AllByRecursion IsWritable (records_of (done ++ run ∷ []))
+writable_on done run h p = subst (AllByRecursion IsWritable) (sym (map-append run_record done (run ∷ []))) (all-append IsWritable (records_of done) (run_record run) h p)
+
+all_there : (P : Item → Type 0) (xs : List Item) (i : Item) (more : List Item) → AllByRecursion P (xs ++ i ∷ more) → P i
+all_there P [] i more h = h.0
+all_there P (x ∷ xs) i more h = all_there P xs i more h.1
+
+pub writable_there : (runs done : List Run) (run : Run) (more : List Run) → runs ≡ done ++ run ∷ more → AllByRecursion IsWritable (records_of runs) → IsWritable (run_record run)
+writable_there runs done run more e h =
+    all_there IsWritable (records_of done) (run_record run) (records_of more) (subst (AllByRecursion IsWritable) (ap records_of e ∙ map-append run_record done (run ∷ more)) h)
+
+-- ---- how many bytes that are
+
+-- the piece has those of its front and those of the payload
+pub part_length : {bytes : List ℕ} {found : FirstRun} (x : IsFirstRun bytes found) (head : Head) (front : ℕ) → front ≡ length (piece_octets head found.first.kind.now found.first.id.now [])
+    → length (piece_octets head found.first.kind.now found.first.id.now [] ++ (run_record x.run).payload) ≡ front + found.payload
+part_length {bytes} {found} x head front e =
+    let n = length-append (piece_octets head found.first.kind.now found.first.id.now []) (run_record x.run).payload in
+    let p = x.payload in
+    omega (arith, n, p, e)
+
+pub sum_on : {form : Form} {first : Bool} {left : List Run} {run : Run} {more : List Run} {part : List ℕ} → Part form first left run more part → (total size sum whole : ℕ) → length part ≡ size → sum ≡ total + size
+    → total + length (one_by_one form first None (records_of left)) ≡ whole → sum + length (one_by_one form false None (records_of more)) ≡ whole
+sum_on {form} {first} {left} {run} {more} {part} p total size sum whole n s e =
+    let k = ap length p.octets ∙ length-append part (one_by_one form false None (records_of more)) in
+    omega (arith, k, n, s, e)
+
+pub sum_all : (form : Form) (more : List Run) (sum whole : ℕ) → more ≡ [] → sum + length (one_by_one form false None (records_of more)) ≡ whole → sum ≡ whole
+sum_all form more sum whole none e =
+    let k = ap (λ rs. length (one_by_one form false None (records_of rs))) none in
+    omega (arith, k, e)
+
+-- ---- what is written so far
+
+pub octets_on : {form : Form} {first : Bool} {left : List Run} {run : Run} {more : List Run} {part : List ℕ} → Part form first left run more part → (done whole : List ℕ)
+    → done ++ one_by_one form first None (records_of left) ≡ whole → (done ++ part) ++ one_by_one form false None (records_of more) ≡ whole
+octets_on {form} {first} {left} {run} {more} {part} p done whole e =
+    append_assoc done part (one_by_one form false None (records_of more)) ∙ ap (λ y. done ++ y) (sym p.octets) ∙ e
+
+pub octets_all : (form : Form) (more : List Run) (done whole : List ℕ) → more ≡ [] → done ++ one_by_one form false None (records_of more) ≡ whole → done ≡ whole
+octets_all form more done whole none e = sym (append-nil done) ∙ ap (λ rs. done ++ one_by_one form false None (records_of rs)) (sym none) ∙ e
+
+pub part_within : {form : Form} {first : Bool} {left : List Run} {run : Run} {more : List Run} {part : List ℕ} → Part form first left run more part → (done whole : List ℕ)
+    → done ++ one_by_one form first None (records_of left) ≡ whole → length done + length part ≤ length whole
+part_within {form} {first} {left} {run} {more} {part} p done whole e =
+    let k = ap length p.octets ∙ length-append part (one_by_one form false None (records_of more)) in
+    let n = sym (length-append done (one_by_one form first None (records_of left))) ∙ ap length e in
+    omega (arith, k, n)
+
+-- ---- whether a record can be in one piece
+
+pub to_record : {bytes : List ℕ} {found : FirstRun} (x : IsFirstRun bytes found) (tnf : Tnf) (kind id : ℕ) → tnf ≡ tnf_of (shown found.first).tnf → kind ≡ length found.first.kind.now → id ≡ length found.first.id.now
+    → IsWhole tnf kind id found.payload → IsWritable (run_record x.run)
+to_record {bytes} {found} x tnf kind id t k i h =
+    let m : Item = run_record x.run in
+    let is = subst (IsWhole m.tnf (length m.kind) (length m.id)) x.payload
+    (subst (λ n. IsWhole m.tnf (length m.kind) n found.payload) (i ∙ ap length (sym (id_of found x)))
+    (subst (λ n. IsWhole m.tnf n id found.payload) (k ∙ ap (λ q. length q.kind) x.initial)
+    (subst (λ u. IsWhole u kind id found.payload) (t ∙ ap (λ q. tnf_of q.tnf) x.initial) h))) in
+    record {
+      shaped = record { changed = is.changed; shape = is.shape };
+      lengths = record { kind = is.kind_fits; id = is.id_fits; payload = is.payload_fits };
+    }
+
+pub from_record : {bytes : List ℕ} {found : FirstRun} (x : IsFirstRun bytes found) (tnf : Tnf) (kind id : ℕ) → tnf ≡ tnf_of (shown found.first).tnf → kind ≡ length found.first.kind.now → id ≡ length found.first.id.now
+    → IsWritable (run_record x.run) → IsWhole tnf kind id found.payload
+from_record {bytes} {found} x tnf kind id t k i h =
+    let m : Item = run_record x.run in
+    let is : IsWhole m.tnf (length m.kind) (length m.id) (length m.payload) =
+    record { changed = h.shaped.changed; shape = h.shaped.shape; kind_fits = h.lengths.kind; id_fits = h.lengths.id; payload_fits = h.lengths.payload } in
+    subst (λ u. IsWhole u kind id found.payload) (sym (t ∙ ap (λ q. tnf_of q.tnf) x.initial))
+    (subst (λ n. IsWhole m.tnf n id found.payload) (sym (k ∙ ap (λ q. length q.kind) x.initial))
+    (subst (λ n. IsWhole m.tnf (length m.kind) n found.payload) (sym (i ∙ ap length (sym (id_of found x))))
+    (subst (IsWhole m.tnf (length m.kind) (length m.id)) (sym x.payload) is)))
+
+-- ---- at the start
+
+pub at_start : (bytes : List ℕ) (runs : List Run) → BeginsWithRuns runs bytes → (k : Left bytes runs 0 []) × (k.more ≡ runs)
+at_start bytes runs b = (record { more = runs; all = refl; some = b.some; end = b.end; walked = b.walked }, refl)

@@ -1,0 +1,22 @@
+use Rattle.std.proofs.Common.{◌≡◌, ℕ, List, length, drop}
+use Rattle.ndef_format.specs.Messages.{Item}
+use Rattle.ndef_format.specs.declared.profile.Profile.TheVariants.{Standard}
+use Rattle.ndef_types.specs.Contents.{Lack}
+use Rattle.ndef_c.specs.Posters.{HasPosterRecords}
+use Rattle.ndef_c.specs.Titles.{IsTitleIn}
+use Rattle.ndef_c.proofs.Ahead.{Ahead}
+use Rattle.ndef_c.proofs.titles.title_in.Given as goal
+
+abbrev pub invariant-loop-rest : goal.invariant-loop-rest
+invariant-loop-rest l = record {
+  items : List Item;
+  records : HasPosterRecords Standard items l.payload;
+  at : ℕ;
+  rest_is : l.rest ≡ drop at l.payload;
+  done : List Item;
+  ahead : Ahead items l.rest done;
+  lack : Lack (IsTitleIn l.language) done;
+}
+
+abbrev pub decreases-loop-rest : goal.decreases-loop-rest
+decreases-loop-rest l = length l.rest

@@ -1,0 +1,94 @@
+//! Texts and URIs that are appended to a message in a room, their payloads written in place.
+ghost use Rattle.std.specs.Prelude.{◌≡◌, ◌≢◌, ◌↔◌, ◌⊎◌, IsTrue, IsUtf8};
+ghost use Rattle.ndef_types.specs.Decoding.{IsTooLong};
+ghost use Rattle.ndef_types.specs.Values.{WritesUri};
+ghost use Rattle.ndef_c.specs.Appending.{GivesUriThere, MayBeJoined, MayBeTextThere, asked_of, text_record};
+ghost use Rattle.ndef_c.specs.Built.{GivesWhole, MayBeGrown, held};
+
+use crate::building::{NdefBuilt, append_made, may_grow};
+use crate::content::{Content, content_length};
+use crate::making::Made;
+use crate::status::BAD_ARGUMENT;
+use crate::text::text_content;
+use ndef_types::split;
+
+/// Whether a record with the id can stand behind the message with which the room begins.
+fn may_join(room: &[u8], built: &NdefBuilt, id: &[u8]) -> bool
+    ensures { IsTrue result ↔ MayBeJoined id.now (held room.now built.now) }
+{
+    id.len() <= 255 && may_grow(room, built)
+}
+
+/// Appends the record of a text (RTD Text 1.0), which is given in UTF-8.
+#[unsafe(no_mangle)]
+pub extern "C" fn ndef_append_text(
+    built: &mut NdefBuilt,
+    id: &[u8],
+    language: &[u8],
+    text: &[u8],
+    flags: u32,
+    room: &mut [u8],
+    count: &mut usize,
+) -> u32
+    ensures bad { result ≡ BAD_ARGUMENT
+        ↔ ¬ MayBeTextThere id.now (asked_of flags language.now text.now) (held room.old built.old) }
+    ensures kept_room { result ≡ BAD_ARGUMENT → (room.new ≡ room.old) × (count.new ≡ count.old) }
+    ensures kept { result ≡ BAD_ARGUMENT → built.new ≡ built.old }
+    ensures appended { result ≢ BAD_ARGUMENT
+        → GivesWhole (text_record id.now (asked_of flags language.now text.now))
+        (held room.old built.old) (held room.new built.new) count.new result }
+{
+    let Some(content) = text_content(language, text, flags) else {
+        return BAD_ARGUMENT;
+    };
+    let Some(bytes) = content_length(&content) else {
+        return BAD_ARGUMENT;
+    };
+    if !may_join(room, built, id) {
+        return BAD_ARGUMENT;
+    }
+    let made = Made {
+        kind: b"T",
+        id,
+        content,
+        bytes,
+    };
+    append_made(room, built, &made, count)
+}
+
+/// Appends the record of a URI (RTD URI 1.0), by the longest prefix that begins the URI.
+#[unsafe(no_mangle)]
+pub extern "C" fn ndef_append_uri(
+    built: &mut NdefBuilt,
+    id: &[u8],
+    uri: &[u8],
+    room: &mut [u8],
+    count: &mut usize,
+) -> u32
+    ensures bad { result ≡ BAD_ARGUMENT → (¬ IsUtf8 uri.now) ⊎ IsTooLong WritesUri uri.now
+        ⊎ ¬ MayBeJoined id.now (held room.old built.old) }
+    ensures kept_room { result ≡ BAD_ARGUMENT → (room.new ≡ room.old) × (count.new ≡ count.old) }
+    ensures kept { result ≡ BAD_ARGUMENT → built.new ≡ built.old }
+    ensures may { result ≢ BAD_ARGUMENT → IsUtf8 uri.now × MayBeJoined id.now (held room.old built.old) }
+    ensures appended { result ≢ BAD_ARGUMENT
+        → GivesUriThere id.now uri.now (held room.old built.old) (held room.new built.new) count.new result }
+{
+    let Ok(text) = simdutf8::basic::from_utf8(uri) else {
+        return BAD_ARGUMENT;
+    };
+    let (code, rest) = split(text);
+    let content = Content::Uri { code, rest };
+    let Some(bytes) = content_length(&content) else {
+        return BAD_ARGUMENT;
+    };
+    if !may_join(room, built, id) {
+        return BAD_ARGUMENT;
+    }
+    let made = Made {
+        kind: b"U",
+        id,
+        content,
+        bytes,
+    };
+    append_made(room, built, &made, count)
+}

@@ -1,0 +1,99 @@
+//! What is written as the payload of a record, in the place where it belongs.
+ghost use Rattle.std.specs.Prelude.{◌≡◌, ◌≢◌, ◌+◌, ◌*◌, ◌<◌, ◌≤◌, ◌^◌, ◌↔◌, chars, length, IfSome, IsNone};
+ghost use Rattle.ndef_format.specs.Texts.{units_of};
+ghost use Rattle.ndef_c.specs.Contents.{IsContent, content_octets};
+ghost use Rattle.ndef_c.specs.Rooms.{Gives, IsPut};
+
+use crate::room::{put, put_parts};
+use crate::status::{BAD_ARGUMENT, NO_ROOM, OK};
+use crate::utf16::put_units;
+use ndef_types::units_len;
+
+/// What is written as a payload.
+#[derive(Clone, Copy)]
+pub(crate) enum Content<'a> {
+    /// RTD Text 1.0: a text in UTF-8, and its language code of up to 63 bytes.
+    Utf8 { language: &'a [u8], text: &'a str },
+    /// RTD Text 1.0: the same in UTF-16, big-endian behind its byte order mark.
+    Utf16 { language: &'a [u8], text: &'a str },
+    /// RTD URI 1.0: the code of a prefix, and the rest of the URI.
+    Uri { code: u8, rest: &'a [u8] },
+}
+
+/// So many bytes and some behind them, unless no payload is that long.
+fn payload_length(front: usize, behind: usize) -> Option<usize>
+    requires { front < 2 ^ 32 }
+    ensures none { IsNone result ↔ (2 ^ 32 ≤ front + behind) }
+    ensures some { IfSome result (λ n. n ≡ front + behind) }
+{
+    if behind > u32::MAX as usize - front {
+        return None;
+    }
+    Some(front + behind)
+}
+
+/// Twice as many bytes as a text has units, behind some others, unless no payload is that long.
+fn units_length(front: usize, text: &str) -> Option<usize>
+    requires { front < 2 ^ 32 }
+    ensures none { IsNone result ↔ (2 ^ 32 ≤ front + 2 * length (units_of (chars text.now))) }
+    ensures some { IfSome result (λ n. n ≡ front + 2 * length (units_of (chars text.now))) }
+{
+    let units = units_len(text);
+    if units > u64::from(u32::MAX) {
+        return None;
+    }
+    payload_length(front, 2 * units as usize)
+}
+
+/// How many bytes it has, unless no payload is that long.
+pub(crate) fn content_length(content: &Content<'_>) -> Option<usize>
+    requires { IsContent content.now }
+    ensures none { IsNone result ↔ (2 ^ 32 ≤ length (content_octets content.now)) }
+    ensures some { IfSome result (λ n. n ≡ length (content_octets content.now)) }
+{
+    match *content {
+        Content::Utf8 { language, text } => payload_length(1 + language.len(), text.len()),
+        Content::Utf16 { language, text } => units_length(3 + language.len(), text),
+        Content::Uri { code: _, rest } => payload_length(1, rest.len()),
+    }
+}
+
+/// Writes it at a place of the room, and answers the place behind it.
+pub(crate) fn put_content(room: &mut [u8], at: usize, content: &Content<'_>) -> usize
+    requires content { IsContent content.now }
+    requires room { at + length (content_octets content.now) ≤ length room.old }
+    ensures put { IsPut at (content_octets content.now) room.old room.new }
+    ensures size { length room.new ≡ length room.old }
+    ensures behind { result ≡ at + length (content_octets content.now) }
+{
+    match *content {
+        Content::Utf8 { language, text } => {
+            put_parts(room, at, &[language.len() as u8], language, text.as_bytes())
+        }
+        Content::Utf16 { language, text } => {
+            let status = 128 + language.len() as u8;
+            let after_mark = put_parts(room, at, &[status], language, &[0xfe, 0xff]);
+            put_units(room, after_mark, text)
+        }
+        Content::Uri { code, rest } => put_parts(room, at, &[code], rest, &[]),
+    }
+}
+
+/// Writes it to the room where that is large enough, tells how many bytes it has, and answers the status.
+pub(crate) fn give_content(content: &Content<'_>, room: &mut [u8], count: &mut usize) -> u32
+    requires { IsContent content.now }
+    ensures bad { result ≡ BAD_ARGUMENT ↔ (2 ^ 32 ≤ length (content_octets content.now)) }
+    ensures kept { result ≡ BAD_ARGUMENT → (room.new ≡ room.old) × (count.new ≡ count.old) }
+    ensures payload { result ≢ BAD_ARGUMENT
+        → Gives (content_octets content.now) room.old room.new count.new result }
+{
+    let Some(needed) = content_length(content) else {
+        return BAD_ARGUMENT;
+    };
+    *count = needed;
+    if room.len() < needed {
+        return NO_ROOM;
+    }
+    let _end = put_content(room, 0, content);
+    OK
+}

@@ -1,0 +1,216 @@
+//! The titles and the media type of a smart poster, where they lie (RTD Smart Poster 1.0).
+ghost use Rattle.std.specs.Prelude.{◌≡◌, ◌≢◌, ℕ, ◌+◌, ◌<◌, ◌≤◌, ◌^◌, ◌↔◌, ◌⊎◌, List, length, IfNone, IfSome, IsTrue};
+ghost use Rattle.std.specs.Str.{str_eq_ignore_ascii_case};
+ghost use Rattle.ndef_format.specs.Messages.{Item};
+ghost use Rattle.ndef_format.specs.Nested.{kind_in};
+ghost use Rattle.ndef_format.specs.Records.{tnf_of};
+ghost use Rattle.ndef_format.specs.Texts.{IsText};
+ghost use Rattle.ndef_format.specs.declared.kind.Kind.TheVariants as kinds;
+ghost use Rattle.ndef_format.specs.declared.profile.Profile.{Profile};
+ghost use Rattle.ndef_format.specs.declared.profile.Profile.TheVariants.{Standard};
+ghost use Rattle.ndef_format.specs.declared.table.Table.TheVariants as tables;
+ghost use Rattle.ndef_piece.specs.Whole.{shown};
+ghost use Rattle.ndef_types.specs.Contents.{IsOfKind};
+ghost use Rattle.ndef_types.specs.Posters.{is_text, titles};
+ghost use Rattle.ndef_c.specs.Arrays.{EachAt, set_over};
+ghost use Rattle.ndef_c.specs.Nested.{MayBeInPieces};
+ghost use Rattle.ndef_c.specs.Posters.{HasPosterRecords};
+ghost use Rattle.ndef_c.specs.Titles.{FindsMediaType, FindsTitle, GivesTitles, IsPosterPayload, IsTitleAt, IsTitleIn, LiesAsText, PosterLacks};
+ghost use Rattle.ndef_c.specs.Walks.{Lies};
+ghost use Rattle.ndef_c.specs.declared.text.NdefText.{NdefText as Text};
+
+use crate::handover::is_nest;
+use crate::nested::{Found, first_of, found_in};
+use crate::part::NdefPart;
+use crate::status::{BAD_ARGUMENT, END, NO_ROOM, OK};
+use crate::text::{NdefText, text_at};
+use ndef_lang::Kind;
+use ndef_nest::Table;
+use ndef_piece::{WholePiece, heads_are_apart, whole_piece};
+
+/// Whether the payload is that of a smart poster, as the standard reads it.
+fn is_poster(payload: &[u8]) -> bool
+    ensures { IsTrue result ↔ IsPosterPayload payload.now }
+{
+    is_nest(Kind::SmartPoster, payload)
+}
+
+/// Whether a record of a poster, in one piece, is a title.
+fn is_title(piece: &WholePiece<'_>) -> bool
+    ensures { result ≡ is_text (kind_in tables.SmartPoster (tnf_of (shown piece.now).tnf) piece.now.kind.now) }
+{
+    match Table::SmartPoster.kind(piece.tnf(), piece.kind) {
+        Kind::Text => true,
+        _ => false,
+    }
+}
+
+/// Where the parts of a text lie, by where its payload lies.
+fn text_of(found: &Found<'_>) -> NdefText
+    requires text { IsText found.now.payload.now }
+    requires bound { found.now.at + length found.now.payload.now < 2 ^ 32 }
+    ensures { (bytes : List ℕ) → Lies bytes found.now.at (length found.now.payload.now) found.now.payload.now
+        → LiesAsText bytes found.now.payload.now result }
+{
+    let text = text_at(found.payload);
+    NdefText {
+        language_at: found.at + text.language_at,
+        language_length: text.language_length,
+        text_at: found.at + text.text_at,
+        text_length: text.text_length,
+        utf16: text.utf16,
+    }
+}
+
+/// How many titles there are in a message, each record of which is in one piece.
+fn titles_in(bytes: &[u8]) -> usize
+    requires { (profile : Profile) × (items : List Item) × MayBeInPieces profile items bytes.now }
+    ensures { (profile : Profile) (items : List Item) → MayBeInPieces profile items bytes.now
+        → result ≡ length (titles items) }
+{
+    heads_are_apart();
+    let mut rest = bytes;
+    let mut count = 0;
+    while !rest.is_empty() {
+        let Some(piece) = whole_piece(rest) else {
+            unreachable!()
+        };
+        if is_title(&piece) {
+            count += 1;
+        }
+        rest = piece.rest;
+    }
+    count
+}
+
+/// Writes where each title lies to the front of the texts.
+fn tell_titles(payload: &[u8], texts: &mut [NdefText])
+    requires poster { IsPosterPayload payload.now }
+    requires room { (items : List Item) → HasPosterRecords Standard items payload.now
+        → length (titles items) ≤ length texts.old }
+    ensures { (items : List Item) × HasPosterRecords Standard items payload.now
+        × (told : List Text) × EachAt (IsTitleAt payload.now items) 0 told
+        × (length told ≡ length (titles items)) × (texts.new ≡ set_over told texts.old) }
+{
+    heads_are_apart();
+    let mut rest = payload;
+    let mut index = 0;
+    while !rest.is_empty() {
+        let Some(piece) = whole_piece(rest) else {
+            unreachable!()
+        };
+        if is_title(&piece) {
+            texts[index] = text_of(&found_in(payload, &piece));
+            index += 1;
+        }
+        rest = piece.rest;
+    }
+}
+
+/// Tells where each title lies, where there is room for them, and how many they are.
+fn give_titles(payload: &[u8], texts: &mut [NdefText], count: &mut usize) -> u32
+    requires { IsPosterPayload payload.now }
+    ensures { GivesTitles payload.now texts.old texts.new count.new result }
+{
+    let needed = titles_in(payload);
+    *count = needed;
+    if texts.len() < needed {
+        return NO_ROOM;
+    }
+    tell_titles(payload, texts);
+    OK
+}
+
+/// Tells where each title of a smart poster lies, as `ndef_text` tells the parts of a text, but by places
+/// in the payload of the poster.
+#[unsafe(no_mangle)]
+pub extern "C" fn ndef_poster_titles(
+    payload: &[u8],
+    texts: &mut [NdefText],
+    count: &mut usize,
+) -> u32
+    ensures bad { result ≡ BAD_ARGUMENT ↔ ¬ IsPosterPayload payload.now }
+    ensures kept { result ≡ BAD_ARGUMENT → (texts.new ≡ texts.old) × (count.new ≡ count.old) }
+    ensures titles { result ≢ BAD_ARGUMENT → GivesTitles payload.now texts.old texts.new count.new result }
+{
+    if !is_poster(payload) {
+        return BAD_ARGUMENT;
+    }
+    give_titles(payload, texts, count)
+}
+
+/// Tells where the media type lies to which the URI of a smart poster leads.
+#[unsafe(no_mangle)]
+pub extern "C" fn ndef_poster_media_type(payload: &[u8], out: &mut NdefPart) -> u32
+    ensures known { (result ≡ OK) ⊎ (result ≡ END) ⊎ (result ≡ BAD_ARGUMENT) }
+    ensures bad { result ≡ BAD_ARGUMENT ↔ ¬ IsPosterPayload payload.now }
+    ensures found { result ≡ OK → FindsMediaType payload.now out.new }
+    ensures end { result ≡ END → PosterLacks (IsOfKind tables.SmartPoster kinds.MediaType) payload.now }
+    ensures kept { result ≢ OK → out.new ≡ out.old }
+{
+    if !is_poster(payload) {
+        return BAD_ARGUMENT;
+    }
+    let Some(found) = first_of(Table::SmartPoster, payload, Kind::MediaType) else {
+        return END;
+    };
+    *out = NdefPart {
+        at: found.at,
+        length: found.payload.len(),
+    };
+    OK
+}
+
+/// Whether the language code of a text in the bytes is this one, the case of its letters aside.
+fn is_language(bytes: &[u8], text: &NdefText, language: &[u8]) -> bool
+    requires { text.now.language_at + text.now.language_length ≤ length bytes.now }
+    ensures { (code : List ℕ) → Lies bytes.now text.now.language_at text.now.language_length code
+        → result ≡ str_eq_ignore_ascii_case code language.now }
+{
+    let end = text.language_at + text.language_length;
+    bytes[text.language_at..end].eq_ignore_ascii_case(language)
+}
+
+/// Where the first title in a language lies.
+fn title_in(payload: &[u8], language: &[u8]) -> Option<NdefText>
+    requires { IsPosterPayload payload.now }
+    ensures none { IfNone result (PosterLacks (IsTitleIn language.now) payload.now) }
+    ensures some { IfSome result (FindsTitle language.now payload.now) }
+{
+    heads_are_apart();
+    let mut rest = payload;
+    while !rest.is_empty() {
+        let Some(piece) = whole_piece(rest) else {
+            unreachable!()
+        };
+        if is_title(&piece) {
+            let text = text_of(&found_in(payload, &piece));
+            if is_language(payload, &text, language) {
+                return Some(text);
+            }
+        }
+        rest = piece.rest;
+    }
+    None
+}
+
+/// Tells where the title of a smart poster in a language lies, of several the first, as
+/// `ndef_poster_titles` tells it. The case of the letters of language codes doesn't matter (RFC 5646,
+/// section 2.1.1).
+#[unsafe(no_mangle)]
+pub extern "C" fn ndef_title(payload: &[u8], language: &[u8], out: &mut NdefText) -> u32
+    ensures known { (result ≡ OK) ⊎ (result ≡ END) ⊎ (result ≡ BAD_ARGUMENT) }
+    ensures bad { result ≡ BAD_ARGUMENT ↔ ¬ IsPosterPayload payload.now }
+    ensures found { result ≡ OK → FindsTitle language.now payload.now out.new }
+    ensures end { result ≡ END → PosterLacks (IsTitleIn language.now) payload.now }
+    ensures kept { result ≢ OK → out.new ≡ out.old }
+{
+    if !is_poster(payload) {
+        return BAD_ARGUMENT;
+    }
+    let Some(text) = title_in(payload, language) else {
+        return END;
+    };
+    *out = text;
+    OK
+}
