@@ -24,9 +24,10 @@ complete -c ndef-make -n __ndef_make_begins -l version -d 'Print the name and th
 complete -c ndef-make -n '__ndef_make_in ""' -a text -d 'A text'
 complete -c ndef-make -n '__ndef_make_in ""' -a uri -d 'A URI'
 complete -c ndef-make -n '__ndef_make_in ""' -a poster -d 'A smart poster'
+complete -c ndef-make -n '__ndef_make_in ""' -a handover -d 'A handover request or select'
 complete -c ndef-make -n '__ndef_make_in ""' -a record -d 'A record of any type'
 complete -c ndef-make -n '__ndef_make_in ""' -a carrier -d 'A handover carrier'
-for kind in text uri poster record carrier
+for kind in text uri poster handover record carrier
     complete -c ndef-make -n "__ndef_make_in $kind" -l hex -d 'Write hexadecimal digits'
     complete -c ndef-make -n "__ndef_make_in $kind" -l raw -d 'Write bytes to a terminal too'
     complete -c ndef-make -n "__ndef_make_in $kind" -l and -d 'Begin another record'
@@ -37,6 +38,11 @@ complete -c ndef-make -n '__ndef_make_in poster' -l title -x -d 'A language, an 
 complete -c ndef-make -n '__ndef_make_in poster' -l action -x -a 'do save open' -d 'The recommended action'
 complete -c ndef-make -n '__ndef_make_in poster' -l size -x -d 'The size of what the URI leads to'
 complete -c ndef-make -n '__ndef_make_in poster' -l media -x -d 'The media type of what the URI leads to'
+complete -c ndef-make -n '__ndef_make_in handover' -a 'request select' -d 'Which handover'
+complete -c ndef-make -n '__ndef_make_in handover' -l version -x -d 'The version, 1.0 to 1.15'
+complete -c ndef-make -n '__ndef_make_in handover' -l collision -x -d 'The random number of a request'
+complete -c ndef-make -n '__ndef_make_in handover' -l carrier -x -a 'inactive= active= activating= unknown=' -d 'A power state, an equals sign and ids'
+complete -c ndef-make -n '__ndef_make_in handover' -l error -x -d 'The reason of a select, a colon and its data'
 complete -c ndef-make -n '__ndef_make_in record' -l tnf -x -a '0 1 2 3 4 5' -d 'The type name format'
 complete -c ndef-make -n '__ndef_make_in record' -l type -x -d 'The type'
 complete -c ndef-make -n '__ndef_make_in record' -l id -x -d 'The id'

@@ -1,32 +1,11 @@
 //! The command `ndef`: what stands on standard input is shown, checked, or written again.
 #![tactic(auto)]
 
-ghost use Rattle.std.specs.Prelude.{◌≡◌, is_err};
-ghost use Rattle.std.specs.Process.{exit_status};
-ghost use Rattle.ndef_tool.specs.Output.{number_of_status};
-ghost use Rattle.ndef_tool.specs.Runs.{status_after};
-
 use ndef_message::{StdSink, StdSource};
-use ndef_tool::{Status, run};
-use std::io::{self, BufReader, BufWriter, Write};
+use ndef_program::{Status, exit_code, exit_code_after};
+use ndef_tool::run;
+use std::io::{BufReader, BufWriter, Write};
 use std::process::ExitCode;
-
-/// The status as the process ends with it.
-fn code(status: Status) -> ExitCode
-    ensures { exit_status result ≡ number_of_status status }
-{
-    ExitCode::from(status as u8)
-}
-
-/// The same of a run whose output is flushed at last.
-fn code_after(status: Status, flushed: io::Result<()>) -> ExitCode
-    ensures { exit_status result ≡ number_of_status (status_after (is_err flushed) status) }
-{
-    match flushed {
-        Ok(()) => code(status),
-        Err(_) => code(Status::Fault),
-    }
-}
 
 /// Runs the command with standard input and output, flushes standard output and ends with the status.
 /// Where there is no memory for the words or a buffer, or the flush fails, it ends with status 3 and
@@ -34,20 +13,20 @@ fn code_after(status: Status, flushed: io::Result<()>) -> ExitCode
 fn main(rt: HostRuntime) -> ExitCode {
     let alloc = rt.alloc();
     let Ok(words) = std::env::args(&rt) else {
-        return code(Status::Fault);
+        return exit_code(Status::Fault);
     };
     let Ok(words) = words.collect::<Vec<String>>(alloc) else {
-        return code(Status::Fault);
+        return exit_code(Status::Fault);
     };
     let Ok(reader) = BufReader::new(alloc, rt.reader()) else {
-        return code(Status::Fault);
+        return exit_code(Status::Fault);
     };
     let Ok(mut writer) = BufWriter::new(alloc, rt.stdout()) else {
-        return code(Status::Fault);
+        return exit_code(Status::Fault);
     };
     let mut source = StdSource::new(reader);
     let mut sink = StdSink::new(&mut writer);
     let status = run(alloc, words.as_slice(), &mut source, &mut sink);
     drop(sink);
-    code_after(status, writer.flush())
+    exit_code_after(status, writer.flush())
 }

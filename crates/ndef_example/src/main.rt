@@ -1,10 +1,7 @@
 //! Reads a tag from a slice and prints its records.
 #![tactic(auto)]
 
-use ndef_message::view;
-use ndef_nest::Typed;
-use ndef_types::{Text, Uri};
-use ndef_value::{Limits, Tnf};
+use simbegyor::{Limits, Text, Tnf, Typed, Uri, view};
 use std::alloc::Global;
 
 /// A tag with a text and a link.

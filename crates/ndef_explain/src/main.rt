@@ -1,54 +1,78 @@
-//! The program `ndef-explain`: tells of each byte of the messages on standard input in which field it stands.
+//! The program `ndef-explain`: tells of each byte of the messages of its inputs in which field it stands.
 #![tactic(auto)]
 
-ghost use Rattle.std.specs.Prelude.{◌≡◌, is_err};
-ghost use Rattle.std.specs.Process.{exit_status};
-ghost use Rattle.ndef_tool.specs.Output.{number_of_status};
-ghost use Rattle.ndef_tool.specs.Runs.{status_after};
+ghost use Rattle.std.specs.Prelude.{⊤};
 
-use ndef_explaining::run;
-use ndef_message::{StdSink, StdSource};
-use ndef_tool::Status;
-use std::io::{self, BufReader, BufWriter, Write};
+use ndef_explain_tool::{Inputs, MOST, run};
+use ndef_message::{InputError, StdSink, StdSource, read_all};
+use ndef_program::{Status, exit_code, exit_code_after};
+use std::alloc::Global;
+use std::env::VarError;
+use std::fs::File;
+use std::io::{self, BufReader, BufWriter, IsTerminal, Read, Write};
 use std::process::ExitCode;
 
-/// The status as the process ends with it.
-fn code(status: Status) -> ExitCode
-    ensures { exit_status result ≡ number_of_status status }
-{
-    ExitCode::from(status as u8)
+/// All that a reader gives.
+fn read_from<R: Read + Drop>(alloc: Global, reader: R) -> Result<Vec<u8>, InputError> {
+    let Ok(reader) = BufReader::new(alloc, reader) else {
+        return Err(InputError::NoMemory);
+    };
+    read_all(alloc, &mut StdSource::new(reader), MOST)
 }
 
-/// The same of a run whose output is flushed at last.
-fn code_after(status: Status, flushed: io::Result<()>) -> ExitCode
-    ensures { exit_status result ≡ number_of_status (status_after (is_err flushed) status) }
-{
-    match flushed {
-        Ok(()) => code(status),
-        Err(_) => code(Status::Fault),
+/// The files of the system, and standard input.
+#[derive(Drop)]
+struct Files<'a> {
+    rt: &'a HostRuntime,
+}
+
+impl<'a> Inputs for Files<'a> {
+    ghost gives = { λ _ _ _ _. ⊤ };
+
+    fn read(&mut self, alloc: Global, name: &str) -> Result<Vec<u8>, InputError> {
+        if name == "-" {
+            return read_from(alloc, self.rt.reader());
+        }
+        match File::open(self.rt, name) {
+            Ok(file) => read_from(alloc, file),
+            Err(_) => Err(InputError::ReadFault),
+        }
     }
 }
 
-/// Runs the program with standard input and output, flushes standard output and ends with the status.
-/// Where there is no memory for the words or a buffer, or the flush fails, it ends with status 3 and
+/// Whether output takes colours: it goes to a terminal, and `NO_COLOR` isn't set, or is empty.
+fn takes_color(rt: &HostRuntime) -> bool {
+    let wants_none = match std::env::var(rt, "NO_COLOR") {
+        Ok(value) => !value.is_empty(),
+        Err(VarError::NotPresent) => false,
+        Err(_) => true,
+    };
+    rt.stdout().is_terminal() && !wants_none
+}
+
+/// Runs the program with files, standard input and output, flushes standard output and ends with the
+/// status. Where there is no memory for the words or a buffer, or the flush fails, it ends with status 3 and
 /// prints nothing more.
 fn main(rt: HostRuntime) -> ExitCode {
     let alloc = rt.alloc();
     let Ok(words) = std::env::args(&rt) else {
-        return code(Status::Fault);
+        return exit_code(Status::Fault);
     };
     let Ok(words) = words.collect::<Vec<String>>(alloc) else {
-        return code(Status::Fault);
-    };
-    let Ok(reader) = BufReader::new(alloc, rt.reader()) else {
-        return code(Status::Fault);
+        return exit_code(Status::Fault);
     };
     let Ok(mut writer) = BufWriter::new(alloc, rt.stdout()) else {
-        return code(Status::Fault);
+        return exit_code(Status::Fault);
     };
-    let mut source = StdSource::new(reader);
+    let mut inputs = Files { rt: &rt };
     let mut sink = StdSink::new(&mut writer);
-    let status = run(alloc, words.as_slice(), &mut source, &mut sink);
+    let status = run(
+        alloc,
+        words.as_slice(),
+        takes_color(&rt),
+        &mut inputs,
+        &mut sink,
+    );
     drop(sink);
-    code_after(status, writer.flush())
+    exit_code_after(status, writer.flush())
 }

@@ -1,8 +1,17 @@
 //! What the programs share.
 //!
-//! - `line.rt`: a short text, made with no memory.
+//! - `line.rt`: a short text, made with no memory. `hexadecimal.rt`: lines of hexadecimal digits.
+//! - `command.rt`, `specs/CommandLine.antt`: steps of a command line, by clap.
+//! - `status.rt`, `specs/Statuses.antt`: the status that a process ends with.
+//! - `specs/Outputs.antt`: what goes out to a sink.
 #![tactic(auto)]
 
+mod command;
+mod hexadecimal;
 mod line;
+mod status;
 
+pub use command::{flag, hex_command, over, with, word_option};
+pub use hexadecimal::hexadecimal_line;
 pub use line::{Line, ROOM};
+pub use status::{Status, exit_code, exit_code_after};

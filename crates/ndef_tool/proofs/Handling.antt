@@ -3,31 +3,39 @@ use Rattle.std.proofs.Common.{◌≡◌, ◌+◌, ◌*◌, ◌<◌, ◌≤◌, �
 use Rattle.std.specs.Io.KnownBytes.{Appends, Keeps}
 use Rattle.std.proofs.KnownBytes.{Appends-trans, Keeps-refl, Keeps-trans}
 use Rattle.std.proofs.lemmas.Bool.{false≢true}
-use Rattle.ndef_format.specs.Payloads.{Sets}
-use Rattle.ndef_format.specs.Reasons.{Conditions}
+use Rattle.ndef_format.specs.NestedReasons.{TypedReason}
+use Rattle.ndef_format.specs.Payloads.{IsTypedPayload}
 use Rattle.std.specs.Prelude.{IsErrAnd}
 use Rattle.ndef_format.specs.Limits.{AreInRange, LimitValues, greatest_length}
 use Rattle.ndef_message.specs.Sending.{Sent, MarksOf}
 use Rattle.ndef_message.specs.Sources.{Counts}
+use Rattle.ndef_message.specs.States.{SinkState}
 use Rattle.ndef_message.specs.declared.message_reading.Read.{Read}
 use Rattle.ndef_message.specs.declared.sending.WriteFault.{WriteFault}
 use Rattle.ndef_tool.specs.Output.{AreBlocks, FitsPlace, IsBlock, IsBlockBy, IsOutput, total_bytes, ending_line, message_line, status_of}
 use Rattle.ndef_tool.specs.Quoting.{Text}
-use Rattle.ndef_tool.specs.Runs.{EndsCommand, status_after}
+use Rattle.ndef_tool.specs.Rules.{typed_rules}
+use Rattle.ndef_program.specs.Statuses.{status_after}
+use Rattle.ndef_tool.specs.Runs.{EndsCommand}
 use Rattle.ndef_tool.specs.Blocks.{block_text}
-use Rattle.ndef_tool.specs.Sessions.{AreInTurn, GoesOut, Handles, SessionHasTaken, IsSession, MayEnd, PrintsNext, Silences, Stops, TakesNext}
+use Rattle.ndef_program.specs.Outputs.{GoesOut}
+use Rattle.ndef_tool.specs.Sessions.{AreInTurn, Handles, SessionHasTaken, IsSession, MayEnd, PrintsNext, Silences, Stops, TakesNext}
 use Rattle.ndef_tool.specs.declared.choice.Action.{Action}
 use Rattle.ndef_tool.specs.declared.choice.Action.TheVariants.{Show, Check, Encode}
 use Rattle.ndef_tool.specs.declared.choice.Choice.{Choice}
 use Rattle.ndef_tool.specs.declared.ending.Ending.TheVariants.{Clean, Refused, Hex, Reading, Writing, Memory, TooMany, TooLong}
 use Rattle.ndef_tool.specs.declared.ending.Ending.{Ending}
-use Rattle.ndef_tool.specs.declared.ending.Status.{Status}
-use Rattle.ndef_tool.specs.declared.ending.Status.TheVariants as status
+use Rattle.ndef_program.specs.declared.status.Status.{Status}
+use Rattle.ndef_program.specs.declared.status.Status.TheVariants as status
 use Rattle.ndef_tool.specs.declared.session.Printed.{Printed}
 use Rattle.ndef_tool.specs.declared.session.Session.{Session}
 use Rattle.ndef_tool.proofs.Bounded.{greatest_small}
 use Rattle.ndef_tool.proofs.Outputs.{blocks_more, bytes_more, ending_status, goes_behind, goes_to_end, stays_failed}
 use Rattle.ndef_tool.proofs.Sessions.{follow_more, stops_on}
+
+-- a sink
+abbrev sink : Option (List ℕ) → Bool → SinkState
+sink written failed = record { written = written; failed = failed }
 
 -- numbers of bytes that are taken add up
 pub counts_more : (a b c m n : ℕ) → Counts a b m → Counts b c n → Counts a c (m + n)
@@ -63,11 +71,11 @@ fits_behind limits count at a b TooMany range few room t = tt
 fits_behind limits count at a b TooLong range few room t = tt
 
 -- these were read, and their blocks are written
-pub record SoFar (set : Sets) (holds : Conditions) (choice : Choice) (a b : Option (List ℕ)) (v w : Option (List ℕ)) (marked : Bool) (count at : ℕ) : Type 0 where
+pub record SoFar (choice : Choice) (a b : Option (List ℕ)) (v w : Option (List ℕ)) (marked : Bool) (count at : ℕ) : Type 0 where
   pub reads : List Read
   pub number : count ≡ length reads
   pub place : at ≡ total_bytes reads
-  pub follow : AreInTurn set holds choice.limits a b reads
+  pub follow : AreInTurn (typed_rules choice.limits) a b reads
   pub blocks : Text
   pub are_blocks : AreBlocks choice 1 0 reads blocks
   pub written : Appends v w blocks
@@ -81,16 +89,16 @@ block_behind choice count at reads read done text n p are is =
     blocks_more choice 1 0 reads read done text are (rw (number, place) at is)
 
 -- one message more, and its block
-pub handled_more : (set : Sets) (holds : Conditions) (choice : Choice) (a b c : Option (List ℕ)) (v w x : Option (List ℕ)) (marked : Bool) (count at : ℕ) (failed : Bool) (printed : Printed)
-    → SoFar set holds choice a b v w marked count at → PrintsNext set holds choice count at b c failed (Ok printed) → Appends w x (block_text printed.block)
-    → (marked ≡ true → (block_text printed.block ≡ []) × Keeps w x) → SoFar set holds choice a c v x marked (count + 1) (at + printed.taken)
-handled_more set holds choice a b c v w x marked count at failed printed s (read, next, is, e) sent still =
+pub handled_more : (choice : Choice) (a b c : Option (List ℕ)) (v w x : Option (List ℕ)) (marked : Bool) (count at : ℕ) (failed : Bool) (printed : Printed)
+    → SoFar choice a b v w marked count at → PrintsNext choice count at b c failed (Ok printed) → Appends w x (block_text printed.block)
+    → (marked ≡ true → (block_text printed.block ≡ []) × Keeps w x) → SoFar choice a c v x marked (count + 1) (at + printed.taken)
+handled_more choice a b c v w x marked count at failed printed s (read, next, is, e) sent still =
     let text = block_text printed.block in
     record {
       reads = s.reads ++ read ∷ [];
       number = omega (arith, s.number, length-append s.reads (read ∷ []));
       place = omega (arith, s.place, e, bytes_more s.reads read);
-      follow = follow_more set holds choice.limits a b c s.reads read s.follow next.2;
+      follow = follow_more IsTypedPayload TypedReason choice.limits a b c s.reads read s.follow next.2;
       blocks = s.blocks ++ text;
       are_blocks = block_behind choice count at s.reads read s.blocks text s.number s.place s.are_blocks is;
       written = Appends-trans v w x s.blocks text s.written sent;
@@ -103,10 +111,10 @@ still_out old new [] n m h = refl
 still_out old new (x ∷ text) n m h = absurd (false≢true (sym (m.1 (omega arith)) ∙ h))
 
 -- the messages end, and none has a block
-pub silent_end : (set : Sets) (holds : Conditions) (choice : Choice) (a b c : Option (List ℕ)) (v w : Option (List ℕ)) (count at : ℕ) (failed new : Bool) (ending : Ending)
-    → SoFar set holds choice a b v w true count at → count ≤ 10000 → Stops set holds choice.limits count b c failed false ending → MayEnd choice.action ending → new ≡ true
-    → Silences (IsSession choice.action set holds choice.limits a c failed new) choice v w new (record { at = at; ending = ending })
-silent_end set holds choice a b c v w count at failed new ending s few stops may mark = record {
+pub silent_end : (choice : Choice) (a b c : Option (List ℕ)) (v w : Option (List ℕ)) (old : Bool) (count at : ℕ) (failed new : Bool) (ending : Ending)
+    → SoFar choice a b v w true count at → count ≤ 10000 → Stops (typed_rules choice.limits) count b c failed false ending → MayEnd choice.action ending → new ≡ true
+    → Silences (IsSession choice a c failed new) choice (sink v old) (sink w new) (record { at = at; ending = ending })
+silent_end choice a b c v w old count at failed new ending s few stops may mark = record {
   keeps = (s.quiet refl).1;
   mark = mark;
   ends = inr (
@@ -115,7 +123,7 @@ silent_end set holds choice a b c v w count at failed new ending s few stops may
       few = omega (arith, s.number);
       between = b;
       follow = s.follow;
-      stops = stops_on set holds choice.limits (length s.reads) b c failed false new ending (λ e. mark) (subst (λ n. Stops set holds choice.limits n b c failed false ending) s.number stops);
+      stops = stops_on IsTypedPayload TypedReason choice.limits (length s.reads) b c failed false new ending (λ e. mark) (subst (λ n. Stops (typed_rules choice.limits) n b c failed false ending) s.number stops);
       may = may;
     },
     s.place,
@@ -123,34 +131,24 @@ silent_end set holds choice a b c v w count at failed new ending s few stops may
   );
 }
 
--- the same of messages that are read otherwise
-pub silent_of : (Old New : List Read → Ending → Type 0) (choice : Choice) (v w : Option (List ℕ)) (failed : Bool) (session : Session)
-    → ((reads : List Read) → Old reads session.ending → New reads session.ending) → Silences Old choice v w failed session → Silences New choice v w failed session
-silent_of Old New choice v w failed session on s = record { keeps = s.keeps; mark = s.mark; ends = by_end s.ends }
-  where
-    by_end : (session.ending ≡ Writing) ⊎ ((reads : List Read) × Old reads session.ending × (session.at ≡ total_bytes reads) × AreBlocks choice 1 0 reads [])
-        → (session.ending ≡ Writing) ⊎ ((reads : List Read) × New reads session.ending × (session.at ≡ total_bytes reads) × AreBlocks choice 1 0 reads [])
-    by_end (inl e) = inl e
-    by_end (inr e) = inr (e.0, on e.0 e.1, e.2, e.3)
-
 may_write : (action : Action) → MayEnd action Writing
 may_write Show = tt
 may_write Check = refl
 may_write (Encode form size) = tt
 
 -- one message more, and its block, of which a front went out
-pub handled_in_part : (set : Sets) (holds : Conditions) (choice : Choice) (a b c : Option (List ℕ)) (v w x : Option (List ℕ)) (marked : Bool) (count at : ℕ) (printed : Printed)
-    (source_failed failed old new : Bool) (f : WriteFault) → SoFar set holds choice a b v w marked count at → PrintsNext set holds choice count at b c failed (Ok printed)
+pub handled_in_part : (choice : Choice) (a b c : Option (List ℕ)) (v w x : Option (List ℕ)) (first marked : Bool) (count at : ℕ) (printed : Printed)
+    (source_failed failed old new : Bool) (f : WriteFault) → SoFar choice a b v w marked count at → PrintsNext choice count at b c failed (Ok printed)
     → old ≡ false → Sent 0 w x (block_text printed.block) (Err f) → new ≡ true
-    → Handles (IsSession choice.action set holds choice.limits a c source_failed new) choice v x new (record { at = at + printed.taken; ending = Writing })
-handled_in_part set holds choice a b c v w x marked count at printed source_failed failed old new f s (read, next, is, e) clear sent m =
+    → Handles (IsSession choice a c source_failed new) choice (sink v first) (sink x new) (record { at = at + printed.taken; ending = Writing })
+handled_in_part choice a b c v w x first marked count at printed source_failed failed old new f s (read, next, is, e) clear sent m =
     let text = block_text printed.block in
     record {
       reads = s.reads ++ read ∷ [];
       is = record {
         few = omega (arith, s.number, next.0, length-append s.reads (read ∷ []));
         between = c;
-        follow = follow_more set holds choice.limits a b c s.reads read s.follow next.2;
+        follow = follow_more IsTypedPayload TypedReason choice.limits a b c s.reads read s.follow next.2;
         stops = (m, Keeps-refl c);
         may = may_write choice.action;
       };
@@ -162,11 +160,11 @@ handled_in_part set holds choice a b c v w x marked count at printed source_fail
     }
 
 -- the line of the ending behind them
-pub session_ends : (Old New : List Read → Ending → Type 0) (choice : Choice) (v w x : Option (List ℕ)) (middle new : Bool) (session : Session) (line : Text) (r : Result ℕ WriteFault) (result : Status)
-    → ((reads : List Read) → (middle ≡ true → new ≡ true) → Old reads session.ending → New reads session.ending) → Handles Old choice v w middle session
+pub session_ends : (Old New : List Read → Ending → Type 0) (choice : Choice) (v w x : Option (List ℕ)) (first middle new : Bool) (session : Session) (line : Text) (r : Result ℕ WriteFault) (result : Status)
+    → ((reads : List Read) → (middle ≡ true → new ≡ true) → Old reads session.ending → New reads session.ending) → Handles Old choice (sink v first) (sink w middle) session
     → line ≡ ending_line choice.action session.at session.ending → Sent 0 w x line r → MarksOf middle new line r → EndsCommand r (status_of session.ending) result
     → (reads : List Read) × (text : Text) × New reads session.ending × IsOutput choice reads session.ending text × GoesOut v x new text × (result ≡ status_after new (status_of session.ending))
-session_ends Old New choice v w x middle new session line r result on h e sent marks ends =
+session_ends Old New choice v w x first middle new session line r result on h e sent marks ends =
     let same : line ≡ ending_line choice.action (total_bytes h.reads) session.ending = e ∙ ap (λ at. ending_line choice.action at session.ending) h.at in (
       h.reads,
       h.blocks ++ ending_line choice.action (total_bytes h.reads) session.ending,
@@ -183,12 +181,12 @@ failed_status old new text (Ok n) st result h m e = inl (still_out old new text 
 failed_status old new text (Err f) st result h m e = inr e
 
 -- the line of the ending, which doesn't go out
-pub silent_ends : (Old New : List Read → Ending → Type 0) (choice : Choice) (v w x : Option (List ℕ)) (middle new : Bool) (session : Session) (line : Text) (r : Result ℕ WriteFault) (result : Status)
-    → ((reads : List Read) → (middle ≡ true → new ≡ true) → Old reads session.ending → New reads session.ending) → Silences Old choice v w middle session
+pub silent_ends : (Old New : List Read → Ending → Type 0) (choice : Choice) (v w x : Option (List ℕ)) (first middle new : Bool) (session : Session) (line : Text) (r : Result ℕ WriteFault) (result : Status)
+    → ((reads : List Read) → (middle ≡ true → new ≡ true) → Old reads session.ending → New reads session.ending) → Silences Old choice (sink v first) (sink w middle) session
     → line ≡ ending_line choice.action session.at session.ending → Keeps w x → MarksOf middle new line r → EndsCommand r (status_of session.ending) result
     → Keeps v x × (new ≡ true)
     × ((result ≡ status.Fault) ⊎ ((reads : List Read) × New reads session.ending × IsOutput choice reads session.ending [] × (result ≡ status_of session.ending)))
-silent_ends Old New choice v w x middle new session line r result on s e kept marks ends =
+silent_ends Old New choice v w x first middle new session line r result on s e kept marks ends =
     (Keeps-trans v w x s.keeps kept, stays_failed middle new line r marks s.mark, by_status s.ends (failed_status middle new line r (status_of session.ending) result s.mark marks ends))
   where
     by_status : (session.ending ≡ Writing) ⊎ ((reads : List Read) × Old reads session.ending × (session.at ≡ total_bytes reads) × AreBlocks choice 1 0 reads [])

@@ -19,6 +19,7 @@ use Rattle.ndef_format.specs.Accepted.{IsMember}
 use Rattle.ndef_message.specs.declared.message_reading.Read.{Read}
 use Rattle.ndef_format.specs.Reasons.{Conditions}
 use Rattle.ndef_types.specs.Decoding.{RefusesPayload}
+use Rattle.ndef_tool.specs.Rules.{rules_of}
 use Rattle.ndef_tool.specs.Sessions.{IsNext}
 use Rattle.ndef_tool.specs.Showing.{IsTyped}
 
@@ -70,5 +71,5 @@ members_on limits (i ∷ items) h all =
     (typed_on (kind_of i.tnf i.kind) limits.records limits.profile i.payload h all.0, members_on limits items h all.1)
 
 pub next_typed : (holds : Conditions) (limits : LimitValues) (count : ℕ) (before after : Option (List ℕ)) (failed : Bool) (read : Read) → AreInRange limits
-    → IsNext IsTypedPayload holds limits count before after failed (Ok read) → AllByRecursion (IsTyped limits.profile) read.message
+    → IsNext (rules_of IsTypedPayload holds limits) count before after failed (Ok read) → AllByRecursion (IsTyped limits.profile) read.message
 next_typed holds limits count before after failed read range h = members_on limits read.message (omega (arith, range.records.1)) h.2.3.members

@@ -9,15 +9,17 @@ use Rattle.ndef_message.specs.declared.message_reading.Read.{Read}
 use Rattle.ndef_message.specs.declared.sending.WriteFault.{WriteFault}
 use Rattle.ndef_tool.specs.Output.{AreBlocks, IsBlock, total_bytes, ending_line, status_of}
 use Rattle.ndef_tool.specs.Quoting.{Text}
-use Rattle.ndef_tool.specs.Runs.{EndsCommand, status_after}
-use Rattle.ndef_tool.specs.Sessions.{GoesOut, is_writing}
+use Rattle.ndef_program.specs.Statuses.{status_after}
+use Rattle.ndef_tool.specs.Runs.{EndsCommand}
+use Rattle.ndef_program.specs.Outputs.{GoesOut}
+use Rattle.ndef_tool.specs.Sessions.{is_writing}
 use Rattle.ndef_tool.specs.declared.choice.Action.{Action}
 use Rattle.ndef_tool.specs.declared.choice.Action.TheVariants.{Show, Check, Encode}
 use Rattle.ndef_tool.specs.declared.choice.Choice.{Choice}
 use Rattle.ndef_tool.specs.declared.ending.Ending.{Ending}
 use Rattle.ndef_tool.specs.declared.ending.Ending.TheVariants.{Clean, Refused, Hex, Reading, Writing, Memory, TooMany, TooLong}
-use Rattle.ndef_tool.specs.declared.ending.Status.{Status}
-use Rattle.ndef_tool.specs.declared.ending.Status.TheVariants as status
+use Rattle.ndef_program.specs.declared.status.Status.{Status}
+use Rattle.ndef_program.specs.declared.status.Status.TheVariants as status
 
 -- ---- one message more
 

@@ -7,12 +7,13 @@ use Rattle.std.proofs.KnownBytes.{Keeps-refl}
 use Rattle.ndef_format.specs.Limits.{LimitValues, greatest_length}
 use Rattle.ndef_format.specs.Messages.{run_record}
 use Rattle.ndef_format.specs.declared.refusal.Refusal.{Refusal}
-use Rattle.ndef_format.specs.Payloads.{Sets}
+use Rattle.ndef_format.specs.NestedReasons.{TypedReason}
+use Rattle.ndef_format.specs.Payloads.{IsTypedPayload, Sets}
 use Rattle.ndef_format.specs.Reasons.{Conditions}
 use Rattle.ndef_format.specs.Refusals.{Refuses}
 use Rattle.ndef_message.specs.Checkings.{ChecksFrom}
 use Rattle.ndef_message.specs.Readings.{ReadsFrom}
-use Rattle.ndef_message.specs.Sources.{Supply}
+use Rattle.ndef_message.specs.States.{SourceState}
 use Rattle.ndef_message.specs.Views.{Viewed, Views}
 use Rattle.ndef_message.specs.declared.message_checking.Checked.{Checked}
 use Rattle.ndef_message.specs.declared.message_checking.CheckError.{CheckError}
@@ -21,8 +22,9 @@ use Rattle.ndef_message.specs.declared.message_reading.Read.{Read}
 use Rattle.ndef_message.specs.declared.message_reading.ReadError.{ReadError}
 use Rattle.ndef_message.specs.declared.message_reading.ReadError.TheVariants as errors
 use Rattle.ndef_tool.specs.Inputs.{ReadsIn}
+use Rattle.ndef_tool.specs.Rules.{rules_of}
 use Rattle.ndef_tool.specs.Sessions.{AreInTurn, IsNext, IsSession, Stops, ViewsNext}
-use Rattle.ndef_tool.specs.declared.choice.Action.{Action}
+use Rattle.ndef_tool.specs.declared.choice.Choice.{Choice}
 use Rattle.ndef_tool.specs.declared.ending.Ending.{Ending}
 use Rattle.ndef_tool.specs.declared.ending.Ending.TheVariants.{Clean, Refused, Hex, Reading, Writing, Memory, TooMany, TooLong}
 
@@ -62,8 +64,8 @@ refused_bytes set holds limits input rest refusal r e =
     (input, ([], sym (append-nil input), λ _. refl), r, split)
 
 -- one message more
-pub follow_more : (set : Sets) (holds : Conditions) (limits : LimitValues) (a b c : Option (List ℕ)) (reads : List Read) (read : Read) → AreInTurn set holds limits a b reads
-    → ReadsFrom set holds limits b c (Ok read) → AreInTurn set holds limits a c (reads ++ read ∷ [])
+pub follow_more : (set : Sets) (holds : Conditions) (limits : LimitValues) (a b c : Option (List ℕ)) (reads : List Read) (read : Read) → AreInTurn (rules_of set holds limits) a b reads
+    → ReadsFrom set holds limits b c (Ok read) → AreInTurn (rules_of set holds limits) a c (reads ++ read ∷ [])
 follow_more set holds limits a b c [] read f h = (c, reads_kept set holds limits a b c (Ok read) f h, Keeps-refl c)
 follow_more set holds limits a b c (r ∷ rs) read f h = (f.0, f.1, follow_more set holds limits f.0 b c rs read f.2 h)
 
@@ -82,15 +84,15 @@ viewed_read set holds limits input rest v h e =
 
 -- what is viewed is read, unless memory is wanting
 pub viewed_unread : (set : Sets) (holds : Conditions) (limits : LimitValues) (count : ℕ) (input rest : List ℕ) (v : Viewed) (r : Result Read Ending) → IsErrAnd r (λ ending. ending ≡ Memory)
-    → ViewsNext set holds limits count input rest (Ok v) → v.taken ≤ greatest_length limits → IsNext set holds limits count (Some input) (Some rest) false r
+    → ViewsNext (rules_of set holds limits) count input rest (Ok v) → v.taken ≤ greatest_length limits → IsNext (rules_of set holds limits) count (Some input) (Some rest) false r
 viewed_unread set holds limits count input rest v (Ok read) h next few = absurd h
 viewed_unread set holds limits count input rest v (Err e) h next few =
     let r = viewed_read set holds limits input rest v next.1 next.2 in
-    subst (λ x. Stops set holds limits count (Some input) (Some rest) false false x) (sym h) (next.0, refl, (r.0, r.1, omega (arith, r.2)))
+    subst (λ x. Stops (rules_of set holds limits) count (Some input) (Some rest) false false x) (sym h) (next.0, refl, (r.0, r.1, omega (arith, r.2)))
 
 -- messages end for the same reason where another sink failed
 pub stops_on : (set : Sets) (holds : Conditions) (limits : LimitValues) (count : ℕ) (a b : Option (List ℕ)) (failed old new : Bool) (ending : Ending) → (old ≡ true → new ≡ true)
-    → Stops set holds limits count a b failed old ending → Stops set holds limits count a b failed new ending
+    → Stops (rules_of set holds limits) count a b failed old ending → Stops (rules_of set holds limits) count a b failed new ending
 stops_on set holds limits count a b failed old new Clean on h = h
 stops_on set holds limits count a b failed old new (Refused r) on h = h
 stops_on set holds limits count a b failed old new Reading on h = h
@@ -100,20 +102,20 @@ stops_on set holds limits count a b failed old new TooMany on h = h
 stops_on set holds limits count a b failed old new (Hex x) on h = h
 stops_on set holds limits count a b failed old new TooLong on h = h
 
-session_on : (action : Action) (set : Sets) (holds : Conditions) (limits : LimitValues) (a b : Option (List ℕ)) (failed old new : Bool) (reads : List Read) (ending : Ending) → (old ≡ true → new ≡ true)
-    → IsSession action set holds limits a b failed old reads ending → IsSession action set holds limits a b failed new reads ending
-session_on action set holds limits a b failed old new reads ending on s = record {
+session_on : (choice : Choice) (a b : Option (List ℕ)) (failed old new : Bool) (reads : List Read) (ending : Ending) → (old ≡ true → new ≡ true)
+    → IsSession choice a b failed old reads ending → IsSession choice a b failed new reads ending
+session_on choice a b failed old new reads ending on s = record {
   few = s.few;
   between = s.between;
   follow = s.follow;
-  stops = stops_on set holds limits (length reads) s.between b failed old new ending on s.stops;
+  stops = stops_on IsTypedPayload TypedReason choice.limits (length reads) s.between b failed old new ending on s.stops;
   may = s.may;
 }
 
 -- messages of hexadecimal text end for the same reason where another sink failed
-pub reads_on : (hex : Bool) (action : Action) (set : Sets) (holds : Conditions) (limits : LimitValues) (a b : Supply) (failed old new : Bool) (reads : List Read) (ending : Ending) → (old ≡ true → new ≡ true)
-    → ReadsIn hex action set holds limits a b failed old reads ending → ReadsIn hex action set holds limits a b failed new reads ending
-reads_on false action set holds limits a b failed old new reads how on h = (session_on action set holds limits a.coming b.coming failed old new reads how on h.0, h.1)
-reads_on true action set holds limits a b failed old new reads how on (Ok bytes, i, r) =
-    (Ok bytes, i, (r.0, session_on action set holds limits (Some bytes) r.0 false old new reads how on r.1))
-reads_on true action set holds limits a b failed old new reads how on (Err why, i, p) = (Err why, i, p)
+pub reads_on : (hex : Bool) (choice : Choice) (a b : SourceState) (old new : Bool) (reads : List Read) (ending : Ending) → (old ≡ true → new ≡ true)
+    → ReadsIn hex choice a b old reads ending → ReadsIn hex choice a b new reads ending
+reads_on false choice a b old new reads how on h = (session_on choice a.coming b.coming b.failed old new reads how on h.0, h.1)
+reads_on true choice a b old new reads how on (Ok bytes, i, r) =
+    (Ok bytes, i, (r.0, session_on choice (Some bytes) r.0 false old new reads how on r.1))
+reads_on true choice a b old new reads how on (Err why, i, p) = (Err why, i, p)

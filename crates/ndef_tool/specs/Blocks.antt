@@ -1,11 +1,9 @@
 -- The bytes of a block.
-use Rattle.std.specs.Prelude.{string_bytes}
 use Rattle.ndef_tool.specs.Quoting.{Text}
 use Rattle.ndef_tool.specs.declared.block.Block.{Block}
-use Rattle.ndef_tool.specs.declared.block.Block.TheVariants.{Line, Bytes, Text as Digits}
+use Rattle.ndef_tool.specs.declared.block.Block.TheVariants.{Line, Bytes}
 
 -- the bytes of a block
 abbrev pub block_text : Block → Text
 block_text (Line line) = line
 block_text (Bytes bytes) = bytes
-block_text (Digits text) = string_bytes text

@@ -6,7 +6,7 @@ use Rattle.std.specs.Str.Parse.{digits_value, without_leading_plus}
 use Rattle.clap.specs.ValueTests.{accepts}
 use Rattle.clap.specs.declared.builder.value_parser.ValueParser.TheVariants as vp
 use Rattle.clap.specs.Words.{App, Kinds, Row, Text, first_of, one_of, fault_of, subcommand_of}
-use Rattle.ndef_format.specs.Limits.{LimitValues}
+use Rattle.ndef_format.specs.Limits.{LimitValues, usual_limits}
 use Rattle.ndef_format.specs.declared.profile.Profile.{Profile}
 use Rattle.ndef_format.specs.declared.profile.Profile.TheVariants.{Strict, Standard}
 use Rattle.ndef_message.specs.declared.form.Form.{Form}
@@ -26,7 +26,8 @@ hex_of rows = option_map_or (λ t. bytes_eq t (codes "true")) (first_of (codes "
 
 -- the number that a text of decimal digits stands for, where it is below 2^32
 abbrev pub number_in : Text → Option ℕ
-number_in t = if accepts false (vp.Unsigned 0 4294967295) t then Some (digits_value 10 (without_leading_plus t)) else None
+number_in t = if accepts false (vp.Unsigned 0 4294967295) t then Some (digits_value 10 (without_leading_plus t))
+    else None
 
 -- the number, where it is from 1 to the most
 abbrev pub within : ℕ → ℕ → Option ℕ
@@ -75,9 +76,9 @@ chosen_limits rows =
     option_and_then (λ pieces.
     option_map (λ profile. record { payload = payload; records = records; pieces = pieces; profile = profile })
     (chosen_profile rows))
-    (number_or (codes "pieces") 65535 4096 rows))
-    (number_or (codes "records") 65535 1024 rows))
-    (number_or (codes "payload") 4294967295 1048576 rows)
+    (number_or (codes "pieces") 65535 usual_limits.pieces rows))
+    (number_or (codes "records") 65535 usual_limits.records rows))
+    (number_or (codes "payload") 4294967295 usual_limits.payload rows)
 
 -- what encode does
 abbrev pub encode_of : List Row → Option Action
@@ -92,7 +93,8 @@ chosen_action name rows = if bytes_eq name (codes "show") then Some Show
 -- the choice of a subcommand, with its options
 abbrev pub choice_in : Text → List Row → Option Choice
 choice_in name rows =
-    option_and_then (λ action. option_map (λ limits. record { action = action; hex = hex_of rows; limits = limits }) (chosen_limits rows)) (chosen_action name rows)
+    option_and_then (λ action. option_map (λ limits. record { action = action; hex = hex_of rows; limits = limits })
+    (chosen_limits rows)) (chosen_action name rows)
 
 -- the choice of clap's matches
 abbrev pub chosen_of : Option (Text × List Row) → Option Choice

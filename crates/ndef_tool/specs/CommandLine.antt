@@ -1,32 +1,14 @@
 -- The command line: which subcommands and options there are, in clap's words.
-use Rattle.std.specs.Prelude.{◌≡◌, ℕ, IfOk, Result, Some, codes, false, pos, true}
-use Rattle.clap.specs.Words.{App, Rule, Text, app_of, new_app, new_rule, with_rule, with_subcommand}
-use Rattle.clap.specs.declared.builder.action.ArgAction.TheVariants.{SetTrue}
-use Rattle.clap.specs.declared.builder.command.Command.{Command}
-use Rattle.clap.specs.declared.builder.command.Command.TheViews.{out-Command as fields_of}
+use Rattle.std.specs.Prelude.{ℕ, Some, codes, pos, true}
+use Rattle.clap.specs.Words.{App, Rule, Text, new_app, new_rule, with_rule, with_subcommand}
 use Rattle.clap.specs.declared.builder.value_parser.ValueParser.TheVariants as vp
-
--- a command with these options and subcommands, each for its own level alone, where there was memory for it
-abbrev pub IsCommand : {E : Type 0} → App → Result Command E → Type 0
-IsCommand app made = IfOk made (λ command. (app_of command ≡ app) × ((fields_of command).has_globals ≡ false))
-
--- the flag for hexadecimal text
-abbrev pub hex_rule : Rule
-hex_rule = record (new_rule (codes "hex")) { long = Some (codes "hex"); action = Some SetTrue }
+use Rattle.ndef_program.specs.CommandLine.{hex_app, word_rule}
 
 -- a number from 1 to the most
 abbrev pub number_rule : ℕ → Text → Rule
 number_rule most name = record (new_rule name) { long = Some name; parser = Some (vp.Signed (pos 1) (pos most)) }
 
--- any word
-abbrev pub word_rule : Text → Rule
-word_rule name = record (new_rule name) { long = Some name }
-
--- a subcommand, with the flag for hexadecimal text
-abbrev pub hex_app : Text → App
-hex_app name = with_rule (new_app name) hex_rule
-
--- the limits too
+-- a subcommand, with the flag for hexadecimal text and the limits
 abbrev pub limits_app : Text → App
 limits_app name = with_rule (with_rule (with_rule (hex_app name) (number_rule 4294967295 (codes "payload")))
     (number_rule 65535 (codes "records"))) (number_rule 65535 (codes "pieces"))
@@ -37,13 +19,21 @@ reading_app name = with_rule (limits_app name) (word_rule (codes "profile"))
 
 -- the options of reading, and how messages are written
 abbrev pub encode_app : App
-encode_app = with_rule (with_rule (reading_app (codes "encode")) (word_rule (codes "form"))) (number_rule 4294967295 (codes "chunk"))
+encode_app = with_rule (with_rule (reading_app (codes "encode")) (word_rule (codes "form")))
+    (number_rule 4294967295 (codes "chunk"))
 
 -- a subcommand is wanted, and none is for help
 abbrev pub empty_app : App
 empty_app = let a = new_app (codes "ndef") in
-    record a { top = record a.top { subcommand_required = true; disable_help_flag = true; disable_help_subcommand = true } }
+    record a {
+      top = record a.top {
+        subcommand_required = true;
+        disable_help_flag = true;
+        disable_help_subcommand = true;
+      };
+    }
 
 -- all of it
 abbrev pub ndef_app : App
-ndef_app = with_subcommand (with_subcommand (with_subcommand empty_app (reading_app (codes "show")).top) (reading_app (codes "check")).top) encode_app.top
+ndef_app = with_subcommand (with_subcommand (with_subcommand empty_app (reading_app (codes "show")).top)
+    (reading_app (codes "check")).top) encode_app.top

@@ -5,7 +5,7 @@ use Rattle.hex.specs.Hex.{decode_of}
 use Rattle.hex.specs.declared.error.FromHexError.{FromHexError}
 use Rattle.hex.specs.declared.error.FromHexError.TheVariants.{InvalidHexCharacter}
 use Rattle.ndef_message.specs.Inputs.{IsWholeInput}
-use Rattle.ndef_message.specs.Sources.{Supply}
+use Rattle.ndef_message.specs.Sources.{SourceState}
 use Rattle.ndef_message.specs.declared.input.InputError.{InputError}
 use Rattle.ndef_message.specs.declared.input.InputError.TheVariants as errors
 use Rattle.ndef_tool.specs.declared.ending.Ending.{Ending}
@@ -33,18 +33,22 @@ input_ending errors.TooLong = TooLong
 input_ending errors.NoMemory = Memory
 
 -- the text to come is read, at most 16777216 bytes of it
-abbrev pub IsTextInput : (before after : Supply) → Bool → Result (List ℕ) InputError → Type 0
+abbrev pub IsTextInput : (before after : SourceState) → Bool → Result (List ℕ) InputError → Type 0
 IsTextInput = IsWholeInput 16777216
 
 -- the bytes that the digits of a text stand for, or what is wrong with them
 abbrev pub IsDecoded : List ℕ → Result (List ℕ) Ending → Type 0
 IsDecoded text (Ok bytes) = decode_of (digits_of text) ≡ Ok bytes
-IsDecoded text (Err (Hex fault)) = (error : FromHexError) × (decode_of (digits_of text) ≡ Err error) × (fault ≡ fault_of error)
+IsDecoded text (Err (Hex fault)) = (error : FromHexError) × (decode_of (digits_of text) ≡ Err error)
+    × (fault ≡ fault_of error)
 IsDecoded text (Err Memory) = ⊤
 IsDecoded text (Err _) = ⊥
 
 -- the bytes that the text to come stands for, or why there are none
-abbrev pub IsInput : (before after : Supply) → Bool → Result (List ℕ) Ending → Type 0
-IsInput before after failed (Ok bytes) = (text : List ℕ) × IsTextInput before after failed (Ok text) × IsDecoded text (Ok bytes)
-IsInput before after failed (Err (Hex fault)) = (text : List ℕ) × IsTextInput before after failed (Ok text) × IsDecoded text (Err (Hex fault))
-IsInput before after failed (Err ending) = (error : InputError) × IsTextInput before after failed (Err error) × (ending ≡ input_ending error)
+abbrev pub IsInput : (before after : SourceState) → Bool → Result (List ℕ) Ending → Type 0
+IsInput before after failed (Ok bytes) = (text : List ℕ) × IsTextInput before after failed (Ok text)
+    × IsDecoded text (Ok bytes)
+IsInput before after failed (Err (Hex fault)) = (text : List ℕ) × IsTextInput before after failed (Ok text)
+    × IsDecoded text (Err (Hex fault))
+IsInput before after failed (Err ending) = (error : InputError) × IsTextInput before after failed (Err error)
+    × (ending ≡ input_ending error)

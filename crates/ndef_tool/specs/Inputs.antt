@@ -1,26 +1,39 @@
 -- The messages of an input, which may be hexadecimal text.
 use Rattle.std.specs.Prelude.{◌≡◌, ℕ, Bool, true, false, List, [], Option, Some, Result, Ok, Err}
-use Rattle.ndef_format.specs.Payloads.{Sets}
-use Rattle.ndef_format.specs.Reasons.{Conditions}
-use Rattle.ndef_message.specs.Sources.{Supply}
+use Rattle.ndef_message.specs.States.{SourceState}
 use Rattle.ndef_message.specs.declared.message_reading.Read.{Read}
-use Rattle.ndef_format.specs.Limits.{LimitValues}
 use Rattle.ndef_tool.specs.Hexadecimal.{IsInput}
 use Rattle.ndef_tool.specs.Output.{total_bytes}
-use Rattle.ndef_tool.specs.Sessions.{SessionHasTaken, IsSession}
-use Rattle.ndef_tool.specs.declared.choice.Action.{Action}
+use Rattle.ndef_tool.specs.Sessions.{Handles, IsSession, SessionHasTaken, Silences}
+use Rattle.ndef_tool.specs.Streams.{Streams}
+use Rattle.ndef_tool.specs.declared.choice.Choice.{Choice}
 use Rattle.ndef_tool.specs.declared.ending.Ending.{Ending}
+use Rattle.ndef_tool.specs.declared.session.Session.{Session}
 
 -- what is read of bytes; or none, where there are no bytes
-abbrev pub ReadsBytes : Action → Sets → Conditions → LimitValues → (sink_failed : Bool) → Result (List ℕ) Ending → List Read → Ending → Type 0
-ReadsBytes action set holds limits sink_failed (Ok bytes) reads ending =
-    (left : Option (List ℕ)) × IsSession action set holds limits (Some bytes) left false sink_failed reads ending
-ReadsBytes action set holds limits sink_failed (Err why) reads ending = (reads ≡ []) × (ending ≡ why)
+abbrev pub ReadsBytes : Choice → (sink_failed : Bool) → Result (List ℕ) Ending → List Read → Ending → Type 0
+ReadsBytes choice sink_failed (Ok bytes) reads ending =
+    (left : Option (List ℕ)) × IsSession choice (Some bytes) left false sink_failed reads ending
+ReadsBytes choice sink_failed (Err why) reads ending = (reads ≡ []) × (ending ≡ why)
 
 -- what is read of the bytes to come, and how many are taken; or of those that they stand for
-abbrev pub ReadsIn : (hex : Bool) → Action → Sets → Conditions → LimitValues → (before after : Supply) → (source_failed sink_failed : Bool) → List Read → Ending → Type 0
-ReadsIn false action set holds limits before after source_failed sink_failed reads ending =
-    IsSession action set holds limits before.coming after.coming source_failed sink_failed reads ending
-    × SessionHasTaken limits (total_bytes reads) before.taken after.taken ending
-ReadsIn true action set holds limits before after source_failed sink_failed reads ending =
-    (input : Result (List ℕ) Ending) × IsInput before after source_failed input × ReadsBytes action set holds limits sink_failed input reads ending
+abbrev pub ReadsIn : (hex : Bool) → Choice → (before after : SourceState) → (sink_failed : Bool) → List Read → Ending
+    → Type 0
+ReadsIn false choice before after sink_failed reads ending =
+    IsSession choice before.coming after.coming after.failed sink_failed reads ending
+    × SessionHasTaken choice.limits (total_bytes reads) before.taken after.taken ending
+ReadsIn true choice before after sink_failed reads ending = (input : Result (List ℕ) Ending)
+    × IsInput before after after.failed input
+    × ReadsBytes choice sink_failed input reads ending
+
+-- the messages that were read, and their blocks
+abbrev pub HandlesIn : (hex : Bool) → Choice → (before after : Streams) → Session → Type 0
+HandlesIn hex choice before after session =
+    Handles (ReadsIn hex choice before.source after.source after.output.failed)
+    choice before.output after.output session
+
+-- the same into a sink that has failed before, where nothing goes out
+abbrev pub SilencesIn : (hex : Bool) → Choice → (before after : Streams) → Session → Type 0
+SilencesIn hex choice before after session =
+    Silences (ReadsIn hex choice before.source after.source after.output.failed)
+    choice before.output after.output session

@@ -5,6 +5,8 @@ pub mod CommandLine
 pub mod Chosen
 pub mod Output
 pub mod Blocks
+pub mod Rules
+pub mod Streams
 pub mod Sessions
 pub mod Hexadecimal
 pub mod Inputs

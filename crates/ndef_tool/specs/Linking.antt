@@ -27,7 +27,8 @@ HasNumber index = IfSome index (λ k. k < 65535)
 -- the line of a link, with its number
 abbrev pub link_line : ℕ → Link → Text
 link_line number link =
-    codes " carrier " ++ decimal number ++ codes " power " ++ power_name link.ac.power ++ codes " reference " ++ quoted link.ac.reference
+    codes " carrier " ++ decimal number ++ codes " power " ++ power_name link.ac.power ++ codes " reference "
+    ++ quoted link.ac.reference
     ++ codes " record " ++ record_name link.index ++ codes "\n"
 
 -- the lines of links, of which the first has this number
@@ -37,4 +38,5 @@ link_lines number (link ∷ links) = link_line number link ++ link_lines (number
 
 -- the lines of the links of a message
 abbrev pub AreLinkLines : Profile → List Item → Text → Type 0
-AreLinkLines profile items text = (links : List Link) × FindsLinks profile items (Ok links) × (text ≡ link_lines 1 links)
+AreLinkLines profile items text = (links : List Link) × FindsLinks profile items (Ok links)
+    × (text ≡ link_lines 1 links)

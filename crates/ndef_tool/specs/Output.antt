@@ -1,7 +1,8 @@
--- What the command prints of a subcommand, the messages that were read and the ending: one text, as a law of src/laws.rt says.
+-- What the command prints of a subcommand, the messages that were read and the ending: one text, as a law of
+-- src/laws.rt says.
 use Rattle.std.specs.Prelude.{◌≡◌, Bool, true, false, ◌+◌, ◌<◌, ◌^◌, ℕ, List, [], ◌∷◌, ◌++◌, length, codes, decimal, ⊤}
 use Rattle.std.specs.List.{AllByRecursion}
-use Rattle.hex.specs.Hex.{encode_lower}
+use Rattle.ndef_program.specs.Outputs.{hexadecimal_line}
 use Rattle.ndef_format.specs.Reasons.{reason_number, reason_name}
 use Rattle.ndef_format.specs.declared.refusal.Refusal.{Refusal}
 use Rattle.ndef_message.specs.declared.message_reading.Read.{Read}
@@ -17,14 +18,16 @@ use Rattle.ndef_tool.specs.declared.ending.Ending.{Ending}
 use Rattle.ndef_tool.specs.declared.ending.Ending.TheVariants.{Clean, Refused, Hex, Reading, Writing, Memory, TooMany, TooLong}
 use Rattle.ndef_tool.specs.declared.ending.HexFault.{HexFault}
 use Rattle.ndef_tool.specs.declared.ending.HexFault.TheVariants.{Odd, BadDigit}
-use Rattle.ndef_tool.specs.declared.ending.Status.{Status}
-use Rattle.ndef_tool.specs.declared.ending.Status.TheVariants as status
+use Rattle.ndef_program.specs.declared.status.Status.{Status}
+use Rattle.ndef_program.specs.declared.status.Status.TheVariants as status
 
 -- ---- lines
 
 -- for words that don't parse
 abbrev pub usage_line : Text
-usage_line = codes "usage: ndef show|check|encode [--hex] [--payload N] [--records N] [--pieces N] [--form short|long] [--chunk N] [--profile strict|standard]\n"
+usage_line =
+    codes "usage: ndef show|check|encode [--hex] [--payload N] [--records N] [--pieces N] [--form short|long] "
+    ++ codes "[--chunk N] [--profile strict|standard]\n"
 
 -- for a message
 abbrev pub message_line : (number at records bytes : ℕ) → Text
@@ -35,7 +38,8 @@ message_line number at records bytes =
 -- the place counts behind the bytes of the messages before
 abbrev pub refusal_line : ℕ → Refusal → Text
 refusal_line base r =
-    codes "refused at " ++ decimal (base + r.at) ++ codes ": " ++ decimal (reason_number r.reason) ++ codes " " ++ reason_name r.reason ++ codes "\n"
+    codes "refused at " ++ decimal (base + r.at) ++ codes ": " ++ decimal (reason_number r.reason) ++ codes " "
+    ++ reason_name r.reason ++ codes "\n"
 
 -- for digits that aren't hexadecimal text
 abbrev pub hex_line : HexFault → Text
@@ -71,24 +75,18 @@ status_of (Refused r) = status.Refused
 status_of (Hex fault) = status.Refused
 status_of _ = status.Fault
 
--- the number with which the process ends
-abbrev pub number_of_status : Status → ℕ
-number_of_status status.Clean = 0
-number_of_status status.Refused = 1
-number_of_status status.Usage = 2
-number_of_status status.Fault = 3
-
 -- ---- a whole run
 
 -- bytes as they are, or as a line of hexadecimal digits
 abbrev pub shown_in : Bool → List ℕ → Text
 shown_in false bytes = bytes
-shown_in true bytes = encode_lower bytes ++ codes "\n"
+shown_in true bytes = hexadecimal_line bytes
 
 -- the message line, the lines of the records and those of the links
 abbrev pub IsShown : Profile → (number at : ℕ) → Read → Text → Type 0
 IsShown profile number at read text =
-    (records : Text) × (links : Text) × AreRecordLines profile 1 read.message records × AreLinkLines profile read.message links
+    (records : Text) × (links : Text) × AreRecordLines profile 1 read.message records
+    × AreLinkLines profile read.message links
     × (text ≡ message_line number at (length read.message) read.taken ++ records ++ links)
 
 -- what is printed of a message, with its number and its place
@@ -105,7 +103,8 @@ IsBlock choice number at read text = IsBlockBy choice.action choice.limits.profi
 abbrev pub AreBlocks : Choice → (number at : ℕ) → List Read → Text → Type 0
 AreBlocks choice number at [] text = text ≡ []
 AreBlocks choice number at (read ∷ reads) text =
-    (block : Text) × (rest : Text) × IsBlock choice number at read block × AreBlocks choice (number + 1) (at + read.taken) reads rest × (text ≡ block ++ rest)
+    (block : Text) × (rest : Text) × IsBlock choice number at read block
+    × AreBlocks choice (number + 1) (at + read.taken) reads rest × (text ≡ block ++ rest)
 
 -- the bytes of all messages
 abbrev pub total_bytes : List Read → ℕ
@@ -114,11 +113,13 @@ total_bytes (read ∷ reads) = read.taken + total_bytes reads
 
 -- all that is printed
 abbrev pub IsOutput : Choice → List Read → Ending → Text → Type 0
-IsOutput choice reads ending text = (front : Text) × AreBlocks choice 1 0 reads front × (text ≡ front ++ ending_line choice.action (total_bytes reads) ending)
+IsOutput choice reads ending text = (front : Text) × AreBlocks choice 1 0 reads front
+    × (text ≡ front ++ ending_line choice.action (total_bytes reads) ending)
 
 -- ---- a law
 
 -- What is printed of messages whose payloads are those of their types, and of an ending, is one text.
 abbrev pub OneOutput : Type 0
-OneOutput = (choice : Choice) (reads : List Read) (ending : Ending) (a b : Text) → AllByRecursion (λ r. AllByRecursion (IsTyped choice.limits.profile) r.message) reads
+OneOutput = (choice : Choice) (reads : List Read) (ending : Ending) (a b : Text)
+    → AllByRecursion (λ r. AllByRecursion (IsTyped choice.limits.profile) r.message) reads
     → IsOutput choice reads ending a → IsOutput choice reads ending b → a ≡ b

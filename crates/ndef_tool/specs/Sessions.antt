@@ -1,19 +1,20 @@
 -- The messages of a source, one after another, and how they end.
-use Rattle.std.specs.Prelude.{◌≡◌, ◌≢◌, ◌+◌, ◌<◌, ◌≤◌, ◌⊎◌, ℕ, Bool, true, false, List, [], ◌∷◌, length, take, drop, Option, None, Some, Result, Ok, Err, ⊤}
-use Rattle.std.specs.Io.KnownBytes.{Appends, Keeps, IsAtEnd}
+use Rattle.std.specs.Prelude.{◌≡◌, ◌≢◌, ◌+◌, ◌<◌, ◌≤◌, ◌⊎◌, ℕ, Bool, true, false, List, [], ◌∷◌, length, drop, Option, None, Some, Result, Ok, Err, ⊤}
+use Rattle.std.specs.Io.KnownBytes.{Keeps, IsAtEnd}
 use Rattle.ndef_format.specs.Limits.{LimitValues, greatest_length}
-use Rattle.ndef_format.specs.Payloads.{Sets}
-use Rattle.ndef_format.specs.Reasons.{Conditions}
 use Rattle.ndef_message.specs.Checkings.{ChecksFrom}
 use Rattle.ndef_message.specs.Readings.{ReadsFrom}
 use Rattle.ndef_message.specs.Sources.{Counts}
+use Rattle.ndef_message.specs.States.{SinkState}
 use Rattle.ndef_message.specs.Views.{Viewed, Views}
 use Rattle.ndef_message.specs.declared.message_checking.Checked.{Checked}
 use Rattle.ndef_message.specs.declared.message_reading.Read.{Read}
 use Rattle.ndef_message.specs.declared.message_reading.ReadError.TheVariants as errors
+use Rattle.ndef_program.specs.Outputs.{GoesOut}
 use Rattle.ndef_tool.specs.Blocks.{block_text}
 use Rattle.ndef_tool.specs.Output.{AreBlocks, IsBlock, total_bytes}
 use Rattle.ndef_tool.specs.Quoting.{Text}
+use Rattle.ndef_tool.specs.Rules.{Rules, typed_rules}
 use Rattle.ndef_tool.specs.declared.choice.Action.{Action}
 use Rattle.ndef_tool.specs.declared.choice.Action.TheVariants.{Check}
 use Rattle.ndef_tool.specs.declared.choice.Choice.{Choice}
@@ -28,22 +29,28 @@ IsOn None = ⊤
 IsOn (Some bytes) = bytes ≢ []
 
 -- each message is read from the bytes to come behind the one before
-abbrev pub AreInTurn : Sets → Conditions → LimitValues → (before after : Option (List ℕ)) → List Read → Type 0
-AreInTurn set holds limits before after [] = Keeps before after
-AreInTurn set holds limits before after (read ∷ reads) =
-    (between : Option (List ℕ)) × ReadsFrom set holds limits before between (Ok read) × AreInTurn set holds limits between after reads
+abbrev pub AreInTurn : Rules → (before after : Option (List ℕ)) → List Read → Type 0
+AreInTurn rules before after [] = Keeps before after
+AreInTurn rules before after (read ∷ reads) =
+    (between : Option (List ℕ)) × ReadsFrom rules.set rules.holds rules.limits before between (Ok read)
+    × AreInTurn rules between after reads
 
--- why no message is handled behind so many: the input is at its end, or doesn't go on with a message, or is left after 10000; or something failed
-abbrev pub Stops : Sets → Conditions → LimitValues → (count : ℕ) → (before after : Option (List ℕ)) → (source_failed sink_failed : Bool) → Ending → Type 0
-Stops set holds limits count before after source_failed sink_failed Clean = (source_failed ≡ false) × Keeps before after × IsAtEnd before
-Stops set holds limits count before after source_failed sink_failed (Refused refusal) =
-    (count < 10000) × (source_failed ≡ false) × IsOn before × ReadsFrom set holds limits before after (Err (errors.Refused refusal))
-Stops set holds limits count before after source_failed sink_failed Reading = source_failed ≡ true
-Stops set holds limits count before after source_failed sink_failed Writing = (sink_failed ≡ true) × Keeps before after
-Stops set holds limits count before after source_failed sink_failed Memory =
-    (count < 10000) × (source_failed ≡ false) × ReadsFrom set holds limits before after (Err errors.NoMemory)
-Stops set holds limits count before after source_failed sink_failed TooMany = (count ≡ 10000) × (source_failed ≡ false) × Keeps before after × IsOn before
-Stops set holds limits count before after source_failed sink_failed _ = ⊥
+-- why no message is handled behind so many: the input is at its end, or doesn't go on with a message, or is left after
+-- 10000; or something failed
+abbrev pub Stops : Rules → (count : ℕ) → (before after : Option (List ℕ)) → (source_failed sink_failed : Bool)
+    → Ending → Type 0
+Stops rules count before after source_failed sink_failed Clean =
+    (source_failed ≡ false) × Keeps before after × IsAtEnd before
+Stops rules count before after source_failed sink_failed (Refused refusal) =
+    (count < 10000) × (source_failed ≡ false) × IsOn before
+    × ReadsFrom rules.set rules.holds rules.limits before after (Err (errors.Refused refusal))
+Stops rules count before after source_failed sink_failed Reading = source_failed ≡ true
+Stops rules count before after source_failed sink_failed Writing = (sink_failed ≡ true) × Keeps before after
+Stops rules count before after source_failed sink_failed Memory = (count < 10000) × (source_failed ≡ false)
+    × ReadsFrom rules.set rules.holds rules.limits before after (Err errors.NoMemory)
+Stops rules count before after source_failed sink_failed TooMany =
+    (count ≡ 10000) × (source_failed ≡ false) × Keeps before after × IsOn before
+Stops rules count before after source_failed sink_failed _ = ⊥
 
 -- memory was wanting
 abbrev pub is_memory : Ending → Bool
@@ -55,17 +62,19 @@ abbrev pub MayEnd : Action → Ending → Type 0
 MayEnd Check ending = is_memory ending ≡ false
 MayEnd _ _ = ⊤
 
--- what an action makes of the bytes to come: these messages, at most 10000, and then this ending
-pub record IsSession (action : Action) (set : Sets) (holds : Conditions) (limits : LimitValues) (before after : Option (List ℕ)) (source_failed sink_failed : Bool) (reads : List Read) (ending : Ending) : Type 0 where
+-- what is made of the bytes to come as it was chosen: these messages, at most 10000, and then this ending
+pub record IsSession (choice : Choice) (before after : Option (List ℕ)) (source_failed sink_failed : Bool)
+    (reads : List Read) (ending : Ending) : Type 0 where
   pub few : length reads ≤ 10000
   pub between : Option (List ℕ)
-  pub follow : AreInTurn set holds limits before between reads
-  pub stops : Stops set holds limits (length reads) between after source_failed sink_failed ending
-  pub may : MayEnd action ending
+  pub follow : AreInTurn (typed_rules choice.limits) before between reads
+  pub stops : Stops (typed_rules choice.limits) (length reads) between after source_failed sink_failed ending
+  pub may : MayEnd choice.action ending
 
 -- ---- how many bytes are taken
 
--- behind the last message: those before a refused one; where reading or memory failed, at most those of a message; else none
+-- behind the last message: those before a refused one; where reading or memory failed, at most those of a message; else
+-- none
 abbrev pub TakesBehind : LimitValues → Ending → ℕ → Type 0
 TakesBehind limits (Refused refusal) n = (n ≡ refusal.at) × (n ≤ greatest_length limits)
 TakesBehind limits Reading n = n ≤ greatest_length limits
@@ -78,32 +87,30 @@ SessionHasTaken limits at before after ending = (n : ℕ) × TakesBehind limits 
 
 -- ---- what goes out
 
--- the text; or a front of it, where the sink failed
-abbrev pub GoesOut : (before after : Option (List ℕ)) → Bool → Text → Type 0
-GoesOut before after false text = Appends before after text
-GoesOut before after true text = (n : ℕ) × Appends before after (take n text)
-
 -- the sink failed
 abbrev pub is_writing : Ending → Bool
 is_writing Writing = true
 is_writing _ = false
 
 -- the messages that were read, and their blocks
-pub record Handles (IsRead : List Read → Ending → Type 0) (choice : Choice) (written_before written_after : Option (List ℕ)) (sink_failed : Bool) (session : Session) : Type 0 where
+pub record Handles (IsRead : List Read → Ending → Type 0) (choice : Choice)
+    (before after : SinkState) (session : Session) : Type 0 where
   pub reads : List Read
   pub is : IsRead reads session.ending
   pub at : session.at ≡ total_bytes reads
   pub blocks : Text
   pub are_blocks : AreBlocks choice 1 0 reads blocks
-  pub written : GoesOut written_before written_after sink_failed blocks
-  pub mark : sink_failed ≡ is_writing session.ending
+  pub written : GoesOut before.written after.written after.failed blocks
+  pub mark : after.failed ≡ is_writing session.ending
 
 -- Into a sink that has failed before nothing goes out: the messages end with the first that has a block, or none has.
-pub record Silences (IsRead : List Read → Ending → Type 0) (choice : Choice) (written_before written_after : Option (List ℕ)) (sink_failed : Bool) (session : Session) : Type 0 where
-  pub keeps : Keeps written_before written_after
-  pub mark : sink_failed ≡ true
+pub record Silences (IsRead : List Read → Ending → Type 0) (choice : Choice)
+    (before after : SinkState) (session : Session) : Type 0 where
+  pub keeps : Keeps before.written after.written
+  pub mark : after.failed ≡ true
   pub ends : (session.ending ≡ Writing)
-      ⊎ ((reads : List Read) × IsRead reads session.ending × (session.at ≡ total_bytes reads) × AreBlocks choice 1 0 reads [])
+      ⊎ ((reads : List Read) × IsRead reads session.ending × (session.at ≡ total_bytes reads)
+      × AreBlocks choice 1 0 reads [])
 
 -- ---- step by step
 
@@ -118,28 +125,30 @@ GoesOn count bytes (Err _) = ⊥
 abbrev pub LooksAhead : {X : Type 0} → (count : ℕ) → (before after : Option (List ℕ)) → Bool → Result X Ending → Type 0
 LooksAhead count before after failed (Ok x) = (count < 10000) × (failed ≡ false) × Keeps before after × IsOn before
 LooksAhead count before after failed (Err Clean) = (failed ≡ false) × Keeps before after × IsAtEnd before
-LooksAhead count before after failed (Err TooMany) = (count ≡ 10000) × (failed ≡ false) × Keeps before after × IsOn before
+LooksAhead count before after failed (Err TooMany) = (count ≡ 10000) × (failed ≡ false) × Keeps before after
+    × IsOn before
 LooksAhead count before after failed (Err Reading) = failed ≡ true
 LooksAhead count before after failed (Err _) = ⊥
 
 -- the next message, after so many, or why there is none
-abbrev pub IsNext : Sets → Conditions → LimitValues → (count : ℕ) → (before after : Option (List ℕ)) → Bool → Result Read Ending → Type 0
-IsNext set holds limits count before after failed (Ok read) = (count < 10000) × (failed ≡ false) × ReadsFrom set holds limits before after (Ok read)
-IsNext set holds limits count before after failed (Err ending) = Stops set holds limits count before after failed false ending
+abbrev pub IsNext : Rules → (count : ℕ) → (before after : Option (List ℕ)) → Bool → Result Read Ending → Type 0
+IsNext rules count before after failed (Ok read) = (count < 10000) × (failed ≡ false)
+    × ReadsFrom rules.set rules.holds rules.limits before after (Ok read)
+IsNext rules count before after failed (Err ending) = Stops rules count before after failed false ending
 
 -- the same of a message that is only checked, for which memory is never wanting
-abbrev pub ChecksNext : Sets → Conditions → LimitValues → (count : ℕ) → (before after : Option (List ℕ)) → Bool → Result Checked Ending → Type 0
-ChecksNext set holds limits count before after failed (Ok checked) =
-    (count < 10000) × (failed ≡ false) × ChecksFrom set holds limits before after (Ok checked)
-ChecksNext set holds limits count before after failed (Err ending) =
-    Stops set holds limits count before after failed false ending × (is_memory ending ≡ false)
+abbrev pub ChecksNext : Rules → (count : ℕ) → (before after : Option (List ℕ)) → Bool → Result Checked Ending → Type 0
+ChecksNext rules count before after failed (Ok checked) = (count < 10000) × (failed ≡ false)
+    × ChecksFrom rules.set rules.holds rules.limits before after (Ok checked)
+ChecksNext rules count before after failed (Err ending) =
+    Stops rules count before after failed false ending × (is_memory ending ≡ false)
 
 -- the same of a message in memory, which is viewed there
-abbrev pub ViewsNext : Sets → Conditions → LimitValues → (count : ℕ) → (before after : List ℕ) → Result Viewed Ending → Type 0
-ViewsNext set holds limits count before after (Ok viewed) =
-    (count < 10000) × Views set holds limits before (Ok viewed) × (after ≡ drop viewed.taken before)
-ViewsNext set holds limits count before after (Err ending) =
-    Stops set holds limits count (Some before) (Some after) false false ending × (is_memory ending ≡ false)
+abbrev pub ViewsNext : Rules → (count : ℕ) → (before after : List ℕ) → Result Viewed Ending → Type 0
+ViewsNext rules count before after (Ok viewed) = (count < 10000)
+    × Views rules.set rules.holds rules.limits before (Ok viewed) × (after ≡ drop viewed.taken before)
+ViewsNext rules count before after (Err ending) =
+    Stops rules count (Some before) (Some after) false false ending × (is_memory ending ≡ false)
 
 -- how many bytes of the next message are taken, of which `X` tells the number, or how many before the ending
 abbrev pub TakesNext : {X : Type 0} → (X → ℕ) → LimitValues → (before after : ℕ) → Result X Ending → Type 0
@@ -147,9 +156,10 @@ TakesNext taken_of limits before after (Ok x) = (taken_of x ≤ greatest_length 
 TakesNext taken_of limits before after (Err ending) = SessionHasTaken limits 0 before after ending
 
 -- all that is printed of the next message, of which this many bytes come before, or why there is none
-abbrev pub PrintsNext : Sets → Conditions → Choice → (count at : ℕ) → (before after : Option (List ℕ)) → Bool → Result Printed Ending → Type 0
-PrintsNext set holds choice count at before after failed (Ok printed) =
-    (read : Read) × IsNext set holds choice.limits count before after failed (Ok read)
+abbrev pub PrintsNext : Choice → (count at : ℕ) → (before after : Option (List ℕ)) → Bool → Result Printed Ending
+    → Type 0
+PrintsNext choice count at before after failed (Ok printed) =
+    (read : Read) × IsNext (typed_rules choice.limits) count before after failed (Ok read)
     × IsBlock choice (count + 1) at read (block_text printed.block) × (printed.taken ≡ read.taken)
-PrintsNext set holds choice count at before after failed (Err ending) =
-    Stops set holds choice.limits count before after failed false ending × MayEnd choice.action ending
+PrintsNext choice count at before after failed (Err ending) =
+    Stops (typed_rules choice.limits) count before after failed false ending × MayEnd choice.action ending

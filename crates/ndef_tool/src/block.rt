@@ -7,12 +7,11 @@ ghost use Rattle.ndef_tool.specs.Showing.{IsTyped};
 ghost use Rattle.ndef_tool.specs.Chosen.{HasSizeIfAny};
 ghost use Rattle.ndef_tool.specs.Blocks.{block_text};
 
-use crate::hexadecimal::hexadecimal;
 use crate::linking::push_link_lines;
 use crate::printing::message_line;
 use crate::showing::push_records;
 use ndef_message::{Checked, Form, Read, encode, encode_chunked};
-use ndef_program::Line;
+use ndef_program::{Line, hexadecimal_line};
 use ndef_value::{Bytes, Message, NoMemory, Profile};
 use std::alloc::Global;
 
@@ -21,7 +20,6 @@ use std::alloc::Global;
 pub enum Block {
     Line(Line),
     Bytes(Bytes),
-    Text(String),
 }
 
 impl Block {
@@ -32,7 +30,6 @@ impl Block {
         match self {
             Block::Line(line) => line.as_slice(),
             Block::Bytes(bytes) => bytes.as_slice(),
-            Block::Text(text) => text.as_bytes(),
         }
     }
 }
@@ -58,7 +55,7 @@ fn block_in(alloc: Global, hex: bool, bytes: Bytes) -> Result<Block, NoMemory>
     ensures { IfOk result (λ block. block_text block ≡ shown_in hex bytes) }
 {
     if hex {
-        return Ok(Block::Text(hexadecimal(alloc, &bytes)?));
+        return Ok(Block::Bytes(hexadecimal_line(alloc, bytes.as_slice())?));
     }
     Ok(Block::Bytes(bytes))
 }

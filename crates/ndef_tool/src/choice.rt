@@ -7,7 +7,7 @@ use crate::command::ndef_command;
 use clap::ArgMatches;
 use clap::error::ErrorKind;
 use ndef_message::Form;
-use ndef_value::{Limits, Profile};
+use ndef_value::{Limits, MOST_PAYLOAD, MOST_PIECES, MOST_RECORDS, Profile};
 use std::alloc::Global;
 use thiserror::Error;
 
@@ -153,13 +153,14 @@ fn profile_given(matches: &ArgMatches<'_>) -> Option<Profile>
     }
 }
 
-/// The limits that the options give.
-fn limits_given(matches: &ArgMatches<'_>) -> Option<Limits>
+/// The limits that the options give; none where a number is out of its range, or the profile isn't known.
+pub fn limits_given(matches: &ArgMatches<'_>) -> Option<Limits>
     ensures { result ≡ chosen_limits (rows_of (found_of matches.now)) }
 {
-    let payload = number(matches, "payload", 4294967295, 1048576)?;
-    let records = number(matches, "records", 65535, 1024)?;
-    let pieces = number(matches, "pieces", 65535, 4096)?;
+    let usual = Limits::usual();
+    let payload = number(matches, "payload", MOST_PAYLOAD, usual.payload())?;
+    let records = number(matches, "records", MOST_RECORDS, usual.records())?;
+    let pieces = number(matches, "pieces", MOST_PIECES, usual.pieces())?;
     let profile = profile_given(matches)?;
     let Ok(limits) = Limits::new(payload, records, pieces) else {
         return None;

@@ -1,21 +1,13 @@
 //! The command line, as `clap` reads it.
 ghost use Rattle.std.specs.Prelude.{◌≡◌, false};
-ghost use Rattle.clap.specs.Words.{App, app_of, rule_of, with_rule, with_subcommand};
+ghost use Rattle.clap.specs.Words.{app_of, rule_of};
 ghost use Rattle.clap.specs.declared.builder.command.Command.TheViews.{out-Command as fields_of};
-ghost use Rattle.ndef_tool.specs.CommandLine.{IsCommand, hex_app, hex_rule, number_rule, word_rule, limits_app, reading_app, encode_app, empty_app, ndef_app};
+ghost use Rattle.ndef_program.specs.CommandLine.{IsCommand};
+ghost use Rattle.ndef_tool.specs.CommandLine.{number_rule, limits_app, reading_app, encode_app, empty_app, ndef_app};
 
-use clap::{Arg, ArgAction, Command, value_parser};
+use clap::{Arg, Command, value_parser};
+use ndef_program::{hex_command, over, with, word_option};
 use std::alloc::{AllocError, Global};
-
-/// The flag `--hex`.
-fn hex_flag<'a>(alloc: Global) -> Arg<'a>
-    ensures rule { rule_of result ≡ hex_rule }
-    ensures local { result.global ≡ false }
-{
-    Arg::new(alloc, "hex")
-        .long("hex")
-        .action(ArgAction::SetTrue)
-}
 
 /// An option for a number from 1 to 4294967295.
 fn wide_option<'a>(alloc: Global, name: &'a str) -> Arg<'a>
@@ -37,44 +29,7 @@ fn small_option<'a>(alloc: Global, name: &'a str) -> Arg<'a>
         .value_parser(value_parser!(u32).range(1..=65535))
 }
 
-/// An option for a word.
-fn word_option<'a>(alloc: Global, name: &'a str) -> Arg<'a>
-    ensures rule { rule_of result ≡ word_rule name.entry.now }
-    ensures local { result.global ≡ false }
-{
-    Arg::new(alloc, name).long(name)
-}
-
-/// The command with one option more.
-fn with<'a>(
-    command: Result<Command<'a>, AllocError>,
-    option: Arg<'a>,
-) -> Result<Command<'a>, AllocError>
-    requires { option.global ≡ false }
-    ensures { (app : App) → IsCommand app command.entry → IsCommand (with_rule app (rule_of option.entry)) result }
-{
-    command?.arg(option)
-}
-
-/// The command with one subcommand more.
-fn over<'a>(
-    command: Result<Command<'a>, AllocError>,
-    subcommand: Result<Command<'a>, AllocError>,
-) -> Result<Command<'a>, AllocError>
-    ensures { (app inner : App) → IsCommand app command.entry → IsCommand inner subcommand.entry
-        → IsCommand (with_subcommand app inner.top) result }
-{
-    command?.subcommand(subcommand?)
-}
-
-/// A subcommand with the flag for hexadecimal text.
-fn hex_command<'a>(alloc: Global, name: &'a str) -> Result<Command<'a>, AllocError>
-    ensures { IsCommand (hex_app name.entry.now) result }
-{
-    Command::new(alloc, name).arg(hex_flag(alloc))
-}
-
-/// A subcommand with the flag and the limits.
+/// A subcommand with the flag for hexadecimal text and the limits.
 fn limits_command<'a>(alloc: Global, name: &'a str) -> Result<Command<'a>, AllocError>
     ensures { IsCommand (limits_app name.entry.now) result }
 {
@@ -84,8 +39,8 @@ fn limits_command<'a>(alloc: Global, name: &'a str) -> Result<Command<'a>, Alloc
     with(command, small_option(alloc, "pieces"))
 }
 
-/// A subcommand with all that reading takes.
-fn reading_command<'a>(alloc: Global, name: &'a str) -> Result<Command<'a>, AllocError>
+/// A subcommand, or a command, with all that reading takes.
+pub fn reading_command<'a>(alloc: Global, name: &'a str) -> Result<Command<'a>, AllocError>
     ensures { IsCommand (reading_app name.entry.now) result }
 {
     with(limits_command(alloc, name), word_option(alloc, "profile"))

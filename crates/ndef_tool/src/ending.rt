@@ -63,12 +63,3 @@ impl From<InputError> for Ending {
         }
     }
 }
-
-/// The status that the process ends with.
-#[derive(Clone, Copy, Debug, PartialEq, Eq)]
-pub enum Status {
-    Clean = 0,
-    Refused = 1,
-    Usage = 2,
-    Fault = 3,
-}

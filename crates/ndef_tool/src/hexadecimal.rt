@@ -1,8 +1,7 @@
 //! Hexadecimal text, read whole.
-ghost use Rattle.std.specs.Prelude.{◌≡◌, ◌++◌, codes, false, string_bytes, IfErr, IfOk};
-ghost use Rattle.hex.specs.Hex.{encode_lower};
+ghost use Rattle.std.specs.Prelude.{◌≡◌, false, IfErr};
 ghost use Rattle.ndef_message.specs.Inputs.{bytes_of};
-ghost use Rattle.ndef_message.specs.Machine.Turns.{supply_of};
+ghost use Rattle.ndef_message.specs.States.{source_state};
 ghost use Rattle.ndef_tool.specs.Hexadecimal.{IsDecoded, IsInput, digits_of, fault_of, is_space};
 ghost use Rattle.ndef_tool.specs.Output.{FitsPlace};
 ghost use Rattle.ndef_tool.specs.Sessions.{is_writing};
@@ -10,7 +9,6 @@ ghost use Rattle.ndef_tool.specs.Sessions.{is_writing};
 use crate::ending::{Ending, HexFault};
 use hex::FromHexError;
 use ndef_message::{Source, read_all};
-use ndef_value::{Bytes, NoMemory};
 use std::alloc::Global;
 
 /// The most bytes of text that are read.
@@ -55,24 +53,11 @@ fn decode_text(alloc: Global, text: Vec<u8>) -> Result<Vec<u8>, Ending>
 
 /// The bytes that the text of the source stands for.
 pub fn read_hexadecimal<S: Source>(alloc: Global, source: &mut S) -> Result<Vec<u8>, Ending>
-    ensures input { IsInput (supply_of S.Source source.old) (supply_of S.Source source.new)
+    ensures input { IsInput (source_state S.Source source.old) (source_state S.Source source.new)
         (S.has_failed source.new) (bytes_of result) }
     ensures room { IfErr result (λ ending. FitsPlace 0 ending) }
     ensures mark { IfErr result (λ ending. is_writing ending ≡ false) }
 {
     let text = read_all(alloc, source, MOST)?;
     decode_text(alloc, text)
-}
-
-/// The bytes as a line of hexadecimal digits.
-pub fn hexadecimal(alloc: Global, bytes: &Bytes) -> Result<String, NoMemory>
-    ensures { IfOk result (λ text. string_bytes text ≡ encode_lower bytes.now ++ codes "\n") }
-{
-    let Ok(mut text) = hex::encode(alloc, bytes.as_slice()) else {
-        return Err(NoMemory);
-    };
-    let Ok(()) = text.push_str("\n") else {
-        return Err(NoMemory);
-    };
-    Ok(text)
 }

@@ -31,9 +31,10 @@ mod session;
 mod showing;
 mod value_lines;
 
-pub use choice::{Action, Choice, WordsError, choose};
+pub use choice::{Action, Choice, WordsError, choose, limits_given};
+pub use command::reading_command;
 pub use decimals::push_number;
-pub use ending::{Ending, HexFault, Status};
+pub use ending::{Ending, HexFault};
 pub use hexadecimal::read_hexadecimal;
 pub use printing::ending_line;
 pub use quoting::push_quoted;

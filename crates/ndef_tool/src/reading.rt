@@ -1,5 +1,6 @@
 //! The next message of a source, or of bytes in memory.
 ghost use Rattle.std.specs.Prelude.{◌≡◌, ◌≤◌, ◌^◌, ℕ, Bool, List, Option, Some, false};
+ghost use Rattle.ndef_tool.specs.Rules.{rules_of};
 ghost use Rattle.ndef_tool.specs.Sessions.{ChecksNext, GoesOn, IsNext, LooksAhead, TakesNext, ViewsNext};
 
 use crate::ending::Ending;
@@ -27,14 +28,14 @@ pub(crate) trait Reading<L: OuterLanguage, S> {
     /// The next message, after so many, or how the messages end here.
     fn read(alloc: Global, limits: Limits, count: u64, from: &mut S) -> Result<Read, Ending>
         requires { count ≤ MOST }
-        ensures next { IsNext L.set L.holds limits count
+        ensures next { IsNext (rules_of L.set L.holds limits) count
             (coming from.old) (coming from.new) (has_failed from.new) result }
         ensures taken { TakesNext (λ read. read.taken) limits (taken from.old) (taken from.new) result };
 
     /// Checks the next message, after so many, or tells how the messages end here. It takes no memory.
     fn check(limits: Limits, count: u64, from: &mut S) -> Result<Checked, Ending>
         requires { count ≤ MOST }
-        ensures next { ChecksNext L.set L.holds limits count
+        ensures next { ChecksNext (rules_of L.set L.holds limits) count
             (coming from.old) (coming from.new) (has_failed from.new) result }
         ensures taken { TakesNext (λ checked. checked.taken) limits (taken from.old) (taken from.new) result };
 }
@@ -133,7 +134,7 @@ fn view_next<'a, L: OuterLanguage>(
     left: &mut &'a [u8],
 ) -> Result<View<'a>, Ending>
     requires { count ≤ MOST }
-    ensures next { ViewsNext L.set L.holds limits count left.old.now left.new.now result }
+    ensures next { ViewsNext (rules_of L.set L.holds limits) count left.old.now left.new.now result }
     ensures taken { TakesNext (λ viewed. viewed.taken) limits (2 ^ 64) (2 ^ 64) result }
 {
     let bytes = *left;

@@ -1,16 +1,15 @@
 //! The command, over any source and sink.
 ghost use Rattle.std.specs.Prelude.{◌≡◌, false, true, map, string_bytes};
-ghost use Rattle.ndef_message.specs.Machine.Turns.{supply_of};
 ghost use Rattle.ndef_tool.specs.Output.{ending_line, status_of};
 ghost use Rattle.ndef_tool.specs.Runs.{EndsCommand, IsSilent, Runs};
+ghost use Rattle.ndef_tool.specs.Streams.{streams};
 
 use crate::choice::{WordsError, choose};
-use crate::ending::{Ending, Status};
+use crate::ending::Ending;
 use crate::printing::ending_line;
 use crate::session::handle;
-use ndef_lang::Language;
 use ndef_message::{Sink, Source, WriteFault, send};
-use ndef_nest::Typed;
+use ndef_program::Status;
 use std::alloc::Global;
 
 /// What is printed where the words don't parse.
@@ -54,15 +53,11 @@ pub fn run<S: Source, K: Sink>(
     sink: &mut K,
 ) -> Status
     ensures runs { K.has_failed sink.old ≡ false
-        → Runs ⟦<Typed as Language>⟧.set ⟦<Typed as Language>⟧.holds (map string_bytes words.now)
-        (supply_of S.Source source.old) (supply_of S.Source source.new)
-        (S.has_failed source.new)
-        (K.written sink.old) (K.written sink.new) (K.has_failed sink.new) result }
+        → Runs (map string_bytes words.now) (streams S.Source K.Sink source.old sink.old)
+        (streams S.Source K.Sink source.new sink.new) result }
     ensures silent { K.has_failed sink.old ≡ true
-        → IsSilent ⟦<Typed as Language>⟧.set ⟦<Typed as Language>⟧.holds (map string_bytes words.now)
-        (supply_of S.Source source.old) (supply_of S.Source source.new)
-        (S.has_failed source.new)
-        (K.written sink.old) (K.written sink.new) (K.has_failed sink.new) result }
+        → IsSilent (map string_bytes words.now) (streams S.Source K.Sink source.old sink.old)
+        (streams S.Source K.Sink source.new sink.new) result }
 {
     match choose(alloc, words) {
         Err(WordsError::NoMemory) => Status::Fault,

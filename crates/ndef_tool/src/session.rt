@@ -2,14 +2,13 @@
 ghost use Rattle.std.specs.Io.KnownBytes.{Keeps};
 ghost use Rattle.std.specs.Prelude.{◌≡◌, ◌≤◌, false, true};
 ghost use Rattle.ndef_message.specs.Sending.{MarksOf, Sent};
-ghost use Rattle.ndef_message.specs.Machine.Turns.{supply_of};
-ghost use Rattle.ndef_format.specs.Payloads.{IsTypedPayload};
-ghost use Rattle.ndef_format.specs.NestedReasons.{TypedReason};
+ghost use Rattle.ndef_message.specs.States.{sink_state};
 ghost use Rattle.ndef_tool.specs.Blocks.{block_text};
 ghost use Rattle.ndef_tool.specs.Chosen.{HasSize};
-ghost use Rattle.ndef_tool.specs.Inputs.{ReadsIn};
+ghost use Rattle.ndef_tool.specs.Inputs.{HandlesIn, SilencesIn};
 ghost use Rattle.ndef_tool.specs.Output.{FitsPlace};
 ghost use Rattle.ndef_tool.specs.Sessions.{Handles, SessionHasTaken, IsSession, PrintsNext, Silences, TakesNext};
+ghost use Rattle.ndef_tool.specs.Streams.{streams};
 
 use crate::block::{Block, check_block, encode_block, show_block};
 use crate::choice::{Action, Choice};
@@ -47,7 +46,7 @@ fn print_next<R: Reading<Typed, S>, S>(
 ) -> Result<Printed, Ending>
     requires count { count ≤ MOST }
     requires size { HasSize choice.now.action }
-    ensures prints { PrintsNext IsTypedPayload TypedReason choice.now count at
+    ensures prints { PrintsNext choice.now count at
         (R.coming from.old) (R.coming from.new) (R.has_failed from.new) result }
     ensures taken { TakesNext (λ printed. printed.taken) choice.now.limits
         (R.taken from.old) (R.taken from.new) result }
@@ -97,13 +96,11 @@ fn handle_messages<R: Reading<Typed, S>, S, K: Sink>(
 ) -> Session
     requires { HasSize choice.now.action }
     ensures handled { K.has_failed sink.old ≡ false
-        → Handles (IsSession choice.now.action IsTypedPayload TypedReason choice.now.limits
-        (R.coming from.old) (R.coming from.new) (R.has_failed from.new) (K.has_failed sink.new))
-        choice.now (K.written sink.old) (K.written sink.new) (K.has_failed sink.new) result }
+        → Handles (IsSession choice.now (R.coming from.old) (R.coming from.new) (R.has_failed from.new)
+        (K.has_failed sink.new)) choice.now (sink_state K.Sink sink.old) (sink_state K.Sink sink.new) result }
     ensures silent { K.has_failed sink.old ≡ true
-        → Silences (IsSession choice.now.action IsTypedPayload TypedReason choice.now.limits
-        (R.coming from.old) (R.coming from.new) (R.has_failed from.new) (K.has_failed sink.new))
-        choice.now (K.written sink.old) (K.written sink.new) (K.has_failed sink.new) result }
+        → Silences (IsSession choice.now (R.coming from.old) (R.coming from.new) (R.has_failed from.new)
+        (K.has_failed sink.new)) choice.now (sink_state K.Sink sink.old) (sink_state K.Sink sink.new) result }
     ensures taken { SessionHasTaken choice.now.limits result.at (R.taken from.old) (R.taken from.new) result.ending }
     ensures room { FitsPlace result.at result.ending }
 {
@@ -133,15 +130,11 @@ fn handle_text<S: Source, K: Sink>(
 ) -> Session
     requires { HasSize choice.now.action }
     ensures handled { K.has_failed sink.old ≡ false
-        → Handles (ReadsIn true choice.now.action IsTypedPayload TypedReason choice.now.limits
-        (supply_of S.Source source.old) (supply_of S.Source source.new)
-        (S.has_failed source.new) (K.has_failed sink.new))
-        choice.now (K.written sink.old) (K.written sink.new) (K.has_failed sink.new) result }
+        → HandlesIn true choice.now (streams S.Source K.Sink source.old sink.old)
+        (streams S.Source K.Sink source.new sink.new) result }
     ensures silent { K.has_failed sink.old ≡ true
-        → Silences (ReadsIn true choice.now.action IsTypedPayload TypedReason choice.now.limits
-        (supply_of S.Source source.old) (supply_of S.Source source.new)
-        (S.has_failed source.new) (K.has_failed sink.new))
-        choice.now (K.written sink.old) (K.written sink.new) (K.has_failed sink.new) result }
+        → SilencesIn true choice.now (streams S.Source K.Sink source.old sink.old)
+        (streams S.Source K.Sink source.new sink.new) result }
     ensures room { FitsPlace result.at result.ending }
 {
     match read_hexadecimal(alloc, source) {
@@ -162,15 +155,11 @@ pub fn handle<S: Source, K: Sink>(
 ) -> Session
     requires { HasSize choice.now.action }
     ensures handled { K.has_failed sink.old ≡ false
-        → Handles (ReadsIn choice.now.hex choice.now.action IsTypedPayload TypedReason choice.now.limits
-        (supply_of S.Source source.old) (supply_of S.Source source.new)
-        (S.has_failed source.new) (K.has_failed sink.new))
-        choice.now (K.written sink.old) (K.written sink.new) (K.has_failed sink.new) result }
+        → HandlesIn choice.now.hex choice.now (streams S.Source K.Sink source.old sink.old)
+        (streams S.Source K.Sink source.new sink.new) result }
     ensures silent { K.has_failed sink.old ≡ true
-        → Silences (ReadsIn choice.now.hex choice.now.action IsTypedPayload TypedReason choice.now.limits
-        (supply_of S.Source source.old) (supply_of S.Source source.new)
-        (S.has_failed source.new) (K.has_failed sink.new))
-        choice.now (K.written sink.old) (K.written sink.new) (K.has_failed sink.new) result }
+        → SilencesIn choice.now.hex choice.now (streams S.Source K.Sink source.old sink.old)
+        (streams S.Source K.Sink source.new sink.new) result }
     ensures room { FitsPlace result.at result.ending }
 {
     if choice.hex {

@@ -2,8 +2,9 @@
 use super::command::words;
 use super::run_memory::spare_blocks;
 use ndef_cases::memory::use_up;
-use ndef_making::{Status, run};
+use ndef_make_tool::run;
 use ndef_message::{FailingSink, SliceSource};
+use ndef_program::Status;
 use std::alloc::Global;
 use std::test::Fail;
 
@@ -53,7 +54,7 @@ fn is_made(alloc: Global, words: &[String], wanted: &[u8]) -> Option<bool> {
     let written = sink.written();
     let lines = lines.written();
     match status {
-        Status::Made => Some(written == wanted && lines.is_empty()),
+        Status::Clean => Some(written == wanted && lines.is_empty()),
         Status::Fault if written.is_empty() && lines == b"fault: memory\n".as_slice() => None,
         _ => Some(false),
     }

@@ -1,7 +1,7 @@
 //! What the program `ndef-make` writes, and what `show` prints of it.
 use super::command::{ran, texts_of, words};
 use ndef_cases::lines::octets_of;
-use ndef_making::run;
+use ndef_make_tool::run;
 use ndef_message::{SliceSource, StdSink};
 use std::alloc::Global;
 use std::test::Fail;
@@ -57,7 +57,7 @@ fn tells(alloc: Global, line: &str, input: &[u8], status: u8, text: &str) -> Res
 }
 
 /// The words, the input, the digits that are written with `--hex`, and what `show` prints of the bytes.
-const WRITTEN: [(&str, &[u8], &str, &str); 20] = [
+const WRITTEN: [(&str, &[u8], &str, &str); 23] = [
     (
         "text Hello",
         b"",
@@ -178,6 +178,24 @@ const WRITTEN: [(&str, &[u8], &str, &str); 20] = [
         "d102065370d10102550061",
         "message 1 at 0: records 1, bytes 11\n 1 tnf 1 type \"Sp\" id \"\" payload 6 poster records 1 uri \"a\" titles 0 action none size none media none\n",
     ),
+    (
+        "handover select --carrier active=0 --and record --tnf 2 --type a/b --id 0",
+        b"12",
+        "91020a487312d102046163010130005a030201612f62303132",
+        "message 1 at 0: records 2, bytes 25\n 1 tnf 1 type \"Hs\" id \"\" payload 10 select version 1.2 carriers 1\n 2 tnf 2 type \"a/b\" id \"0\" payload 2 other\n carrier 1 power active reference \"0\" record 2\n",
+    ),
+    (
+        "handover request --carrier unknown=0,0 --version 1.3 --collision 258 --and carrier --format 2 --type a/b --id 0",
+        b"12",
+        "910213487213910202637201025102066163030130010130590207014863300203612f623132",
+        "message 1 at 0: records 2, bytes 38\n 1 tnf 1 type \"Hr\" id \"\" payload 19 request version 1.3 carriers 1\n 2 tnf 1 type \"Hc\" id \"0\" payload 7 carrier format 2 type \"a/b\" data 2\n carrier 1 power unknown reference \"0\" record 2\n",
+    ),
+    (
+        "handover select --error 2:00000100 --version 1.15",
+        b"",
+        "d1020c48731fd103056572720200000100",
+        "message 1 at 0: records 1, bytes 17\n 1 tnf 1 type \"Hs\" id \"\" payload 12 select version 1.15 carriers 0\n",
+    ),
 ];
 
 /// Whether a run writes these bytes and tells nothing.
@@ -258,7 +276,7 @@ fn prints_pages(rt: HostRuntime) -> Result<(), Fail> {
 }
 
 const USAGE: &str =
-    "usage: ndef-make text [--language L] [--utf16] TEXT | uri URI | poster URI [--title L=TEXT].. [--action do|save|open] [--size N] [--media TYPE] | record --tnf N [--type T] [--id I] [--unchecked] < payload | carrier --format N --type T [--id I] < data; [--hex] [--raw]; more records: --and ..; --help | --version\n";
+    "usage: ndef-make text [--language L] [--utf16] TEXT | uri URI | poster URI [--title L=TEXT].. [--action do|save|open] [--size N] [--media TYPE] | handover request --collision N [--version 1.M] [--carrier POWER=ID[,ID]..].. | handover select [--version 1.M] [--carrier POWER=ID[,ID]..].. [--error REASON:DATA] | record --tnf N [--type T] [--id I] [--unchecked] < payload | carrier --format N --type T [--id I] < data; [--hex] [--raw]; more records: --and ..; --help | --version\n";
 
 /// Words that don't parse.
 const NO_WORDS: &str = "
@@ -291,6 +309,19 @@ text a --and
 text a --and --and text b
 record --tnf 5 --and record --tnf 5
 record --tnf 5 --and carrier --format 2 --type x
+handover
+handover offer
+handover request
+handover request --collision 65536
+handover request --collision 1 --error 1:00
+handover select --collision 1
+handover select --version 1.16
+handover select --version 2.0
+handover select --carrier on=0
+handover select --carrier 0
+handover select --error 256:00
+handover select --error 1:0
+handover select --error 1
 carrier --format 8 --type x
 carrier --format 2
 carrier --type x
@@ -305,7 +336,7 @@ fn tells_usage(rt: HostRuntime) -> Result<(), Fail> {
 }
 
 /// Words that ask for what can't be said, and the line that is told.
-const REFUSED: [(&str, &[u8], &str); 15] = [
+const REFUSED: [(&str, &[u8], &str); 20] = [
     (
         "text --language \u{e9} a",
         b"",
@@ -380,6 +411,31 @@ const REFUSED: [(&str, &[u8], &str); 15] = [
         "record --tnf 1 --type Hc",
         b"\xff\xff",
         "refused: payload at 1: 23 DoesNotFit\n",
+    ),
+    (
+        "handover select --error 1:0000",
+        b"",
+        "refused: data that do not go with the reason of an error\n",
+    ),
+    (
+        "handover select --carrier active=0 --carrier inactive=1 --and record --tnf 5 --id 0",
+        b"",
+        "refused: no record has the id \"1\"\n",
+    ),
+    (
+        "record --tnf 5 --id a --and handover request --collision 0 --carrier active=a,b",
+        b"",
+        "refused: no record has the id \"b\"\n",
+    ),
+    (
+        "handover select --carrier active=",
+        b"",
+        "refused: no record has the id \"\"\n",
+    ),
+    (
+        "handover select --carrier active=0,,1 --and record --tnf 5 --id 0",
+        b"",
+        "refused: no record has the id \"\"\n",
     ),
 ];
 

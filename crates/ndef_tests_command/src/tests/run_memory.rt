@@ -3,7 +3,8 @@ use super::command::words;
 use ndef_cases::memory::use_up;
 use ndef_cases::samples::HELLO;
 use ndef_message::{FailingSink, SliceSource};
-use ndef_tool::{Status, run};
+use ndef_program::Status;
+use ndef_tool::run;
 use std::alloc::Global;
 use std::test::Fail;
 

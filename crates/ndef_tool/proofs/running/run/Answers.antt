@@ -1,10 +1,8 @@
 use Rattle.std.proofs.Common.{◌∙◌, [], Ok, Err, refl, inl, inr}
 use Rattle.std.proofs.KnownBytes.{Appends-nil, Keeps-refl}
-use Rattle.ndef_format.specs.Payloads.{IsTypedPayload}
-use Rattle.ndef_format.specs.NestedReasons.{TypedReason}
 use Rattle.ndef_tool.specs.Output.{status_of, usage_line}
 use Rattle.ndef_tool.specs.declared.choice.WordsError.TheVariants.{Usage, NoMemory}
-use Rattle.ndef_tool.specs.declared.ending.Status.TheVariants as status
+use Rattle.ndef_program.specs.declared.status.Status.TheVariants as status
 use Rattle.ndef_tool.proofs.Handling.{failed_status, session_ends, silent_ends}
 use Rattle.ndef_tool.proofs.Outputs.{goes_behind, nothing_out, stays_failed, usage_status}
 use Rattle.ndef_tool.proofs.Sessions.{reads_on}
@@ -33,9 +31,9 @@ pub returns-in-Ok-clause-runs : goal.returns-in-Ok-clause-runs
 returns-in-Ok-clause-runs g c = λ clear.
     let session = c.handle-session.result in
     let choice = c.in-Ok.choice in
-    let done = session_ends (ReadsIn choice.hex choice.action IsTypedPayload TypedReason choice.limits _ _ _ _) (ReadsIn choice.hex choice.action IsTypedPayload TypedReason choice.limits _ _ _ _) choice _ _ _
+    let done = session_ends (ReadsIn choice.hex choice _ _ _) (ReadsIn choice.hex choice _ _ _) choice _ _ _ _
     (g.K.Sink.has_failed c.handle-session.new.sink) _ session c.as_slice.result.now c.send-in-Ok.result c.end-in-Ok.result
-    (λ reads on h. reads_on choice.hex choice.action IsTypedPayload TypedReason choice.limits _ _ _ _ _ reads session.ending on h)
+    (λ reads on h. reads_on choice.hex choice _ _ _ _ reads session.ending on h)
     (c.handle-session.ensures.handled clear) (c.as_slice.ensures.value ∙ c.ending_line-line.ensures)
     c.send-in-Ok.ensures.sent c.send-in-Ok.ensures.mark (rw c.status_of.ensures at c.end-in-Ok.ensures) in (
       Ok choice,
@@ -63,9 +61,9 @@ pub returns-in-Ok-clause-silent : goal.returns-in-Ok-clause-silent
 returns-in-Ok-clause-silent g c = λ marked.
     let session = c.handle-session.result in
     let choice = c.in-Ok.choice in
-    let done = silent_ends (ReadsIn choice.hex choice.action IsTypedPayload TypedReason choice.limits _ _ _ _) (ReadsIn choice.hex choice.action IsTypedPayload TypedReason choice.limits _ _ _ _) choice _ _ _
+    let done = silent_ends (ReadsIn choice.hex choice _ _ _) (ReadsIn choice.hex choice _ _ _) choice _ _ _ _
     (g.K.Sink.has_failed c.handle-session.new.sink) _ session c.as_slice.result.now c.send-in-Ok.result c.end-in-Ok.result
-    (λ reads on h. reads_on choice.hex choice.action IsTypedPayload TypedReason choice.limits _ _ _ _ _ reads session.ending on h)
+    (λ reads on h. reads_on choice.hex choice _ _ _ _ reads session.ending on h)
     (c.handle-session.ensures.silent marked) (c.as_slice.ensures.value ∙ c.ending_line-line.ensures)
     (c.send-in-Ok.ensures.silent (c.handle-session.ensures.silent marked).mark) c.send-in-Ok.ensures.mark (rw c.status_of.ensures at c.end-in-Ok.ensures) in
     (done.0, done.1, elim done.2 [ inl h ↦ inl h | inr h ↦ inr (Ok choice, c.in-Ok.ensures.chosen, (h.0, session.ending, h.1, h.2, h.3)) ])

@@ -1,7 +1,5 @@
 use Rattle.std.proofs.Common.{◌∙◌, arith, inl, refl}
 use Rattle.std.proofs.KnownBytes.{Keeps-trans}
-use Rattle.ndef_format.specs.Payloads.{IsTypedPayload}
-use Rattle.ndef_format.specs.NestedReasons.{TypedReason}
 use Rattle.ndef_tool.proofs.Bounded.{greatest_small}
 use Rattle.ndef_tool.proofs.Handling.{counts_more, fits_behind, handled_more, handled_in_part, silent_end, still_out}
 use Rattle.ndef_tool.proofs.session.handle_messages.Goals as goal
@@ -14,7 +12,7 @@ returns-in-Err-clause-room g c =
 pub returns-in_default-clause-handled : goal.returns-in_default-clause-handled
 returns-in_default-clause-handled g c = λ clear.
     let before = c.loop-printed.invariant in
-    handled_in_part IsTypedPayload TypedReason c.args.choice.now _ _ _ _ _ _ _ c.loop-printed.count c.loop-printed.at c.in-Ok.printed
+    handled_in_part c.args.choice.now _ _ _ _ _ _ _ _ c.loop-printed.count c.loop-printed.at c.in-Ok.printed
     _ _ (g.K.Sink.has_failed c.loop-printed.sink) _ c.in_default.field-0 before.so_far c.in-Ok.ensures.prints (before.mark ∙ clear)
     c.in_default.ensures.sent c.in_default.ensures.mark
 
@@ -28,7 +26,7 @@ loop-printed-preserved g c =
       room = omega (arith, before.room, taken.0, greatest_small c.args.choice.now.limits c.profile.ensures.range);
       taken = counts_more _ _ _ c.loop-printed.at c.in-Ok.printed.taken before.taken taken.1;
       mark = c.in-Ok-send_block.ensures.mark.0 ∙ before.mark;
-      so_far = handled_more IsTypedPayload TypedReason c.args.choice.now _ _ _ _ _ _ _ c.loop-printed.count c.loop-printed.at _ c.in-Ok.printed
+      so_far = handled_more c.args.choice.now _ _ _ _ _ _ _ c.loop-printed.count c.loop-printed.at _ c.in-Ok.printed
           before.so_far prints c.in-Ok-send_block.ensures.sent.0
           (λ m. (still_out _ _ _ 0 c.in-Ok-send_block.ensures.mark (before.mark ∙ m), c.in-Ok-send_block.ensures.silent (before.mark ∙ m)));
     }
@@ -36,7 +34,7 @@ loop-printed-preserved g c =
 pub returns-in-Err-clause-silent : goal.returns-in-Err-clause-silent
 returns-in-Err-clause-silent g c = λ marked.
     let before = c.loop-printed.invariant in
-    silent_end IsTypedPayload TypedReason c.args.choice.now _ _ _ _ _ c.loop-printed.count c.loop-printed.at _ _ c.in-Err.ending
+    silent_end c.args.choice.now _ _ _ _ _ _ c.loop-printed.count c.loop-printed.at _ _ c.in-Err.ending
     (rw marked at before.so_far) before.few c.in-Err.ensures.prints.0 c.in-Err.ensures.prints.1 (before.mark ∙ marked)
 
 pub returns-in_default-clause-silent : goal.returns-in_default-clause-silent

@@ -1,0 +1,71 @@
+use Rattle.std.proofs.Common.{◌∙◌, ap, arith, drop, length, length-drop}
+use Rattle.std.proofs.lemmas.List.{drop-drop}
+use Rattle.ndef_explain_tool.specs.declared.explaining.Stop.TheVariants.{End, Refused}
+use Rattle.ndef_explain_tool.proofs.Messages.{keeps_last, keeps_next, none_left, some_left}
+use Rattle.ndef_explain_tool.proofs.explaining.push_messages.Goals as goal
+
+pub loop-at-preserved : goal.loop-at-preserved
+loop-at-preserved c =
+    let i = c.loop-at.invariant in
+    let told = c.in-Ok.told in
+    let s = c.in-Ok.ensures.some in
+    let rest = c.loop-at.rest.now in
+    let b = c.split_at.ensures.back in
+    let size = i.size in
+    let numbers = i.numbers in
+    let some = s.0 in
+    let within = s.1 in
+    let n = ap length b ∙ length-drop told.taken rest in
+    record {
+      keeps = keeps_next c.args.limits c.args.input.now rest _ c.loop-at.at c.loop-at.number _ c.loop-at.line _ told i.keeps c.in-Ok.ensures.told
+          c.in_ok-push_message-in-Ok.ensures b;
+      rest = b ∙ ap (drop told.taken) i.rest ∙ drop-drop told.taken c.loop-at.at c.args.input.now;
+      size = omega (arith, size, within, n);
+      numbers = omega (arith, numbers, some);
+      size_is = i.size_is;
+      fits = i.fits;
+    }
+
+pub returns-in-Err : goal.returns-in-Err
+returns-in-Err c =
+    let i = c.loop-at.invariant in
+    let refusal = c.in-Err.refusal in
+    let rest = c.loop-at.rest.now in
+    let l = c.loop-at-test.true in
+    let some = some_left c.loop-at.at _ rest c.args.input.now i.size i.size_is (omega (arith, l)) in
+    let g = keeps_last c.args.limits c.args.input.now rest c.loop-at.at c.loop-at.number _ c.loop-at.line (Refused refusal) i.keeps (some, c.in-Err.ensures.told) in
+    let a = g.at_is in
+    let within = c.in-Err.ensures.told.place.within in
+    let size = i.size in
+    let value = i.size_is in
+    let fits = i.fits in
+    record {
+      told = g.told;
+      are_told = g.are_told;
+      at_is = omega (arith, a);
+      rest_is = i.rest;
+      messages = g.messages;
+      are_messages = g.are_messages;
+      text_is = g.text_is;
+      fits = (omega (arith, within, size, value, fits), (c.args.limits, c.in-Err.ensures.told.place.viable));
+    }
+
+pub returns : goal.returns
+returns c =
+    let i = c.loop-at.invariant in
+    let rest = c.loop-at.rest.now in
+    let value = i.size_is in
+    let l = c.loop-at-test.false in
+    let none = none_left c.loop-at.at _ rest c.args.input.now i.size value (omega (arith, l)) in
+    let g = keeps_last c.args.limits c.args.input.now rest c.loop-at.at c.loop-at.number _ c.loop-at.line End i.keeps none in
+    let a = g.at_is in
+    record {
+      told = g.told;
+      are_told = g.are_told;
+      at_is = omega (arith, a);
+      rest_is = i.rest;
+      messages = g.messages;
+      are_messages = g.are_messages;
+      text_is = g.text_is;
+      fits = tt;
+    }

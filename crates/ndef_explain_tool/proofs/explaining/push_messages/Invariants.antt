@@ -1,0 +1,16 @@
+use Rattle.std.proofs.Common.{◌≡◌, ◌+◌, ◌-◌, ◌<◌, ◌≤◌, ◌^◌, drop, length}
+use Rattle.ndef_explain_tool.proofs.Messages.{KeepsOn}
+use Rattle.ndef_explain_tool.proofs.explaining.push_messages.Given as goal
+
+abbrev pub invariant-loop-at : goal.invariant-loop-at
+invariant-loop-at l = record {
+  keeps : KeepsOn l.limits l.input l.rest l.at l.number l.initial.line l.line;
+  rest : l.rest ≡ drop l.at l.input;
+  size : l.at + length l.rest ≡ length l.input;
+  numbers : l.number ≤ l.at + 1;
+  size_is : l.size ≡ length l.input;
+  fits : l.size < 2 ^ 64;
+}
+
+abbrev pub decreases-loop-at : goal.decreases-loop-at
+decreases-loop-at l = l.size - l.at

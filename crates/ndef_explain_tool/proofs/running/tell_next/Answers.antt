@@ -1,0 +1,16 @@
+use Rattle.std.proofs.Common.{inl, inr, refl, subst}
+use Rattle.ndef_message.specs.States.{sink_state}
+use Rattle.ndef_explain_tool.specs.Running.{SendsOut}
+use Rattle.ndef_explain_tool.proofs.running.tell_next.Goals as goal
+
+pub returns-in-Ok : goal.returns-in-Ok
+returns-in-Ok g c = λ clear. (
+  c.in-Ok.told.text,
+  c.in-Ok.told.status,
+  inl c.in-Ok.ensures,
+  subst (λ text. SendsOut text c.in-Ok.told.status (sink_state g.K.Sink c.args.sink.now) (sink_state g.K.Sink c.send_out.new.sink) c.send_out.result)
+      c.as_slice.ensures.value (c.send_out.ensures clear),
+)
+
+pub returns-in-Err : goal.returns-in-Err
+returns-in-Err g c = λ clear. (_, _, inr (refl, refl), c.send_out-in-Err.ensures clear)

@@ -1,0 +1,59 @@
+-- What the words ask for.
+use Rattle.std.specs.Prelude.{◌≡◌, List, [], ◌∷◌, Option, Some, None, Result, Ok, Err, ⊤, map, codes, if◌then◌else◌, option_and_then, option_map, unwrap_or}
+use Rattle.std.specs.Option.{option_map_or}
+use Rattle.std.specs.Str.{bytes_eq}
+use Rattle.clap.specs.Words.{App, Row, Text, all_of, fault_of, first_of, matches_of}
+use Rattle.ndef_tool.specs.Chosen.{chosen_limits, hex_of, unless_fault}
+use Rattle.ndef_tool.specs.declared.choice.WordsError.{WordsError}
+use Rattle.ndef_tool.specs.declared.choice.WordsError.TheVariants.{Usage, NoMemory}
+use Rattle.ndef_explain_tool.specs.CommandLine.{explain_app}
+use Rattle.ndef_explain_tool.specs.declared.choice.Asked.{Asked}
+use Rattle.ndef_explain_tool.specs.declared.choice.Choice.{Choice}
+use Rattle.ndef_explain_tool.specs.declared.choice.Color.{Color}
+use Rattle.ndef_explain_tool.specs.declared.choice.Color.TheVariants as color
+
+-- when output is in colour, by this name
+abbrev pub color_named : Text → Option Color
+color_named name = if bytes_eq name (codes "auto") then Some color.Auto
+    else (if bytes_eq name (codes "always") then Some color.Always
+    else (if bytes_eq name (codes "never") then Some color.Never else None))
+
+-- the same of the option, and `auto` where it isn't given
+abbrev pub chosen_color : List Row → Option Color
+chosen_color rows = option_map_or color_named (first_of (codes "color") rows) (Some color.Auto)
+
+-- the choice of the options
+abbrev pub choice_in : List Row → Option Choice
+choice_in rows =
+    option_and_then (λ limits. option_map (λ c. record { hex = hex_of rows; color = c; limits = limits })
+    (chosen_color rows)) (chosen_limits rows)
+
+-- the names of files that are given
+abbrev pub files_in : List Row → List Text
+files_in rows = unwrap_or (all_of (codes "file") rows) []
+
+-- the choice, and the names of files
+abbrev pub asked_in : List Row → Option (Choice × List Text)
+asked_in rows = option_map (λ choice. (choice, files_in rows)) (choice_in rows)
+
+-- what words ask for on a command line: nothing where clap finds a fault in them
+abbrev pub asked_by : App → List Text → Option (Choice × List Text)
+asked_by app words = unless_fault (fault_of app words) (asked_in (matches_of app words))
+
+-- what the words ask for by the options of ndef-explain
+abbrev pub asked_of : List Text → Option (Choice × List Text)
+asked_of words = asked_by explain_app words
+
+-- what a value of the program says
+abbrev pub asked_parts : Asked → Choice × List Text
+asked_parts asked = (asked.choice, map (λ file. file.now) asked.files.items)
+
+-- what comes of words that ask for this: the usage line exactly where it is nothing
+abbrev pub Answers : Option (Choice × List Text) → Result Asked WordsError → Type 0
+Answers wanted (Ok asked) = wanted ≡ Some (asked_parts asked)
+Answers wanted (Err Usage) = wanted ≡ None
+Answers wanted (Err NoMemory) = ⊤
+
+-- what comes of the words
+abbrev pub Asks : List Text → Result Asked WordsError → Type 0
+Asks words asked = Answers (asked_of words) asked

@@ -1,0 +1,13 @@
+pub mod Cells
+pub mod Chosen
+pub mod CommandLine
+pub mod Explaining
+pub mod FieldLines
+pub mod Hexadecimal
+pub mod Inputs
+pub mod Meanings
+pub mod Pages
+pub mod Painting
+pub mod PayloadLines
+pub mod Running
+pub mod Sentences

@@ -1,0 +1,51 @@
+-- The pages about the program itself.
+use Rattle.std.specs.Prelude.{◌++◌, List, [], ◌∷◌, Option, Some, None, codes, if◌then◌else◌}
+use Rattle.std.specs.Str.{bytes_eq}
+use Rattle.clap.specs.Words.{Text}
+use Rattle.ndef_explain_tool.specs.declared.pages.Page.{Page}
+use Rattle.ndef_explain_tool.specs.declared.pages.Page.TheVariants as page
+
+-- the page of this name
+abbrev pub page_named : Text → Option Page
+page_named name = if bytes_eq name (codes "--help") then Some page.Help
+    else (if bytes_eq name (codes "--version") then Some page.Version else None)
+
+-- the page for which the words ask, of which the first is the program's name
+abbrev pub page_asked : List Text → Option Page
+page_asked (program ∷ name ∷ []) = page_named name
+page_asked _ = None
+
+-- what the program does, its words, and examples
+abbrev pub help_text : Text
+help_text =
+    codes "ndef-explain prints each byte of messages of the NFC Data Exchange Format, with the\n"
+    ++ codes "field in which it stands and what the field says.\n"
+    ++ codes "\n"
+    ++ codes "Usage: ndef-explain [OPTION].. [FILE]..\n"
+    ++ codes "\n"
+    ++ codes "Without a FILE, and for the FILE -, it reads standard input.\n"
+    ++ codes "\n"
+    ++ codes "  --hex               the input is hexadecimal text\n"
+    ++ codes "  --payload N         the most bytes of a payload, 1 to 4294967295; without it: 1048576\n"
+    ++ codes "  --records N         the most records of a message, 1 to 65535; without it: 1024\n"
+    ++ codes "  --pieces N          the most chunks of a record, 1 to 65535; without it: 4096\n"
+    ++ codes "  --profile P         strict refuses reserved values, as without the option;\n"
+    ++ codes "                      standard reads them as the standard says\n"
+    ++ codes "  --color WHEN        always, never, or auto: in colour where output is a terminal and\n"
+    ++ codes "                      NO_COLOR isn't set, as without the option\n"
+    ++ codes "\n"
+    ++ codes "Alone:\n"
+    ++ codes "\n"
+    ++ codes "  --help              print this page\n"
+    ++ codes "  --version           print the name and the version\n"
+    ++ codes "\n"
+    ++ codes "Examples:\n"
+    ++ codes "\n"
+    ++ codes "  ndef-explain tag.bin\n"
+    ++ codes "  ndef-make text Hello | ndef-explain\n"
+    ++ codes "  echo d101085402656e48656c6c6f | ndef-explain --hex\n"
+
+-- the text of a page
+abbrev pub page_text : Page → Text
+page_text page.Help = help_text
+page_text page.Version = codes "ndef-explain 0.1.0\n"

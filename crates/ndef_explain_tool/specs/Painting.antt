@@ -1,0 +1,56 @@
+-- Output in colour.
+use Rattle.std.specs.Prelude.{◌==◌, ◌||◌, ℕ, Bool, true, false, List, [], ◌∷◌, ◌++◌, codes, nat_eq, drop, take, map, slice_index, if◌then◌else◌}
+use Rattle.std.specs.List.{join_with_byte, slice_split, starts_with}
+use Rattle.ndef_tool.specs.Quoting.{Text}
+use Rattle.ndef_explain_tool.specs.declared.painting.Ink.{Ink}
+use Rattle.ndef_explain_tool.specs.declared.painting.Ink.TheVariants as ink
+
+-- the line begins with this word
+abbrev pub begins : Text → Text → Bool
+begins line word = starts_with nat_eq line word
+
+-- the line of a message or of an input
+abbrev pub is_heading : Text → Bool
+is_heading line = begins line (codes "message ") || begins line (codes "file ")
+
+-- the line of a refused byte has a caret behind the octets, which end two columns later in a message within a payload
+abbrev pub is_refused_byte : Text → Bool
+is_refused_byte line = slice_index line 33 == 94 || slice_index line 35 == 94
+
+-- the line of a refusal or a fault
+abbrev pub is_fault : Text → Bool
+is_fault line = begins line (codes "refused ") || begins line (codes "fault: ") || begins line (codes "hex: ")
+
+-- the ink of a line
+abbrev pub ink_of : Text → Ink
+ink_of line = if is_heading line then ink.Bold
+    else (if is_fault line then ink.Red
+    else (if begins line (codes "0") then (if is_refused_byte line then ink.Red else ink.FaintPlace) else ink.Plain))
+
+-- ECMA-48, select graphic rendition: a text in this rendition, and the usual one behind it
+abbrev pub rendered : (rendition : Text) → Text → Text
+rendered rendition text = codes "\u{1b}[" ++ rendition ++ codes "m" ++ text ++ codes "\u{1b}[0m"
+
+-- a line in its ink
+abbrev pub painted_in : Ink → Text → Text
+painted_in ink.Bold line = rendered (codes "1") line
+painted_in ink.Red line = rendered (codes "31") line
+painted_in ink.FaintPlace line = rendered (codes "2") (take 8 line) ++ drop 8 line
+painted_in ink.Plain line = line
+
+-- a line in colour
+abbrev pub painted_line : Text → Text
+painted_line line = painted_in (ink_of line) line
+
+-- the lines of a text
+abbrev pub lines_of : Text → List Text
+lines_of text = slice_split (λ byte. byte == 10) text
+
+-- a text in colour
+abbrev pub painted : Text → Text
+painted text = join_with_byte 10 (map painted_line (lines_of text))
+
+-- a text in colour, or as it is
+abbrev pub shown_in : (in_color : Bool) → Text → Text
+shown_in true text = painted text
+shown_in false text = text

@@ -1,0 +1,178 @@
+-- The program: a function of its words, of what the inputs hold and of whether its output takes colours.
+use Rattle.std.specs.Prelude.{◌≡◌, ◌⊎◌, ℕ, Bool, true, false, List, [], ◌∷◌, ◌++◌, codes, Option, Some, None, Result, Ok, Err}
+use Rattle.ndef_format.specs.Limits.{LimitValues}
+use Rattle.ndef_message.specs.States.{SinkState}
+use Rattle.ndef_message.specs.declared.input.InputError.{InputError}
+use Rattle.ndef_message.specs.declared.sending.WriteFault.{WriteFault}
+use Rattle.ndef_tool.specs.Output.{ending_text, status_of}
+use Rattle.ndef_tool.specs.Quoting.{Text, quoted}
+use Rattle.ndef_program.specs.Statuses.{status_after}
+use Rattle.ndef_program.specs.Outputs.{GoesOut}
+use Rattle.ndef_tool.specs.declared.choice.WordsError.{WordsError}
+use Rattle.ndef_tool.specs.declared.choice.WordsError.TheVariants.{Usage, NoMemory}
+use Rattle.ndef_tool.specs.declared.ending.Ending.{Ending}
+use Rattle.ndef_tool.specs.declared.ending.Ending.TheVariants.{Memory}
+use Rattle.ndef_program.specs.declared.status.Status.{Status}
+use Rattle.ndef_program.specs.declared.status.Status.TheVariants as status
+use Rattle.ndef_explain_tool.specs.Chosen.{Asks, asked_parts}
+use Rattle.ndef_explain_tool.specs.Explaining.{IsExplained}
+use Rattle.ndef_explain_tool.specs.Inputs.{AreOctets}
+use Rattle.ndef_explain_tool.specs.Pages.{page_asked, page_text}
+use Rattle.ndef_explain_tool.specs.Painting.{shown_in}
+use Rattle.ndef_explain_tool.specs.declared.choice.Asked.{Asked}
+use Rattle.ndef_explain_tool.specs.declared.choice.Choice.{Choice}
+use Rattle.ndef_explain_tool.specs.declared.choice.Color.{Color}
+use Rattle.ndef_explain_tool.specs.declared.choice.Color.TheVariants as color
+use Rattle.ndef_explain_tool.specs.declared.explaining.Stop.{Stop}
+use Rattle.ndef_explain_tool.specs.declared.explaining.Stop.TheVariants.{End, Refused}
+use Rattle.ndef_explain_tool.specs.declared.pages.Page.{Page}
+use Rattle.ndef_explain_tool.specs.declared.telling.Manner.{Manner}
+
+-- ---- the text of an input
+
+-- the status where messages stop
+abbrev pub stop_status : Stop → Status
+stop_status End = status.Clean
+stop_status (Refused refusal) = status.Refused
+
+-- the line of an input that is named, where they are
+abbrev pub heading : (named : Bool) → (name : Text) → Text
+heading true name = codes "file " ++ quoted name ++ codes "\n"
+heading false name = []
+
+-- what is printed of the bytes of an input, and the status; or of the fault, where there are none
+abbrev pub IsBody : LimitValues → (octets : Result (List ℕ) Ending) → Text → Status → Type 0
+IsBody limits (Ok octets) text st = (stop : Stop) × IsExplained limits octets stop text × (st ≡ stop_status stop)
+IsBody limits (Err ending) text st = (text ≡ ending_text 0 ending) × (st ≡ status_of ending)
+
+-- all that is printed of an input of this name, of which this was read, and its status
+abbrev pub IsTold : Manner → (name : Text) → (read : Result (List ℕ) InputError) → Text → Status → Type 0
+IsTold manner name read text st =
+    (octets : Result (List ℕ) Ending) × (body : Text) × AreOctets manner.hex read octets
+    × IsBody manner.limits octets body st × (text ≡ shown_in manner.in_color (heading manner.named name ++ body))
+
+-- the same; or the fault, where memory is wanting
+abbrev pub IsToldInMemory : Manner → (name : Text) → (read : Result (List ℕ) InputError) → Text → Status → Type 0
+IsToldInMemory manner name read text st =
+    IsTold manner name read text st ⊎ ((text ≡ ending_text 0 Memory) × (st ≡ status.Fault))
+
+-- ---- the inputs, one after another
+
+-- what the program has before it: the inputs, and its output
+pub record World (I : Type 0) : Type 0 where
+  pub inputs : I
+  pub output : SinkState
+
+-- the inputs and the output
+abbrev pub world : {I : Type 0} → I → SinkState → World I
+world inputs output = record { inputs = inputs; output = output }
+
+-- which bytes, or which fault, an input of a name gives, and what is left of the inputs
+abbrev pub Gives : Type 0 → Type 1
+Gives I = I → (name : Text) → (read : Result (List ℕ) InputError) → I → Type 0
+
+-- the greater of two statuses: a fault, a refusal, or none
+abbrev pub worse : Status → Status → Status
+worse status.Fault other = status.Fault
+worse st status.Clean = st
+worse st status.Fault = status.Fault
+worse st other = other
+
+-- a text goes out, and this is the status; or a front of the text, before writing fails
+abbrev pub SendsOut : Text → Status → (before after : SinkState) → Result Status WriteFault → Type 0
+SendsOut text st before after (Ok told) =
+    GoesOut before.written after.written after.failed text × (after.failed ≡ false) × (told ≡ st)
+SendsOut text st before after (Err fault) =
+    GoesOut before.written after.written after.failed text × (after.failed ≡ true)
+
+-- all that is printed of an input goes out, and this is its status; or writing fails
+abbrev pub TellsNext : Manner → (name : Text) → (read : Result (List ℕ) InputError) → (before after : SinkState)
+    → Result Status WriteFault → Type 0
+TellsNext manner name read before after told =
+    (text : Text) × (st : Status) × IsToldInMemory manner name read text st × SendsOut text st before after told
+
+-- what comes next comes, unless writing failed
+abbrev pub GoesOn : {I : Type 0} → Result Status WriteFault → (next : Status → Type 0) → (before after : World I)
+    → Status
+    → Type 0
+GoesOn (Ok st) next before after result = next st
+GoesOn (Err fault) next before after result = (after ≡ before) × (result ≡ status.Fault)
+
+-- the inputs of these names are read and told, one after another, behind others that came to a status
+abbrev pub TellsAll : {I : Type 0} → Gives I → Manner → (names : List Text) → Status → (before after : World I) → Status
+    → Type 0
+TellsAll gives manner [] st before after result = (after ≡ before) × (result ≡ st)
+TellsAll {I} gives manner (name ∷ names) st before after result =
+    (read : Result (List ℕ) InputError) × (middle : World I) × (told : Result Status WriteFault)
+    × gives before.inputs name read middle.inputs × TellsNext manner name read before.output middle.output told
+    × GoesOn told (λ next. TellsAll gives manner names (worse st next) middle after result) middle after result
+
+-- ---- a run
+
+-- for words that don't parse
+abbrev pub usage_line : Text
+usage_line = codes "usage: ndef-explain [--hex] [--payload N] [--records N] [--pieces N] "
+    ++ codes "[--profile strict|standard] [--color auto|always|never] [FILE]..\n"
+
+-- a text goes out, or a front of it before writing fails, and this is the status
+abbrev pub PrintsText : Text → Status → (before after : SinkState) → Status → Type 0
+PrintsText text st before after result =
+    GoesOut before.written after.written after.failed text × (result ≡ status_after after.failed st)
+
+-- the same, and the inputs are left
+abbrev pub Answers : {I : Type 0} → Text → Status → (before after : World I) → Status → Type 0
+Answers text st before after result =
+    (after.inputs ≡ before.inputs) × PrintsText text st before.output after.output result
+
+-- whether output is in colour
+abbrev pub is_in_color : Color → (takes_color : Bool) → Bool
+is_in_color color.Auto takes_color = takes_color
+is_in_color color.Always takes_color = true
+is_in_color color.Never takes_color = false
+
+-- files are named
+abbrev pub is_named : List Text → Bool
+is_named [] = false
+is_named (name ∷ names) = true
+
+-- the files that are named, or standard input
+abbrev pub inputs_of : List Text → List Text
+inputs_of [] = codes "-" ∷ []
+inputs_of (name ∷ names) = name ∷ names
+
+-- how inputs are told
+abbrev pub manner_of : Choice → (takes_color named : Bool) → Manner
+manner_of choice takes_color named = record {
+  limits = choice.limits;
+  hex = choice.hex;
+  in_color = is_in_color choice.color takes_color;
+  named = named;
+}
+
+-- the inputs are told for which the words ask
+abbrev pub TellsAsked : {I : Type 0} → Gives I → (takes_color : Bool) → Choice × List Text → (before after : World I)
+    → Status → Type 0
+TellsAsked gives takes_color (choice, files) before after result =
+    TellsAll gives (manner_of choice takes_color (is_named files)) (inputs_of files) status.Clean before after result
+
+-- what the words come to
+abbrev pub RunsFor : {I : Type 0} → Gives I → (takes_color : Bool) → Result Asked WordsError → (before after : World I)
+    → Status → Type 0
+RunsFor gives takes_color (Ok asked) before after result =
+    TellsAsked gives takes_color (asked_parts asked) before after result
+RunsFor gives takes_color (Err Usage) before after result = Answers usage_line status.Usage before after result
+RunsFor gives takes_color (Err NoMemory) before after result = Answers [] status.Fault before after result
+
+-- a page, or what the words come to
+abbrev pub RunsAsked : {I : Type 0} → Gives I → List Text → (takes_color : Bool) → Option Page
+    → (before after : World I)
+    → Status → Type 0
+RunsAsked gives words takes_color (Some page) before after result =
+    Answers (page_text page) status.Clean before after result
+RunsAsked gives words takes_color None before after result =
+    (asked : Result Asked WordsError) × Asks words asked × RunsFor gives takes_color asked before after result
+
+-- the whole program
+abbrev pub Runs : {I : Type 0} → Gives I → List Text → (takes_color : Bool) → (before after : World I) → Status → Type 0
+Runs gives words takes_color before after result =
+    RunsAsked gives words takes_color (page_asked words) before after result

@@ -1,0 +1,137 @@
+//! What the words ask for.
+ghost use Rattle.std.specs.Prelude.{◌≡◌, map, option_map, string_bytes, IfOk};
+ghost use Rattle.clap.specs.Words.{found_of, first_of, rows_of};
+ghost use Rattle.ndef_tool.specs.Chosen.{hex_of};
+ghost use Rattle.ndef_explain_tool.specs.Chosen.{Answers, Asks, asked_in, choice_in, chosen_color, color_named, files_in};
+
+use crate::command::explain_command;
+use clap::ArgMatches;
+use clap::error::ErrorKind;
+use ndef_tool::{WordsError, limits_given};
+use ndef_value::{Limits, NoMemory};
+use std::alloc::{AllocError, Global};
+
+/// When output is in colour.
+#[derive(Clone, Copy, Debug, PartialEq, Eq)]
+pub(crate) enum Color {
+    /// Where it goes to a terminal that takes colours.
+    Auto,
+    Always,
+    Never,
+}
+
+/// What the options choose.
+#[derive(Clone, Copy, Debug)]
+pub(crate) struct Choice {
+    /// Input is hexadecimal text.
+    pub(crate) hex: bool,
+    pub(crate) color: Color,
+    pub(crate) limits: Limits,
+}
+
+/// What the words ask for.
+#[derive(Debug, Drop)]
+pub(crate) struct Asked<'a> {
+    pub(crate) choice: Choice,
+    /// The names of the inputs that are given.
+    pub(crate) files: Vec<&'a str>,
+}
+
+/// The text of an option, where it is given.
+fn text<'a>(matches: &ArgMatches<'a>, id: &str) -> Option<&'a str>
+    ensures { option_map (λ s. s.now) result ≡ first_of id.now (rows_of (found_of matches.now)) }
+{
+    matches.get_str(id)
+}
+
+/// Whether `--hex` is given.
+fn hex(matches: &ArgMatches<'_>) -> bool
+    ensures { result ≡ hex_of (rows_of (found_of matches.now)) }
+{
+    match text(matches, "hex") {
+        Some(text) => text == "true",
+        None => false,
+    }
+}
+
+/// When output is in colour, by this name.
+fn color_named(name: &str) -> Option<Color>
+    ensures { result ≡ color_named name.now }
+{
+    match name {
+        "auto" => Some(Color::Auto),
+        "always" => Some(Color::Always),
+        "never" => Some(Color::Never),
+        _ => None,
+    }
+}
+
+/// When output is in colour, as `--color` says; where it isn't given, `auto`.
+fn color_given(matches: &ArgMatches<'_>) -> Option<Color>
+    ensures { result ≡ chosen_color (rows_of (found_of matches.now)) }
+{
+    match text(matches, "color") {
+        Some(name) => color_named(name),
+        None => Some(Color::Auto),
+    }
+}
+
+/// What the options choose.
+fn choice_given(matches: &ArgMatches<'_>) -> Option<Choice>
+    ensures { result ≡ choice_in (rows_of (found_of matches.now)) }
+{
+    let limits = limits_given(matches)?;
+    let color = color_given(matches)?;
+    Some(Choice {
+        hex: hex(matches),
+        color,
+        limits,
+    })
+}
+
+/// A list of words.
+fn list_of<'a>(alloc: Global, words: &[&'a str]) -> Result<Vec<&'a str>, AllocError>
+    ensures { IfOk result (λ list. list.items ≡ words.now) }
+{
+    words.iter().copied().collect(alloc)
+}
+
+/// The names of the inputs that are given.
+fn files_given<'a>(alloc: Global, matches: &ArgMatches<'a>) -> Result<Vec<&'a str>, AllocError>
+    ensures { IfOk result (λ files.
+        map (λ file. file.now) files.items ≡ files_in (rows_of (found_of matches.now))) }
+{
+    match matches.get_raw("file") {
+        Some(names) => list_of(alloc, names),
+        None => Ok(Vec::new(alloc)),
+    }
+}
+
+/// What the matches of clap ask for.
+fn said<'a>(alloc: Global, matches: &ArgMatches<'a>) -> Result<Asked<'a>, WordsError>
+    ensures { Answers (asked_in (rows_of (found_of matches.now))) result }
+{
+    let Some(choice) = choice_given(matches) else {
+        return Err(WordsError::Usage);
+    };
+    match files_given(alloc, matches) {
+        Ok(files) => Ok(Asked { choice, files }),
+        Err(_) => Err(WordsError::NoMemory),
+    }
+}
+
+/// What the words ask for, of which the first is the program's name.
+pub(crate) fn ask<'a>(alloc: Global, words: &'a [String]) -> Result<Asked<'a>, WordsError>
+    ensures { Asks (map string_bytes words.now) result }
+{
+    let Ok(command) = explain_command(alloc) else {
+        return Err(WordsError::NoMemory);
+    };
+    match command.try_get_matches_from(words) {
+        Ok(matches) => said(alloc, &matches),
+        Err(error) => match error.kind() {
+            ErrorKind::OutOfMemory => Err(WordsError::NoMemory),
+            _ => Err(WordsError::Usage),
+        },
+    }
+}

@@ -1,0 +1,80 @@
+//! The pages about the program itself.
+ghost use Rattle.std.specs.Prelude.{◌≡◌, map, string_bytes};
+ghost use Rattle.ndef_explain_tool.specs.Pages.{help_text, page_asked, page_named, page_text};
+
+/// A page about the program.
+#[derive(Clone, Copy, Debug, PartialEq, Eq)]
+pub(crate) enum Page {
+    /// What the program does, its words, and examples.
+    Help,
+    /// Its name and version.
+    Version,
+}
+
+/// The page of this name.
+fn page_named(name: &str) -> Option<Page>
+    ensures { result ≡ page_named name.now }
+{
+    match name {
+        "--help" => Some(Page::Help),
+        "--version" => Some(Page::Version),
+        _ => None,
+    }
+}
+
+/// The page for which the words ask, of which the first is the program's name.
+pub(crate) fn page_asked(words: &[String]) -> Option<Page>
+    ensures { result ≡ page_asked (map string_bytes words.now) }
+{
+    match words {
+        [_, name] => page_named(name.as_str()),
+        _ => None,
+    }
+}
+
+/// The page of help.
+fn help_text() -> &'static [u8]
+    ensures { result.now ≡ help_text }
+{
+    HELP
+}
+
+/// The text of a page.
+pub(crate) fn page_text(page: Page) -> &'static [u8]
+    ensures { result.now ≡ page_text page }
+{
+    match page {
+        Page::Help => help_text(),
+        Page::Version => b"ndef-explain 0.1.0\n",
+    }
+}
+
+/// What the program does, its words, and examples.
+const HELP: &[u8] = b"\
+ndef-explain prints each byte of messages of the NFC Data Exchange Format, with the
+field in which it stands and what the field says.
+
+Usage: ndef-explain [OPTION].. [FILE]..
+
+Without a FILE, and for the FILE -, it reads standard input.
+
+  --hex               the input is hexadecimal text
+  --payload N         the most bytes of a payload, 1 to 4294967295; without it: 1048576
+  --records N         the most records of a message, 1 to 65535; without it: 1024
+  --pieces N          the most chunks of a record, 1 to 65535; without it: 4096
+  --profile P         strict refuses reserved values, as without the option;
+                      standard reads them as the standard says
+  --color WHEN        always, never, or auto: in colour where output is a terminal and
+                      NO_COLOR isn't set, as without the option
+
+Alone:
+
+  --help              print this page
+  --version           print the name and the version
+
+Examples:
+
+  ndef-explain tag.bin
+  ndef-make text Hello | ndef-explain
+  echo d101085402656e48656c6c6f | ndef-explain --hex
+";

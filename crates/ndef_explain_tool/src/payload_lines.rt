@@ -1,0 +1,59 @@
+//! The lines of payloads in several pieces, joined.
+ghost use Rattle.std.specs.Prelude.{◌≡◌, ◌++◌, ◌+◌, ◌<◌, ◌≤◌, ◌^◌, OnOk, length};
+ghost use Rattle.ndef_explain_tool.specs.PayloadLines.{AddsPayload, AddsPayloads, payload_head};
+
+use crate::field_lines::push_fields;
+use ndef_fields::payload_fields;
+use ndef_lang::Kind;
+use ndef_message::{Item, Items};
+use ndef_tool::push_number;
+use ndef_value::{Bytes, NoMemory};
+use std::alloc::Global;
+
+/// Appends the line of a joined payload: the number of its record, and how many bytes it has.
+fn push_payload_head(line: &mut Bytes, number: u64, bytes: u64) -> Result<(), NoMemory>
+    ensures { OnOk result (line.new ≡ line.old ++ payload_head number bytes) }
+{
+    line.extend(b"payload of record ")?;
+    push_number(line, number)?;
+    line.extend(b": bytes ")?;
+    push_number(line, bytes)?;
+    line.extend(b"\n")
+}
+
+/// Appends the lines of the payload of a record, if it comes in several pieces.
+fn push_payload(
+    alloc: Global,
+    line: &mut Bytes,
+    number: u64,
+    item: &Item<'_>,
+) -> Result<(), NoMemory>
+    ensures { OnOk result (AddsPayload number item.now line.old line.new) }
+{
+    if item.whole().is_some() {
+        return Ok(());
+    }
+    let payload = item.joined(alloc)?;
+    let octets = payload.as_slice();
+    push_payload_head(line, number, octets.len() as u64)?;
+    let kind = Kind::of(item.tnf(), item.kind());
+    push_fields(line, 0, octets, payload_fields(kind, octets))?;
+    Ok(())
+}
+
+/// Appends the lines of the payloads that come in several pieces, of records that are numbered from 1.
+pub(crate) fn push_payloads(
+    alloc: Global,
+    line: &mut Bytes,
+    items: Items<'_>,
+) -> Result<(), NoMemory>
+    requires { length items ≤ 65535 }
+    ensures { OnOk result (AddsPayloads 1 items.entry line.old line.new) }
+{
+    let mut number = 1;
+    for item in items {
+        push_payload(alloc, line, number, &item)?;
+        number += 1;
+    }
+    Ok(())
+}

@@ -1,0 +1,126 @@
+//! What is printed of a refusal.
+ghost use Rattle.std.specs.Prelude.{◌≡◌, ◌++◌, ◌+◌, ◌<◌, ◌^◌, ◌≤◌, OnOk, length};
+ghost use Rattle.ndef_explain_tool.specs.Explaining.{AddsBefore, AddsByte, AddsStop, FitsStop, byte_line, reason_lines};
+ghost use Rattle.ndef_fields.specs.Tellings.{IsMessageFront};
+ghost use Rattle.ndef_explain_tool.specs.Sentences.{sentence_of};
+
+use crate::cells::{push_cells, push_start};
+use crate::explaining::Stop;
+use crate::field_lines::{cut, push_fields};
+use ndef_fields::{ByteField, field_of_last, fields_before};
+use ndef_tool::push_number;
+use ndef_value::{Bytes, NoMemory, Reason, Refusal};
+
+/// What a reason means, in a sentence.
+fn sentence_of(reason: Reason) -> &'static [u8]
+    ensures { result.now ≡ sentence_of reason }
+{
+    match reason {
+        Reason::ReservedTnf => b"The type name format 7 is reserved.",
+        Reason::BeginMissing => b"The first record of a message has to have MB set.",
+        Reason::BeginAgain => b"MB is set again, though the message has begun.",
+        Reason::UnchangedOutside =>
+            b"The type name format 6 (unchanged) may only continue a chunked record.",
+        Reason::ChangedInside =>
+            b"A chunked record goes on with the type name format 6 (unchanged).",
+        Reason::IdInside => b"Only the first chunk of a record may have an id.",
+        Reason::ChunkAtEnd => b"The last record of a message (ME) has to end: CF must be clear.",
+        Reason::ChunkOfEmpty => b"An empty record cannot be chunked.",
+        Reason::TooManyPieces =>
+            b"The record has more chunks than the limit or a nested message allows.",
+        Reason::TooManyRecords => b"The message has more records than the limit allows.",
+        Reason::TypeNotEmpty => b"This type name format has no type: TYPE_LENGTH has to be 0.",
+        Reason::TypeEmpty => b"This type name format needs a type: TYPE_LENGTH must not be 0.",
+        Reason::EmptyNotEmpty => b"An empty record has only lengths of 0.",
+        Reason::PayloadTooLarge => b"The payload is longer than the limit allows.",
+        Reason::TextBit => b"Bit 6 of the status octet of a text is reserved: it has to be 0.",
+        Reason::Language => b"The language code of a text has to be ASCII.",
+        Reason::Utf8 => b"The text is not UTF-8.",
+        Reason::Utf16 => b"The text is not UTF-16.",
+        Reason::UriCode => b"The URI identifier codes from 24 to FF (hexadecimal) are reserved.",
+        Reason::UriMissing => b"A smart poster has to have a URI record.",
+        Reason::UriAgain => b"A smart poster has only one URI record.",
+        Reason::Version => b"The handover has another major version than 1.",
+        Reason::CollisionMissing =>
+            b"A handover request has to begin with a collision resolution record.",
+        Reason::DoesNotFit =>
+            b"Nothing that may stand here fits the lengths that were given before.",
+        Reason::EndOfInput => b"The input ends within a message.",
+    }
+}
+
+/// Appends the line of a refused byte: its place, itself, and the field in which it stands.
+fn push_byte_line(
+    line: &mut Bytes,
+    at: u64,
+    offset: u64,
+    octet: u8,
+    byte: ByteField,
+) -> Result<(), NoMemory>
+    ensures { OnOk result (line.new ≡ line.old ++ byte_line (at + offset) octet byte) }
+{
+    push_start(line, at, offset, byte.depth)?;
+    push_cells(line, &[octet])?;
+    line.extend(b"^ ")?;
+    line.extend(byte.name.text())?;
+    line.extend(b"\n")
+}
+
+/// Appends the line of the refused byte of these bytes, before which so many bytes of the input come;
+/// nothing where the input has ended.
+fn push_refused_byte(
+    line: &mut Bytes,
+    at: u64,
+    bytes: &[u8],
+    refusal: Refusal,
+) -> Result<(), NoMemory>
+    ensures { OnOk result (AddsByte at bytes.now refusal line.old line.new) }
+{
+    let place = refusal.at as usize;
+    if place >= bytes.len() {
+        return Ok(());
+    }
+    let byte = field_of_last(bytes.split_at(place + 1).0);
+    push_byte_line(line, at, refusal.at, bytes[place], byte)
+}
+
+/// Appends the line of a refusal behind so many bytes, and what it means.
+fn push_reason(line: &mut Bytes, at: u64, refusal: Refusal) -> Result<(), NoMemory>
+    requires { at + refusal.at < 2 ^ 64 }
+    ensures { OnOk result (line.new ≡ line.old ++ reason_lines at refusal) }
+{
+    line.extend(b"refused at ")?;
+    push_number(line, at + refusal.at)?;
+    line.extend(b": ")?;
+    push_number(line, u64::from(refusal.reason.number()))?;
+    line.extend(b" ")?;
+    line.extend(refusal.reason.name())?;
+    line.extend(b"\n")?;
+    line.extend(sentence_of(refusal.reason))?;
+    line.extend(b"\n")
+}
+
+/// Appends the lines of the fields of these bytes, a front of a message.
+fn push_before(line: &mut Bytes, at: u64, front: &[u8]) -> Result<(), NoMemory>
+    requires { IsMessageFront front.now }
+    ensures { OnOk result (AddsBefore at front.now line.old line.new) }
+{
+    push_fields(line, at, front, fields_before(front))?;
+    Ok(())
+}
+
+/// Appends what is printed where messages stop, behind so many bytes, with these bytes left.
+pub(crate) fn push_stop(line: &mut Bytes, at: u64, bytes: &[u8], stop: Stop) -> Result<(), NoMemory>
+    requires { FitsStop at bytes.now stop }
+    ensures { OnOk result (AddsStop at bytes.now stop line.old line.new) }
+{
+    match stop {
+        Stop::End => Ok(()),
+        Stop::Refused(refusal) => {
+            push_before(line, at, cut(bytes, refusal.at as usize).0)?;
+            push_refused_byte(line, at, bytes, refusal)?;
+            push_reason(line, at, refusal)?;
+            Ok(())
+        }
+    }
+}

@@ -1,6 +1,0 @@
-use Rattle.std.proofs.Common.{◌≡◌, ◌∷◌, map, take}
-use Rattle.std.specs.Prelude.{codes, string_bytes}
-use Rattle.ndef_explaining.proofs.words.check_words.Given as goal
-
-abbrev pub invariant-loop-word : goal.invariant-loop-word
-invariant-loop-word l = map string_bytes l.all.items ≡ codes "ndef" ∷ codes "check" ∷ map string_bytes (take l.word-index l.word-items)

@@ -1,6 +1,0 @@
-pub mod Cells
-pub mod Explaining
-pub mod FieldLines
-pub mod Meanings
-pub mod Running
-pub mod Sentences

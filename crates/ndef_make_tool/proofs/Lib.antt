@@ -1,0 +1,11 @@
+pub mod Asks
+pub mod BadPayloads
+pub mod Found
+pub mod Linked
+pub mod Lists
+pub mod Made
+pub mod Messages
+pub mod ReadBack
+pub mod Short
+pub mod Values
+pub mod Words

@@ -1,0 +1,143 @@
+-- Lists, one element after another.
+use Rattle.std.proofs.Common.{◌≡◌, ◌∙◌, ◌+◌, ◌<◌, ℕ, zero, suc, Bool, true, false, List, [], ◌∷◌, ◌++◌, length, take, get_or, map, Option, Some, None, Result, Ok, Err, refl, sym, ap, ap₂, arith, cond, rules}
+use Rattle.std.specs.Prelude.{◌||◌, count_by, option_map, IfOk, Vec}
+use Rattle.std.specs.Borrow.{Bor}
+use Rattle.std.specs.List.{list_any, slice_split, onto_first}
+use Rattle.ndef_make_tool.specs.Asked.{all_or_none}
+use Rattle.std.proofs.lemmas.List.{get_or-map, length-map, map-append, take_more}
+use Rattle.std.proofs.lemmas.List.Folds.{list_any_more}
+use Rattle.std.proofs.lemmas.List.Sums.{count_by_more_no, count_by_more_yes}
+use Rattle.std.proofs.lemmas.List.Splits.{length-slice_split}
+
+-- ---- words that are cut
+
+map-onto_first : {A B : Type 0} (f : A → B) (x : A) (parts : List (List A)) → map (map f) (onto_first x parts) ≡ onto_first (f x) (map (map f) parts)
+map-onto_first f x [] = refl
+map-onto_first f x (part ∷ parts) = refl
+
+-- cutting goes with what elements stand for
+map-slice_split : {A B : Type 0} (f : A → B) (p : B → Bool) (xs : List A) → map (map f) (slice_split (λ x. p (f x)) xs) ≡ slice_split p (map f xs)
+map-slice_split f p [] = refl
+map-slice_split {A} {B} f p (x ∷ xs) = go (p (f x)) ∙ ap (λ (rest : List (List B)). cond (p (f x)) ([] ∷ rest) (onto_first (f x) rest)) (map-slice_split f p xs)
+  where
+    go : (b : Bool) → map (map f) (cond b ([] ∷ slice_split (λ y. p (f y)) xs) (onto_first x (slice_split (λ y. p (f y)) xs)))
+        ≡ cond b ([] ∷ map (map f) (slice_split (λ y. p (f y)) xs)) (onto_first (f x) (map (map f) (slice_split (λ y. p (f y)) xs)))
+    go true = refl
+    go false = map-onto_first f x (slice_split (λ y. p (f y)) xs)
+
+pub map_twice : {A B C : Type 0} (f : B → C) (g : A → B) (xs : List A) → map f (map g xs) ≡ map (λ x. f (g x)) xs
+map_twice f g [] = refl
+map_twice f g (x ∷ xs) = ap (λ l. f (g x) ∷ l) (map_twice f g xs)
+
+-- the parts of a cut slice, read
+pub cut_read : {A B E Z : Type 0} (f : A → B) (p : B → Bool) (r : Result (Vec (Bor (List A)) Z) E) (words : List A)
+    → IfOk r (λ w. map (λ x. x.now) w.items ≡ slice_split (λ x. p (f x)) words) → IfOk r (λ w. map (λ x. map f x.now) w.items ≡ slice_split p (map f words))
+cut_read f p (Ok w) words e = sym (map_twice (map f) (λ x. x.now) w.items) ∙ ap (map (map f)) e ∙ map-slice_split f p words
+cut_read f p (Err e) words h = tt
+
+-- a list that is cut has parts
+pub cut_has_parts : {X : Type 0} (p : X → Bool) (xs : List X) → 0 < length (slice_split p xs)
+cut_has_parts p xs = omega (arith, length-slice_split p xs)
+
+-- ---- an element at a place
+
+pub mapped_more : {A B : Type 0} (f : A → B) (ps : List A) (n : ℕ) (p : A) → n < length ps → p ≡ get_or ps n p → map f (take (n + 1) ps) ≡ map f (take n ps) ++ f p ∷ []
+mapped_more f ps n p l e = ap (map f) (take_more ps n p l) ∙ map-append f (take n ps) (get_or ps n p ∷ []) ∙ ap (λ x. map f (take n ps) ++ f x ∷ []) (sym e)
+
+-- no element that stands for a missing one is read there
+pub got_there : {A : Type 0} (ps : List A) (n : ℕ) (d e : A) → n < length ps → get_or ps n d ≡ get_or ps n e
+got_there [] n d e l = absurd (omega arith)
+got_there (x ∷ ps) zero d e l = refl
+got_there (x ∷ ps) (suc n) d e l = got_there ps n d e (omega arith)
+
+-- what is before it and behind it
+pub mapped_at : {A B : Type 0} (f : A → B) (ps : List A) (n : ℕ) (p : A) → n < length ps → p ≡ get_or ps n p
+    → (rest : List B) × (map f ps ≡ map f (take n ps) ++ f p ∷ rest)
+mapped_at f [] n p l e = absurd (omega arith)
+mapped_at f (x ∷ ps) zero p l e = (map f ps, ap (λ y. f y ∷ map f ps) (sym e))
+mapped_at f (x ∷ ps) (suc n) p l e = let more = mapped_at f ps n p (omega arith) e in (more.0, ap (λ t. f x ∷ t) more.1)
+
+-- ---- tests
+
+or_true : (a b : Bool) → b ≡ true → (a || b) ≡ true
+or_true true b h = refl
+or_true false b h = h
+
+any_behind : {X : Type 0} (test : X → Bool) (xs : List X) (x : X) (rest : List X) → test x ≡ true → list_any test (xs ++ x ∷ rest) ≡ true
+any_behind test [] x rest e = ap (λ b. b || list_any test rest) e
+any_behind test (y ∷ xs) x rest e = or_true (test y) (list_any test (xs ++ x ∷ rest)) (any_behind test xs x rest e)
+
+pub any_at : {A B : Type 0} (test : B → Bool) (f : A → B) (ps : List A) (n : ℕ) (p : A) → n < length ps → p ≡ get_or ps n p → test (f p) ≡ true → list_any test (map f ps) ≡ true
+any_at test f ps n p l e is = let split = mapped_at f ps n p l e in rw split.1 (any_behind test (map f (take n ps)) (f p) split.0 is)
+
+-- the element at a place, read
+at_place : {A B : Type 0} (f : A → B) (ps : List A) (n : ℕ) (p : A) → n < length ps → p ≡ get_or ps n p → get_or (map f ps) n (f p) ≡ f p
+at_place f ps n p l e = get_or-map f ps n p (f p) l ∙ ap f (sym e)
+
+within : {A B : Type 0} (f : A → B) (ps : List A) (n : ℕ) → n < length ps → n < length (map f ps)
+within f ps n l = omega (arith, l, length-map ps f)
+
+pub any_not : {A B : Type 0} (test : B → Bool) (f : A → B) (ps : List A) (n : ℕ) (p : A) → n < length ps → p ≡ get_or ps n p → test (f p) ≡ false
+    → list_any test (take n (map f ps)) ≡ false → list_any test (take (n + 1) (map f ps)) ≡ false
+any_not test f ps n p l e is none =
+    list_any_more test (map f ps) n (f p) (within f ps n l) ∙ ap₂ (λ a b. a || b) none (ap test (at_place f ps n p l e) ∙ is)
+
+pub counted_yes : {A B : Type 0} (test : B → Bool) (f : A → B) (ps : List A) (n : ℕ) (p : A) → n < length ps → p ≡ get_or ps n p → test (f p) ≡ true
+    → count_by test (take (n + 1) (map f ps)) ≡ count_by test (take n (map f ps)) + 1
+counted_yes test f ps n p l e is = count_by_more_yes test (map f ps) n (f p) (within f ps n l) (ap test (at_place f ps n p l e) ∙ is)
+
+pub counted_no : {A B : Type 0} (test : B → Bool) (f : A → B) (ps : List A) (n : ℕ) (p : A) → n < length ps → p ≡ get_or ps n p → test (f p) ≡ false
+    → count_by test (take (n + 1) (map f ps)) ≡ count_by test (take n (map f ps))
+counted_no test f ps n p l e is = count_by_more_no test (map f ps) n (f p) (within f ps n l) (ap test (at_place f ps n p l e) ∙ is)
+
+-- ---- all or none
+
+all_more : {X : Type 0} (os : List (Option X)) (xs : List X) (x : X) → all_or_none os ≡ Some xs → all_or_none (os ++ Some x ∷ []) ≡ Some (xs ++ x ∷ [])
+all_more [] xs x e = ap (λ (o : Option _). option_map (λ ys. ys ++ x ∷ []) o) e
+all_more (None ∷ os) xs x e = absurd (search rules)
+all_more {X} (Some y ∷ os) xs x e = go (all_or_none os) refl e (λ ys i. all_more os ys x i)
+  where
+    go : (o : Option (List X)) → all_or_none os ≡ o → option_map (λ ys. y ∷ ys) o ≡ Some xs
+        → ((ys : List X) → all_or_none os ≡ Some ys → all_or_none (os ++ Some x ∷ []) ≡ Some (ys ++ x ∷ []))
+        → all_or_none (Some y ∷ (os ++ Some x ∷ [])) ≡ Some (xs ++ x ∷ [])
+    go None i h more = absurd (search rules)
+    go (Some ys) i h more = ap (option_map (λ zs. y ∷ zs)) (more ys i) ∙ ap (option_map (λ zs. zs ++ x ∷ [])) h
+
+none_behind : {X : Type 0} (before after : List (Option X)) → all_or_none (before ++ None ∷ after) ≡ None
+none_behind [] after = refl
+none_behind (None ∷ before) after = refl
+none_behind (Some x ∷ before) after = ap (option_map (λ xs. x ∷ xs)) (none_behind before after)
+
+pub none_at : {A X : Type 0} (f : A → Option X) (ps : List A) (n : ℕ) (p : A) → n < length ps → p ≡ get_or ps n p → f p ≡ None → all_or_none (map f ps) ≡ None
+none_at f ps n p l e is =
+    let split = mapped_at f ps n p l e in
+    ap all_or_none split.1 ∙ ap (λ o. all_or_none (map f (take n ps) ++ o ∷ split.0)) is ∙ none_behind (map f (take n ps)) split.0
+
+more_at : {A X : Type 0} (f : A → Option X) (ps : List A) (n : ℕ) (p : A) (xs : List X) (x : X) → n < length ps → p ≡ get_or ps n p → f p ≡ Some x
+    → all_or_none (map f (take n ps)) ≡ Some xs → all_or_none (map f (take (n + 1) ps)) ≡ Some (xs ++ x ∷ [])
+more_at f ps n p xs x l e is all =
+    ap all_or_none (mapped_more f ps n p l e) ∙ ap (λ o. all_or_none (map f (take n ps) ++ o ∷ [])) is ∙ all_more (map f (take n ps)) xs x all
+
+-- one value more
+pub said_more : {A X Y : Type 0} (f : A → Option X) (g : Y → X) (ps : List A) (n : ℕ) (p : A) (ys : List Y) (y : Y) (grown : List Y) → n < length ps
+    → p ≡ get_or ps n p → f p ≡ Some (g y) → all_or_none (map f (take n ps)) ≡ Some (map g ys) → grown ≡ ys ++ y ∷ []
+    → all_or_none (map f (take (n + 1) ps)) ≡ Some (map g grown)
+said_more f g ps n p ys y grown l e is all more =
+    more_at f ps n p (map g ys) (g y) l e is all ∙ ap (λ xs. Some xs) (sym (ap (map g) more ∙ map-append g ys (y ∷ [])))
+
+-- as many values as there are
+pub all_as_long : {X : Type 0} (os : List (Option X)) (xs : List X) → all_or_none os ≡ Some xs → length xs ≡ length os
+all_as_long {X} [] xs e = go xs e
+  where
+    go : (xs : List X) → Some [] ≡ Some xs → length xs ≡ 0
+    go [] e = refl
+    go (x ∷ xs) e = absurd (search rules)
+all_as_long (None ∷ os) xs e = absurd (search rules)
+all_as_long {X} (Some y ∷ os) xs e = go (all_or_none os) refl e (λ ys i. all_as_long os ys i)
+  where
+    go : (o : Option (List X)) → all_or_none os ≡ o → option_map (λ ys. y ∷ ys) o ≡ Some xs
+        → ((ys : List X) → all_or_none os ≡ Some ys → length ys ≡ length os) → length xs ≡ length (Some y ∷ os)
+    go None i h long = absurd (search rules)
+    go (Some ys) i h long =
+        let same : y ∷ ys ≡ xs = search rules in
+        sym (ap length same) ∙ ap suc (long ys i)

@@ -1,0 +1,37 @@
+-- The records of texts and URIs.
+use Rattle.std.proofs.Common.{◌≡◌, ◌∙◌, ◌<◌, ◌≤◌, ◌^◌, ℕ, List, length, Ok, sym, ap, subst, arith, rules}
+use Rattle.std.specs.Prelude.{codes, IsAscii, IsErrOf}
+use Rattle.clap.specs.Words.{Text}
+use Rattle.ndef_format.specs.Messages.{Item}
+use Rattle.ndef_types.specs.Decoding.{IsTooLong}
+use Rattle.ndef_types.specs.declared.error.EncodeError.TheVariants.{TooLong}
+use Rattle.ndef_types.specs.Values.{IsTextValue, TextValue, WritesUri, text_payload}
+use Rattle.ndef_make_tool.specs.Records.{MakesText, MakesUri, well_known}
+
+never : (p : List ℕ) → IsErrOf (Ok p) TooLong → ⊥
+never p h = absurd (search rules)
+
+-- the record of a text whose payload is written
+pub made_text : (v t : TextValue) (p : List ℕ) (i : Item) → t ≡ v → IsTextValue t → p ≡ text_payload t → (2 ^ 32 ≤ length (text_payload t) → IsErrOf (Ok p) TooLong) → i ≡ well_known (codes "T") p
+    → MakesText v (Ok i)
+made_text v t p i same is written short made =
+    let payload : i.payload ≡ p = ap (λ (j : Item). j.payload) made in
+    let bound : 2 ^ 32 ≤ length (text_payload t) → ⊥ = λ h. never p (short h) in
+    let room : length i.payload < 2 ^ 32 = omega (arith, bound, ap length (payload ∙ written)) in (
+      subst (λ (x : TextValue). length x.language ≤ 63) same is.short,
+      subst (λ (x : TextValue). IsAscii x.language) same is.language,
+      payload ∙ written ∙ ap text_payload same,
+      room,
+      made ∙ ap (well_known (codes "T")) (sym payload),
+    )
+
+-- the record of a URI whose payload is written
+pub made_uri : (uri u : Text) (p : List ℕ) (i : Item) → u ≡ uri → WritesUri u p → (IsTooLong WritesUri u → IsErrOf (Ok p) TooLong) → i ≡ well_known (codes "U") p → MakesUri uri (Ok i)
+made_uri uri u p i same written short made =
+    let payload : i.payload ≡ p = ap (λ (j : Item). j.payload) made in
+    let bound : 2 ^ 32 ≤ length p → ⊥ = λ h. never p (short (p, written, h)) in
+    let room : length i.payload < 2 ^ 32 = omega (arith, bound, ap length payload) in (
+      subst (WritesUri uri) (sym payload) (subst (λ v. WritesUri v p) same written),
+      room,
+      made ∙ ap (well_known (codes "U")) (sym payload),
+    )

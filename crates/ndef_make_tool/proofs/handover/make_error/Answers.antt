@@ -1,0 +1,15 @@
+use Rattle.std.proofs.Common.{◌≡◌, Some, Err, rules, subst}
+use Rattle.ndef_make_tool.specs.Handovers.{AsksError}
+use Rattle.ndef_make_tool.specs.Options.{cut_at, is_colon, number_below}
+use Rattle.ndef_make_tool.proofs.Linked.{error_asked, error_unsaid}
+use Rattle.ndef_make_tool.proofs.handover.make_error.Goals as goal
+
+pub returns-in_err-detail : goal.returns-in_err-detail
+returns-in_err-detail c =
+    let cut : cut_at is_colon c.args.word.now ≡ Some (c.in-Some.reason.now, c.in-Some.digits.now) = search rules in
+    let number : number_below 256 c.in-Some.reason.now ≡ Some c.in-Some-number_below.reason = search rules in
+    let is : c.from_residual.result ≡ Err c.in_err-detail.field-0.0 = search rules in
+    rw is (error_unsaid c.args.word.now _ _ _ c.in_err-detail.field-0.0 cut number c.in_err-detail.ensures)
+
+pub returns : goal.returns
+returns c = error_asked c.args.word.now c.make_reason.result (search rules)

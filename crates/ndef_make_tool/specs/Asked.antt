@@ -1,0 +1,60 @@
+-- What the words ask for: the parts that `--and` separates, each a subcommand with its options.
+use Rattle.std.specs.Prelude.{◌≡◌, List, [], ◌∷◌, map, drop, Option, Some, None, Result, Ok, Err, ⊤, option_and_then, option_map, codes, Vec}
+use Rattle.std.specs.declared.alloc.Global.{Global}
+use Rattle.std.specs.List.{slice_split}
+use Rattle.std.specs.Str.{bytes_eq}
+use Rattle.clap.specs.Words.{App, Kinds, Row, Text, fault_of, found_of, rows_of, subcommand_of}
+use Rattle.ndef_make_tool.specs.CommandLine.{make_app}
+use Rattle.ndef_make_tool.specs.declared.fault.Fault.{Fault}
+use Rattle.ndef_make_tool.specs.declared.fault.Fault.TheVariants.{Usage, Memory}
+use Rattle.ndef_make_tool.specs.declared.parts.Said.{Said}
+
+-- the name of a subcommand, and the values of its options
+abbrev pub AskedPart : Type 0
+AskedPart = Text × List Row
+
+-- nothing, where clap finds a fault
+abbrev pub unless_fault : {X : Type 0} → Kinds → Option X → Option X
+unless_fault [] o = o
+unless_fault (k ∷ ks) o = None
+
+-- what words say on a command line: nothing where clap finds a fault in them
+abbrev pub part_by : App → List Text → Option AskedPart
+part_by app words = unless_fault (fault_of app words) (subcommand_of app words)
+
+-- what the words of a part say
+abbrev pub part_in : List Text → Option AskedPart
+part_in words = part_by make_app words
+
+-- the words between those that are `--and`
+abbrev pub parts_of : List Text → List (List Text)
+parts_of words = slice_split (λ word. bytes_eq word (codes "--and")) words
+
+-- all the values, or none where one is missing
+abbrev pub all_or_none : {X : Type 0} → List (Option X) → Option (List X)
+all_or_none [] = Some []
+all_or_none (o ∷ os) = option_and_then (λ x. option_map (λ xs. x ∷ xs) (all_or_none os)) o
+
+-- what the words ask for, of which the first is the program's name: nothing where a part says nothing
+abbrev pub asked_of : List Text → Option (List AskedPart)
+asked_of words = all_or_none (map part_in (parts_of (drop 1 words)))
+
+-- ---- step by step
+
+-- the subcommand and the options of matches
+abbrev pub asked_part : Said → AskedPart
+asked_part said = (said.name.now, rows_of (found_of said.matches))
+
+-- what a part says, or the usage line exactly where it says nothing
+abbrev pub SaysPart : List Text → Result Said Fault → Type 0
+SaysPart words (Ok said) = part_in words ≡ Some (asked_part said)
+SaysPart words (Err Usage) = part_in words ≡ None
+SaysPart words (Err Memory) = ⊤
+SaysPart words (Err _) = ⊥
+
+-- what all parts say, or the usage line exactly where one says nothing
+abbrev pub SaidAll : List (List Text) → Result (Vec Said Global) Fault → Type 0
+SaidAll parts (Ok said) = all_or_none (map part_in parts) ≡ Some (map asked_part said.items)
+SaidAll parts (Err Usage) = all_or_none (map part_in parts) ≡ None
+SaidAll parts (Err Memory) = ⊤
+SaidAll parts (Err _) = ⊥

@@ -1,0 +1,40 @@
+-- Which payloads are written: those that a strict reader takes (RTD Text, URI, Smart Poster, Connection Handover 1.2).
+use Rattle.std.specs.Prelude.{◌≡◌, ◌&&◌, Bool, true, false, Ok, Err, codes}
+use Rattle.ndef_format.specs.Messages.{Item}
+use Rattle.ndef_format.specs.declared.profile.Profile.TheVariants.{Strict}
+use Rattle.ndef_format.specs.declared.refusal.Refusal.{Refusal}
+use Rattle.ndef_format.specs.Kinds.{kind_of}
+use Rattle.ndef_lang.specs.Place.{IsRefused}
+use Rattle.ndef_format.specs.Payloads.{IsTypedPayload}
+use Rattle.ndef_format.specs.NestedReasons.{TypedReason}
+use Rattle.ndef_make_tool.specs.Asked.{AskedPart}
+use Rattle.ndef_make_tool.specs.Options.{flag_of, is_given, subject_named}
+use Rattle.ndef_make_tool.specs.Records.{Answer}
+use Rattle.ndef_make_tool.specs.declared.fault.Fault.TheVariants.{Refused}
+use Rattle.ndef_make_tool.specs.declared.fault.Refused.TheVariants.{BadPayload}
+
+-- RTD Text, RTD URI, RTD Smart Poster and Connection Handover 1.2: the payload is one of its type, for a strict reader
+abbrev pub IsOfItsType : Item → Type 0
+IsOfItsType i = IsTypedPayload (kind_of i.tnf i.kind) 65535 Strict i.payload
+
+-- the payload isn't one of its type: where and why a strict reader refuses it
+abbrev pub IsUntyped : Item → Refusal → Type 0
+IsUntyped i refusal = let kind = kind_of i.tnf i.kind in
+    IsRefused (IsTypedPayload kind 65535 Strict) (TypedReason kind 65535 Strict) i.payload refusal.at refusal.reason
+
+-- the record, where its payload is one of its type, or where and why it isn't
+abbrev pub Checked : Item → Answer → Type 0
+Checked i (Ok made) = (made ≡ i) × IsOfItsType i
+Checked i (Err (Refused (BadPayload refusal))) = IsUntyped i refusal
+Checked i (Err _) = ⊥
+
+-- what is made is checked, unless it is to be written unchecked
+abbrev pub MakesIf : (unchecked : Bool) → (makes : Answer → Type 0) → Answer → Type 0
+MakesIf true makes answer = makes answer
+MakesIf false makes (Ok i) = makes (Ok i) × IsOfItsType i
+MakesIf false makes (Err (Refused (BadPayload refusal))) = (i : Item) × makes (Ok i) × IsUntyped i refusal
+MakesIf false makes (Err fault) = makes (Err fault)
+
+-- whether the part asks for a record with any payload
+abbrev pub is_unchecked : AskedPart → Bool
+is_unchecked part = is_given (subject_named part.0) && flag_of (codes "unchecked") part.1

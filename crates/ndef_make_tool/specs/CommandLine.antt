@@ -1,0 +1,82 @@
+-- The command line of a part: which subcommands and options there are, in clap's words.
+use Rattle.std.specs.Prelude.{Some, codes, true}
+use Rattle.clap.specs.Words.{App, Rule, Text, new_app, new_rule, with_rule, with_subcommand}
+use Rattle.clap.specs.declared.builder.action.ArgAction.TheVariants.{Append}
+use Rattle.ndef_program.specs.CommandLine.{flag_rule, hex_app, word_rule}
+
+-- any word, which has to be given
+abbrev pub asked_rule : Text → Rule
+asked_rule name = record (new_rule name) { long = Some name; required = true }
+
+-- any word, which has to be given, without an option
+abbrev pub given_rule : Text → Rule
+given_rule name = record (new_rule name) { required = true }
+
+-- a subcommand, with the flags for hexadecimal digits and for bytes as they are
+abbrev pub part_app : Text → App
+part_app name = with_rule (hex_app name) (flag_rule (codes "raw"))
+
+-- a text, its language and its encoding
+abbrev pub text_app : App
+text_app =
+    with_rule (with_rule (with_rule (part_app (codes "text")) (word_rule (codes "language")))
+    (flag_rule (codes "utf16"))) (given_rule (codes "text"))
+
+-- a URI
+abbrev pub uri_app : App
+uri_app = with_rule (part_app (codes "uri")) (given_rule (codes "uri"))
+
+-- any word, which may be given again and again
+abbrev pub repeated_rule : Text → Rule
+repeated_rule name = record (new_rule name) { long = Some name; action = Some Append }
+
+-- a URI and its titles
+abbrev pub titled_app : App
+titled_app = with_rule (with_rule (part_app (codes "poster")) (given_rule (codes "uri")))
+    (repeated_rule (codes "title"))
+
+-- a URI, titles, an action, a size and a media type
+abbrev pub poster_app : App
+poster_app = with_rule (with_rule (with_rule titled_app (word_rule (codes "action"))) (word_rule (codes "size")))
+    (word_rule (codes "media"))
+
+-- a request or a select, its version, its collision resolution and its carriers
+abbrev pub linked_app : App
+linked_app = with_rule (with_rule (with_rule (with_rule (part_app (codes "handover")) (given_rule (codes "kind")))
+    (word_rule (codes "version"))) (word_rule (codes "collision"))) (repeated_rule (codes "carrier"))
+
+-- the same, and its error
+abbrev pub handover_app : App
+handover_app = with_rule linked_app (word_rule (codes "error"))
+
+-- a type name format, a type and an id
+abbrev pub given_app : App
+given_app = with_rule (with_rule (with_rule (part_app (codes "record")) (asked_rule (codes "tnf")))
+    (word_rule (codes "type"))) (word_rule (codes "id"))
+
+-- the same, and whether the payload isn't checked
+abbrev pub record_app : App
+record_app = with_rule given_app (flag_rule (codes "unchecked"))
+
+-- a carrier type format, a carrier type and an id
+abbrev pub carrier_app : App
+carrier_app = with_rule (with_rule (with_rule (part_app (codes "carrier")) (asked_rule (codes "format")))
+    (asked_rule (codes "type"))) (word_rule (codes "id"))
+
+-- a subcommand is wanted as the first word, and none is for help
+abbrev pub empty_app : App
+empty_app = let a = new_app (codes "ndef-make") in
+    record a {
+      top = record a.top {
+        no_binary_name = true;
+        subcommand_required = true;
+        disable_help_flag = true;
+        disable_help_subcommand = true;
+      };
+    }
+
+-- all of it
+abbrev pub make_app : App
+make_app =
+    with_subcommand (with_subcommand (with_subcommand (with_subcommand (with_subcommand (with_subcommand empty_app
+    text_app.top) uri_app.top) poster_app.top) handover_app.top) record_app.top) carrier_app.top

@@ -1,0 +1,93 @@
+-- What stands in a poster or a handover: records, one for each word (RTD Smart Poster 1.0, Connection Handover 1.2).
+use Rattle.std.specs.Prelude.{◌≡◌, ◌⊎◌, List, [], ◌++◌, map, Result, Ok, Err, ⊤, codes, Vec}
+use Rattle.std.specs.declared.alloc.Global.{Global}
+use Rattle.clap.specs.Words.{Row, Text}
+use Rattle.ndef_format.specs.Messages.{Item}
+use Rattle.ndef_make_tool.specs.Handovers.{AsksError, MakesAlternative, MakesHandoverOf, ac_said, collision_said, handover_said}
+use Rattle.ndef_make_tool.specs.Options.{words_of}
+use Rattle.ndef_make_tool.specs.Posters.{MakesNested, action_said, size_said, title_said}
+use Rattle.ndef_make_tool.specs.Records.{Answer, AreMadeBy, Asks, FailsBy, MakesItem, MakesText, MakesUri, well_known}
+use Rattle.ndef_make_tool.specs.declared.contents.Property.{Property}
+use Rattle.ndef_make_tool.specs.declared.contents.Property.TheVariants as property
+use Rattle.ndef_make_tool.specs.declared.contents.Word.{Word}
+use Rattle.ndef_make_tool.specs.declared.fault.Fault.{Fault}
+use Rattle.ndef_make_tool.specs.declared.fault.Fault.TheVariants.{Memory}
+use Rattle.ndef_make_tool.specs.declared.handover.Handover.{Handover}
+
+-- ---- one record
+
+-- what a record is, and the word that says it
+abbrev pub Content : Type 0
+Content = Property × Text
+
+-- RTD Smart Poster 1.0 and Connection Handover 1.2: the record of a property
+abbrev pub MakesContent : Content → Answer → Type 0
+MakesContent (property.Uri, word) answer = MakesUri word answer
+MakesContent (property.Title, word) answer = Asks MakesText (title_said word) answer
+MakesContent (property.Action, word) answer = Asks MakesItem (action_said word) answer
+MakesContent (property.Size, word) answer = Asks MakesItem (size_said word) answer
+MakesContent (property.Media, word) answer = MakesItem (well_known (codes "t") word) answer
+MakesContent (property.Collision, word) answer = Asks MakesItem (collision_said word) answer
+MakesContent (property.Carrier, word) answer = Asks MakesAlternative (ac_said word) answer
+MakesContent (property.Error, word) answer = AsksError word answer
+
+-- the words of an option, each as that property
+abbrev pub words_as : Property → Text → List Row → List Content
+words_as property id rows = map (λ word. (property, word)) (words_of id rows)
+
+-- the record of a message of these records, or why there is none
+abbrev pub MakesOf : (List Item → Answer → Type 0) → List Content → Answer → Type 0
+MakesOf makes contents (Ok i) = (items : List Item) × AreMadeBy MakesContent contents items × makes items (Ok i)
+MakesOf makes contents (Err Memory) = ⊤
+MakesOf makes contents (Err fault) = FailsBy MakesContent contents fault
+    ⊎ ((items : List Item) × AreMadeBy MakesContent contents items × makes items (Err fault))
+
+-- ---- posters
+
+-- RTD Smart Poster 1.0: what a part says of a poster: its URI, its titles as they are given, its action, its size and
+-- its media type
+abbrev pub poster_contents : List Row → List Content
+poster_contents rows =
+    words_as property.Uri (codes "uri") rows ++ words_as property.Title (codes "title") rows
+    ++ words_as property.Action (codes "action") rows
+    ++ words_as property.Size (codes "size") rows ++ words_as property.Media (codes "media") rows
+
+-- RTD Smart Poster 1.0: the record of the poster of a part
+abbrev pub MakesPoster : List Row → Answer → Type 0
+MakesPoster rows answer = MakesOf MakesNested (poster_contents rows) answer
+
+-- ---- handovers
+
+-- Connection Handover 1.2: what a part says of a handover: its collision resolution, its carriers as they are given,
+-- and its error
+abbrev pub handover_contents : List Row → List Content
+handover_contents rows =
+    words_as property.Collision (codes "collision") rows ++ words_as property.Carrier (codes "carrier") rows
+    ++ words_as property.Error (codes "error") rows
+
+-- Connection Handover 1.2: the record of the handover of a part, whose contents are these
+abbrev pub MakesHandover : List Content → Handover → Answer → Type 0
+MakesHandover contents handover answer = MakesOf (MakesHandoverOf handover) contents answer
+
+-- Connection Handover 1.2: the record of the handover of a part
+abbrev pub MakesHandoverSaid : List Row → Answer → Type 0
+MakesHandoverSaid rows answer = Asks (MakesHandover (handover_contents rows)) (handover_said rows) answer
+
+-- ---- step by step
+
+-- a property, and its word
+abbrev pub content_of : Word → Content
+content_of word = (word.property, word.text.now)
+
+-- words are appended, each as that property; or memory is wanting
+abbrev pub OnAppended : Property → List Text → (before after : List Word) → Result Unit Fault → Type 0
+OnAppended property words before after (Ok done) =
+    map content_of after ≡ map content_of before ++ map (λ word. (property, word)) words
+OnAppended property words before after (Err Memory) = ⊤
+OnAppended property words before after (Err _) = ⊥
+
+-- all that is said; or memory is wanting
+abbrev pub AreContents : List Content → Result (Vec Word Global) Fault → Type 0
+AreContents contents (Ok words) = map content_of words.items ≡ contents
+AreContents contents (Err Memory) = ⊤
+AreContents contents (Err _) = ⊥

@@ -1,0 +1,114 @@
+-- Why no message is made, what is printed of it, and the status.
+use Rattle.std.specs.Prelude.{◌++◌, codes, decimal}
+use Rattle.clap.specs.Words.{Text}
+use Rattle.ndef_message.specs.declared.input.InputError.{InputError}
+use Rattle.ndef_message.specs.declared.input.InputError.TheVariants as inputs
+use Rattle.ndef_types.specs.declared.error.EncodeError.{EncodeError}
+use Rattle.ndef_types.specs.declared.error.EncodeError.TheVariants as encode
+use Rattle.ndef_types.specs.declared.handover_error.DetailError.{DetailError}
+use Rattle.ndef_types.specs.declared.handover_error.DetailError.TheVariants as details
+use Rattle.ndef_types.specs.declared.text.TextError.{TextError}
+use Rattle.ndef_types.specs.declared.text.TextError.TheVariants as texts
+use Rattle.ndef_value.specs.declared.name.NameError.{NameError}
+use Rattle.ndef_value.specs.declared.name.NameError.TheVariants as names
+use Rattle.ndef_value.specs.declared.record.RecordError.{RecordError}
+use Rattle.ndef_value.specs.declared.record.RecordError.TheVariants as records
+use Rattle.ndef_format.specs.Reasons.{reason_name, reason_number}
+use Rattle.ndef_format.specs.declared.refusal.Refusal.{Refusal}
+use Rattle.ndef_make_tool.specs.declared.fault.Fault.{Fault}
+use Rattle.ndef_make_tool.specs.declared.fault.Fault.TheVariants.{Usage, Refused, Reading, TooLong, Memory}
+use Rattle.ndef_make_tool.specs.declared.fault.Refused.TheVariants as refused
+use Rattle.ndef_program.specs.declared.status.Status.{Status}
+use Rattle.ndef_make_tool.specs.declared.fault.Told.{Told}
+use Rattle.ndef_make_tool.specs.declared.fault.Told.TheVariants as told
+use Rattle.ndef_program.specs.declared.status.Status.TheVariants as status
+
+-- ---- errors of the input and of parts
+
+-- why the payload on the input isn't read
+abbrev pub input_fault : InputError → Fault
+input_fault inputs.ReadFault = Reading
+input_fault inputs.TooLong = TooLong
+input_fault inputs.NoMemory = Memory
+
+-- RTD Text 1.0, language code: why there is no text
+abbrev pub text_fault : TextError → Fault
+text_fault texts.TooLong = Refused refused.LanguageTooLong
+text_fault texts.NotAscii = Refused refused.LanguageNotAscii
+text_fault texts.NoMemory = Memory
+
+-- NDEF 1.0, PAYLOAD_LENGTH: why there is no payload
+abbrev pub encode_fault : EncodeError → Fault
+encode_fault encode.TooLong = Refused refused.PayloadTooLong
+encode_fault encode.NoMemory = Memory
+
+-- NDEF 1.0, TYPE_LENGTH and ID_LENGTH: why there is no name
+abbrev pub name_fault : NameError → Fault
+name_fault names.TooLong = Refused refused.PartTooLong
+name_fault names.NoMemory = Memory
+
+-- NDEF 1.0, record layout: why there is no record
+abbrev pub record_fault : RecordError → Fault
+record_fault records.BadShape = Refused refused.BadShape
+record_fault records.TooLong = Refused refused.PartTooLong
+record_fault records.NoMemory = Memory
+
+-- Connection Handover 1.2, Error record: why there is no error
+abbrev pub detail_fault : DetailError → Fault
+detail_fault details.BadShape = Refused refused.BadError
+detail_fault details.NoMemory = Memory
+
+-- ---- what is printed
+
+-- for words that don't parse
+abbrev pub usage_line : Text
+usage_line =
+    codes "usage: ndef-make text [--language L] [--utf16] TEXT | uri URI | poster URI [--title L=TEXT].. "
+    ++ codes "[--action do|save|open] [--size N] [--media TYPE] | "
+    ++ codes "handover request --collision N [--version 1.M] [--carrier POWER=ID[,ID]..].. | "
+    ++ codes "handover select [--version 1.M] [--carrier POWER=ID[,ID]..].. [--error REASON:DATA] | "
+    ++ codes "record --tnf N [--type T] [--id I] [--unchecked] < payload | "
+    ++ codes "carrier --format N --type T [--id I] < data; [--hex] [--raw]; more records: --and ..; "
+    ++ codes "--help | --version\n"
+
+-- for a payload that isn't one of its type
+abbrev pub payload_line : Refusal → Text
+payload_line r =
+    codes "refused: payload at " ++ decimal r.at ++ codes ": " ++ decimal (reason_number r.reason)
+    ++ codes " " ++ reason_name r.reason ++ codes "\n"
+
+-- Connection Handover 1.2, Carrier Data Reference: for a reference without a record
+abbrev pub record_line : Text → Text
+record_line reference = codes "refused: no record has the id \"" ++ reference ++ codes "\"\n"
+
+-- the line of a fault
+abbrev pub line_of : Fault → Text
+line_of Usage = usage_line
+line_of (Refused refused.LanguageTooLong) = codes "refused: a language code of more than 63 bytes\n"
+line_of (Refused refused.LanguageNotAscii) = codes "refused: a language code that is not ASCII\n"
+line_of (Refused refused.PayloadTooLong) = codes "refused: a payload of more than 4294967295 bytes\n"
+line_of (Refused refused.BadShape) = codes "refused: parts that do not go with the type name format\n"
+line_of (Refused refused.PartTooLong) = codes "refused: a type or an id of more than 255 bytes\n"
+line_of (Refused (refused.BadPayload refusal)) = payload_line refusal
+line_of (Refused refused.NoPoster) = codes "refused: records that are no smart poster\n"
+line_of (Refused refused.NoHandover) = codes "refused: records that are no handover\n"
+line_of (Refused refused.BadError) = codes "refused: data that do not go with the reason of an error\n"
+line_of (Refused refused.TooManyReferences) = codes "refused: more than 255 auxiliary references\n"
+line_of (Refused (refused.NoRecord reference)) = record_line reference
+line_of (Refused refused.TooManyRecords) = codes "refused: more than 65535 records\n"
+line_of Reading = codes "fault: reading\n"
+line_of TooLong = codes "fault: more than 1048576 bytes of payload\n"
+line_of Memory = codes "fault: memory\n"
+
+-- what is told
+abbrev pub fault_text : Told → Text
+fault_text (told.Text text) = text.now
+fault_text (told.Line line) = line
+
+-- ---- the status
+
+-- the status of a fault
+abbrev pub status_of : Fault → Status
+status_of Usage = status.Usage
+status_of (Refused why) = status.Refused
+status_of _ = status.Fault

@@ -1,0 +1,16 @@
+pub mod CommandLine
+pub mod Options
+pub mod Asked
+pub mod Faults
+pub mod Inputs
+pub mod Records
+pub mod Posters
+pub mod Carriers
+pub mod Handovers
+pub mod Contents
+pub mod References
+pub mod Checking
+pub mod Making
+pub mod Reading
+pub mod Pages
+pub mod Runs

@@ -1,0 +1,87 @@
+-- What the options of a part say.
+use Rattle.std.specs.Prelude.{◌==◌, ℕ, Bool, true, false, List, [], length, Option, Some, None, codes, if◌then◌else◌, is_some, nat_lt, option_and_then, unwrap_or}
+use Rattle.std.specs.Option.{option_map_or}
+use Rattle.std.specs.List.{after_first, before_first, position_or_len}
+use Rattle.std.specs.Str.{bytes_eq}
+use Rattle.std.specs.Str.Parse.{digits_value, without_leading_plus}
+use Rattle.clap.specs.ValueTests.{accepts}
+use Rattle.clap.specs.Words.{Row, Text, all_of, first_of}
+use Rattle.clap.specs.declared.builder.value_parser.ValueParser.TheVariants as vp
+use Rattle.ndef_format.specs.declared.tnf.Tnf.{Tnf}
+use Rattle.ndef_format.specs.declared.tnf.Tnf.TheVariants as tnf
+use Rattle.ndef_make_tool.specs.declared.options.Subject.{Subject}
+use Rattle.ndef_make_tool.specs.declared.options.Subject.TheVariants as subject
+
+-- the word of an option, or another one where it isn't given
+abbrev pub word_or : (id other : Text) → List Row → Text
+word_or id other rows = unwrap_or (first_of id rows) other
+
+-- whether an option is given
+abbrev pub is_said : Text → List Row → Bool
+is_said id rows = is_some (first_of id rows)
+
+-- the words of an option
+abbrev pub words_of : Text → List Row → List Text
+words_of id rows = unwrap_or (all_of id rows) []
+
+-- whether the flag is set
+abbrev pub flag_of : Text → List Row → Bool
+flag_of id rows = option_map_or (λ t. bytes_eq t (codes "true")) (first_of id rows) false
+
+-- the subject of this name
+abbrev pub subject_named : Text → Option Subject
+subject_named name = if bytes_eq name (codes "text") then Some subject.Text
+    else (if bytes_eq name (codes "uri") then Some subject.Uri
+    else (if bytes_eq name (codes "poster") then Some subject.Poster
+    else (if bytes_eq name (codes "handover") then Some subject.Handover
+    else (if bytes_eq name (codes "record") then Some subject.Record
+    else (if bytes_eq name (codes "carrier") then Some subject.Carrier else None)))))
+
+-- the subject is a record of given parts
+abbrev pub is_given : Option Subject → Bool
+is_given (Some subject.Record) = true
+is_given _ = false
+
+-- the subject is a record whose payload or data is the input
+abbrev pub takes_input : Option Subject → Bool
+takes_input (Some subject.Record) = true
+takes_input (Some subject.Carrier) = true
+takes_input _ = false
+
+-- NDEF 1.0, TNF: the type name format of this number, as it is written in decimal; 6 and 7 are of no record
+abbrev pub tnf_named : Text → Option Tnf
+tnf_named name = if bytes_eq name (codes "0") then Some tnf.Empty
+    else (if bytes_eq name (codes "1") then Some tnf.WellKnown
+    else (if bytes_eq name (codes "2") then Some tnf.Media
+    else (if bytes_eq name (codes "3") then Some tnf.AbsoluteUri
+    else (if bytes_eq name (codes "4") then Some tnf.External
+    else (if bytes_eq name (codes "5") then Some tnf.Unknown else None)))))
+
+-- ---- what a word says
+
+-- the equals sign
+abbrev pub is_equals : ℕ → Bool
+is_equals byte = byte == 61
+
+-- the colon
+abbrev pub is_colon : ℕ → Bool
+is_colon byte = byte == 58
+
+-- the comma
+abbrev pub is_comma : ℕ → Bool
+is_comma byte = byte == 44
+
+-- what stands before the first byte of a kind, and what behind it
+abbrev pub cut_at : (ℕ → Bool) → Text → Option (Text × Text)
+cut_at is_cut word =
+    if nat_lt (position_or_len is_cut word) (length word)
+    then Some (before_first is_cut word, after_first is_cut word) else None
+
+-- the number for which a text of decimal digits stands, where it is below 2^32
+abbrev pub number_in : Text → Option ℕ
+number_in t = if accepts false (vp.Unsigned 0 4294967295) t then Some (digits_value 10 (without_leading_plus t))
+    else None
+
+-- the same, where it is below this one
+abbrev pub number_below : ℕ → Text → Option ℕ
+number_below bound t = option_and_then (λ n. if nat_lt n bound then Some n else None) (number_in t)

@@ -1,0 +1,106 @@
+-- The records that parts ask for (NFC Forum, NDEF 1.0, RTD Text 1.0 and RTD URI 1.0).
+use Rattle.std.specs.Prelude.{◌++◌, ◌∷◌, ◌≡◌, ◌<◌, ◌≤◌, ◌^◌, ℕ, Bool, true, false, List, [], length, Option, Some, None, Result, Ok, Err, ⊤, option_and_then, option_map, codes, chars, IsAscii, Vec}
+use Rattle.std.specs.declared.alloc.Global.{Global}
+use Rattle.clap.specs.Words.{Row, Text, first_of}
+use Rattle.ndef_format.specs.Canonical.{HasLengths}
+use Rattle.ndef_format.specs.Messages.{IsShaped, Item}
+use Rattle.ndef_format.specs.declared.tnf.Tnf.TheVariants.{WellKnown}
+use Rattle.ndef_types.specs.Decoding.{IsTooLong}
+use Rattle.ndef_types.specs.Values.{TextValue, WritesText, WritesUri}
+use Rattle.ndef_types.specs.declared.encoding.Encoding.{Encoding}
+use Rattle.ndef_types.specs.declared.encoding.Encoding.TheVariants.{Utf8, Utf16}
+use Rattle.ndef_make_tool.specs.Options.{flag_of, tnf_named, word_or}
+use Rattle.ndef_make_tool.specs.declared.fault.Fault.{Fault}
+use Rattle.ndef_make_tool.specs.declared.fault.Fault.TheVariants.{Usage, Refused, Memory}
+use Rattle.ndef_make_tool.specs.declared.fault.Refused.TheVariants.{LanguageTooLong, LanguageNotAscii, PayloadTooLong, BadShape, PartTooLong}
+
+-- what is made of a part: a record, or why there is none
+abbrev pub Answer : Type 0
+Answer = Result Item Fault
+
+-- NDEF 1.0, record layout: a record of a well-known type, without an id
+abbrev pub well_known : Text → List ℕ → Item
+well_known kind payload = record { tnf = WellKnown; kind = kind; id = []; payload = payload }
+
+-- ---- texts
+
+-- the encoding of a text
+abbrev pub encoding_for : Bool → Encoding
+encoding_for false = Utf8
+encoding_for true = Utf16
+
+-- RTD Text 1.0: the text of a part; its language is English where none is given
+abbrev pub text_said : List Row → Option TextValue
+text_said rows = option_map (λ text. record {
+  encoding = encoding_for (flag_of (codes "utf16") rows);
+  language = word_or (codes "language") (codes "en") rows;
+  text = chars text;
+}) (first_of (codes "text") rows)
+
+-- RTD Text 1.0: the record of a text; none where its language code isn't ASCII of up to 63 octets, or its payload is
+-- too long
+abbrev pub MakesText : TextValue → Answer → Type 0
+MakesText v (Ok i) = (length v.language ≤ 63) × IsAscii v.language × WritesText v i.payload
+    × (length i.payload < 2 ^ 32) × (i ≡ well_known (codes "T") i.payload)
+MakesText v (Err (Refused LanguageTooLong)) = 63 < length v.language
+MakesText v (Err (Refused LanguageNotAscii)) = (length v.language ≤ 63) × (IsAscii v.language → ⊥)
+MakesText v (Err (Refused PayloadTooLong)) = (length v.language ≤ 63) × IsAscii v.language × IsTooLong WritesText v
+MakesText v (Err Memory) = ⊤
+MakesText v (Err _) = ⊥
+
+-- ---- URIs
+
+-- RTD URI 1.0: the URI of a part
+abbrev pub uri_said : List Row → Option Text
+uri_said rows = first_of (codes "uri") rows
+
+-- RTD URI 1.0: the record of a URI; none where its payload is too long
+abbrev pub MakesUri : Text → Answer → Type 0
+MakesUri uri (Ok i) = WritesUri uri i.payload × (length i.payload < 2 ^ 32) × (i ≡ well_known (codes "U") i.payload)
+MakesUri uri (Err (Refused PayloadTooLong)) = IsTooLong WritesUri uri
+MakesUri uri (Err Memory) = ⊤
+MakesUri uri (Err _) = ⊥
+
+-- ---- records of given parts
+
+-- NDEF 1.0, record layout: the type name format, the type and the id of a part; no type or id where it isn't given
+abbrev pub item_said : List Row → List ℕ → Option Item
+item_said rows payload = option_map (λ tnf. record {
+  tnf = tnf;
+  kind = word_or (codes "type") [] rows;
+  id = word_or (codes "id") [] rows;
+  payload = payload;
+}) (option_and_then tnf_named (first_of (codes "tnf") rows))
+
+-- NDEF 1.0, record layout: the record, where its parts go together and none is too long
+abbrev pub MakesItem : Item → Answer → Type 0
+MakesItem i (Ok made) = (made ≡ i) × IsShaped i × HasLengths i
+MakesItem i (Err (Refused BadShape)) = IsShaped i → ⊥
+MakesItem i (Err (Refused PartTooLong)) = IsShaped i × (HasLengths i → ⊥)
+MakesItem i (Err Memory) = ⊤
+MakesItem i (Err _) = ⊥
+
+-- ---- what is said
+
+-- what is made of what is said; the usage line where nothing is
+abbrev pub Asks : {X : Type 0} → (X → Answer → Type 0) → Option X → Answer → Type 0
+Asks makes None answer = answer ≡ Err Usage
+Asks makes (Some x) answer = makes x answer
+
+-- the records of what is said, in order
+abbrev pub AreMadeBy : {X : Type 0} → (X → Answer → Type 0) → List X → List Item → Type 0
+AreMadeBy makes [] [] = ⊤
+AreMadeBy makes (x ∷ xs) (i ∷ items) = makes x (Ok i) × AreMadeBy makes xs items
+AreMadeBy makes _ _ = ⊥
+
+-- the first of which no record is made, and why
+abbrev pub FailsBy : {X : Type 0} → (X → Answer → Type 0) → List X → Fault → Type 0
+FailsBy {X} makes xs fault =
+    (done : List X) × (items : List Item) × (x : X) × (rest : List X) × (xs ≡ done ++ x ∷ rest)
+    × AreMadeBy makes done items × makes x (Err fault)
+
+-- the records of what is said, or why there are none
+abbrev pub AreAnsweredBy : {X : Type 0} → (X → Answer → Type 0) → List X → Result (Vec Item Global) Fault → Type 0
+AreAnsweredBy makes xs (Ok records) = AreMadeBy makes xs records.items
+AreAnsweredBy makes xs (Err Memory) = ⊤
+AreAnsweredBy makes xs (Err fault) = FailsBy makes xs fault

@@ -1,0 +1,51 @@
+-- The references of a handover to the records of its message (NFC Forum, Connection Handover 1.2).
+use Rattle.std.specs.Prelude.{◌≡◌, ◌≤◌, ◌&&◌, not, Bool, List, [], length, Option, Some, None, Result, Ok, Err, ⊤, codes}
+use Rattle.std.specs.List.{find, flat_map, list_any, slice_split}
+use Rattle.std.specs.Option.{option_map_or}
+use Rattle.std.specs.Str.{bytes_eq}
+use Rattle.clap.specs.Words.{Row, Text}
+use Rattle.ndef_format.specs.Messages.{Item}
+use Rattle.ndef_make_tool.specs.Asked.{AskedPart}
+use Rattle.ndef_make_tool.specs.Options.{cut_at, is_comma, is_equals, subject_named, words_of}
+use Rattle.ndef_make_tool.specs.declared.fault.Fault.{Fault}
+use Rattle.ndef_make_tool.specs.declared.fault.Fault.TheVariants.{Refused, Memory}
+use Rattle.ndef_make_tool.specs.declared.fault.Refused.TheVariants.{NoRecord, PartTooLong}
+use Rattle.ndef_make_tool.specs.declared.options.Subject.{Subject}
+use Rattle.ndef_make_tool.specs.declared.options.Subject.TheVariants as subject
+
+-- Connection Handover 1.2, Alternative Carrier record: the references in the word of a carrier, between commas behind
+-- its equals sign
+abbrev pub references_in : Text → List Text
+references_in word = option_map_or (λ cut. slice_split is_comma cut.1) (cut_at is_equals word) []
+
+-- Connection Handover 1.2, Alternative Carrier record: the references of the carriers of a handover; others have none
+abbrev pub references_for : Option Subject → List Row → List Text
+references_for (Some subject.Handover) rows = flat_map references_in (words_of (codes "carrier") rows)
+references_for _ rows = []
+
+-- the references of a part
+abbrev pub references_of : AskedPart → List Text
+references_of part = references_for (subject_named part.0) part.1
+
+-- NDEF 1.0, ID: whether a record has this id; the empty one is none's
+abbrev pub is_id : List Item → Text → Bool
+is_id items id = not (bytes_eq id []) && list_any (λ i. bytes_eq i.id id) items
+
+-- Connection Handover 1.2, Carrier Data Reference: whether no record has the id that is referred to
+abbrev pub is_missing : List Item → Text → Bool
+is_missing items reference = not (is_id items reference)
+
+-- Connection Handover 1.2, Carrier Data Reference: the first reference without a record
+abbrev pub missing_reference : List AskedPart → List Item → Option Text
+missing_reference parts items = find (is_missing items) (flat_map references_of parts)
+
+-- ---- step by step
+
+-- each reference has a record, or this one is the first without
+abbrev pub AreFound : List Item → List Text → Result Unit Fault → Type 0
+AreFound items references (Ok done) = find (is_missing items) references ≡ None
+AreFound items references (Err (Refused (NoRecord reference))) = find (is_missing items) references ≡ Some reference
+AreFound items references (Err (Refused PartTooLong)) = (reference : Text)
+    × (find (is_missing items) references ≡ Some reference) × (256 ≤ length reference)
+AreFound items references (Err Memory) = ⊤
+AreFound items references (Err _) = ⊥

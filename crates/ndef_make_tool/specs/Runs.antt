@@ -1,0 +1,78 @@
+-- The program: a function of what the words ask for and what the input holds.
+use Rattle.std.specs.Prelude.{◌≡◌, Bool, List, Option, None, Some, Result, Ok, Err, codes}
+use Rattle.clap.specs.Words.{Text}
+use Rattle.ndef_message.specs.States.{SinkState, SourceState, sink_state, source_state}
+use Rattle.ndef_message.specs.declared.sink.Sink.{Ghosts as SinkOf}
+use Rattle.ndef_message.specs.declared.source.Source.{Ghosts as SourceOf}
+use Rattle.ndef_program.specs.Outputs.{GoesOut}
+use Rattle.ndef_program.specs.Statuses.{status_after}
+use Rattle.ndef_make_tool.specs.Faults.{line_of, status_of}
+use Rattle.ndef_make_tool.specs.Making.{IsMade}
+use Rattle.ndef_make_tool.specs.Pages.{page_asked, page_text}
+use Rattle.ndef_make_tool.specs.declared.fault.Fault.{Fault}
+use Rattle.ndef_program.specs.declared.status.Status.{Status}
+use Rattle.ndef_program.specs.declared.status.Status.TheVariants as status
+use Rattle.ndef_make_tool.specs.declared.making.Written.{Written}
+use Rattle.ndef_make_tool.specs.declared.making.Shown.{Shown}
+use Rattle.ndef_make_tool.specs.declared.making.Shown.TheVariants.{DigitsForTerminal}
+use Rattle.ndef_make_tool.specs.declared.pages.Page.{Page}
+
+-- ---- what a run reads and writes
+
+-- the source of the input, the sink of the message or the page, and the sink of lines about them
+pub record Streams : Type 0 where
+  pub source : SourceState
+  pub output : SinkState
+  pub lines : SinkState
+
+-- what a contract sees of them
+abbrev pub streams : {S K L : Type 0} (source : SourceOf S) (output : SinkOf K) (lines : SinkOf L) → S → K → L → Streams
+streams source output lines s k l =
+    record { source = source_state source s; output = sink_state output k; lines = sink_state lines l }
+
+-- the text goes out to a sink, or a front of it
+abbrev pub Sends : (before after : SinkState) → Text → Type 0
+Sends before after text = GoesOut before.written after.written after.failed text
+
+-- a text goes out, and this is the status
+abbrev pub PrintsAll : Text → (before after : SinkState) → Status → Type 0
+PrintsAll text before after result = Sends before after text × (result ≡ status_after after.failed status.Clean)
+
+-- ---- a message
+
+-- for digits that are written because they go to a terminal
+abbrev pub note_line : Text
+note_line = codes "standard output is a terminal: writing hexadecimal digits; --raw writes the bytes\n"
+
+-- it is told, where that is so
+abbrev pub Notes : Shown → (before after : SinkState) → Type 0
+Notes DigitsForTerminal before after = Sends before after note_line
+Notes _ before after = after ≡ before
+
+-- the message goes out
+abbrev pub TellsMade : Written → (before after : Streams) → Status → Type 0
+TellsMade made before after result = PrintsAll made.text before.output after.output result
+    × Notes made.shown before.lines after.lines
+
+-- the message goes out, or the line of the fault to the other sink
+abbrev pub TellsOutcome : Result Written Fault → (before after : Streams) → Status → Type 0
+TellsOutcome (Ok made) before after result = TellsMade made before after result
+TellsOutcome (Err fault) before after result = (after.output ≡ before.output)
+    × Sends before.lines after.lines (line_of fault) × (result ≡ status_of fault)
+
+-- ---- a run
+
+-- what the words and the input come to, where the words ask for records
+abbrev pub RunsFor : List Text → (terminal : Bool) → (before after : Streams) → Status → Type 0
+RunsFor words terminal before after result = (made : Result Written Fault)
+    × IsMade words terminal before.source after.source made × TellsOutcome made before after result
+
+-- a page goes out, and the input is left; or what the words ask for
+abbrev pub RunsAsked : Option Page → List Text → (terminal : Bool) → (before after : Streams) → Status → Type 0
+RunsAsked (Some page) words terminal before after result = (after.source ≡ before.source)
+    × PrintsAll (page_text page) before.output after.output result × (after.lines ≡ before.lines)
+RunsAsked None words terminal before after result = RunsFor words terminal before after result
+
+-- what the words and the input come to
+abbrev pub Runs : List Text → (terminal : Bool) → (before after : Streams) → Status → Type 0
+Runs words terminal before after result = RunsAsked (page_asked words) words terminal before after result

@@ -1,0 +1,140 @@
+//! The command line of a part, as `clap` reads it.
+ghost use Rattle.std.specs.Prelude.{◌≡◌, false};
+ghost use Rattle.clap.specs.Words.{app_of, rule_of};
+ghost use Rattle.clap.specs.declared.builder.command.Command.TheViews.{out-Command as fields_of};
+ghost use Rattle.ndef_make_tool.specs.CommandLine.{asked_rule, carrier_app, empty_app, given_rule, handover_app, linked_app, make_app, part_app, poster_app, record_app, repeated_rule, text_app, titled_app, uri_app};
+ghost use Rattle.ndef_program.specs.CommandLine.{IsCommand};
+
+use clap::{Arg, ArgAction, Command};
+use ndef_program::{flag, hex_command, over, with, word_option};
+use std::alloc::{AllocError, Global};
+
+/// An option for a word, which has to be given.
+fn asked_option<'a>(alloc: Global, name: &'a str) -> Arg<'a>
+    ensures rule { rule_of result ≡ asked_rule name.entry.now }
+    ensures local { result.global ≡ false }
+{
+    Arg::new(alloc, name).long(name).required(true)
+}
+
+/// A word that has to be given, without an option.
+fn given_word<'a>(alloc: Global, name: &'a str) -> Arg<'a>
+    ensures rule { rule_of result ≡ given_rule name.entry.now }
+    ensures local { result.global ≡ false }
+{
+    Arg::new(alloc, name).required(true)
+}
+
+/// An option for a word, which may be given again and again.
+fn repeated_option<'a>(alloc: Global, name: &'a str) -> Arg<'a>
+    ensures rule { rule_of result ≡ repeated_rule name.entry.now }
+    ensures local { result.global ≡ false }
+{
+    Arg::new(alloc, name).long(name).action(ArgAction::Append)
+}
+
+/// A subcommand with the flags of each: how the bytes are written.
+fn part_command<'a>(alloc: Global, name: &'a str) -> Result<Command<'a>, AllocError>
+    ensures { IsCommand (part_app name.entry.now) result }
+{
+    with(hex_command(alloc, name), flag(alloc, "raw"))
+}
+
+/// The subcommand `text`.
+fn text_command<'a>(alloc: Global) -> Result<Command<'a>, AllocError>
+    ensures { IsCommand text_app result }
+{
+    let command = part_command(alloc, "text");
+    let command = with(command, word_option(alloc, "language"));
+    let command = with(command, flag(alloc, "utf16"));
+    with(command, given_word(alloc, "text"))
+}
+
+/// The subcommand `uri`.
+fn uri_command<'a>(alloc: Global) -> Result<Command<'a>, AllocError>
+    ensures { IsCommand uri_app result }
+{
+    with(part_command(alloc, "uri"), given_word(alloc, "uri"))
+}
+
+/// The subcommand `poster`, with its URI and titles.
+fn titled_command<'a>(alloc: Global) -> Result<Command<'a>, AllocError>
+    ensures { IsCommand titled_app result }
+{
+    let command = part_command(alloc, "poster");
+    let command = with(command, given_word(alloc, "uri"));
+    with(command, repeated_option(alloc, "title"))
+}
+
+/// The subcommand `poster`.
+fn poster_command<'a>(alloc: Global) -> Result<Command<'a>, AllocError>
+    ensures { IsCommand poster_app result }
+{
+    let command = titled_command(alloc);
+    let command = with(command, word_option(alloc, "action"));
+    let command = with(command, word_option(alloc, "size"));
+    with(command, word_option(alloc, "media"))
+}
+
+/// The subcommand `handover`, but for its error.
+fn linked_command<'a>(alloc: Global) -> Result<Command<'a>, AllocError>
+    ensures { IsCommand linked_app result }
+{
+    let command = part_command(alloc, "handover");
+    let command = with(command, given_word(alloc, "kind"));
+    let command = with(command, word_option(alloc, "version"));
+    let command = with(command, word_option(alloc, "collision"));
+    with(command, repeated_option(alloc, "carrier"))
+}
+
+/// The subcommand `handover`.
+fn handover_command<'a>(alloc: Global) -> Result<Command<'a>, AllocError>
+    ensures { IsCommand handover_app result }
+{
+    with(linked_command(alloc), word_option(alloc, "error"))
+}
+
+/// The subcommand `record`.
+fn record_command<'a>(alloc: Global) -> Result<Command<'a>, AllocError>
+    ensures { IsCommand record_app result }
+{
+    let command = part_command(alloc, "record");
+    let command = with(command, asked_option(alloc, "tnf"));
+    let command = with(command, word_option(alloc, "type"));
+    let command = with(command, word_option(alloc, "id"));
+    with(command, flag(alloc, "unchecked"))
+}
+
+/// The subcommand `carrier`.
+fn carrier_command<'a>(alloc: Global) -> Result<Command<'a>, AllocError>
+    ensures { IsCommand carrier_app result }
+{
+    let command = part_command(alloc, "carrier");
+    let command = with(command, asked_option(alloc, "format"));
+    let command = with(command, asked_option(alloc, "type"));
+    with(command, word_option(alloc, "id"))
+}
+
+/// No flag and no subcommand for help: words that ask for it print the usage line.
+fn empty_command<'a>(alloc: Global) -> Command<'a>
+    ensures app { app_of result ≡ empty_app }
+    ensures local { (fields_of result).has_globals ≡ false }
+{
+    Command::new(alloc, "ndef-make")
+        .no_binary_name(true)
+        .subcommand_required(true)
+        .disable_help_flag(true)
+        .disable_help_subcommand(true)
+}
+
+/// The subcommands and their options.
+pub fn make_command<'a>(alloc: Global) -> Result<Command<'a>, AllocError>
+    ensures { IsCommand make_app result }
+{
+    let command = over(Ok(empty_command(alloc)), text_command(alloc));
+    let command = over(command, uri_command(alloc));
+    let command = over(command, poster_command(alloc));
+    let command = over(command, handover_command(alloc));
+    let command = over(command, record_command(alloc));
+    over(command, carrier_command(alloc))
+}

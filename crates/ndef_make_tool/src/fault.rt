@@ -1,0 +1,277 @@
+//! Why no message is made, and the status of a run.
+ghost use Rattle.std.specs.Prelude.{◌≡◌};
+ghost use Rattle.ndef_make_tool.specs.Faults.{detail_fault, encode_fault, input_fault, line_of, name_fault, payload_line, record_fault, record_line, status_of, text_fault, fault_text};
+ghost use Rattle.ndef_make_tool.specs.declared.fault.Fault.TheVariants.{Memory};
+
+use ndef_message::InputError;
+use ndef_program::{Line, Status};
+use ndef_types::{DetailError, EncodeError, TextError};
+use ndef_value::{Name, NameError, NoMemory, RecordError, Refusal};
+use std::alloc::{AllocError, AllocFailed};
+use thiserror::Error;
+
+/// What can't be said in a message.
+#[derive(Debug, Drop, PartialEq, Eq, Error)]
+pub enum Refused {
+    /// A language code of more than 63 bytes (RTD Text 1.0).
+    #[error("a language code of more than 63 bytes")]
+    LanguageTooLong,
+    /// A language code that isn't ASCII (RTD Text 1.0).
+    #[error("a language code that is not ASCII")]
+    LanguageNotAscii,
+    /// A payload of more than 4294967295 bytes (NDEF 1.0, PAYLOAD_LENGTH).
+    #[error("a payload of more than 4294967295 bytes")]
+    PayloadTooLong,
+    /// A type, an id and a payload that don't go with the type name format (NDEF 1.0, TNF).
+    #[error("parts that do not go with the type name format")]
+    BadShape,
+    /// A type or an id of more than 255 bytes (NDEF 1.0, TYPE_LENGTH and ID_LENGTH).
+    #[error("a type or an id of more than 255 bytes")]
+    PartTooLong,
+    /// A payload that isn't one of its type: where and why a strict reader refuses it.
+    #[error("a payload is {0}")]
+    BadPayload(Refusal),
+    /// Records that are no smart poster (RTD Smart Poster 1.0).
+    #[error("records that are no smart poster")]
+    NoPoster,
+    /// Records that are no handover (Connection Handover 1.2).
+    #[error("records that are no handover")]
+    NoHandover,
+    /// Data that don't go with the reason of an error (Connection Handover 1.2, Error record).
+    #[error("data that do not go with the reason of an error")]
+    BadError,
+    /// More than 255 auxiliary references (Connection Handover 1.2, Alternative Carrier record).
+    #[error("more than 255 auxiliary references")]
+    TooManyReferences,
+    /// No record of the message has the id to which a carrier refers (Connection Handover 1.2, Carrier Data
+    /// Reference).
+    #[error("no record has the id to which a carrier refers")]
+    NoRecord(Name),
+    /// More than 65535 records.
+    #[error("more than 65535 records")]
+    TooManyRecords,
+}
+
+/// Why no message is made.
+#[derive(Debug, Drop, PartialEq, Eq, Error)]
+pub enum Fault {
+    /// The words don't parse.
+    #[error("the words don't parse")]
+    Usage,
+    /// What the words ask for can't be said.
+    #[error(transparent)]
+    Refused(Refused),
+    /// The source failed.
+    #[error("reading failed")]
+    Reading,
+    /// The input is longer than what a run reads.
+    #[error("the input is too long")]
+    TooLong,
+    /// A growth was refused.
+    #[error("no memory")]
+    Memory,
+}
+
+impl From<NoMemory> for Fault {
+    ghost from_gives = { λ _ fault. fault ≡ Memory };
+
+    fn from(_: NoMemory) -> Fault {
+        Fault::Memory
+    }
+}
+
+impl From<AllocError> for Fault {
+    ghost from_gives = { λ _ fault. fault ≡ Memory };
+
+    fn from(_: AllocError) -> Fault {
+        Fault::Memory
+    }
+}
+
+/// What wasn't stored is let go.
+impl<T: Drop> From<AllocFailed<T>> for Fault {
+    ghost from_gives = { λ _ fault. fault ≡ Memory };
+
+    fn from(_: AllocFailed<T>) -> Fault {
+        Fault::Memory
+    }
+}
+
+impl From<InputError> for Fault {
+    ghost from_gives = { λ error fault. fault ≡ input_fault error };
+
+    fn from(error: InputError) -> Fault {
+        match error {
+            InputError::ReadFault => Fault::Reading,
+            InputError::TooLong => Fault::TooLong,
+            InputError::NoMemory => Fault::Memory,
+        }
+    }
+}
+
+impl From<TextError> for Fault {
+    ghost from_gives = { λ error fault. fault ≡ text_fault error };
+
+    fn from(error: TextError) -> Fault {
+        match error {
+            TextError::TooLong => Fault::Refused(Refused::LanguageTooLong),
+            TextError::NotAscii => Fault::Refused(Refused::LanguageNotAscii),
+            TextError::NoMemory => Fault::Memory,
+        }
+    }
+}
+
+impl From<EncodeError> for Fault {
+    ghost from_gives = { λ error fault. fault ≡ encode_fault error };
+
+    fn from(error: EncodeError) -> Fault {
+        match error {
+            EncodeError::TooLong => Fault::Refused(Refused::PayloadTooLong),
+            EncodeError::NoMemory => Fault::Memory,
+        }
+    }
+}
+
+impl From<NameError> for Fault {
+    ghost from_gives = { λ error fault. fault ≡ name_fault error };
+
+    fn from(error: NameError) -> Fault {
+        match error {
+            NameError::TooLong => Fault::Refused(Refused::PartTooLong),
+            NameError::NoMemory => Fault::Memory,
+        }
+    }
+}
+
+impl From<RecordError> for Fault {
+    ghost from_gives = { λ error fault. fault ≡ record_fault error };
+
+    fn from(error: RecordError) -> Fault {
+        match error {
+            RecordError::BadShape => Fault::Refused(Refused::BadShape),
+            RecordError::TooLong => Fault::Refused(Refused::PartTooLong),
+            RecordError::NoMemory => Fault::Memory,
+        }
+    }
+}
+
+impl From<DetailError> for Fault {
+    ghost from_gives = { λ error fault. fault ≡ detail_fault error };
+
+    fn from(error: DetailError) -> Fault {
+        match error {
+            DetailError::BadShape => Fault::Refused(Refused::BadError),
+            DetailError::NoMemory => Fault::Memory,
+        }
+    }
+}
+
+/// What is printed of a fault.
+#[derive(Drop)]
+pub(crate) enum Told {
+    /// The same text each time.
+    Text(&'static [u8]),
+    /// A line with numbers.
+    Line(Line),
+}
+
+impl Told {
+    /// Its bytes.
+    pub(crate) fn as_slice(&self) -> &[u8]
+        ensures { result.now ≡ fault_text self.now }
+    {
+        match self {
+            Told::Text(text) => text,
+            Told::Line(line) => line.as_slice(),
+        }
+    }
+}
+
+/// What is printed of a payload that is refused.
+fn payload_line(refusal: Refusal) -> Line
+    ensures { result ≡ payload_line refusal }
+{
+    let mut line = Line::new();
+    line.push(b"refused: payload at ");
+    line.push_number(refusal.at);
+    line.push(b": ");
+    line.push_number(u64::from(refusal.reason.number()));
+    line.push(b" ");
+    line.push(refusal.reason.name());
+    line.push(b"\n");
+    line
+}
+
+/// What is printed of a reference without a record.
+fn record_line(reference: &Name) -> Line
+    ensures { result ≡ record_line reference.now }
+{
+    let mut line = Line::new();
+    line.push(b"refused: no record has the id \"");
+    line.push(reference.as_slice());
+    line.push(b"\"\n");
+    line
+}
+
+/// What is printed where what the words ask for can't be said.
+fn refused_line(refused: &Refused) -> Told
+    ensures { fault_text result ≡ line_of (Fault.Refused refused.now) }
+{
+    match refused {
+        Refused::BadPayload(refusal) => Told::Line(payload_line(*refusal)),
+        Refused::NoRecord(reference) => Told::Line(record_line(reference)),
+        Refused::NoHandover => Told::Text(b"refused: records that are no handover\n"),
+        Refused::BadError => {
+            Told::Text(b"refused: data that do not go with the reason of an error\n")
+        }
+        Refused::TooManyReferences => {
+            Told::Text(b"refused: more than 255 auxiliary references\n")
+        }
+        Refused::LanguageTooLong => {
+            Told::Text(b"refused: a language code of more than 63 bytes\n")
+        }
+        Refused::LanguageNotAscii => Told::Text(b"refused: a language code that is not ASCII\n"),
+        Refused::PayloadTooLong => {
+            Told::Text(b"refused: a payload of more than 4294967295 bytes\n")
+        }
+        Refused::BadShape => {
+            Told::Text(b"refused: parts that do not go with the type name format\n")
+        }
+        Refused::PartTooLong => Told::Text(b"refused: a type or an id of more than 255 bytes\n"),
+        Refused::NoPoster => Told::Text(b"refused: records that are no smart poster\n"),
+        Refused::TooManyRecords => Told::Text(b"refused: more than 65535 records\n"),
+    }
+}
+
+/// What is printed of a fault.
+pub(crate) fn line_of(fault: &Fault) -> Told
+    ensures { fault_text result ≡ line_of fault.now }
+{
+    match fault {
+        Fault::Usage => Told::Text(USAGE),
+        Fault::Refused(refused) => refused_line(refused),
+        Fault::Reading => Told::Text(b"fault: reading\n"),
+        Fault::TooLong => Told::Text(b"fault: more than 1048576 bytes of payload\n"),
+        Fault::Memory => Told::Text(b"fault: memory\n"),
+    }
+}
+
+/// What is printed where the words don't parse.
+const USAGE: &[u8] = b"usage: ndef-make text [--language L] [--utf16] TEXT | uri URI | \
+    poster URI [--title L=TEXT].. [--action do|save|open] [--size N] [--media TYPE] | \
+    handover request --collision N [--version 1.M] [--carrier POWER=ID[,ID]..].. | \
+    handover select [--version 1.M] [--carrier POWER=ID[,ID]..].. [--error REASON:DATA] | \
+    record --tnf N [--type T] [--id I] [--unchecked] < payload | \
+    carrier --format N --type T [--id I] < data; [--hex] [--raw]; more records: --and ..; \
+    --help | --version\n";
+
+/// The status of a fault.
+pub(crate) fn status_of(fault: &Fault) -> Status
+    ensures { result ≡ status_of fault.now }
+{
+    match fault {
+        Fault::Usage => Status::Usage,
+        Fault::Refused(_) => Status::Refused,
+        Fault::Reading | Fault::TooLong | Fault::Memory => Status::Fault,
+    }
+}

@@ -1,0 +1,295 @@
+//! The record of a handover request or select.
+ghost use Rattle.std.specs.Prelude.{◌≡◌, ◌<◌, [], map, IfOk, IfSome};
+ghost use Rattle.std.specs.List.{slice_split};
+ghost use Rattle.clap.specs.Words.{found_of, rows_of};
+ghost use Rattle.ndef_make_tool.specs.Contents.{AreContents, MakesHandoverSaid, handover_contents};
+ghost use Rattle.ndef_make_tool.specs.Handovers.{AreNames, AsksError, IsSelected, MakesAc, MakesAlternative, MakesError, MakesHandoverOf, MakesRequest, MakesSelect, SaysOctets, ac_of, ac_said, collision_said, goes_with, handover_said, minor_named, power_named, side_named};
+ghost use Rattle.ndef_make_tool.specs.Options.{is_comma};
+ghost use Rattle.ndef_make_tool.specs.Records.{Asks, MakesItem};
+
+use crate::contents::{Property, Word, make_contents, push_words};
+use crate::options::{cut_at_colon, cut_at_equals, is_said, number_below, word, word_or};
+use crate::records::{make_known, well_known};
+use crate::{Fault, Refused};
+use clap::ArgMatches;
+use hex::FromHexError;
+use ndef_types::{Ac, HandoverError, Power, Request, Select};
+use ndef_value::{Bytes, Message, MessageError, Name, Record};
+use std::alloc::{AllocError, Global};
+
+/// Which handover a record is (Connection Handover 1.2).
+#[derive(Clone, Copy, Debug, PartialEq, Eq)]
+pub(crate) enum Side {
+    /// A request.
+    Request,
+    /// A select.
+    Select,
+}
+
+/// A request or a select, and its minor version, 0 to 15 (Connection Handover 1.2, version octet).
+#[derive(Clone, Copy, Debug)]
+pub(crate) struct Handover {
+    side: Side,
+    minor: u8,
+}
+
+/// The power state of this name.
+fn power_named(name: &str) -> Option<Power>
+    ensures { result ≡ power_named name.now }
+{
+    match name {
+        "inactive" => Some(Power::Inactive),
+        "active" => Some(Power::Active),
+        "activating" => Some(Power::Activating),
+        "unknown" => Some(Power::Unknown),
+        _ => None,
+    }
+}
+
+/// The references of a word, which commas separate.
+pub(crate) fn references_of(alloc: Global, text: &str) -> Result<Vec<&[u8]>, AllocError>
+    ensures { IfOk result (λ references.
+        map (λ reference. reference.now) references.items ≡ slice_split is_comma text.now) }
+{
+    text.as_bytes().split(|byte| *byte == b',').collect(alloc)
+}
+
+/// The names of references.
+fn make_names(alloc: Global, references: &[&[u8]]) -> Result<Vec<Name>, Fault>
+    ensures { AreNames (map (λ reference. reference.now) references.now) result }
+{
+    let mut names = Vec::new(alloc);
+    for reference in references {
+        names.push(Name::from_slice(alloc, reference)?)?;
+    }
+    Ok(names)
+}
+
+/// The record of an alternative carrier of these very parts.
+fn make_ac(
+    alloc: Global,
+    power: Power,
+    reference: Name,
+    auxiliary: Vec<Name>,
+) -> Result<Record, Fault>
+    ensures { MakesAc
+        (record { power = power; reference = reference; auxiliary = auxiliary.items; rest = [] }) result }
+{
+    match Ac::new(power, reference, auxiliary, Bytes::new(alloc)) {
+        Ok(ac) => {
+            let payload = ac.encode(alloc)?;
+            Ok(well_known(alloc, b"ac", payload))
+        }
+        Err(_) => Err(Fault::Refused(Refused::TooManyReferences)),
+    }
+}
+
+/// The record of an alternative carrier with these references, of which the first is the carrier's.
+fn make_linked(alloc: Global, power: Power, references: &[&[u8]]) -> Result<Record, Fault>
+    ensures { Asks MakesAlternative (ac_of power (map (λ reference. reference.now) references.now)) result }
+{
+    match references {
+        [reference, auxiliary @ ..] => {
+            let reference = Name::from_slice(alloc, reference)?;
+            let auxiliary = make_names(alloc, auxiliary)?;
+            make_ac(alloc, power, reference, auxiliary)
+        }
+        [] => Err(Fault::Usage),
+    }
+}
+
+/// The record of the alternative carrier of a word.
+pub(crate) fn make_alternative(alloc: Global, word: &str) -> Result<Record, Fault>
+    ensures { Asks MakesAlternative (ac_said word.now) result }
+{
+    let Some((name, references)) = cut_at_equals(word) else {
+        return Err(Fault::Usage);
+    };
+    let Some(power) = power_named(name) else {
+        return Err(Fault::Usage);
+    };
+    let references = references_of(alloc, references)?;
+    make_linked(alloc, power, references.as_slice())
+}
+
+/// The bytes of hexadecimal digits.
+fn octets_in(alloc: Global, digits: &str) -> Result<Vec<u8>, Fault>
+    ensures { SaysOctets digits.now result }
+{
+    match hex::decode(alloc, digits.as_bytes()) {
+        Ok(octets) => Ok(octets),
+        Err(FromHexError::OutOfMemory) => Err(Fault::Memory),
+        Err(_) => Err(Fault::Usage),
+    }
+}
+
+/// The record of an error with this reason and this data.
+fn make_reason(alloc: Global, reason: u8, detail: &[u8]) -> Result<Record, Fault>
+    ensures { MakesError (record { reason = reason; detail = detail.now }) result }
+{
+    let error = HandoverError::new(alloc, reason, detail)?;
+    let payload = error.encode(alloc)?;
+    Ok(well_known(alloc, b"err", payload))
+}
+
+/// The record of the error of a word.
+pub(crate) fn make_error(alloc: Global, word: &str) -> Result<Record, Fault>
+    ensures { AsksError word.now result }
+{
+    let Some((reason, digits)) = cut_at_colon(word) else {
+        return Err(Fault::Usage);
+    };
+    let Some(reason) = number_below(256, reason) else {
+        return Err(Fault::Usage);
+    };
+    let detail = octets_in(alloc, digits)?;
+    make_reason(alloc, reason as u8, detail.as_slice())
+}
+
+/// The record of the collision resolution of a word.
+pub(crate) fn make_collision(alloc: Global, word: &str) -> Result<Record, Fault>
+    ensures { Asks MakesItem (collision_said word.now) result }
+{
+    match number_below(65536, word) {
+        Some(number) => make_known(alloc, b"cr", &(number as u16).to_be_bytes()),
+        None => Err(Fault::Usage),
+    }
+}
+
+/// The handover of this name.
+fn side_named(name: &str) -> Option<Side>
+    ensures { result ≡ side_named name.now }
+{
+    match name {
+        "request" => Some(Side::Request),
+        "select" => Some(Side::Select),
+        _ => None,
+    }
+}
+
+/// The minor version of this name.
+fn minor_named(name: &str) -> Option<u8>
+    ensures value { result ≡ minor_named name.now }
+    ensures bound { IfSome result (λ minor. minor < 16) }
+{
+    match name {
+        "1.0" => Some(0),
+        "1.1" => Some(1),
+        "1.2" => Some(2),
+        "1.3" => Some(3),
+        "1.4" => Some(4),
+        "1.5" => Some(5),
+        "1.6" => Some(6),
+        "1.7" => Some(7),
+        "1.8" => Some(8),
+        "1.9" => Some(9),
+        "1.10" => Some(10),
+        "1.11" => Some(11),
+        "1.12" => Some(12),
+        "1.13" => Some(13),
+        "1.14" => Some(14),
+        "1.15" => Some(15),
+        _ => None,
+    }
+}
+
+/// Whether the options of a part go with its side.
+fn goes_with(side: Side, matches: &ArgMatches<'_>) -> bool
+    ensures { result ≡ goes_with side (rows_of (found_of matches.now)) }
+{
+    match side {
+        Side::Request => is_said(matches, "collision") && !is_said(matches, "error"),
+        Side::Select => !is_said(matches, "collision"),
+    }
+}
+
+/// What a part says of a handover.
+fn handover_said(matches: &ArgMatches<'_>) -> Option<Handover>
+    ensures value { result ≡ handover_said (rows_of (found_of matches.now)) }
+    ensures bound { IfSome result (λ handover. handover.minor < 16) }
+{
+    let side = side_named(word(matches, "kind")?)?;
+    if !goes_with(side, matches) {
+        return None;
+    }
+    let minor = minor_named(word_or(matches, "version", "1.2"))?;
+    Some(Handover { side, minor })
+}
+
+/// What a part says of the records within a handover.
+fn contents<'a>(alloc: Global, matches: &ArgMatches<'a>) -> Result<Vec<Word<'a>>, Fault>
+    ensures { AreContents (handover_contents (rows_of (found_of matches.now))) result }
+{
+    let mut words = Vec::new(alloc);
+    push_words(&mut words, matches, Property::Collision, "collision")?;
+    push_words(&mut words, matches, Property::Carrier, "carrier")?;
+    push_words(&mut words, matches, Property::Error, "error")?;
+    Ok(words)
+}
+
+/// The record of a request of these records.
+fn make_request(alloc: Global, minor: u8, records: Vec<Record>) -> Result<Record, Fault>
+    requires { minor < 16 }
+    ensures { MakesRequest minor records.items result }
+{
+    let message = match Message::new(records) {
+        Ok(message) => message,
+        Err(MessageError::NoRecords(_)) => return Err(Fault::Refused(Refused::NoHandover)),
+        Err(MessageError::TooMany(_)) => return Err(Fault::Refused(Refused::TooManyRecords)),
+    };
+    match Request::new(minor, message) {
+        Ok(request) => {
+            let payload = request.encode(alloc)?;
+            Ok(well_known(alloc, b"Hr", payload))
+        }
+        Err(_) => Err(Fault::Refused(Refused::NoHandover)),
+    }
+}
+
+/// The message of a select, where it has records.
+fn selected(records: Vec<Record>) -> Result<Option<Message>, Fault>
+    ensures { IsSelected records.items result }
+{
+    match Message::new(records) {
+        Ok(message) => Ok(Some(message)),
+        Err(MessageError::NoRecords(_)) => Ok(None),
+        Err(MessageError::TooMany(_)) => Err(Fault::Refused(Refused::TooManyRecords)),
+    }
+}
+
+/// The record of a select of these records.
+fn make_select(alloc: Global, minor: u8, records: Vec<Record>) -> Result<Record, Fault>
+    requires { minor < 16 }
+    ensures { MakesSelect minor records.items result }
+{
+    match Select::new(minor, selected(records)?) {
+        Ok(select) => {
+            let payload = select.encode(alloc)?;
+            Ok(well_known(alloc, b"Hs", payload))
+        }
+        Err(_) => Err(Fault::Refused(Refused::NoHandover)),
+    }
+}
+
+/// The record of a handover of these records.
+fn make_handover(alloc: Global, handover: Handover, records: Vec<Record>) -> Result<Record, Fault>
+    requires { handover.minor < 16 }
+    ensures { MakesHandoverOf handover records.items result }
+{
+    match handover.side {
+        Side::Request => make_request(alloc, handover.minor, records),
+        Side::Select => make_select(alloc, handover.minor, records),
+    }
+}
+
+/// The record of the handover of a part.
+pub(crate) fn handover_record(alloc: Global, matches: &ArgMatches<'_>) -> Result<Record, Fault>
+    ensures { MakesHandoverSaid (rows_of (found_of matches.now)) result }
+{
+    let Some(handover) = handover_said(matches) else {
+        return Err(Fault::Usage);
+    };
+    let contents = contents(alloc, matches)?;
+    let records = make_contents(alloc, contents.as_slice())?;
+    make_handover(alloc, handover, records)
+}

@@ -1,0 +1,124 @@
+//! The options of a part.
+ghost use Rattle.std.specs.Prelude.{◌≡◌, ◌<◌, option_map, IfSome};
+ghost use Rattle.clap.specs.Words.{first_of, found_of, rows_of};
+ghost use Rattle.ndef_make_tool.specs.Options.{cut_at, flag_of, is_colon, is_equals, is_said, number_below, number_in, subject_named, tnf_named, word_or};
+
+use clap::ArgMatches;
+use ndef_value::Tnf;
+
+/// What a part is about.
+#[derive(Clone, Copy, Debug, PartialEq, Eq)]
+pub(crate) enum Subject {
+    /// A Text record (RTD Text 1.0).
+    Text,
+    /// A URI record (RTD URI 1.0).
+    Uri,
+    /// A Smart Poster record (RTD Smart Poster 1.0).
+    Poster,
+    /// A Handover Request or Handover Select record (Connection Handover 1.2).
+    Handover,
+    /// A record whose payload is the input.
+    Record,
+    /// A Handover Carrier record, whose data is the input (Connection Handover 1.2).
+    Carrier,
+}
+
+/// The word of an option, where it is given.
+pub(crate) fn word<'a>(matches: &ArgMatches<'a>, id: &str) -> Option<&'a str>
+    ensures { option_map (λ s. s.now) result ≡ first_of id.now (rows_of (found_of matches.now)) }
+{
+    matches.get_str(id)
+}
+
+/// The word of an option, or another one where it isn't given.
+pub(crate) fn word_or<'a>(matches: &ArgMatches<'a>, id: &str, other: &'a str) -> &'a str
+    ensures { result.now ≡ word_or id.now other.now (rows_of (found_of matches.now)) }
+{
+    match word(matches, id) {
+        Some(word) => word,
+        None => other,
+    }
+}
+
+/// Whether an option is given.
+pub(crate) fn is_said(matches: &ArgMatches<'_>, id: &str) -> bool
+    ensures { result ≡ is_said id.now (rows_of (found_of matches.now)) }
+{
+    match word(matches, id) {
+        Some(_) => true,
+        None => false,
+    }
+}
+
+/// Whether a flag is given.
+pub(crate) fn flag(matches: &ArgMatches<'_>, id: &str) -> bool
+    ensures { result ≡ flag_of id.now (rows_of (found_of matches.now)) }
+{
+    match word(matches, id) {
+        Some(word) => word == "true",
+        None => false,
+    }
+}
+
+/// The subject of this name.
+pub(crate) fn subject_named(name: &str) -> Option<Subject>
+    ensures { result ≡ subject_named name.now }
+{
+    match name {
+        "text" => Some(Subject::Text),
+        "uri" => Some(Subject::Uri),
+        "poster" => Some(Subject::Poster),
+        "handover" => Some(Subject::Handover),
+        "record" => Some(Subject::Record),
+        "carrier" => Some(Subject::Carrier),
+        _ => None,
+    }
+}
+
+/// The type name format of this number.
+pub(crate) fn tnf_named(name: &str) -> Option<Tnf>
+    ensures { result ≡ tnf_named name.now }
+{
+    match name {
+        "0" => Some(Tnf::Empty),
+        "1" => Some(Tnf::WellKnown),
+        "2" => Some(Tnf::Media),
+        "3" => Some(Tnf::AbsoluteUri),
+        "4" => Some(Tnf::External),
+        "5" => Some(Tnf::Unknown),
+        _ => None,
+    }
+}
+
+/// What stands before the first equals sign of a word, and what behind it.
+pub(crate) fn cut_at_equals(word: &str) -> Option<(&str, &str)>
+    ensures { option_map (λ cut. (cut.0.now, cut.1.now)) result ≡ cut_at is_equals word.now }
+{
+    word.split_once('=')
+}
+
+/// What stands before the first colon of a word, and what behind it.
+pub(crate) fn cut_at_colon(word: &str) -> Option<(&str, &str)>
+    ensures { option_map (λ cut. (cut.0.now, cut.1.now)) result ≡ cut_at is_colon word.now }
+{
+    word.split_once(':')
+}
+
+/// The number for which a word stands.
+pub(crate) fn number_in(word: &str) -> Option<u32>
+    ensures { result ≡ number_in word.now }
+{
+    match word.parse::<u32>() {
+        Ok(number) => Some(number),
+        Err(_) => None,
+    }
+}
+
+/// The same, where it is below this one.
+pub(crate) fn number_below(bound: u32, word: &str) -> Option<u32>
+    ensures value { result ≡ number_below bound word.now }
+    ensures bound { IfSome result (λ number. number < bound) }
+{
+    let number = number_in(word)?;
+    if number < bound { Some(number) } else { None }
+}

@@ -1,0 +1,104 @@
+//! The pages about the program itself.
+ghost use Rattle.std.specs.Prelude.{◌≡◌, map, string_bytes};
+ghost use Rattle.ndef_make_tool.specs.Pages.{help_text, page_asked, page_named, page_text};
+
+/// A page about the program.
+#[derive(Clone, Copy, Debug, PartialEq, Eq)]
+pub(crate) enum Page {
+    /// What the program does, its words, and examples.
+    Help,
+    /// Its name and version.
+    Version,
+}
+
+/// The page of this name.
+fn page_named(name: &str) -> Option<Page>
+    ensures { result ≡ page_named name.now }
+{
+    match name {
+        "--help" => Some(Page::Help),
+        "--version" => Some(Page::Version),
+        _ => None,
+    }
+}
+
+/// The page for which the words ask, of which the first is the program's name.
+pub(crate) fn page_asked(words: &[String]) -> Option<Page>
+    ensures { result ≡ page_asked (map string_bytes words.now) }
+{
+    match words {
+        [_, name] => page_named(name.as_str()),
+        _ => None,
+    }
+}
+
+/// The page of help.
+fn help_text() -> &'static [u8]
+    ensures { result.now ≡ help_text }
+{
+    HELP
+}
+
+/// The text of a page.
+pub(crate) fn page_text(page: Page) -> &'static [u8]
+    ensures { result.now ≡ page_text page }
+{
+    match page {
+        Page::Help => help_text(),
+        Page::Version => b"ndef-make 0.1.0\n",
+    }
+}
+
+/// What the program does, its words, and examples.
+const HELP: &[u8] = b"\
+ndef-make writes a message of the NFC Data Exchange Format.
+
+Usage: ndef-make RECORD [--and RECORD]..
+
+Each RECORD is a subcommand with its options. Separate records with --and.
+
+  text TEXT           a text
+    --language L      the code of its language; without it: en
+    --utf16           encode it in UTF-16 in place of UTF-8
+  uri URI             a URI
+  poster URI          a smart poster of a URI
+    --title L=TEXT    a title in the language with the code L; may be repeated
+    --action A        what to do with the URI: do, save or open
+    --size N          the size in bytes of what the URI leads to
+    --media TYPE      the media type of what the URI leads to
+  handover request    a handover request; the records of its carriers are further parts
+  handover select     a handover select, likewise
+    --version 1.M     the version, 1.0 to 1.15; without it: 1.2
+    --collision N     of a request: its random number, 0 to 65535
+    --carrier P=I,..  a carrier: its power (inactive, active, activating, unknown),
+                      the id of its record and those of auxiliary records; may be
+                      repeated
+    --error R:DATA    of a select: the reason of an error, 0 to 255, and its data in
+                      hexadecimal digits
+  record              a record of any type; its payload is standard input
+    --tnf N           the type name format, 0 to 5
+    --type T          the type
+    --id I            the id
+    --unchecked       write any payload, also one that readers refuse
+  carrier             a handover carrier; its data is standard input
+    --format N        the carrier type format, 0 to 7
+    --type T          the carrier type
+    --id I            the id
+
+Options of every RECORD:
+
+  --hex               write hexadecimal digits and a newline, as to a terminal
+  --raw               write bytes, to a terminal too
+
+Without a RECORD:
+
+  --help              print this page
+  --version           print the name and the version
+
+Examples:
+
+  ndef-make text Hello --and uri http://www.example.com > tag.bin
+  ndef-make poster http://www.example.com --title en=Example --action save > tag.bin
+  printf 123 | ndef-make record --hex --tnf 2 --type a/b --id x
+  ndef-make handover select --carrier active=0 --and record --tnf 2 --type a/b --id 0 < data > tag.bin
+";

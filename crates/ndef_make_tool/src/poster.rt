@@ -1,0 +1,103 @@
+//! The record of a smart poster.
+ghost use Rattle.std.specs.Prelude.{◌≡◌};
+ghost use Rattle.clap.specs.Words.{found_of, rows_of};
+ghost use Rattle.ndef_make_tool.specs.Contents.{AreContents, MakesPoster, poster_contents};
+ghost use Rattle.ndef_make_tool.specs.Posters.{MakesNested, action_octet, action_said, size_said, title_said};
+ghost use Rattle.ndef_make_tool.specs.Records.{Asks, MakesItem, MakesText};
+
+use crate::contents::{Property, Word, make_contents, push_words};
+use crate::options::{cut_at_equals, number_in};
+use crate::records::{make_known, make_text, well_known};
+use crate::{Fault, Refused};
+use clap::ArgMatches;
+use ndef_types::{Encoding, SmartPoster};
+use ndef_value::{Message, MessageError, Record};
+use std::alloc::Global;
+
+/// The record of a title.
+pub(crate) fn make_title(alloc: Global, word: &str) -> Result<Record, Fault>
+    ensures { Asks MakesText (title_said word.now) result }
+{
+    match cut_at_equals(word) {
+        Some((language, text)) => make_text(alloc, Encoding::Utf8, language, text),
+        None => Err(Fault::Usage),
+    }
+}
+
+/// The octet of an action.
+fn action_octet(name: &str) -> Option<u8>
+    ensures { result ≡ action_octet name.now }
+{
+    match name {
+        "do" => Some(0),
+        "save" => Some(1),
+        "open" => Some(2),
+        _ => None,
+    }
+}
+
+/// The record of an action.
+pub(crate) fn make_action(alloc: Global, name: &str) -> Result<Record, Fault>
+    ensures { Asks MakesItem (action_said name.now) result }
+{
+    match action_octet(name) {
+        Some(octet) => make_known(alloc, b"act", &[octet]),
+        None => Err(Fault::Usage),
+    }
+}
+
+/// The record of a size.
+pub(crate) fn make_size(alloc: Global, word: &str) -> Result<Record, Fault>
+    ensures { Asks MakesItem (size_said word.now) result }
+{
+    match number_in(word) {
+        Some(size) => make_known(alloc, b"s", &size.to_be_bytes()),
+        None => Err(Fault::Usage),
+    }
+}
+
+/// What a part says of a poster.
+fn contents<'a>(alloc: Global, matches: &ArgMatches<'a>) -> Result<Vec<Word<'a>>, Fault>
+    ensures { AreContents (poster_contents (rows_of (found_of matches.now))) result }
+{
+    let mut words = Vec::new(alloc);
+    push_words(&mut words, matches, Property::Uri, "uri")?;
+    push_words(&mut words, matches, Property::Title, "title")?;
+    push_words(&mut words, matches, Property::Action, "action")?;
+    push_words(&mut words, matches, Property::Size, "size")?;
+    push_words(&mut words, matches, Property::Media, "media")?;
+    Ok(words)
+}
+
+/// The record of the poster of this message.
+fn make_poster(alloc: Global, message: Message) -> Result<Record, Fault>
+    ensures { MakesNested message result }
+{
+    match SmartPoster::new(message) {
+        Ok(poster) => {
+            let payload = poster.encode(alloc)?;
+            Ok(well_known(alloc, b"Sp", payload))
+        }
+        Err(_) => Err(Fault::Refused(Refused::NoPoster)),
+    }
+}
+
+/// The record of the poster of these records.
+fn make_nested(alloc: Global, records: Vec<Record>) -> Result<Record, Fault>
+    ensures { MakesNested records.items result }
+{
+    match Message::new(records) {
+        Ok(message) => make_poster(alloc, message),
+        Err(MessageError::NoRecords(_)) => Err(Fault::Refused(Refused::NoPoster)),
+        Err(MessageError::TooMany(_)) => Err(Fault::Refused(Refused::TooManyRecords)),
+    }
+}
+
+/// The record of the poster of a part.
+pub(crate) fn poster_record(alloc: Global, matches: &ArgMatches<'_>) -> Result<Record, Fault>
+    ensures { MakesPoster (rows_of (found_of matches.now)) result }
+{
+    let contents = contents(alloc, matches)?;
+    let records = make_contents(alloc, contents.as_slice())?;
+    make_nested(alloc, records)
+}

@@ -1,0 +1,86 @@
+//! The references of handovers to the records of the message.
+ghost use Rattle.std.specs.Prelude.{◌≡◌, map};
+ghost use Rattle.std.specs.List.{flat_map};
+ghost use Rattle.ndef_make_tool.specs.Asked.{asked_part};
+ghost use Rattle.ndef_make_tool.specs.References.{AreFound, is_id, references_in, references_of};
+
+use crate::handover::references_of;
+use crate::options::{Subject, cut_at_equals, subject_named};
+use crate::parts::Said;
+use crate::{Fault, Refused};
+use ndef_value::{Name, Record};
+use std::alloc::Global;
+
+/// Whether a record has this id; the empty one is none's.
+fn is_id(records: &[Record], id: &[u8]) -> bool
+    ensures { result ≡ is_id records.now id.now }
+{
+    if id.is_empty() {
+        return false;
+    }
+    for item in records {
+        if item.id() == id {
+            return true;
+        }
+    }
+    false
+}
+
+/// Finds a record for each reference.
+fn find(alloc: Global, records: &[Record], references: &[&[u8]]) -> Result<(), Fault>
+    ensures { AreFound records.now (map (λ reference. reference.now) references.now) result }
+{
+    for reference in references {
+        if !is_id(records, reference) {
+            let reference = Name::from_slice(alloc, reference)?;
+            return Err(Fault::Refused(Refused::NoRecord(reference)));
+        }
+    }
+    Ok(())
+}
+
+/// Finds a record for each reference in the word of a carrier.
+fn find_in_word(alloc: Global, records: &[Record], word: &str) -> Result<(), Fault>
+    ensures { AreFound records.now (references_in word.now) result }
+{
+    match cut_at_equals(word) {
+        Some((_, references)) => {
+            let references = references_of(alloc, references)?;
+            find(alloc, records, references.as_slice())
+        }
+        None => Ok(()),
+    }
+}
+
+/// Finds a record for each reference in the words of carriers.
+fn find_in_words(alloc: Global, records: &[Record], words: &[&str]) -> Result<(), Fault>
+    ensures { AreFound records.now (flat_map references_in (map (λ word. word.now) words.now)) result }
+{
+    for word in words {
+        find_in_word(alloc, records, word)?;
+    }
+    Ok(())
+}
+
+/// Finds a record for each reference of a part.
+fn find_in_part(alloc: Global, records: &[Record], said: &Said<'_>) -> Result<(), Fault>
+    ensures { AreFound records.now (references_of (asked_part said.now)) result }
+{
+    match subject_named(said.name) {
+        Some(Subject::Handover) => match said.matches.get_raw("carrier") {
+            Some(words) => find_in_words(alloc, records, words),
+            None => Ok(()),
+        },
+        _ => Ok(()),
+    }
+}
+
+/// Finds a record for each reference of the parts, or refuses the first without one.
+pub(crate) fn find_all(alloc: Global, records: &[Record], said: &[Said<'_>]) -> Result<(), Fault>
+    ensures { AreFound records.now (flat_map references_of (map asked_part said.now)) result }
+{
+    for part in said {
+        find_in_part(alloc, records, part)?;
+    }
+    Ok(())
+}

@@ -1,0 +1,90 @@
+//! The program, over any source and sinks.
+ghost use Rattle.std.specs.Prelude.{◌≡◌, false, map, string_bytes};
+ghost use Rattle.ndef_message.specs.States.{sink_state};
+ghost use Rattle.ndef_make_tool.specs.Runs.{Notes, PrintsAll, Runs, RunsFor, streams};
+
+use crate::fault::{line_of, status_of};
+use crate::making::{Shown, make};
+use crate::pages::{page_asked, page_text};
+use ndef_message::{Sink, Source, send};
+use ndef_program::Status;
+use std::alloc::Global;
+
+/// Writes a text.
+fn print<K: Sink>(text: &[u8], sink: &mut K) -> Status
+    ensures { K.has_failed sink.old ≡ false
+        → PrintsAll text.now (sink_state K.Sink sink.old) (sink_state K.Sink sink.new) result }
+{
+    match send(0, text, sink) {
+        Ok(_) => Status::Clean,
+        Err(_) => Status::Fault,
+    }
+}
+
+/// What is told where digits are written because they go to a terminal.
+const NOTE: &[u8] = b"standard output is a terminal: writing hexadecimal digits; \
+    --raw writes the bytes\n";
+
+/// Tells that digits are written because they go to a terminal, where that is so. Whether it goes out is no
+/// matter for the status.
+fn note<L: Sink>(shown: Shown, lines: &mut L)
+    ensures { L.has_failed lines.old ≡ false
+        → Notes shown (sink_state L.Sink lines.old) (sink_state L.Sink lines.new) }
+{
+    match shown {
+        Shown::Octets | Shown::Digits => {}
+        Shown::DigitsForTerminal => {
+            print(NOTE, lines);
+        }
+    }
+}
+
+/// Writes the message of records for which the words ask, or tells why there is none.
+fn run_for<S: Source, K: Sink, L: Sink>(
+    alloc: Global,
+    words: &[String],
+    terminal: bool,
+    source: &mut S,
+    sink: &mut K,
+    lines: &mut L,
+) -> Status
+    ensures { K.has_failed sink.old ≡ false → L.has_failed lines.old ≡ false
+        → RunsFor (map string_bytes words.now) terminal (streams S.Source K.Sink L.Sink source.old sink.old lines.old)
+        (streams S.Source K.Sink L.Sink source.new sink.new lines.new) result }
+{
+    match make(alloc, words, terminal, source) {
+        Ok(made) => {
+            note(made.shown, lines);
+            print(made.text.as_slice(), sink)
+        }
+        Err(fault) => {
+            let told = line_of(&fault);
+            print(told.as_slice(), lines);
+            status_of(&fault)
+        }
+    }
+}
+
+/// Does what the words ask for, of which the first is the program's name: writes the message or a page to
+/// one sink, or tells in the other why there is no message.
+///
+/// After a writing fault of the first the status is `Fault`, and a front of the text is written. To a
+/// terminal the message goes in hexadecimal digits, and the other sink tells so, unless the words say how it
+/// is written.
+pub fn run<S: Source, K: Sink, L: Sink>(
+    alloc: Global,
+    words: &[String],
+    terminal: bool,
+    source: &mut S,
+    sink: &mut K,
+    lines: &mut L,
+) -> Status
+    ensures { K.has_failed sink.old ≡ false → L.has_failed lines.old ≡ false
+        → Runs (map string_bytes words.now) terminal (streams S.Source K.Sink L.Sink source.old sink.old lines.old)
+        (streams S.Source K.Sink L.Sink source.new sink.new lines.new) result }
+{
+    match page_asked(words) {
+        Some(page) => print(page_text(page), sink),
+        None => run_for(alloc, words, terminal, source, sink, lines),
+    }
+}

@@ -1,6 +1,0 @@
-use Rattle.ndef_making.proofs.ReadBack.{made_is_read}
-use Rattle.ndef_making.proofs.laws.made_is_read.Goals as goal
-
-pub returns : goal.returns
-returns c =
-    made_is_read c.strict_contents_are_read.ensures.strict c.short_is_canonical.ensures _ _ c.typed_payloads.ensures.sets c.reading_gives_back.ensures

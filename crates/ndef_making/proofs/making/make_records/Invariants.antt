@@ -1,7 +1,0 @@
-use Rattle.std.proofs.Common.{map, take}
-use Rattle.ndef_making.specs.Asked.{asked_part}
-use Rattle.ndef_making.specs.Making.{AreMade}
-use Rattle.ndef_making.proofs.making.make_records.Given as goal
-
-abbrev pub invariant-loop-part : goal.invariant-loop-part
-invariant-loop-part l = AreMade (map asked_part (take l.part-index l.said)) l.input l.records.items

@@ -1,0 +1,16 @@
+-- The status that a process ends with.
+use Rattle.std.specs.Prelude.{ℕ, Bool, true, false}
+use Rattle.ndef_program.specs.declared.status.Status.{Status}
+use Rattle.ndef_program.specs.declared.status.Status.TheVariants as status
+
+-- the number with which the process ends
+abbrev pub number_of_status : Status → ℕ
+number_of_status status.Clean = 0
+number_of_status status.Refused = 1
+number_of_status status.Usage = 2
+number_of_status status.Fault = 3
+
+-- the status, where the output may have failed
+abbrev pub status_after : Bool → Status → Status
+status_after false st = st
+status_after true st = status.Fault

@@ -1,0 +1,30 @@
+//! NDEF messages (NFC Forum, NDEF 1.0), decoded, encoded and checked: what a program needs, from one crate.
+//!
+//! - A message: [`Message`] and its [`Record`]s, with a [`Tnf`], a type, an id and a payload, and [`Limits`].
+//! - Read it: [`view`] in a slice, [`read_message`] from a [`Source`], a [`Decoder`] fed with bytes as they come.
+//! - Check it: [`check`], [`check_message`], a [`Checker`] fed with bytes as they come.
+//! - Write it: [`encode`], [`encode_chunked`], [`write_message`] to a [`Sink`].
+//! - Payloads: [`Text`], [`Uri`], [`SmartPoster`], [`Request`], [`Select`] and their parts, and the
+//!   [`carriers`] of a message. [`Typed`] says that they are checked, [`Opaque`] that they are not.
+//! - A [`Refusal`] has the place of the first byte after which no continuation is a message, and its [`Reason`].
+//!
+//! The crates that these come from have the laws, and what only other crates of this repository need.
+#![tactic(auto)]
+
+pub use ndef_lang::{Opaque, OuterLanguage};
+pub use ndef_message::{
+    CheckError, Checked, Checker, Decoder, Event, Fed, Form, InputError, Item, Items, Pieces, Read,
+    ReadError, Sink, SinkFault, SliceSource, Source, SourceFault, StdSink, StdSource, View,
+    WriteFault, check, check_message, encode, encode_chunked, encoded_length, read_all,
+    read_message, view, write_message,
+};
+pub use ndef_nest::Typed;
+pub use ndef_types::{
+    Ac, Action, Carrier, DecodeError, DetailError, EncodeError, Encoding, HandoverError, Link,
+    LinkError, Links, NotHandover, NotPoster, Power, Request, Select, SmartPoster, Text, TextError,
+    Texts, TooMany, Uri, carriers, carriers_as, carriers_view, prefix, split, split_language,
+};
+pub use ndef_value::{
+    Bytes, Limits, MOST_PAYLOAD, MOST_PIECES, MOST_RECORDS, Message, MessageError, Name, NameError,
+    NoMemory, OutOfRange, Profile, Reason, Record, RecordError, Refusal, Tnf, TnfError,
+};
