@@ -4,7 +4,7 @@
 # Processor seconds that the proof of a crate takes from nothing.
 declare -A processor_seconds=(
     [ndef_format]=40 [ndef_value]=75 [ndef_piece]=107 [ndef_lang]=162 [ndef_nest]=128 [ndef_message]=329 [ndef_types]=264
-    [ndef_program]=20 [ndef_tool]=237 [ndef_making]=200 [ndef]=54 [ndef_make]=54
+    [ndef_program]=20 [ndef_tool]=237 [ndef_make_tool]=200 [ndef]=54 [ndef_make]=54
 )
 
 say() { echo "$name: $*" >&2; }
