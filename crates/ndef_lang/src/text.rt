@@ -9,6 +9,7 @@ ghost use Rattle.ndef_lang.specs.Machine.Text.{CompletesText, TextReached, UpToC
 
 use super::language::Language;
 use super::lengths::Lengths;
+use super::member::is_leaf_payload;
 use super::utf8::Utf8Lang;
 use super::utf16::Utf16State;
 use ndef_format::Kind;
@@ -139,6 +140,11 @@ impl Language for TextLang {
     ghost fitting = { λ state. meets (text_lengths state) };
 
     ghost told = { text_told };
+
+    #[inline(always)]
+    fn has(_kind: Kind, _records: u32, profile: Profile, payload: &[u8]) -> bool {
+        is_leaf_payload(Kind::Text, profile, payload)
+    }
 
     fn start(_kind: Kind, _records: u32, _profile: Profile) -> Self {
         TextLang::Start

@@ -20,6 +20,7 @@ ghost use Rattle.ndef_nest.specs.Machine.FrontLaws.{front_at_prop};
 use crate::Table;
 use crate::context::Context;
 use crate::demand::Demand;
+use crate::member::is_nested;
 use crate::phase::{Phase, headed, typed};
 use crate::span::{Open, least, meets, most};
 use ndef_lang::{Kind, Language};
@@ -337,6 +338,11 @@ impl Language for Nest {
     ghost fitting = { nest_fits };
 
     ghost told = { nest_told };
+
+    #[inline(always)]
+    fn has(kind: Kind, records: u32, profile: Profile, payload: &[u8]) -> bool {
+        is_nested(Table::of(kind), records, profile, payload)
+    }
 
     fn start(kind: Kind, records: u32, profile: Profile) -> Self {
         Nest::new(Table::of(kind), records, profile)

@@ -4,8 +4,7 @@ ghost use Rattle.ndef_format.specs.Messages.{run_record};
 ghost use Rattle.ndef_value.specs.declared.limits.TheConstants.{MOST_RECORDS};
 ghost use Rattle.ndef_types.specs.Decoding.{RefusesPayload};
 
-use crate::TestedLanguage;
-use ndef_lang::{Kind, refusal_of};
+use ndef_lang::{Kind, Language, refusal_of};
 use ndef_message::Item;
 use ndef_value::{MOST_PAYLOAD, MOST_RECORDS, Profile, Reason, Refusal};
 
@@ -14,7 +13,7 @@ pub(crate) const MOST: usize = MOST_PAYLOAD as usize;
 
 /// Nothing where the payload is in the set of its kind and of at most 4294967295 bytes, else where and
 /// why it is refused.
-pub fn accept<L: TestedLanguage>(
+pub fn accept<L: Language>(
     kind: Kind,
     profile: Profile,
     payload: &[u8],
@@ -29,7 +28,7 @@ pub fn accept<L: TestedLanguage>(
             reason: Reason::DoesNotFit,
         });
     }
-    if L::has(kind, profile, payload) {
+    if L::has(kind, MOST_RECORDS, profile, payload) {
         return Ok(());
     }
     match refusal_of::<L>(kind, MOST_RECORDS, profile, payload) {
@@ -39,7 +38,7 @@ pub fn accept<L: TestedLanguage>(
 }
 
 /// What `accept` answers of the payload of a record that is viewed, whose pieces are judged where they lie.
-pub(crate) fn accept_item<L: TestedLanguage>(
+pub(crate) fn accept_item<L: Language>(
     kind: Kind,
     profile: Profile,
     item: &Item<'_>,

@@ -8,7 +8,7 @@
 //! - `specs/Values.antt`, `specs/Posters.antt`, `specs/Handovers.antt`: which payload stands for which
 //!   value.
 //! - `specs/Decoding.antt`: what is answered, and the laws. `accepting.rt`: the check that each decoder
-//!   begins with. `tested_language.rt`: the test that comes first.
+//!   begins with.
 //! - `specs/Prefixes.antt`: the prefixes of URIs.
 //! - `contents.rt`, `specs/Contents.antt`: which record of a nested message is wrong. `nested.rt`:
 //!   messages in payloads.
@@ -35,7 +35,6 @@ mod prefixes;
 mod request;
 mod select;
 mod smart_poster;
-mod tested_language;
 mod text;
 mod texts;
 mod uri;
@@ -61,7 +60,6 @@ pub use prefixes::{prefix, split};
 pub use request::Request;
 pub use select::Select;
 pub use smart_poster::{NotPoster, SmartPoster};
-pub use tested_language::TestedLanguage;
 pub use text::{Text, TextError, split_language};
 pub use texts::Texts;
 pub use uri::Uri;

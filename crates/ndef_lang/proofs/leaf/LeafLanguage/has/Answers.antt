@@ -1,5 +1,5 @@
 use Rattle.std.proofs.Common.{rules}
-use Rattle.ndef_lang.proofs.leaf.LeafOuterLanguage.has.Goals as goal
+use Rattle.ndef_lang.proofs.leaf.LeafLanguage.has.Goals as goal
 
 pub returns : goal.returns
 returns c = search rules
