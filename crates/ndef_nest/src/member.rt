@@ -6,7 +6,7 @@ ghost use Rattle.ndef_nest.specs.Machine.Demands.{Later, RecordsToCome, Tail};
 use crate::Table;
 use crate::context::Context;
 use crate::demand::Demand;
-use ndef_lang::{Leaf, OuterLanguage};
+use ndef_lang::{Language, Leaf};
 use ndef_piece::{heads_are_of_pieces, whole_piece};
 use ndef_value::Profile;
 

@@ -4,7 +4,7 @@ ghost use Rattle.ndef_format.specs.Nested.{IsPayload};
 ghost use Rattle.ndef_format.specs.declared.profile.Profile.TheVariants.{Strict};
 ghost use Rattle.ndef_types.specs.Contents.{AreInOrder, IsFirstOf, IsFirstWrong, IsInOrder, IsOfKind, MayFollow};
 
-use ndef_lang::{Kind, Leaf, OuterLanguage, refusal_of};
+use ndef_lang::{Kind, Language, Leaf, refusal_of};
 use ndef_nest::Table;
 use ndef_value::{Profile, Record};
 
