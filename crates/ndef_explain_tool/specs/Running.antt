@@ -8,16 +8,18 @@ use Rattle.ndef_tool.specs.Output.{ending_text, status_of}
 use Rattle.ndef_tool.specs.Quoting.{Text, quoted}
 use Rattle.ndef_program.specs.Statuses.{status_after}
 use Rattle.ndef_program.specs.Outputs.{GoesOut}
+use Rattle.ndef_program.specs.Pages.{page_asked}
 use Rattle.ndef_tool.specs.declared.choice.WordsError.{WordsError}
 use Rattle.ndef_tool.specs.declared.choice.WordsError.TheVariants.{Usage, NoMemory}
 use Rattle.ndef_tool.specs.declared.ending.Ending.{Ending}
 use Rattle.ndef_tool.specs.declared.ending.Ending.TheVariants.{Memory}
+use Rattle.ndef_program.specs.declared.pages.Page.{Page}
 use Rattle.ndef_program.specs.declared.status.Status.{Status}
 use Rattle.ndef_program.specs.declared.status.Status.TheVariants as status
 use Rattle.ndef_explain_tool.specs.Chosen.{Asks, asked_parts}
 use Rattle.ndef_explain_tool.specs.Explaining.{IsExplained}
 use Rattle.ndef_explain_tool.specs.Inputs.{AreOctets}
-use Rattle.ndef_explain_tool.specs.Pages.{page_asked, page_text}
+use Rattle.ndef_explain_tool.specs.Pages.{page_text}
 use Rattle.ndef_explain_tool.specs.Painting.{shown_in}
 use Rattle.ndef_explain_tool.specs.declared.choice.Asked.{Asked}
 use Rattle.ndef_explain_tool.specs.declared.choice.Choice.{Choice}
@@ -25,7 +27,6 @@ use Rattle.ndef_explain_tool.specs.declared.choice.Color.{Color}
 use Rattle.ndef_explain_tool.specs.declared.choice.Color.TheVariants as color
 use Rattle.ndef_explain_tool.specs.declared.explaining.Stop.{Stop}
 use Rattle.ndef_explain_tool.specs.declared.explaining.Stop.TheVariants.{End, Refused}
-use Rattle.ndef_explain_tool.specs.declared.pages.Page.{Page}
 use Rattle.ndef_explain_tool.specs.declared.telling.Manner.{Manner}
 
 -- ---- the text of an input

@@ -1,36 +1,8 @@
 //! The pages about the program itself.
-ghost use Rattle.std.specs.Prelude.{◌≡◌, map, string_bytes};
-ghost use Rattle.ndef_explain_tool.specs.Pages.{help_text, page_asked, page_named, page_text};
+ghost use Rattle.std.specs.Prelude.{◌≡◌};
+ghost use Rattle.ndef_explain_tool.specs.Pages.{help_text, page_text};
 
-/// A page about the program.
-#[derive(Clone, Copy, Debug, PartialEq, Eq)]
-pub(crate) enum Page {
-    /// What the program does, its words, and examples.
-    Help,
-    /// Its name and version.
-    Version,
-}
-
-/// The page of this name.
-fn page_named(name: &str) -> Option<Page>
-    ensures { result ≡ page_named name.now }
-{
-    match name {
-        "--help" => Some(Page::Help),
-        "--version" => Some(Page::Version),
-        _ => None,
-    }
-}
-
-/// The page for which the words ask, of which the first is the program's name.
-pub(crate) fn page_asked(words: &[String]) -> Option<Page>
-    ensures { result ≡ page_asked (map string_bytes words.now) }
-{
-    match words {
-        [_, name] => page_named(name.as_str()),
-        _ => None,
-    }
-}
+use ndef_program::Page;
 
 /// The page of help.
 fn help_text() -> &'static [u8]

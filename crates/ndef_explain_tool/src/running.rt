@@ -9,10 +9,10 @@ ghost use Rattle.ndef_explain_tool.specs.Running.{PrintsText, Runs, SendsOut, Te
 
 use crate::choice::{Asked, Choice, Color, ask};
 use crate::inputs::Inputs;
-use crate::pages::{Page, page_asked, page_text};
+use crate::pages::page_text;
 use crate::telling::{Manner, tell};
 use ndef_message::{InputError, Sink, WriteFault, send};
-use ndef_program::Status;
+use ndef_program::{Page, Status, page_asked};
 use ndef_tool::WordsError;
 use ndef_value::NoMemory;
 use std::alloc::Global;

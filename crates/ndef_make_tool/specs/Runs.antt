@@ -5,17 +5,18 @@ use Rattle.ndef_message.specs.States.{SinkState, SourceState, sink_state, source
 use Rattle.ndef_message.specs.declared.sink.Sink.{Ghosts as SinkOf}
 use Rattle.ndef_message.specs.declared.source.Source.{Ghosts as SourceOf}
 use Rattle.ndef_program.specs.Outputs.{GoesOut}
+use Rattle.ndef_program.specs.Pages.{page_asked}
 use Rattle.ndef_program.specs.Statuses.{status_after}
 use Rattle.ndef_make_tool.specs.Faults.{line_of, status_of}
 use Rattle.ndef_make_tool.specs.Making.{IsMade}
-use Rattle.ndef_make_tool.specs.Pages.{page_asked, page_text}
+use Rattle.ndef_make_tool.specs.Pages.{page_text}
 use Rattle.ndef_make_tool.specs.declared.fault.Fault.{Fault}
+use Rattle.ndef_program.specs.declared.pages.Page.{Page}
 use Rattle.ndef_program.specs.declared.status.Status.{Status}
 use Rattle.ndef_program.specs.declared.status.Status.TheVariants as status
 use Rattle.ndef_make_tool.specs.declared.making.Written.{Written}
 use Rattle.ndef_make_tool.specs.declared.making.Shown.{Shown}
 use Rattle.ndef_make_tool.specs.declared.making.Shown.TheVariants.{DigitsForTerminal}
-use Rattle.ndef_make_tool.specs.declared.pages.Page.{Page}
 
 -- ---- what a run reads and writes
 

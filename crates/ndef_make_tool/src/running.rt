@@ -5,9 +5,9 @@ ghost use Rattle.ndef_make_tool.specs.Runs.{Notes, PrintsAll, Runs, RunsFor, str
 
 use crate::fault::{line_of, status_of};
 use crate::making::{Shown, make};
-use crate::pages::{page_asked, page_text};
+use crate::pages::page_text;
 use ndef_message::{Sink, Source, send};
-use ndef_program::Status;
+use ndef_program::{Status, page_asked};
 use std::alloc::Global;
 
 /// Writes a text.

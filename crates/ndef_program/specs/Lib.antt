@@ -1,3 +1,4 @@
 pub mod CommandLine
 pub mod Outputs
+pub mod Pages
 pub mod Statuses
