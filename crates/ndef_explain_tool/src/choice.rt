@@ -1,12 +1,12 @@
 //! What the words ask for.
-ghost use Rattle.std.specs.Prelude.{◌≡◌, map, option_map, string_bytes, IfOk};
-ghost use Rattle.clap.specs.Words.{found_of, first_of, rows_of};
-ghost use Rattle.ndef_tool.specs.Chosen.{hex_of};
+ghost use Rattle.std.specs.Prelude.{◌≡◌, map, string_bytes, IfOk};
+ghost use Rattle.clap.specs.Words.{found_of, rows_of};
 ghost use Rattle.ndef_explain_tool.specs.Chosen.{Answers, Asks, asked_in, choice_in, chosen_color, color_named, files_in};
 
 use crate::command::explain_command;
 use clap::ArgMatches;
 use clap::error::ErrorKind;
+use ndef_program::{hex_given, option_text};
 use ndef_tool::{WordsError, limits_given};
 use ndef_value::{Limits, NoMemory};
 use std::alloc::{AllocError, Global};
@@ -37,23 +37,6 @@ pub(crate) struct Asked<'a> {
     pub(crate) files: Vec<&'a str>,
 }
 
-/// The text of an option, where it is given.
-fn text<'a>(matches: &ArgMatches<'a>, id: &str) -> Option<&'a str>
-    ensures { option_map (λ s. s.now) result ≡ first_of id.now (rows_of (found_of matches.now)) }
-{
-    matches.get_str(id)
-}
-
-/// Whether `--hex` is given.
-fn hex(matches: &ArgMatches<'_>) -> bool
-    ensures { result ≡ hex_of (rows_of (found_of matches.now)) }
-{
-    match text(matches, "hex") {
-        Some(text) => text == "true",
-        None => false,
-    }
-}
-
 /// When output is in colour, by this name.
 fn color_named(name: &str) -> Option<Color>
     ensures { result ≡ color_named name.now }
@@ -70,7 +53,7 @@ fn color_named(name: &str) -> Option<Color>
 fn color_given(matches: &ArgMatches<'_>) -> Option<Color>
     ensures { result ≡ chosen_color (rows_of (found_of matches.now)) }
 {
-    match text(matches, "color") {
+    match option_text(matches, "color") {
         Some(name) => color_named(name),
         None => Some(Color::Auto),
     }
@@ -83,7 +66,7 @@ fn choice_given(matches: &ArgMatches<'_>) -> Option<Choice>
     let limits = limits_given(matches)?;
     let color = color_given(matches)?;
     Some(Choice {
-        hex: hex(matches),
+        hex: hex_given(matches),
         color,
         limits,
     })

@@ -8,7 +8,8 @@ use Rattle.ndef_lang.specs.Place.{IsRefused}
 use Rattle.ndef_format.specs.Payloads.{IsTypedPayload}
 use Rattle.ndef_format.specs.NestedReasons.{TypedReason}
 use Rattle.ndef_make_tool.specs.Asked.{AskedPart}
-use Rattle.ndef_make_tool.specs.Options.{flag_of, is_given, subject_named}
+use Rattle.ndef_program.specs.Options.{flag_of}
+use Rattle.ndef_make_tool.specs.Options.{is_given, subject_named}
 use Rattle.ndef_make_tool.specs.Records.{Answer}
 use Rattle.ndef_make_tool.specs.declared.fault.Fault.TheVariants.{Refused}
 use Rattle.ndef_make_tool.specs.declared.fault.Refused.TheVariants.{BadPayload}

@@ -11,7 +11,8 @@ use Rattle.ndef_make_tool.specs.Asked.{AskedPart, asked_of}
 use Rattle.ndef_make_tool.specs.Carriers.{MakesCarrier, carrier_said, id_said}
 use Rattle.ndef_make_tool.specs.Checking.{MakesIf, is_unchecked}
 use Rattle.ndef_make_tool.specs.Inputs.{IsPayloadInput}
-use Rattle.ndef_make_tool.specs.Options.{flag_of, subject_named, takes_input}
+use Rattle.ndef_program.specs.Options.{flag_of}
+use Rattle.ndef_make_tool.specs.Options.{subject_named, takes_input}
 use Rattle.ndef_make_tool.specs.Contents.{MakesHandoverSaid, MakesPoster}
 use Rattle.ndef_make_tool.specs.References.{missing_reference}
 use Rattle.ndef_make_tool.specs.Records.{Answer, AreAnsweredBy, AreMadeBy, Asks, FailsBy, MakesItem, MakesText, MakesUri, item_said, text_said, uri_said}

@@ -1,6 +1,5 @@
 -- What the options of a part say.
 use Rattle.std.specs.Prelude.{◌==◌, ℕ, Bool, true, false, List, [], length, Option, Some, None, codes, if◌then◌else◌, is_some, nat_lt, option_and_then, unwrap_or}
-use Rattle.std.specs.Option.{option_map_or}
 use Rattle.std.specs.List.{after_first, before_first, position_or_len}
 use Rattle.std.specs.Str.{bytes_eq}
 use Rattle.std.specs.Str.Parse.{digits_value, without_leading_plus}
@@ -23,10 +22,6 @@ is_said id rows = is_some (first_of id rows)
 -- the words of an option
 abbrev pub words_of : Text → List Row → List Text
 words_of id rows = unwrap_or (all_of id rows) []
-
--- whether the flag is set
-abbrev pub flag_of : Text → List Row → Bool
-flag_of id rows = option_map_or (λ t. bytes_eq t (codes "true")) (first_of id rows) false
 
 -- the subject of this name
 abbrev pub subject_named : Text → Option Subject

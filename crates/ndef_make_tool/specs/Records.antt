@@ -9,7 +9,8 @@ use Rattle.ndef_types.specs.Decoding.{IsTooLong}
 use Rattle.ndef_types.specs.Values.{TextValue, WritesText, WritesUri}
 use Rattle.ndef_types.specs.declared.encoding.Encoding.{Encoding}
 use Rattle.ndef_types.specs.declared.encoding.Encoding.TheVariants.{Utf8, Utf16}
-use Rattle.ndef_make_tool.specs.Options.{flag_of, tnf_named, word_or}
+use Rattle.ndef_program.specs.Options.{flag_of}
+use Rattle.ndef_make_tool.specs.Options.{tnf_named, word_or}
 use Rattle.ndef_make_tool.specs.declared.fault.Fault.{Fault}
 use Rattle.ndef_make_tool.specs.declared.fault.Fault.TheVariants.{Usage, Refused, Memory}
 use Rattle.ndef_make_tool.specs.declared.fault.Refused.TheVariants.{LanguageTooLong, LanguageNotAscii, PayloadTooLong, BadShape, PartTooLong}

@@ -5,8 +5,9 @@ ghost use Rattle.ndef_make_tool.specs.Carriers.{MakesCarrier, WritesData, carrie
 ghost use Rattle.ndef_make_tool.specs.Records.{Asks, MakesItem};
 
 use crate::Fault;
-use crate::options::{word, word_or};
+use crate::options::word_or;
 use clap::ArgMatches;
+use ndef_program::option_text;
 use ndef_types::Carrier;
 use ndef_value::{Bytes, Name, Record, Tnf};
 use std::alloc::Global;
@@ -56,7 +57,7 @@ pub(crate) fn carrier_record(
     ensures { Asks (MakesCarrier (id_said (rows_of (found_of matches.now))))
         (carrier_said (rows_of (found_of matches.now)) input.now) result }
 {
-    let Some(name) = word(matches, "format") else {
+    let Some(name) = option_text(matches, "format") else {
         return Err(Fault::Usage);
     };
     let Some(format) = format_named(name) else {

@@ -8,11 +8,12 @@ ghost use Rattle.ndef_make_tool.specs.Options.{is_comma};
 ghost use Rattle.ndef_make_tool.specs.Records.{Asks, MakesItem};
 
 use crate::contents::{Property, Word, make_contents, push_words};
-use crate::options::{cut_at_colon, cut_at_equals, is_said, number_below, word, word_or};
+use crate::options::{cut_at_colon, cut_at_equals, is_said, number_below, word_or};
 use crate::records::{make_known, well_known};
 use crate::{Fault, Refused};
 use clap::ArgMatches;
 use hex::FromHexError;
+use ndef_program::option_text;
 use ndef_types::{Ac, HandoverError, Power, Request, Select};
 use ndef_value::{Bytes, Message, MessageError, Name, Record};
 use std::alloc::{AllocError, Global};
@@ -208,7 +209,7 @@ fn handover_said(matches: &ArgMatches<'_>) -> Option<Handover>
     ensures value { result ≡ handover_said (rows_of (found_of matches.now)) }
     ensures bound { IfSome result (λ handover. handover.minor < 16) }
 {
-    let side = side_named(word(matches, "kind")?)?;
+    let side = side_named(option_text(matches, "kind")?)?;
     if !goes_with(side, matches) {
         return None;
     }

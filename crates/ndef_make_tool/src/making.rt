@@ -5,13 +5,13 @@ ghost use Rattle.ndef_make_tool.specs.Asked.{asked_part};
 ghost use Rattle.ndef_make_tool.specs.Making.{AreAnswered, IsMade, MakesMessage, ReadsFor, has_flag, is_reader, readers_of, shown_by, shown_in};
 
 use crate::input::read_payload;
-use crate::options::{Subject, flag, subject_named};
+use crate::options::{Subject, subject_named};
 use crate::parts::{Said, parts, say_all};
 use crate::records::make_record;
 use crate::references::find_all;
 use crate::{Fault, Refused};
 use ndef_message::{Form, Source, encode};
-use ndef_program::hexadecimal_line;
+use ndef_program::{flag_given, hexadecimal_line};
 use ndef_value::{Bytes, Message, MessageError, NoMemory, Record};
 use std::alloc::Global;
 
@@ -76,7 +76,7 @@ fn has_flag(said: &[Said<'_>], id: &str) -> bool
     ensures { result ≡ has_flag id.now (map asked_part said.now) }
 {
     for part in said {
-        if flag(&part.matches, id) {
+        if flag_given(&part.matches, id) {
             return true;
         }
     }

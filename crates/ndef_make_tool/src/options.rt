@@ -1,9 +1,10 @@
 //! The options of a part.
 ghost use Rattle.std.specs.Prelude.{◌≡◌, ◌<◌, option_map, IfSome};
-ghost use Rattle.clap.specs.Words.{first_of, found_of, rows_of};
-ghost use Rattle.ndef_make_tool.specs.Options.{cut_at, flag_of, is_colon, is_equals, is_said, number_below, number_in, subject_named, tnf_named, word_or};
+ghost use Rattle.clap.specs.Words.{found_of, rows_of};
+ghost use Rattle.ndef_make_tool.specs.Options.{cut_at, is_colon, is_equals, is_said, number_below, number_in, subject_named, tnf_named, word_or};
 
 use clap::ArgMatches;
+use ndef_program::option_text;
 use ndef_value::Tnf;
 
 /// What a part is about.
@@ -23,18 +24,11 @@ pub(crate) enum Subject {
     Carrier,
 }
 
-/// The word of an option, where it is given.
-pub(crate) fn word<'a>(matches: &ArgMatches<'a>, id: &str) -> Option<&'a str>
-    ensures { option_map (λ s. s.now) result ≡ first_of id.now (rows_of (found_of matches.now)) }
-{
-    matches.get_str(id)
-}
-
 /// The word of an option, or another one where it isn't given.
 pub(crate) fn word_or<'a>(matches: &ArgMatches<'a>, id: &str, other: &'a str) -> &'a str
     ensures { result.now ≡ word_or id.now other.now (rows_of (found_of matches.now)) }
 {
-    match word(matches, id) {
+    match option_text(matches, id) {
         Some(word) => word,
         None => other,
     }
@@ -44,18 +38,8 @@ pub(crate) fn word_or<'a>(matches: &ArgMatches<'a>, id: &str, other: &'a str) ->
 pub(crate) fn is_said(matches: &ArgMatches<'_>, id: &str) -> bool
     ensures { result ≡ is_said id.now (rows_of (found_of matches.now)) }
 {
-    match word(matches, id) {
+    match option_text(matches, id) {
         Some(_) => true,
-        None => false,
-    }
-}
-
-/// Whether a flag is given.
-pub(crate) fn flag(matches: &ArgMatches<'_>, id: &str) -> bool
-    ensures { result ≡ flag_of id.now (rows_of (found_of matches.now)) }
-{
-    match word(matches, id) {
-        Some(word) => word == "true",
         None => false,
     }
 }

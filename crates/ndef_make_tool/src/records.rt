@@ -9,13 +9,14 @@ ghost use Rattle.ndef_make_tool.specs.Records.{Asks, MakesItem, MakesText, Makes
 
 use crate::carrier::carrier_record;
 use crate::handover::handover_record;
-use crate::options::{Subject, flag, subject_named, tnf_named, word, word_or};
+use crate::options::{Subject, subject_named, tnf_named, word_or};
 use crate::parts::Said;
 use crate::poster::poster_record;
 use crate::{Fault, Refused};
 use clap::ArgMatches;
 use ndef_lang::{Kind, refusal_of};
 use ndef_nest::Typed;
+use ndef_program::{flag_given, option_text};
 use ndef_types::{Encoding, Text, Uri};
 use ndef_value::{Bytes, MOST_RECORDS, Name, Profile, Record, Tnf};
 use std::alloc::Global;
@@ -57,11 +58,11 @@ pub(crate) fn make_text(
 fn text_record(alloc: Global, matches: &ArgMatches<'_>) -> Result<Record, Fault>
     ensures { Asks MakesText (text_said (rows_of (found_of matches.now))) result }
 {
-    let Some(text) = word(matches, "text") else {
+    let Some(text) = option_text(matches, "text") else {
         return Err(Fault::Usage);
     };
     let language = word_or(matches, "language", "en");
-    let encoding = if flag(matches, "utf16") {
+    let encoding = if flag_given(matches, "utf16") {
         Encoding::Utf16
     } else {
         Encoding::Utf8
@@ -82,7 +83,7 @@ pub(crate) fn make_uri(alloc: Global, uri: &str) -> Result<Record, Fault>
 fn uri_record(alloc: Global, matches: &ArgMatches<'_>) -> Result<Record, Fault>
     ensures { Asks MakesUri (uri_said (rows_of (found_of matches.now))) result }
 {
-    match word(matches, "uri") {
+    match option_text(matches, "uri") {
         Some(uri) => make_uri(alloc, uri),
         None => Err(Fault::Usage),
     }
@@ -92,7 +93,7 @@ fn uri_record(alloc: Global, matches: &ArgMatches<'_>) -> Result<Record, Fault>
 fn given_record(alloc: Global, matches: &ArgMatches<'_>, payload: &[u8]) -> Result<Record, Fault>
     ensures { Asks MakesItem (item_said (rows_of (found_of matches.now)) payload.now) result }
 {
-    let Some(name) = word(matches, "tnf") else {
+    let Some(name) = option_text(matches, "tnf") else {
         return Err(Fault::Usage);
     };
     let Some(tnf) = tnf_named(name) else {
@@ -123,7 +124,7 @@ fn is_unchecked(said: &Said<'_>) -> bool
     ensures { result ≡ is_unchecked (asked_part said.now) }
 {
     match subject_named(said.name) {
-        Some(Subject::Record) => flag(&said.matches, "unchecked"),
+        Some(Subject::Record) => flag_given(&said.matches, "unchecked"),
         _ => false,
     }
 }

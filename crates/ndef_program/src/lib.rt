@@ -2,6 +2,7 @@
 //!
 //! - `line.rt`: a short text, made with no memory. `hexadecimal.rt`: lines of hexadecimal digits.
 //! - `command.rt`, `specs/CommandLine.antt`: steps of a command line, by clap.
+//! - `options.rt`, `specs/Options.antt`: what its options say.
 //! - `pages.rt`, `specs/Pages.antt`: which page about the program its words ask for.
 //! - `status.rt`, `specs/Statuses.antt`: the status that a process ends with.
 //! - `specs/Outputs.antt`: what goes out to a sink.
@@ -10,11 +11,13 @@
 mod command;
 mod hexadecimal;
 mod line;
+mod options;
 mod pages;
 mod status;
 
 pub use command::{flag, hex_command, over, with, word_option};
 pub use hexadecimal::hexadecimal_line;
 pub use line::{Line, ROOM};
+pub use options::{flag_given, hex_given, option_text};
 pub use pages::{Page, page_asked};
 pub use status::{Status, exit_code, exit_code_after};

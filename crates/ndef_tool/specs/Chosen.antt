@@ -1,5 +1,5 @@
 -- What the words ask for.
-use Rattle.std.specs.Prelude.{◌≡◌, ◌&&◌, ◌≤◌, ℕ, Bool, false, List, [], ◌∷◌, Option, Some, None, Result, Ok, Err, codes, if◌then◌else◌, ⊤, option_and_then, option_map, nat_lt, nat_le}
+use Rattle.std.specs.Prelude.{◌≡◌, ◌&&◌, ◌≤◌, ℕ, false, List, [], ◌∷◌, Option, Some, None, Result, Ok, Err, codes, if◌then◌else◌, ⊤, option_and_then, option_map, nat_lt, nat_le}
 use Rattle.std.specs.Option.{option_map_or, ForSome}
 use Rattle.std.specs.Str.{bytes_eq}
 use Rattle.std.specs.Str.Parse.{digits_value, without_leading_plus}
@@ -11,16 +11,13 @@ use Rattle.ndef_format.specs.declared.profile.Profile.{Profile}
 use Rattle.ndef_format.specs.declared.profile.Profile.TheVariants.{Strict, Standard}
 use Rattle.ndef_message.specs.declared.form.Form.{Form}
 use Rattle.ndef_message.specs.declared.form.Form.TheVariants.{Short, Long}
+use Rattle.ndef_program.specs.Options.{hex_of}
 use Rattle.ndef_tool.specs.CommandLine.{ndef_app}
 use Rattle.ndef_tool.specs.declared.choice.Action.{Action}
 use Rattle.ndef_tool.specs.declared.choice.Action.TheVariants.{Show, Check, Encode}
 use Rattle.ndef_tool.specs.declared.choice.Choice.{Choice}
 use Rattle.ndef_tool.specs.declared.choice.WordsError.{WordsError}
 use Rattle.ndef_tool.specs.declared.choice.WordsError.TheVariants.{Usage, NoMemory}
-
--- whether the flag is set
-abbrev pub hex_of : List Row → Bool
-hex_of rows = option_map_or (λ t. bytes_eq t (codes "true")) (first_of (codes "hex") rows) false
 
 -- ---- numbers
 

@@ -1,12 +1,13 @@
 //! What the words ask for.
-ghost use Rattle.std.specs.Prelude.{◌≡◌, ◌≤◌, ◌<◌, map, option_and_then, option_map, string_bytes, IfOk, IfSome};
-ghost use Rattle.clap.specs.Words.{first_of, one_of, rows_of, found_of, subcommand_rows_of};
-ghost use Rattle.ndef_tool.specs.Chosen.{Chooses, HasSize, HasSizeIfAny, chosen_action, choice_in, chosen_of, chunk_of, form_named, chosen_form, given_number, hex_of, chosen_limits, number_in, number_or, profile_named, chosen_profile, within};
+ghost use Rattle.std.specs.Prelude.{◌≡◌, ◌≤◌, ◌<◌, map, option_and_then, string_bytes, IfOk, IfSome};
+ghost use Rattle.clap.specs.Words.{one_of, rows_of, found_of, subcommand_rows_of};
+ghost use Rattle.ndef_tool.specs.Chosen.{Chooses, HasSize, HasSizeIfAny, chosen_action, choice_in, chosen_of, chunk_of, form_named, chosen_form, given_number, chosen_limits, number_in, number_or, profile_named, chosen_profile, within};
 
 use crate::command::ndef_command;
 use clap::ArgMatches;
 use clap::error::ErrorKind;
 use ndef_message::Form;
+use ndef_program::{hex_given, option_text};
 use ndef_value::{Limits, MOST_PAYLOAD, MOST_PIECES, MOST_RECORDS, Profile};
 use std::alloc::Global;
 use thiserror::Error;
@@ -40,23 +41,6 @@ pub enum WordsError {
     /// A growth was refused while they were read.
     #[error("no memory")]
     NoMemory,
-}
-
-/// The text of an option, where it is given.
-fn text<'a>(matches: &ArgMatches<'a>, id: &str) -> Option<&'a str>
-    ensures { option_map (λ s. s.now) result ≡ first_of id.now (rows_of (found_of matches.now)) }
-{
-    matches.get_str(id)
-}
-
-/// Whether `--hex` is given.
-fn hex(matches: &ArgMatches<'_>) -> bool
-    ensures { result ≡ hex_of (rows_of (found_of matches.now)) }
-{
-    match text(matches, "hex") {
-        Some(text) => text == "true",
-        None => false,
-    }
 }
 
 /// The number of an option, as clap has read it, where it is given.
@@ -94,7 +78,7 @@ fn number(matches: &ArgMatches<'_>, id: &str, most: u32, usual: u32) -> Option<u
     ensures value { result ≡ number_or id.now most usual (rows_of (found_of matches.now)) }
     ensures range { IfSome result (λ n. (1 ≤ n) × (n ≤ most)) }
 {
-    match text(matches, id) {
+    match option_text(matches, id) {
         Some(_) => given(matches, id, most),
         None => Some(usual),
     }
@@ -105,7 +89,7 @@ fn chunk(matches: &ArgMatches<'_>) -> Option<Option<u32>>
     ensures value { result ≡ chunk_of (rows_of (found_of matches.now)) }
     ensures some { IfSome result HasSizeIfAny }
 {
-    match text(matches, "chunk") {
+    match option_text(matches, "chunk") {
         Some(_) => Some(Some(given(matches, "chunk", 4294967295)?)),
         None => Some(None),
     }
@@ -126,7 +110,7 @@ fn form_named(name: &str) -> Option<Form>
 fn form_given(matches: &ArgMatches<'_>) -> Option<Form>
     ensures { result ≡ chosen_form (rows_of (found_of matches.now)) }
 {
-    match text(matches, "form") {
+    match option_text(matches, "form") {
         Some(name) => form_named(name),
         None => Some(Form::Short),
     }
@@ -147,7 +131,7 @@ fn profile_named(name: &str) -> Option<Profile>
 fn profile_given(matches: &ArgMatches<'_>) -> Option<Profile>
     ensures { result ≡ chosen_profile (rows_of (found_of matches.now)) }
 {
-    match text(matches, "profile") {
+    match option_text(matches, "profile") {
         Some(name) => profile_named(name),
         None => Some(Profile::Strict),
     }
@@ -193,7 +177,7 @@ fn choice_given(name: &str, matches: &ArgMatches<'_>) -> Option<Choice>
     let limits = limits_given(matches)?;
     Some(Choice {
         action,
-        hex: hex(matches),
+        hex: hex_given(matches),
         limits,
     })
 }
