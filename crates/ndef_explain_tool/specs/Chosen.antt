@@ -3,8 +3,8 @@ use Rattle.std.specs.Prelude.{◌≡◌, List, [], ◌∷◌, Option, Some, None
 use Rattle.std.specs.Option.{option_map_or}
 use Rattle.std.specs.Str.{bytes_eq}
 use Rattle.clap.specs.Words.{App, Row, Text, all_of, fault_of, first_of, matches_of}
-use Rattle.ndef_program.specs.Options.{hex_of}
-use Rattle.ndef_tool.specs.Chosen.{chosen_limits, unless_fault}
+use Rattle.ndef_program.specs.Options.{hex_of, unless_fault}
+use Rattle.ndef_tool.specs.Chosen.{chosen_limits}
 use Rattle.ndef_tool.specs.declared.choice.WordsError.{WordsError}
 use Rattle.ndef_tool.specs.declared.choice.WordsError.TheVariants.{Usage, NoMemory}
 use Rattle.ndef_explain_tool.specs.CommandLine.{explain_app}

@@ -1,19 +1,15 @@
 -- What single words say.
-use Rattle.std.proofs.Common.{◌≡◌, ◌∙◌, ◌<◌, ◌≤◌, ◌+◌, ◌++◌, ◌∷◌, get_or, take, append-nil, append_assoc, ℕ, Bool, true, false, List, [], map, length, Option, Some, None, Ok, Err, sym, ap, ap₂, arith, cond}
+use Rattle.std.proofs.Common.{◌≡◌, ◌∙◌, ◌<◌, ◌≤◌, ◌+◌, ◌++◌, ◌∷◌, get_or, take, append-nil, append_assoc, ℕ, true, false, List, [], map, length, Option, Some, None, sym, ap, ap₂, arith, cond}
 use Rattle.std.specs.Prelude.{◌==◌, option_map, nat_lt, unwrap_or}
 use Rattle.std.specs.Borrow.{Bor}
 use Rattle.std.specs.List.{after_first, before_first, position_or_len}
-use Rattle.std.specs.Str.Parse.{ParsesUnsigned, digits_value, without_leading_plus}
 use Rattle.std.proofs.lemmas.Bool.{false_from_ne_true, lt-ltb, ltb-true}
 use Rattle.std.proofs.lemmas.Str.Pattern.{IsSplitOnceResult, split_once_first}
-use Rattle.clap.specs.ValueTests.{accepts}
 use Rattle.clap.specs.Words.{Text, matched_of, raw_values, rows_of}
 use Rattle.clap.specs.declared.parser.matches.Found.{Found}
 use Rattle.clap.proofs.WalkLemmas.{raw_values-rows}
-use Rattle.clap.proofs.ValueTestLemmas.{accepts-Accepts, Accepts-accepts}
-use Rattle.clap.specs.declared.builder.value_parser.ValueParser.TheVariants as vp
 use Rattle.ndef_make_tool.specs.Contents.{Content, content_of}
-use Rattle.ndef_make_tool.specs.Options.{cut_at, number_in, words_of}
+use Rattle.ndef_make_tool.specs.Options.{cut_at, words_of}
 use Rattle.ndef_make_tool.specs.declared.contents.Property.{Property}
 use Rattle.ndef_make_tool.specs.declared.contents.Word.{Word}
 use Rattle.ndef_make_tool.proofs.Lists.{map_twice, mapped_more}
@@ -33,23 +29,6 @@ word_cut byte small word (Some x) h =
     let some = split_once_first byte word (Some x) h small in
     let yes : nat_lt (position_or_len (λ b. b == byte) word) (length word) ≡ true = lt-ltb (position_or_len (λ b. b == byte) word) (length word) some.0 in
     ap₂ (λ a b. Some (a, b)) some.1 some.2 ∙ ap (λ b. cond b (Some (before_first (λ b. b == byte) word, after_first (λ b. b == byte) word)) None) (sym yes)
-
--- ---- numbers
-
-abbrev passes : Text → Bool
-passes t = accepts false (vp.Unsigned 0 4294967295) t
-
--- a number that is read
-pub number_read : (t : Text) (v : ℕ) → ParsesUnsigned {E = ℕ} 32 10 t (Ok v) → Some v ≡ number_in t
-number_read t v p =
-    let yes : passes t ≡ true = Accepts-accepts false (vp.Unsigned 0 4294967295) t (p.0.0, omega (arith, p.0.1), omega arith, omega (arith, p.0.1)) in
-    ap (λ n. Some n) p.1 ∙ ap (λ b. cond b (Some (digits_value 10 (without_leading_plus t))) None) (sym yes)
-
--- a word that is no number
-pub number_unread : (t : Text) → ParsesUnsigned {E = ℕ} 32 10 t (Err 0) → None ≡ number_in t
-number_unread t p =
-    let no : passes t ≡ false = false_from_ne_true (passes t) (λ y. let a = accepts-Accepts false (vp.Unsigned 0 4294967295) t y in p (a.0, omega (arith, a.3))) in
-    ap (λ b. cond b (Some (digits_value 10 (without_leading_plus t))) None) (sym no)
 
 -- ---- options
 

@@ -3,7 +3,8 @@ use Rattle.std.specs.Prelude.{◌≡◌, List, [], ◌∷◌, map, drop, Option,
 use Rattle.std.specs.declared.alloc.Global.{Global}
 use Rattle.std.specs.List.{slice_split}
 use Rattle.std.specs.Str.{bytes_eq}
-use Rattle.clap.specs.Words.{App, Kinds, Row, Text, fault_of, found_of, rows_of, subcommand_of}
+use Rattle.clap.specs.Words.{App, Row, Text, fault_of, found_of, rows_of, subcommand_of}
+use Rattle.ndef_program.specs.Options.{unless_fault}
 use Rattle.ndef_make_tool.specs.CommandLine.{make_app}
 use Rattle.ndef_make_tool.specs.declared.fault.Fault.{Fault}
 use Rattle.ndef_make_tool.specs.declared.fault.Fault.TheVariants.{Usage, Memory}
@@ -12,11 +13,6 @@ use Rattle.ndef_make_tool.specs.declared.parts.Said.{Said}
 -- the name of a subcommand, and the values of its options
 abbrev pub AskedPart : Type 0
 AskedPart = Text × List Row
-
--- nothing, where clap finds a fault
-abbrev pub unless_fault : {X : Type 0} → Kinds → Option X → Option X
-unless_fault [] o = o
-unless_fault (k ∷ ks) o = None
 
 -- what words say on a command line: nothing where clap finds a fault in them
 abbrev pub part_by : App → List Text → Option AskedPart

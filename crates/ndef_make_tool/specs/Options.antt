@@ -2,12 +2,10 @@
 use Rattle.std.specs.Prelude.{◌==◌, ℕ, Bool, true, false, List, [], length, Option, Some, None, codes, if◌then◌else◌, is_some, nat_lt, option_and_then, unwrap_or}
 use Rattle.std.specs.List.{after_first, before_first, position_or_len}
 use Rattle.std.specs.Str.{bytes_eq}
-use Rattle.std.specs.Str.Parse.{digits_value, without_leading_plus}
-use Rattle.clap.specs.ValueTests.{accepts}
 use Rattle.clap.specs.Words.{Row, Text, all_of, first_of}
-use Rattle.clap.specs.declared.builder.value_parser.ValueParser.TheVariants as vp
 use Rattle.ndef_format.specs.declared.tnf.Tnf.{Tnf}
 use Rattle.ndef_format.specs.declared.tnf.Tnf.TheVariants as tnf
+use Rattle.ndef_program.specs.Options.{number_in}
 use Rattle.ndef_make_tool.specs.declared.options.Subject.{Subject}
 use Rattle.ndef_make_tool.specs.declared.options.Subject.TheVariants as subject
 
@@ -72,11 +70,6 @@ cut_at is_cut word =
     if nat_lt (position_or_len is_cut word) (length word)
     then Some (before_first is_cut word, after_first is_cut word) else None
 
--- the number for which a text of decimal digits stands, where it is below 2^32
-abbrev pub number_in : Text → Option ℕ
-number_in t = if accepts false (vp.Unsigned 0 4294967295) t then Some (digits_value 10 (without_leading_plus t))
-    else None
-
--- the same, where it is below this one
+-- the number for which a word stands, where it is below this one
 abbrev pub number_below : ℕ → Text → Option ℕ
 number_below bound t = option_and_then (λ n. if nat_lt n bound then Some n else None) (number_in t)

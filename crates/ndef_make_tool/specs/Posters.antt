@@ -12,7 +12,8 @@ use Rattle.ndef_types.specs.Contents.{IsFirstWrong}
 use Rattle.ndef_types.specs.Posters.{LacksUri}
 use Rattle.ndef_types.specs.Values.{TextValue}
 use Rattle.ndef_types.specs.declared.encoding.Encoding.TheVariants.{Utf8}
-use Rattle.ndef_make_tool.specs.Options.{cut_at, is_equals, number_in}
+use Rattle.ndef_program.specs.Options.{number_in}
+use Rattle.ndef_make_tool.specs.Options.{cut_at, is_equals}
 use Rattle.ndef_make_tool.specs.Records.{Answer, well_known}
 use Rattle.ndef_make_tool.specs.declared.fault.Fault.TheVariants.{Refused, Memory}
 use Rattle.ndef_make_tool.specs.declared.fault.Refused.TheVariants.{NoPoster, PayloadTooLong, TooManyRecords}

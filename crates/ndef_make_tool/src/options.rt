@@ -1,7 +1,8 @@
 //! The options of a part.
 ghost use Rattle.std.specs.Prelude.{◌≡◌, ◌<◌, option_map, IfSome};
 ghost use Rattle.clap.specs.Words.{found_of, rows_of};
-ghost use Rattle.ndef_make_tool.specs.Options.{cut_at, is_colon, is_equals, is_said, number_below, number_in, subject_named, tnf_named, word_or};
+ghost use Rattle.ndef_program.specs.Options.{number_in};
+ghost use Rattle.ndef_make_tool.specs.Options.{cut_at, is_colon, is_equals, is_said, number_below, subject_named, tnf_named, word_or};
 
 use clap::ArgMatches;
 use ndef_program::option_text;

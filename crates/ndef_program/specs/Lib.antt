@@ -1,4 +1,5 @@
 pub mod CommandLine
+pub mod OptionLaws
 pub mod Options
 pub mod Outputs
 pub mod Pages

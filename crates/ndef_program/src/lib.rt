@@ -2,7 +2,7 @@
 //!
 //! - `line.rt`: a short text, made with no memory. `hexadecimal.rt`: lines of hexadecimal digits.
 //! - `command.rt`, `specs/CommandLine.antt`: steps of a command line, by clap.
-//! - `options.rt`, `specs/Options.antt`: what its options say.
+//! - `options.rt`, `specs/Options.antt`, `specs/OptionLaws.antt`: what its options say.
 //! - `pages.rt`, `specs/Pages.antt`: which page about the program its words ask for.
 //! - `status.rt`, `specs/Statuses.antt`: the status that a process ends with.
 //! - `specs/Outputs.antt`: what goes out to a sink.

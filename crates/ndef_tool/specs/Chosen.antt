@@ -1,17 +1,14 @@
 -- What the words ask for.
-use Rattle.std.specs.Prelude.{◌≡◌, ◌&&◌, ◌≤◌, ℕ, false, List, [], ◌∷◌, Option, Some, None, Result, Ok, Err, codes, if◌then◌else◌, ⊤, option_and_then, option_map, nat_lt, nat_le}
+use Rattle.std.specs.Prelude.{◌≡◌, ◌&&◌, ◌≤◌, ℕ, List, Option, Some, None, Result, Ok, Err, codes, if◌then◌else◌, ⊤, option_and_then, option_map, nat_lt, nat_le}
 use Rattle.std.specs.Option.{option_map_or, ForSome}
 use Rattle.std.specs.Str.{bytes_eq}
-use Rattle.std.specs.Str.Parse.{digits_value, without_leading_plus}
-use Rattle.clap.specs.ValueTests.{accepts}
-use Rattle.clap.specs.declared.builder.value_parser.ValueParser.TheVariants as vp
-use Rattle.clap.specs.Words.{App, Kinds, Row, Text, first_of, one_of, fault_of, subcommand_of}
+use Rattle.clap.specs.Words.{App, Row, Text, first_of, one_of, fault_of, subcommand_of}
 use Rattle.ndef_format.specs.Limits.{LimitValues, usual_limits}
 use Rattle.ndef_format.specs.declared.profile.Profile.{Profile}
 use Rattle.ndef_format.specs.declared.profile.Profile.TheVariants.{Strict, Standard}
 use Rattle.ndef_message.specs.declared.form.Form.{Form}
 use Rattle.ndef_message.specs.declared.form.Form.TheVariants.{Short, Long}
-use Rattle.ndef_program.specs.Options.{hex_of}
+use Rattle.ndef_program.specs.Options.{hex_of, number_in, unless_fault}
 use Rattle.ndef_tool.specs.CommandLine.{ndef_app}
 use Rattle.ndef_tool.specs.declared.choice.Action.{Action}
 use Rattle.ndef_tool.specs.declared.choice.Action.TheVariants.{Show, Check, Encode}
@@ -20,11 +17,6 @@ use Rattle.ndef_tool.specs.declared.choice.WordsError.{WordsError}
 use Rattle.ndef_tool.specs.declared.choice.WordsError.TheVariants.{Usage, NoMemory}
 
 -- ---- numbers
-
--- the number that a text of decimal digits stands for, where it is below 2^32
-abbrev pub number_in : Text → Option ℕ
-number_in t = if accepts false (vp.Unsigned 0 4294967295) t then Some (digits_value 10 (without_leading_plus t))
-    else None
 
 -- the number, where it is from 1 to the most
 abbrev pub within : ℕ → ℕ → Option ℕ
@@ -96,11 +88,6 @@ choice_in name rows =
 -- the choice of clap's matches
 abbrev pub chosen_of : Option (Text × List Row) → Option Choice
 chosen_of = option_and_then (λ p. choice_in p.0 p.1)
-
--- nothing, where clap finds a fault
-abbrev pub unless_fault : {X : Type 0} → Kinds → Option X → Option X
-unless_fault [] o = o
-unless_fault (k ∷ ks) o = None
 
 -- what the words choose on a command line: nothing where clap finds a fault in them
 abbrev pub choice_by : App → List Text → Option Choice

@@ -1,8 +1,10 @@
 use Rattle.std.proofs.Common.{rules, map, string_bytes}
-use Rattle.clap.specs.Words.{kind_of}
+use Rattle.clap.specs.Words.{kind_of, matches_of}
 use Rattle.clap.specs.declared.error.kind.ErrorKind.TheVariants.{OutOfMemory}
+use Rattle.ndef_program.specs.OptionLaws.{faulty}
+use Rattle.ndef_explain_tool.specs.Chosen.{asked_in}
 use Rattle.ndef_explain_tool.specs.CommandLine.{explain_app}
-use Rattle.ndef_explain_tool.proofs.Asking.{explain_is_free, explain_is_simple, failed, parsed}
+use Rattle.ndef_explain_tool.proofs.Asking.{explain_is_free, explain_is_simple, parsed}
 use Rattle.ndef_explain_tool.proofs.choice.ask.Goals as goal
 
 pub returns-in-Ok-try_get_matches_from : goal.returns-in-Ok-try_get_matches_from
@@ -13,5 +15,6 @@ returns-in-Ok-try_get_matches_from c =
 
 pub returns : goal.returns
 returns c =
-    failed _ explain_app (map string_bytes c.args.words.now) (kind_of c.in-Err.error) OutOfMemory c.in-Ok.ensures.0 explain_is_free
+    let words = map string_bytes c.args.words.now in
+    faulty _ explain_app words (kind_of c.in-Err.error) OutOfMemory (asked_in (matches_of explain_app words)) c.in-Ok.ensures.0 explain_is_free
     (search rules) c.in-Err.ensures.kinds

@@ -1,4 +1,4 @@
-use Rattle.ndef_make_tool.proofs.Words.{number_read, number_unread}
+use Rattle.ndef_program.specs.OptionLaws.{number_read, number_unread}
 use Rattle.ndef_make_tool.proofs.options.number_in.Goals as goal
 
 pub returns-in-Ok : goal.returns-in-Ok

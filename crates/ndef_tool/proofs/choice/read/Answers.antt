@@ -3,7 +3,7 @@ use Rattle.std.specs.Option.{option_and_then}
 use Rattle.std.specs.Str.Parse.{ParsesUnsigned, ExplainsUnsignedError, HasUnsignedDigitsIfOk}
 use Rattle.clap.specs.Words.{found_of, one_text}
 use Rattle.clap.proofs.WalkLemmas.{one_text-rows}
-use Rattle.ndef_tool.specs.Chosen.{number_in}
+use Rattle.ndef_program.specs.Options.{number_in}
 use Rattle.ndef_tool.proofs.Numbers.{reads_number}
 use Rattle.ndef_tool.proofs.choice.read.Goals as goal
 
