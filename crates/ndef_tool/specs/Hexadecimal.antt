@@ -45,10 +45,10 @@ IsDecoded text (Err Memory) = ⊤
 IsDecoded text (Err _) = ⊥
 
 -- the bytes that the text to come stands for, or why there are none
-abbrev pub IsInput : (before after : SourceState) → Bool → Result (List ℕ) Ending → Type 0
-IsInput before after failed (Ok bytes) = (text : List ℕ) × IsTextInput before after failed (Ok text)
+abbrev pub IsHexInput : (before after : SourceState) → Bool → Result (List ℕ) Ending → Type 0
+IsHexInput before after failed (Ok bytes) = (text : List ℕ) × IsTextInput before after failed (Ok text)
     × IsDecoded text (Ok bytes)
-IsInput before after failed (Err (Hex fault)) = (text : List ℕ) × IsTextInput before after failed (Ok text)
+IsHexInput before after failed (Err (Hex fault)) = (text : List ℕ) × IsTextInput before after failed (Ok text)
     × IsDecoded text (Err (Hex fault))
-IsInput before after failed (Err ending) = (error : InputError) × IsTextInput before after failed (Err error)
+IsHexInput before after failed (Err ending) = (error : InputError) × IsTextInput before after failed (Err error)
     × (ending ≡ input_ending error)

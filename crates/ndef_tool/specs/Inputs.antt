@@ -2,7 +2,7 @@
 use Rattle.std.specs.Prelude.{◌≡◌, ℕ, Bool, true, false, List, [], Option, Some, Result, Ok, Err}
 use Rattle.ndef_message.specs.States.{SourceState}
 use Rattle.ndef_message.specs.declared.message_reading.Read.{Read}
-use Rattle.ndef_tool.specs.Hexadecimal.{IsInput}
+use Rattle.ndef_tool.specs.Hexadecimal.{IsHexInput}
 use Rattle.ndef_tool.specs.Output.{total_bytes}
 use Rattle.ndef_tool.specs.Sessions.{Handles, IsSession, SessionHasTaken, Silences}
 use Rattle.ndef_tool.specs.Streams.{Streams}
@@ -23,7 +23,7 @@ ReadsIn false choice before after sink_failed reads ending =
     IsSession choice before.coming after.coming after.failed sink_failed reads ending
     × SessionHasTaken choice.limits (total_bytes reads) before.taken after.taken ending
 ReadsIn true choice before after sink_failed reads ending = (input : Result (List ℕ) Ending)
-    × IsInput before after after.failed input
+    × IsHexInput before after after.failed input
     × ReadsBytes choice sink_failed input reads ending
 
 -- the messages that were read, and their blocks

@@ -2,7 +2,7 @@
 ghost use Rattle.std.specs.Prelude.{◌≡◌, false, IfErr};
 ghost use Rattle.ndef_message.specs.Inputs.{bytes_of};
 ghost use Rattle.ndef_message.specs.States.{source_state};
-ghost use Rattle.ndef_tool.specs.Hexadecimal.{IsDecoded, IsInput, digits_of, fault_of, is_space};
+ghost use Rattle.ndef_tool.specs.Hexadecimal.{IsDecoded, IsHexInput, digits_of, fault_of, is_space};
 ghost use Rattle.ndef_tool.specs.Output.{FitsPlace};
 ghost use Rattle.ndef_tool.specs.Sessions.{is_writing};
 
@@ -53,7 +53,7 @@ fn decode_text(alloc: Global, text: Vec<u8>) -> Result<Vec<u8>, Ending>
 
 /// The bytes that the text of the source stands for.
 pub fn read_hexadecimal<S: Source>(alloc: Global, source: &mut S) -> Result<Vec<u8>, Ending>
-    ensures input { IsInput (source_state S.Source source.old) (source_state S.Source source.new)
+    ensures input { IsHexInput (source_state S.Source source.old) (source_state S.Source source.new)
         (S.has_failed source.new) (bytes_of result) }
     ensures room { IfErr result (λ ending. FitsPlace 0 ending) }
     ensures mark { IfErr result (λ ending. is_writing ending ≡ false) }
