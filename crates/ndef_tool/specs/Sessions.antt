@@ -115,11 +115,11 @@ pub record Silences (IsRead : List Read → Ending → Type 0) (choice : Choice)
 -- ---- step by step
 
 -- whether one message more is handled behind so many, where these bytes come next
-abbrev pub GoesOn : {X : Type 0} → (count : ℕ) → List ℕ → Result X Ending → Type 0
-GoesOn count bytes (Ok x) = (count < 10000) × (bytes ≢ [])
-GoesOn count bytes (Err Clean) = bytes ≡ []
-GoesOn count bytes (Err TooMany) = (count ≡ 10000) × (bytes ≢ [])
-GoesOn count bytes (Err _) = ⊥
+abbrev pub HasNext : {X : Type 0} → (count : ℕ) → List ℕ → Result X Ending → Type 0
+HasNext count bytes (Ok x) = (count < 10000) × (bytes ≢ [])
+HasNext count bytes (Err Clean) = bytes ≡ []
+HasNext count bytes (Err TooMany) = (count ≡ 10000) × (bytes ≢ [])
+HasNext count bytes (Err _) = ⊥
 
 -- the same of a source, of which nothing is taken
 abbrev pub LooksAhead : {X : Type 0} → (count : ℕ) → (before after : Option (List ℕ)) → Bool → Result X Ending → Type 0

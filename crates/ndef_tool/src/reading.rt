@@ -1,7 +1,7 @@
 //! The next message of a source, or of bytes in memory.
 ghost use Rattle.std.specs.Prelude.{◌≡◌, ◌≤◌, ◌^◌, ℕ, Bool, List, Option, Some, false};
 ghost use Rattle.ndef_tool.specs.Rules.{rules_of};
-ghost use Rattle.ndef_tool.specs.Sessions.{ChecksNext, GoesOn, IsNext, LooksAhead, TakesNext, ViewsNext};
+ghost use Rattle.ndef_tool.specs.Sessions.{ChecksNext, HasNext, IsNext, LooksAhead, TakesNext, ViewsNext};
 
 use crate::ending::Ending;
 use ndef_lang::OuterLanguage;
@@ -106,7 +106,7 @@ impl<'a, L: OuterLanguage> Reading<L, &'a [u8]> for FromBytes {
 /// Whether one message more is handled behind so many, where these bytes come next.
 fn go_on(count: u64, bytes: &[u8]) -> Result<(), Ending>
     requires { count ≤ MOST }
-    ensures { GoesOn count bytes.now result }
+    ensures { HasNext count bytes.now result }
 {
     if bytes.is_empty() {
         return Err(Ending::Clean);
