@@ -10,7 +10,7 @@ use Rattle.ndef_make_tool.specs.Contents.{Content, MakesContent, MakesHandover, 
 use Rattle.ndef_make_tool.specs.Handovers.{MakesAlternative, MakesError, MakesHandoverOf, MakesSide, ac_said, collision_said, error_said, handover_said}
 use Rattle.ndef_make_tool.specs.Making.{MakesBy}
 use Rattle.ndef_make_tool.specs.Posters.{MakesNested, action_said, size_said, title_said}
-use Rattle.ndef_make_tool.specs.Records.{Answer, Asks, MakesItem, MakesText, MakesUri, item_said, text_said, uri_said}
+use Rattle.ndef_make_tool.specs.Records.{Answer, MakesSaid, MakesItem, MakesText, MakesUri, item_said, text_said, uri_said}
 use Rattle.ndef_make_tool.specs.declared.contents.Property.TheVariants as property
 use Rattle.ndef_make_tool.specs.declared.fault.Fault.{Fault}
 use Rattle.ndef_make_tool.specs.declared.fault.Fault.TheVariants.{Usage, Refused, Reading, TooLong, Memory}
@@ -24,7 +24,7 @@ use Rattle.ndef_make_tool.specs.declared.options.Subject.TheVariants as subject
 abbrev bad : Refusal → Answer
 bad r = Err (Refused (refused.BadPayload r))
 
-asked : {X : Type 0} (makes : X → Answer → Type 0) (o : Option X) (r : Refusal) → ((x : X) → makes x (bad r) → ⊥) → Asks makes o (bad r) → ⊥
+asked : {X : Type 0} (makes : X → Answer → Type 0) (o : Option X) (r : Refusal) → ((x : X) → makes x (bad r) → ⊥) → MakesSaid makes o (bad r) → ⊥
 asked makes None r never h = absurd (search rules)
 asked makes (Some x) r never h = never x h
 
@@ -46,7 +46,7 @@ side : (s : Side) (minor : ℕ) (items : List Item) (r : Refusal) → MakesSide 
 side Request minor items r h = h
 side Select minor items r h = h
 
-carrier : (id : List ℕ) (rows : List Row) (input : List ℕ) (r : Refusal) → Asks (MakesCarrier id) (carrier_said rows input) (bad r) → ⊥
+carrier : (id : List ℕ) (rows : List Row) (input : List ℕ) (r : Refusal) → MakesSaid (MakesCarrier id) (carrier_said rows input) (bad r) → ⊥
 carrier id rows input r h = asked (MakesCarrier id) (carrier_said rows input) r (λ x k. elim k [ inl m ↦ m | inr m ↦ m.2 ]) h
 
 -- no record is refused for its payload before that is checked

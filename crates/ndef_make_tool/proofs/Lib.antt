@@ -1,10 +1,10 @@
-pub mod Asks
 pub mod BadPayloads
 pub mod Found
 pub mod Linked
 pub mod Lists
 pub mod Made
 pub mod Messages
+pub mod Parsed
 pub mod ReadBack
 pub mod Short
 pub mod Values

@@ -6,7 +6,7 @@ use Rattle.ndef_format.specs.Messages.{Item}
 use Rattle.ndef_make_tool.specs.Handovers.{AsksError, MakesAlternative, MakesHandoverOf, ac_said, collision_said, handover_said}
 use Rattle.ndef_make_tool.specs.Options.{words_of}
 use Rattle.ndef_make_tool.specs.Posters.{MakesNested, action_said, size_said, title_said}
-use Rattle.ndef_make_tool.specs.Records.{Answer, AreMadeBy, Asks, FailsBy, MakesItem, MakesText, MakesUri, well_known}
+use Rattle.ndef_make_tool.specs.Records.{Answer, AreMadeBy, MakesSaid, FailsBy, MakesItem, MakesText, MakesUri, well_known}
 use Rattle.ndef_make_tool.specs.declared.contents.Property.{Property}
 use Rattle.ndef_make_tool.specs.declared.contents.Property.TheVariants as property
 use Rattle.ndef_make_tool.specs.declared.contents.Word.{Word}
@@ -23,12 +23,12 @@ Content = Property × Text
 -- RTD Smart Poster 1.0 and Connection Handover 1.2: the record of a property
 abbrev pub MakesContent : Content → Answer → Type 0
 MakesContent (property.Uri, word) answer = MakesUri word answer
-MakesContent (property.Title, word) answer = Asks MakesText (title_said word) answer
-MakesContent (property.Action, word) answer = Asks MakesItem (action_said word) answer
-MakesContent (property.Size, word) answer = Asks MakesItem (size_said word) answer
+MakesContent (property.Title, word) answer = MakesSaid MakesText (title_said word) answer
+MakesContent (property.Action, word) answer = MakesSaid MakesItem (action_said word) answer
+MakesContent (property.Size, word) answer = MakesSaid MakesItem (size_said word) answer
 MakesContent (property.Media, word) answer = MakesItem (well_known (codes "t") word) answer
-MakesContent (property.Collision, word) answer = Asks MakesItem (collision_said word) answer
-MakesContent (property.Carrier, word) answer = Asks MakesAlternative (ac_said word) answer
+MakesContent (property.Collision, word) answer = MakesSaid MakesItem (collision_said word) answer
+MakesContent (property.Carrier, word) answer = MakesSaid MakesAlternative (ac_said word) answer
 MakesContent (property.Error, word) answer = AsksError word answer
 
 -- the words of an option, each as that property
@@ -71,7 +71,7 @@ MakesHandover contents handover answer = MakesOf (MakesHandoverOf handover) cont
 
 -- Connection Handover 1.2: the record of the handover of a part
 abbrev pub MakesHandoverSaid : List Row → Answer → Type 0
-MakesHandoverSaid rows answer = Asks (MakesHandover (handover_contents rows)) (handover_said rows) answer
+MakesHandoverSaid rows answer = MakesSaid (MakesHandover (handover_contents rows)) (handover_said rows) answer
 
 -- ---- step by step
 

@@ -19,7 +19,7 @@ use Rattle.ndef_types.specs.Values.{AcValue, ErrorValue, WritesAc, WritesError, 
 use Rattle.ndef_types.specs.declared.power.Power.{Power}
 use Rattle.ndef_types.specs.declared.power.Power.TheVariants as power
 use Rattle.ndef_make_tool.specs.Options.{cut_at, is_colon, is_comma, is_equals, is_said, number_below, word_or}
-use Rattle.ndef_make_tool.specs.Records.{Answer, Asks, well_known}
+use Rattle.ndef_make_tool.specs.Records.{Answer, MakesSaid, well_known}
 use Rattle.ndef_make_tool.specs.declared.fault.Fault.{Fault}
 use Rattle.ndef_make_tool.specs.declared.fault.Fault.TheVariants.{Usage, Refused, Memory}
 use Rattle.ndef_make_tool.specs.declared.fault.Refused.TheVariants.{BadError, NoHandover, PartTooLong, PayloadTooLong, TooManyRecords, TooManyReferences}
@@ -91,7 +91,7 @@ MakesError v (Err _) = ⊥
 -- where it says none
 abbrev pub AsksError : Text → Answer → Type 0
 AsksError word (Err Memory) = ⊤
-AsksError word answer = Asks MakesError (error_said word) answer
+AsksError word answer = MakesSaid MakesError (error_said word) answer
 
 -- ---- collisions
 

@@ -15,7 +15,7 @@ use Rattle.ndef_program.specs.Options.{flag_of}
 use Rattle.ndef_make_tool.specs.Options.{subject_named, takes_input}
 use Rattle.ndef_make_tool.specs.Contents.{MakesHandoverSaid, MakesPoster}
 use Rattle.ndef_make_tool.specs.References.{missing_reference}
-use Rattle.ndef_make_tool.specs.Records.{Answer, AreAnsweredBy, AreMadeBy, Asks, FailsBy, MakesItem, MakesText, MakesUri, item_said, text_said, uri_said}
+use Rattle.ndef_make_tool.specs.Records.{Answer, AreAnsweredBy, AreMadeBy, MakesSaid, FailsBy, MakesItem, MakesText, MakesUri, item_said, text_said, uri_said}
 use Rattle.ndef_make_tool.specs.declared.fault.Fault.{Fault}
 use Rattle.ndef_make_tool.specs.declared.fault.Fault.TheVariants.{Usage, Refused, Memory}
 use Rattle.ndef_make_tool.specs.declared.fault.Refused.TheVariants.{NoRecord, PartTooLong, TooManyRecords}
@@ -46,12 +46,12 @@ ReadsFor (suc (suc n)) before after input = (after ≡ before) × (input ≡ Err
 -- what is made of the options of a subject
 abbrev pub MakesBy : Option Subject → List Row → (input : List ℕ) → Answer → Type 0
 MakesBy None rows input answer = answer ≡ Err Usage
-MakesBy (Some subject.Text) rows input answer = Asks MakesText (text_said rows) answer
-MakesBy (Some subject.Uri) rows input answer = Asks MakesUri (uri_said rows) answer
+MakesBy (Some subject.Text) rows input answer = MakesSaid MakesText (text_said rows) answer
+MakesBy (Some subject.Uri) rows input answer = MakesSaid MakesUri (uri_said rows) answer
 MakesBy (Some subject.Poster) rows input answer = MakesPoster rows answer
 MakesBy (Some subject.Handover) rows input answer = MakesHandoverSaid rows answer
-MakesBy (Some subject.Record) rows input answer = Asks MakesItem (item_said rows input) answer
-MakesBy (Some subject.Carrier) rows input answer = Asks (MakesCarrier (id_said rows)) (carrier_said rows input) answer
+MakesBy (Some subject.Record) rows input answer = MakesSaid MakesItem (item_said rows input) answer
+MakesBy (Some subject.Carrier) rows input answer = MakesSaid (MakesCarrier (id_said rows)) (carrier_said rows input) answer
 
 -- what is made of a part, with the input: a record whose payload is one of its type, or isn't checked
 abbrev pub Makes : AskedPart → (input : List ℕ) → Answer → Type 0

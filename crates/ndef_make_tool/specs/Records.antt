@@ -84,9 +84,9 @@ MakesItem i (Err _) = ⊥
 -- ---- what is said
 
 -- what is made of what is said; the usage line where nothing is
-abbrev pub Asks : {X : Type 0} → (X → Answer → Type 0) → Option X → Answer → Type 0
-Asks makes None answer = answer ≡ Err Usage
-Asks makes (Some x) answer = makes x answer
+abbrev pub MakesSaid : {X : Type 0} → (X → Answer → Type 0) → Option X → Answer → Type 0
+MakesSaid makes None answer = answer ≡ Err Usage
+MakesSaid makes (Some x) answer = makes x answer
 
 -- the records of what is said, in order
 abbrev pub AreMadeBy : {X : Type 0} → (X → Answer → Type 0) → List X → List Item → Type 0

@@ -2,7 +2,7 @@
 ghost use Rattle.std.specs.Prelude.{◌≡◌, ◌<◌, IfSome};
 ghost use Rattle.clap.specs.Words.{found_of, rows_of};
 ghost use Rattle.ndef_make_tool.specs.Carriers.{MakesCarrier, WritesData, carrier_item, carrier_said, format_named, id_said};
-ghost use Rattle.ndef_make_tool.specs.Records.{Asks, MakesItem};
+ghost use Rattle.ndef_make_tool.specs.Records.{MakesSaid, MakesItem};
 
 use crate::Fault;
 use crate::options::word_or;
@@ -54,7 +54,7 @@ pub(crate) fn carrier_record(
     matches: &ArgMatches<'_>,
     input: &[u8],
 ) -> Result<Record, Fault>
-    ensures { Asks (MakesCarrier (id_said (rows_of (found_of matches.now))))
+    ensures { MakesSaid (MakesCarrier (id_said (rows_of (found_of matches.now))))
         (carrier_said (rows_of (found_of matches.now)) input.now) result }
 {
     let Some(name) = option_text(matches, "format") else {

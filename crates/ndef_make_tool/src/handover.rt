@@ -5,7 +5,7 @@ ghost use Rattle.clap.specs.Words.{found_of, rows_of};
 ghost use Rattle.ndef_make_tool.specs.Contents.{AreContents, MakesHandoverSaid, handover_contents};
 ghost use Rattle.ndef_make_tool.specs.Handovers.{AreNames, AsksError, IsSelected, MakesAc, MakesAlternative, MakesError, MakesHandoverOf, MakesRequest, MakesSelect, SaysOctets, ac_of, ac_said, collision_said, goes_with, handover_said, minor_named, power_named, side_named};
 ghost use Rattle.ndef_make_tool.specs.Options.{is_comma};
-ghost use Rattle.ndef_make_tool.specs.Records.{Asks, MakesItem};
+ghost use Rattle.ndef_make_tool.specs.Records.{MakesSaid, MakesItem};
 
 use crate::contents::{Property, Word, make_contents, push_words};
 use crate::options::{cut_at_colon, cut_at_equals, is_said, number_below, word_or};
@@ -87,7 +87,7 @@ fn make_ac(
 
 /// The record of an alternative carrier with these references, of which the first is the carrier's.
 fn make_linked(alloc: Global, power: Power, references: &[&[u8]]) -> Result<Record, Fault>
-    ensures { Asks MakesAlternative (ac_of power (map (λ reference. reference.now) references.now)) result }
+    ensures { MakesSaid MakesAlternative (ac_of power (map (λ reference. reference.now) references.now)) result }
 {
     match references {
         [reference, auxiliary @ ..] => {
@@ -101,7 +101,7 @@ fn make_linked(alloc: Global, power: Power, references: &[&[u8]]) -> Result<Reco
 
 /// The record of the alternative carrier of a word.
 pub(crate) fn make_alternative(alloc: Global, word: &str) -> Result<Record, Fault>
-    ensures { Asks MakesAlternative (ac_said word.now) result }
+    ensures { MakesSaid MakesAlternative (ac_said word.now) result }
 {
     let Some((name, references)) = cut_at_equals(word) else {
         return Err(Fault::Usage);
@@ -149,7 +149,7 @@ pub(crate) fn make_error(alloc: Global, word: &str) -> Result<Record, Fault>
 
 /// The record of the collision resolution of a word.
 pub(crate) fn make_collision(alloc: Global, word: &str) -> Result<Record, Fault>
-    ensures { Asks MakesItem (collision_said word.now) result }
+    ensures { MakesSaid MakesItem (collision_said word.now) result }
 {
     match number_below(65536, word) {
         Some(number) => make_known(alloc, b"cr", &(number as u16).to_be_bytes()),

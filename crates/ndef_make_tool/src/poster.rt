@@ -3,7 +3,7 @@ ghost use Rattle.std.specs.Prelude.{◌≡◌};
 ghost use Rattle.clap.specs.Words.{found_of, rows_of};
 ghost use Rattle.ndef_make_tool.specs.Contents.{AreContents, MakesPoster, poster_contents};
 ghost use Rattle.ndef_make_tool.specs.Posters.{MakesNested, action_octet, action_said, size_said, title_said};
-ghost use Rattle.ndef_make_tool.specs.Records.{Asks, MakesItem, MakesText};
+ghost use Rattle.ndef_make_tool.specs.Records.{MakesSaid, MakesItem, MakesText};
 
 use crate::contents::{Property, Word, make_contents, push_words};
 use crate::options::{cut_at_equals, number_in};
@@ -16,7 +16,7 @@ use std::alloc::Global;
 
 /// The record of a title.
 pub(crate) fn make_title(alloc: Global, word: &str) -> Result<Record, Fault>
-    ensures { Asks MakesText (title_said word.now) result }
+    ensures { MakesSaid MakesText (title_said word.now) result }
 {
     match cut_at_equals(word) {
         Some((language, text)) => make_text(alloc, Encoding::Utf8, language, text),
@@ -38,7 +38,7 @@ fn action_octet(name: &str) -> Option<u8>
 
 /// The record of an action.
 pub(crate) fn make_action(alloc: Global, name: &str) -> Result<Record, Fault>
-    ensures { Asks MakesItem (action_said name.now) result }
+    ensures { MakesSaid MakesItem (action_said name.now) result }
 {
     match action_octet(name) {
         Some(octet) => make_known(alloc, b"act", &[octet]),
@@ -48,7 +48,7 @@ pub(crate) fn make_action(alloc: Global, name: &str) -> Result<Record, Fault>
 
 /// The record of a size.
 pub(crate) fn make_size(alloc: Global, word: &str) -> Result<Record, Fault>
-    ensures { Asks MakesItem (size_said word.now) result }
+    ensures { MakesSaid MakesItem (size_said word.now) result }
 {
     match number_in(word) {
         Some(size) => make_known(alloc, b"s", &size.to_be_bytes()),

@@ -5,7 +5,7 @@ ghost use Rattle.ndef_make_tool.specs.Asked.{asked_part};
 ghost use Rattle.ndef_make_tool.specs.Checking.{Checked, is_unchecked};
 ghost use Rattle.ndef_make_tool.specs.Making.{Makes, MakesBy};
 ghost use Rattle.ndef_make_tool.specs.Options.{subject_named};
-ghost use Rattle.ndef_make_tool.specs.Records.{Asks, MakesItem, MakesText, MakesUri, item_said, text_said, uri_said, well_known};
+ghost use Rattle.ndef_make_tool.specs.Records.{MakesSaid, MakesItem, MakesText, MakesUri, item_said, text_said, uri_said, well_known};
 
 use crate::carrier::carrier_record;
 use crate::handover::handover_record;
@@ -56,7 +56,7 @@ pub(crate) fn make_text(
 
 /// The record of the text of a part.
 fn text_record(alloc: Global, matches: &ArgMatches<'_>) -> Result<Record, Fault>
-    ensures { Asks MakesText (text_said (rows_of (found_of matches.now))) result }
+    ensures { MakesSaid MakesText (text_said (rows_of (found_of matches.now))) result }
 {
     let Some(text) = option_text(matches, "text") else {
         return Err(Fault::Usage);
@@ -81,7 +81,7 @@ pub(crate) fn make_uri(alloc: Global, uri: &str) -> Result<Record, Fault>
 
 /// The record of the URI of a part.
 fn uri_record(alloc: Global, matches: &ArgMatches<'_>) -> Result<Record, Fault>
-    ensures { Asks MakesUri (uri_said (rows_of (found_of matches.now))) result }
+    ensures { MakesSaid MakesUri (uri_said (rows_of (found_of matches.now))) result }
 {
     match option_text(matches, "uri") {
         Some(uri) => make_uri(alloc, uri),
@@ -91,7 +91,7 @@ fn uri_record(alloc: Global, matches: &ArgMatches<'_>) -> Result<Record, Fault>
 
 /// The record of the parts that a part gives, with this payload.
 fn given_record(alloc: Global, matches: &ArgMatches<'_>, payload: &[u8]) -> Result<Record, Fault>
-    ensures { Asks MakesItem (item_said (rows_of (found_of matches.now)) payload.now) result }
+    ensures { MakesSaid MakesItem (item_said (rows_of (found_of matches.now)) payload.now) result }
 {
     let Some(name) = option_text(matches, "tnf") else {
         return Err(Fault::Usage);

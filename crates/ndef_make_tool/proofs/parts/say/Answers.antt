@@ -4,7 +4,7 @@ use Rattle.clap.specs.declared.error.kind.ErrorKind.TheVariants.{OutOfMemory}
 use Rattle.ndef_program.specs.OptionLaws.{faulty}
 use Rattle.ndef_make_tool.specs.Asked.{asked_part}
 use Rattle.ndef_make_tool.specs.CommandLine.{make_app}
-use Rattle.ndef_make_tool.proofs.Asks.{make_is_free, make_is_simple, parsed}
+use Rattle.ndef_make_tool.proofs.Parsed.{make_is_free, make_is_simple, parsed}
 use Rattle.ndef_make_tool.proofs.parts.say.Goals as goal
 
 pub returns-in-Some : goal.returns-in-Some
