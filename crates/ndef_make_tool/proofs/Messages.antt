@@ -6,7 +6,7 @@ use Rattle.std.specs.Str.{bytes_eq}
 use Rattle.std.proofs.lemmas.List.{length-map, take_all}
 use Rattle.clap.specs.Words.{Text}
 use Rattle.ndef_format.specs.Messages.{Item}
-use Rattle.ndef_make_tool.specs.Asked.{AskedPart, SaidAll, SaysPart, all_or_none, asked_of, part_in, parts_of}
+use Rattle.ndef_make_tool.specs.Asked.{AskedPart, SaidAll, SaysPart, all_or_none, parts_asked, part_in, parts_of}
 use Rattle.ndef_message.specs.States.{SourceState}
 use Rattle.ndef_make_tool.specs.Making.{AreMade, IsMade, IsMadeFor, MakesLinked, MakesMessage, IsWritten, Makes, ReadsFor, readers_of, shown_by}
 use Rattle.ndef_make_tool.specs.References.{AreFound, missing_reference, references_of}
@@ -34,7 +34,7 @@ said_whole g ps n o l all = ap all_or_none (map_twice part_in g ps) ∙ ap (λ q
 
 -- the parts of the words
 pub asked : {A : Type 0} (g : A → List Text) (words behind : List Text) (slice parts : List A) (o : Option (List AskedPart)) → slice ≡ parts → map g parts ≡ parts_of behind
-    → behind ≡ drop 1 words → all_or_none (map part_in (map g slice)) ≡ o → asked_of words ≡ o
+    → behind ≡ drop 1 words → all_or_none (map part_in (map g slice)) ≡ o → parts_asked words ≡ o
 asked g words behind slice parts o same is rest said =
     ap (λ ws. all_or_none (map part_in (parts_of ws))) (sym rest) ∙ ap (λ ps. all_or_none (map part_in ps)) (sym is)
     ∙ ap (λ ps. all_or_none (map part_in (map g ps))) (sym same) ∙ said
@@ -42,7 +42,7 @@ asked g words behind slice parts o same is rest said =
 -- ---- what is made
 
 -- where the input is read
-pub written : (words : List Text) (terminal : Bool) (parts : List AskedPart) (before after : SourceState) (input : List ℕ) (made : Result Written Fault) → asked_of words ≡ Some parts
+pub written : (words : List Text) (terminal : Bool) (parts : List AskedPart) (before after : SourceState) (input : List ℕ) (made : Result Written Fault) → parts_asked words ≡ Some parts
     → ReadsFor (readers_of parts) before after (Ok input) → IsWritten parts terminal input made → IsMade words terminal before after made
 written words terminal parts before after input (Ok made) e reads is =
     subst (λ (o : Option (List AskedPart)). IsMadeFor o terminal before after (Ok made)) (sym e) (Ok input, reads, is)
@@ -93,7 +93,7 @@ not_found parts terminal input items (Refused refused.TooManyReferences) are h =
 not_found parts terminal input items (Refused refused.TooManyRecords) are h = absurd h
 
 -- there is a record, since there is a part
-pub some_record : (words : List Text) (parts : List AskedPart) (input : List ℕ) (items : List Item) → asked_of words ≡ Some parts → AreMade parts input items → items ≡ [] → ⊥
+pub some_record : (words : List Text) (parts : List AskedPart) (input : List ℕ) (items : List Item) → parts_asked words ≡ Some parts → AreMade parts input items → items ≡ [] → ⊥
 some_record words parts input items e are none =
     let said = all_as_long (map part_in (parts_of (drop 1 words))) parts e in
     let long = length-map (parts_of (drop 1 words)) part_in in

@@ -32,8 +32,8 @@ all_or_none [] = Some []
 all_or_none (o ∷ os) = option_and_then (λ x. option_map (λ xs. x ∷ xs) (all_or_none os)) o
 
 -- what the words ask for, of which the first is the program's name: nothing where a part says nothing
-abbrev pub asked_of : List Text → Option (List AskedPart)
-asked_of words = all_or_none (map part_in (parts_of (drop 1 words)))
+abbrev pub parts_asked : List Text → Option (List AskedPart)
+parts_asked words = all_or_none (map part_in (parts_of (drop 1 words)))
 
 -- ---- step by step
 

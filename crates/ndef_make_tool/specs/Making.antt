@@ -7,7 +7,7 @@ use Rattle.ndef_format.specs.Canonical.{AreItems, canonical}
 use Rattle.ndef_format.specs.Messages.{Item}
 use Rattle.ndef_message.specs.States.{SourceState}
 use Rattle.ndef_program.specs.Outputs.{hexadecimal_line}
-use Rattle.ndef_make_tool.specs.Asked.{AskedPart, asked_of}
+use Rattle.ndef_make_tool.specs.Asked.{AskedPart, parts_asked}
 use Rattle.ndef_make_tool.specs.Carriers.{MakesCarrier, carrier_said, id_said}
 use Rattle.ndef_make_tool.specs.Checking.{MakesIf, is_unchecked}
 use Rattle.ndef_make_tool.specs.Inputs.{IsPayloadInput}
@@ -130,6 +130,6 @@ IsMadeFor (Some parts) terminal before after made =
 
 -- what comes of the words and the input: what is written of the message, or why there is none
 abbrev pub IsMade : List Text → (terminal : Bool) → (before after : SourceState) → Result Written Fault → Type 0
-IsMade words terminal before after (Ok made) = IsMadeFor (asked_of words) terminal before after (Ok made)
+IsMade words terminal before after (Ok made) = IsMadeFor (parts_asked words) terminal before after (Ok made)
 IsMade words terminal before after (Err Memory) = ⊤
-IsMade words terminal before after (Err fault) = IsMadeFor (asked_of words) terminal before after (Err fault)
+IsMade words terminal before after (Err fault) = IsMadeFor (parts_asked words) terminal before after (Err fault)

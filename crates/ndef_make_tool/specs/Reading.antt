@@ -16,7 +16,7 @@ use Rattle.ndef_message.specs.Readings.{GivesBack, ReadsInput}
 use Rattle.ndef_message.specs.States.{SourceState}
 use Rattle.ndef_message.specs.declared.message_reading.Read.{Read}
 use Rattle.ndef_message.specs.declared.message_reading.ReadError.{ReadError}
-use Rattle.ndef_make_tool.specs.Asked.{AskedPart, asked_of}
+use Rattle.ndef_make_tool.specs.Asked.{AskedPart, parts_asked}
 use Rattle.ndef_make_tool.specs.Checking.{is_unchecked}
 use Rattle.ndef_make_tool.specs.Making.{AreMade, IsMade, shown_in}
 use Rattle.ndef_make_tool.specs.declared.making.Written.{Written}
@@ -54,5 +54,5 @@ ReadsBack set holds parts made = (input : List ℕ) × (items : List Item) × Ar
 abbrev pub MadeIsRead : Sets → Conditions → Type 0
 MadeIsRead set holds =
     (words : List Text) (terminal : Bool) (before after : SourceState) (made : Written) (parts : List AskedPart)
-    → IsMade words terminal before after (Ok made) → asked_of words ≡ Some parts
+    → IsMade words terminal before after (Ok made) → parts_asked words ≡ Some parts
     → list_any is_unchecked parts ≡ false → ReadsBack set holds parts made
