@@ -9,7 +9,7 @@ use Rattle.clap.specs.Words.{Text, matched_of, raw_values, rows_of}
 use Rattle.clap.specs.declared.parser.matches.Found.{Found}
 use Rattle.clap.proofs.WalkLemmas.{raw_values-rows}
 use Rattle.ndef_make_tool.specs.Contents.{Content, content_of}
-use Rattle.ndef_make_tool.specs.Options.{cut_at, words_of}
+use Rattle.ndef_make_tool.specs.Options.{cut_at, option_words}
 use Rattle.ndef_make_tool.specs.declared.contents.Property.{Property}
 use Rattle.ndef_make_tool.specs.declared.contents.Word.{Word}
 use Rattle.ndef_make_tool.proofs.Lists.{map_twice, mapped_more}
@@ -34,7 +34,7 @@ word_cut byte small word (Some x) h =
 
 -- the words of an option that are given
 pub words_given : (f : Found) (id : Text) (r : Option (Bor (List (Bor Text)))) → option_map (λ s. map (λ v. v.now) s.now) r ≡ option_map raw_values (matched_of f id)
-    → unwrap_or (option_map (λ s. map (λ v. v.now) s.now) r) [] ≡ words_of id (rows_of f)
+    → unwrap_or (option_map (λ s. map (λ v. v.now) s.now) r) [] ≡ option_words id (rows_of f)
 words_given f id r e = ap (λ o. unwrap_or o []) (e ∙ raw_values-rows f id)
 
 -- one word more

@@ -4,7 +4,7 @@ use Rattle.std.specs.declared.alloc.Global.{Global}
 use Rattle.clap.specs.Words.{Row, Text}
 use Rattle.ndef_format.specs.Messages.{Item}
 use Rattle.ndef_make_tool.specs.Handovers.{AsksError, MakesAlternative, MakesHandoverOf, ac_said, collision_said, handover_said}
-use Rattle.ndef_make_tool.specs.Options.{words_of}
+use Rattle.ndef_make_tool.specs.Options.{option_words}
 use Rattle.ndef_make_tool.specs.Posters.{MakesNested, action_said, size_said, title_said}
 use Rattle.ndef_make_tool.specs.Records.{Answer, AreMadeBy, MakesSaid, FailsBy, MakesItem, MakesText, MakesUri, well_known}
 use Rattle.ndef_make_tool.specs.declared.contents.Property.{Property}
@@ -33,7 +33,7 @@ MakesContent (property.Error, word) answer = AsksError word answer
 
 -- the words of an option, each as that property
 abbrev pub words_as : Property → Text → List Row → List Content
-words_as property id rows = map (λ word. (property, word)) (words_of id rows)
+words_as property id rows = map (λ word. (property, word)) (option_words id rows)
 
 -- the record of a message of these records, or why there is none
 abbrev pub MakesOf : (List Item → Answer → Type 0) → List Content → Answer → Type 0

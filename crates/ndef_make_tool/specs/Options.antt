@@ -18,8 +18,8 @@ abbrev pub is_said : Text → List Row → Bool
 is_said id rows = is_some (first_of id rows)
 
 -- the words of an option
-abbrev pub words_of : Text → List Row → List Text
-words_of id rows = unwrap_or (all_of id rows) []
+abbrev pub option_words : Text → List Row → List Text
+option_words id rows = unwrap_or (all_of id rows) []
 
 -- the subject of this name
 abbrev pub subject_named : Text → Option Subject

@@ -6,7 +6,7 @@ use Rattle.std.specs.Str.{bytes_eq}
 use Rattle.clap.specs.Words.{Row, Text}
 use Rattle.ndef_format.specs.Messages.{Item}
 use Rattle.ndef_make_tool.specs.Asked.{AskedPart}
-use Rattle.ndef_make_tool.specs.Options.{cut_at, is_comma, is_equals, subject_named, words_of}
+use Rattle.ndef_make_tool.specs.Options.{cut_at, is_comma, is_equals, subject_named, option_words}
 use Rattle.ndef_make_tool.specs.declared.fault.Fault.{Fault}
 use Rattle.ndef_make_tool.specs.declared.fault.Fault.TheVariants.{Refused, Memory}
 use Rattle.ndef_make_tool.specs.declared.fault.Refused.TheVariants.{NoRecord, PartTooLong}
@@ -20,7 +20,7 @@ references_in word = option_map_or (λ cut. slice_split is_comma cut.1) (cut_at 
 
 -- Connection Handover 1.2, Alternative Carrier record: the references of the carriers of a handover; others have none
 abbrev pub references_for : Option Subject → List Row → List Text
-references_for (Some subject.Handover) rows = flat_map references_in (words_of (codes "carrier") rows)
+references_for (Some subject.Handover) rows = flat_map references_in (option_words (codes "carrier") rows)
 references_for _ rows = []
 
 -- the references of a part

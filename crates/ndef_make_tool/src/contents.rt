@@ -2,7 +2,7 @@
 ghost use Rattle.std.specs.Prelude.{◌≡◌, map};
 ghost use Rattle.clap.specs.Words.{found_of, rows_of};
 ghost use Rattle.ndef_make_tool.specs.Contents.{MakesContent, OnAppended, content_of};
-ghost use Rattle.ndef_make_tool.specs.Options.{words_of};
+ghost use Rattle.ndef_make_tool.specs.Options.{option_words};
 ghost use Rattle.ndef_make_tool.specs.Records.{AreAnsweredBy};
 
 use crate::Fault;
@@ -92,7 +92,7 @@ pub(crate) fn push_words<'a>(
     property: Property,
     id: &str,
 ) -> Result<(), Fault>
-    ensures { OnAppended property (words_of id.now (rows_of (found_of matches.now)))
+    ensures { OnAppended property (option_words id.now (rows_of (found_of matches.now)))
         words.old.items words.new.items result }
 {
     match matches.get_raw(id) {

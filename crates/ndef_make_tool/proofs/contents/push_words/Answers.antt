@@ -1,7 +1,7 @@
 use Rattle.std.proofs.Common.{List, map, subst, Some, None}
 use Rattle.clap.specs.Words.{Text, found_of, rows_of}
 use Rattle.ndef_make_tool.specs.Contents.{OnAppended, content_of}
-use Rattle.ndef_make_tool.specs.Options.{words_of}
+use Rattle.ndef_make_tool.specs.Options.{option_words}
 use Rattle.ndef_make_tool.proofs.Words.{words_given, words_none}
 use Rattle.ndef_make_tool.proofs.contents.push_words.Goals as goal
 
@@ -12,5 +12,5 @@ returns-in-Some c =
 
 pub returns-in-None : goal.returns-in-None
 returns-in-None c =
-    words_none c.args.property (words_of c.args.id.now (rows_of (found_of c.args.matches.now))) (map content_of c.args.words.now.items)
+    words_none c.args.property (option_words c.args.id.now (rows_of (found_of c.args.matches.now))) (map content_of c.args.words.now.items)
     (words_given (found_of c.args.matches.now) c.args.id.now None c.in-None.ensures)
