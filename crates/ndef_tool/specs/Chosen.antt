@@ -80,14 +80,14 @@ chosen_action name rows = if bytes_eq name (codes "show") then Some Show
     else (if bytes_eq name (codes "encode") then encode_of rows else None))
 
 -- the choice of a subcommand, with its options
-abbrev pub choice_in : Text → List Row → Option Choice
-choice_in name rows =
+abbrev pub subcommand_choice : Text → List Row → Option Choice
+subcommand_choice name rows =
     option_and_then (λ action. option_map (λ limits. record { action = action; hex = hex_of rows; limits = limits })
     (chosen_limits rows)) (chosen_action name rows)
 
 -- the choice of clap's matches
 abbrev pub chosen_of : Option (Text × List Row) → Option Choice
-chosen_of = option_and_then (λ p. choice_in p.0 p.1)
+chosen_of = option_and_then (λ p. subcommand_choice p.0 p.1)
 
 -- what the words choose on a command line: nothing where clap finds a fault in them
 abbrev pub choice_by : App → List Text → Option Choice

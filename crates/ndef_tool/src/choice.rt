@@ -2,7 +2,7 @@
 ghost use Rattle.std.specs.Prelude.{◌≡◌, ◌≤◌, ◌<◌, map, option_and_then, string_bytes, IfOk, IfSome};
 ghost use Rattle.clap.specs.Words.{one_of, rows_of, found_of, subcommand_rows_of};
 ghost use Rattle.ndef_program.specs.Options.{hex_of, number_in};
-ghost use Rattle.ndef_tool.specs.Chosen.{Chooses, HasSize, HasSizeIfAny, chosen_action, choice_in, chosen_of, chunk_of, form_named, chosen_form, given_number, chosen_limits, number_or, profile_named, chosen_profile, within};
+ghost use Rattle.ndef_tool.specs.Chosen.{Chooses, HasSize, HasSizeIfAny, chosen_action, subcommand_choice, chosen_of, chunk_of, form_named, chosen_form, given_number, chosen_limits, number_or, profile_named, chosen_profile, within};
 
 use crate::command::ndef_command;
 use clap::ArgMatches;
@@ -171,7 +171,7 @@ fn action_given(name: &str, matches: &ArgMatches<'_>) -> Option<Action>
 
 /// What the subcommand of this name and its options choose.
 fn choice_given(name: &str, matches: &ArgMatches<'_>) -> Option<Choice>
-    ensures value { result ≡ choice_in name.now (rows_of (found_of matches.now)) }
+    ensures value { result ≡ subcommand_choice name.now (rows_of (found_of matches.now)) }
     ensures some { IfSome result (λ choice. HasSize choice.action) }
 {
     let action = action_given(name, matches)?;
