@@ -18,8 +18,8 @@ abbrev pub is_space : ℕ → Bool
 is_space byte = byte == 32 || byte == 9 || byte == 13 || byte == 10
 
 -- the text without white space
-abbrev pub digits_of : List ℕ → List ℕ
-digits_of text = filter (λ byte. not (is_space byte)) text
+abbrev pub without_spaces : List ℕ → List ℕ
+without_spaces text = filter (λ byte. not (is_space byte)) text
 
 -- places count digits
 abbrev pub fault_of : FromHexError → HexFault
@@ -38,8 +38,8 @@ IsTextInput = IsWholeInput 16777216
 
 -- the bytes that the digits of a text stand for, or what is wrong with them
 abbrev pub IsDecoded : List ℕ → Result (List ℕ) Ending → Type 0
-IsDecoded text (Ok bytes) = decode_of (digits_of text) ≡ Ok bytes
-IsDecoded text (Err (Hex fault)) = (error : FromHexError) × (decode_of (digits_of text) ≡ Err error)
+IsDecoded text (Ok bytes) = decode_of (without_spaces text) ≡ Ok bytes
+IsDecoded text (Err (Hex fault)) = (error : FromHexError) × (decode_of (without_spaces text) ≡ Err error)
     × (fault ≡ fault_of error)
 IsDecoded text (Err Memory) = ⊤
 IsDecoded text (Err _) = ⊥

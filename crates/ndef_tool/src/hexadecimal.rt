@@ -2,7 +2,7 @@
 ghost use Rattle.std.specs.Prelude.{◌≡◌, false, IfErr};
 ghost use Rattle.ndef_message.specs.Inputs.{bytes_of};
 ghost use Rattle.ndef_message.specs.States.{source_state};
-ghost use Rattle.ndef_tool.specs.Hexadecimal.{IsDecoded, IsHexInput, digits_of, fault_of, is_space};
+ghost use Rattle.ndef_tool.specs.Hexadecimal.{IsDecoded, IsHexInput, without_spaces, fault_of, is_space};
 ghost use Rattle.ndef_tool.specs.Output.{FitsPlace};
 ghost use Rattle.ndef_tool.specs.Sessions.{is_writing};
 
@@ -23,7 +23,7 @@ fn is_space(byte: u8) -> bool
 
 /// Drops white space.
 fn drop_spaces(text: &mut Vec<u8>)
-    ensures { text.new.items ≡ digits_of text.old.items }
+    ensures { text.new.items ≡ without_spaces text.old.items }
 {
     text.retain(|byte| !is_space(*byte));
 }
