@@ -64,8 +64,8 @@ carrier_app = with_rule (with_rule (with_rule (part_app (codes "carrier")) (aske
     (asked_rule (codes "type"))) (word_rule (codes "id"))
 
 -- a subcommand is wanted as the first word, and none is for help
-abbrev pub empty_app : App
-empty_app = let a = new_app (codes "ndef-make") in
+abbrev pub empty_make_app : App
+empty_make_app = let a = new_app (codes "ndef-make") in
     record a {
       top = record a.top {
         no_binary_name = true;
@@ -78,5 +78,5 @@ empty_app = let a = new_app (codes "ndef-make") in
 -- all of it
 abbrev pub make_app : App
 make_app =
-    with_subcommand (with_subcommand (with_subcommand (with_subcommand (with_subcommand (with_subcommand empty_app
+    with_subcommand (with_subcommand (with_subcommand (with_subcommand (with_subcommand (with_subcommand empty_make_app
     text_app.top) uri_app.top) poster_app.top) handover_app.top) record_app.top) carrier_app.top

@@ -2,7 +2,7 @@
 ghost use Rattle.std.specs.Prelude.{◌≡◌, false};
 ghost use Rattle.clap.specs.Words.{app_of, rule_of};
 ghost use Rattle.clap.specs.declared.builder.command.Command.TheViews.{out-Command as fields_of};
-ghost use Rattle.ndef_make_tool.specs.CommandLine.{asked_rule, carrier_app, empty_app, given_rule, handover_app, linked_app, make_app, part_app, poster_app, record_app, repeated_rule, text_app, titled_app, uri_app};
+ghost use Rattle.ndef_make_tool.specs.CommandLine.{asked_rule, carrier_app, empty_make_app, given_rule, handover_app, linked_app, make_app, part_app, poster_app, record_app, repeated_rule, text_app, titled_app, uri_app};
 ghost use Rattle.ndef_program.specs.CommandLine.{IsCommand};
 
 use clap::{Arg, ArgAction, Command};
@@ -117,7 +117,7 @@ fn carrier_command<'a>(alloc: Global) -> Result<Command<'a>, AllocError>
 
 /// No flag and no subcommand for help: words that ask for it print the usage line.
 fn empty_command<'a>(alloc: Global) -> Command<'a>
-    ensures app { app_of result ≡ empty_app }
+    ensures app { app_of result ≡ empty_make_app }
     ensures local { (fields_of result).has_globals ≡ false }
 {
     Command::new(alloc, "ndef-make")

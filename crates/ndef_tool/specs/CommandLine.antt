@@ -23,8 +23,8 @@ encode_app = with_rule (with_rule (reading_app (codes "encode")) (word_rule (cod
     (number_rule 4294967295 (codes "chunk"))
 
 -- a subcommand is wanted, and none is for help
-abbrev pub empty_app : App
-empty_app = let a = new_app (codes "ndef") in
+abbrev pub empty_ndef_app : App
+empty_ndef_app = let a = new_app (codes "ndef") in
     record a {
       top = record a.top {
         subcommand_required = true;
@@ -35,5 +35,5 @@ empty_app = let a = new_app (codes "ndef") in
 
 -- all of it
 abbrev pub ndef_app : App
-ndef_app = with_subcommand (with_subcommand (with_subcommand empty_app (reading_app (codes "show")).top)
+ndef_app = with_subcommand (with_subcommand (with_subcommand empty_ndef_app (reading_app (codes "show")).top)
     (reading_app (codes "check")).top) encode_app.top

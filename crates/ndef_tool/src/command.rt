@@ -3,7 +3,7 @@ ghost use Rattle.std.specs.Prelude.{◌≡◌, false};
 ghost use Rattle.clap.specs.Words.{app_of, rule_of};
 ghost use Rattle.clap.specs.declared.builder.command.Command.TheViews.{out-Command as fields_of};
 ghost use Rattle.ndef_program.specs.CommandLine.{IsCommand};
-ghost use Rattle.ndef_tool.specs.CommandLine.{number_rule, limits_app, reading_app, encode_app, empty_app, ndef_app};
+ghost use Rattle.ndef_tool.specs.CommandLine.{number_rule, limits_app, reading_app, encode_app, empty_ndef_app, ndef_app};
 
 use clap::{Arg, Command, value_parser};
 use ndef_program::{hex_command, over, with, word_option};
@@ -57,7 +57,7 @@ fn encode_command<'a>(alloc: Global) -> Result<Command<'a>, AllocError>
 
 /// No flag and no subcommand for help: words that ask for it print the usage line.
 fn empty_command<'a>(alloc: Global) -> Command<'a>
-    ensures app { app_of result ≡ empty_app }
+    ensures app { app_of result ≡ empty_ndef_app }
     ensures local { (fields_of result).has_globals ≡ false }
 {
     Command::new(alloc, "ndef")
