@@ -25,7 +25,7 @@ use Rattle.ndef_message.specs.Written.{ShortIsCanonical}
 use Rattle.ndef_message.specs.declared.form.Form.TheVariants.{Short}
 use Rattle.ndef_make_tool.specs.Asked.{AskedPart}
 use Rattle.ndef_make_tool.specs.Checking.{IsOfItsType, MakesIf, is_unchecked}
-use Rattle.ndef_make_tool.specs.Making.{AreMade, IsMadeFor, IsWrittenOf, MakesBy, MakesLinked, MakesMessage, shown_by, shown_in}
+use Rattle.ndef_make_tool.specs.Making.{AreMade, IsMadeFor, IsWrittenOf, MakesBy, MakesLinked, MakesMessage, shown_by, written_as}
 use Rattle.ndef_make_tool.specs.Options.{subject_named}
 use Rattle.ndef_make_tool.specs.Reading.{HoldsFew, IsReadBack, MadeIsRead, ReadsBack, nested_octets}
 use Rattle.ndef_make_tool.specs.References.{missing_reference}
@@ -128,7 +128,7 @@ made_by strict short set holds same trips parts terminal made (Ok input) (items,
       input,
       items,
       are,
-      is.1 ∙ ap (λ shown. shown_in shown (canonical items)) (sym is.2),
+      is.1 ∙ ap (λ shown. written_as shown (canonical items)) (sym is.2),
       read_back strict short set holds same trips items is.0 (are_typed parts input items are none),
     )
 made_by strict short set holds same trips parts terminal made (Err fault) h none = absurd (search rules)

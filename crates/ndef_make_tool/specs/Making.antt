@@ -81,14 +81,14 @@ shown_by terminal parts = if has_flag (codes "hex") parts then Digits
     else (if terminal && not (has_flag (codes "raw") parts) then DigitsForTerminal else Octets)
 
 -- bytes as they are, or as a line of hexadecimal digits
-abbrev pub shown_in : Shown → List ℕ → Text
-shown_in Octets bytes = bytes
-shown_in Digits bytes = hexadecimal_line bytes
-shown_in DigitsForTerminal bytes = hexadecimal_line bytes
+abbrev pub written_as : Shown → List ℕ → Text
+written_as Octets bytes = bytes
+written_as Digits bytes = hexadecimal_line bytes
+written_as DigitsForTerminal bytes = hexadecimal_line bytes
 
 -- NDEF 1.0, messages: the canonical spelling of the records, of which there are at most 65535
 abbrev pub MakesMessage : Shown → List Item → Result Written Fault → Type 0
-MakesMessage shown items (Ok made) = AreItems items × (made.text ≡ shown_in shown (canonical items))
+MakesMessage shown items (Ok made) = AreItems items × (made.text ≡ written_as shown (canonical items))
     × (made.shown ≡ shown)
 MakesMessage shown items (Err (Refused TooManyRecords)) = 65535 < length items
 MakesMessage shown items (Err Memory) = ⊤

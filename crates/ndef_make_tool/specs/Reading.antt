@@ -18,7 +18,7 @@ use Rattle.ndef_message.specs.declared.message_reading.Read.{Read}
 use Rattle.ndef_message.specs.declared.message_reading.ReadError.{ReadError}
 use Rattle.ndef_make_tool.specs.Asked.{AskedPart, parts_asked}
 use Rattle.ndef_make_tool.specs.Checking.{is_unchecked}
-use Rattle.ndef_make_tool.specs.Making.{AreMade, IsMade, shown_in}
+use Rattle.ndef_make_tool.specs.Making.{AreMade, IsMade, written_as}
 use Rattle.ndef_make_tool.specs.declared.making.Written.{Written}
 
 -- RTD Smart Poster 1.0, Connection Handover 1.2: the octets of the message in a payload, behind a version octet
@@ -48,7 +48,7 @@ IsReadBack set holds items =
 -- the text is that of the records for which the parts ask, and they are read
 abbrev pub ReadsBack : Sets → Conditions → List AskedPart → Written → Type 0
 ReadsBack set holds parts made = (input : List ℕ) × (items : List Item) × AreMade parts input items
-    × (made.text ≡ shown_in made.shown (canonical items)) × IsReadBack set holds items
+    × (made.text ≡ written_as made.shown (canonical items)) × IsReadBack set holds items
 
 -- What is made of words is read back as the records for which they ask, unless one of these is to be written unchecked.
 abbrev pub MadeIsRead : Sets → Conditions → Type 0

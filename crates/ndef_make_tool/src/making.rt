@@ -2,7 +2,7 @@
 ghost use Rattle.std.specs.Prelude.{◌≡◌, ◌≢◌, [], drop, map, string_bytes, IfOk};
 ghost use Rattle.ndef_message.specs.States.{source_state};
 ghost use Rattle.ndef_make_tool.specs.Asked.{asked_part};
-ghost use Rattle.ndef_make_tool.specs.Making.{AreAnswered, IsMade, MakesMessage, ReadsFor, has_flag, is_reader, readers_of, shown_by, shown_in};
+ghost use Rattle.ndef_make_tool.specs.Making.{AreAnswered, IsMade, MakesMessage, ReadsFor, has_flag, is_reader, readers_of, shown_by, written_as};
 
 use crate::input::read_payload;
 use crate::options::{Subject, subject_named};
@@ -109,7 +109,7 @@ fn make_records(alloc: Global, said: &[Said<'_>], input: &[u8]) -> Result<Vec<Re
 
 /// The bytes as they are written.
 fn text_in(alloc: Global, shown: Shown, bytes: Bytes) -> Result<Bytes, NoMemory>
-    ensures { IfOk result (λ text. text ≡ shown_in shown bytes) }
+    ensures { IfOk result (λ text. text ≡ written_as shown bytes) }
 {
     match shown {
         Shown::Octets => Ok(bytes),

@@ -78,9 +78,9 @@ status_of _ = status.Fault
 -- ---- a whole run
 
 -- bytes as they are, or as a line of hexadecimal digits
-abbrev pub shown_in : Bool → List ℕ → Text
-shown_in false bytes = bytes
-shown_in true bytes = hexadecimal_line bytes
+abbrev pub bytes_or_digits : Bool → List ℕ → Text
+bytes_or_digits false bytes = bytes
+bytes_or_digits true bytes = hexadecimal_line bytes
 
 -- the message line, the lines of the records and those of the links
 abbrev pub IsShown : Profile → (number at : ℕ) → Read → Text → Type 0
@@ -93,7 +93,7 @@ IsShown profile number at read text =
 abbrev pub IsBlockBy : Action → Profile → (hex : Bool) → (number at : ℕ) → Read → Text → Type 0
 IsBlockBy Show profile hex number at read text = IsShown profile number at read text
 IsBlockBy Check profile hex number at read text = text ≡ message_line number at (length read.message) read.taken
-IsBlockBy (Encode form size) profile hex number at read text = text ≡ shown_in hex (cut_octets form size read.message)
+IsBlockBy (Encode form size) profile hex number at read text = text ≡ bytes_or_digits hex (cut_octets form size read.message)
 
 -- what is printed of a message as it was chosen
 abbrev pub IsBlock : Choice → (number at : ℕ) → Read → Text → Type 0

@@ -2,7 +2,7 @@
 ghost use Rattle.std.specs.Prelude.{◌≡◌, IfOk};
 ghost use Rattle.ndef_message.specs.Written.{cut_octets};
 ghost use Rattle.std.specs.List.{AllByRecursion};
-ghost use Rattle.ndef_tool.specs.Output.{IsShown, message_line, shown_in};
+ghost use Rattle.ndef_tool.specs.Output.{IsShown, message_line, bytes_or_digits};
 ghost use Rattle.ndef_tool.specs.Showing.{IsTyped};
 ghost use Rattle.ndef_tool.specs.Chosen.{HasSizeIfAny};
 ghost use Rattle.ndef_tool.specs.Blocks.{block_text};
@@ -52,7 +52,7 @@ fn encode_by(
 
 /// The bytes as they are, or as hexadecimal digits.
 fn block_in(alloc: Global, hex: bool, bytes: Bytes) -> Result<Block, NoMemory>
-    ensures { IfOk result (λ block. block_text block ≡ shown_in hex bytes) }
+    ensures { IfOk result (λ block. block_text block ≡ bytes_or_digits hex bytes) }
 {
     if hex {
         return Ok(Block::Bytes(hexadecimal_line(alloc, bytes.as_slice())?));
@@ -96,7 +96,7 @@ pub fn encode_block(
     message: &Message,
 ) -> Result<Block, NoMemory>
     requires { HasSizeIfAny size }
-    ensures { IfOk result (λ block. block_text block ≡ shown_in hex (cut_octets form size message.now)) }
+    ensures { IfOk result (λ block. block_text block ≡ bytes_or_digits hex (cut_octets form size message.now)) }
 {
     let bytes = encode_by(alloc, message, form, size)?;
     block_in(alloc, hex, bytes)
