@@ -108,7 +108,7 @@ fault_text (told.Line line) = line
 -- ---- the status
 
 -- the status of a fault
-abbrev pub status_of : Fault → Status
-status_of Usage = status.Usage
-status_of (Refused why) = status.Refused
-status_of _ = status.Fault
+abbrev pub fault_status : Fault → Status
+fault_status Usage = status.Usage
+fault_status (Refused why) = status.Refused
+fault_status _ = status.Fault

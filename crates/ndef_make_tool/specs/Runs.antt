@@ -7,7 +7,7 @@ use Rattle.ndef_message.specs.declared.source.Source.{Ghosts as SourceOf}
 use Rattle.ndef_program.specs.Outputs.{GoesOut}
 use Rattle.ndef_program.specs.Pages.{page_asked}
 use Rattle.ndef_program.specs.Statuses.{status_after}
-use Rattle.ndef_make_tool.specs.Faults.{line_of, status_of}
+use Rattle.ndef_make_tool.specs.Faults.{line_of, fault_status}
 use Rattle.ndef_make_tool.specs.Making.{IsMade}
 use Rattle.ndef_make_tool.specs.Pages.{page_text}
 use Rattle.ndef_make_tool.specs.declared.fault.Fault.{Fault}
@@ -59,7 +59,7 @@ TellsMade made before after result = PrintsAll made.text before.output after.out
 abbrev pub TellsOutcome : Result Written Fault → (before after : Streams) → Status → Type 0
 TellsOutcome (Ok made) before after result = TellsMade made before after result
 TellsOutcome (Err fault) before after result = (after.output ≡ before.output)
-    × Sends before.lines after.lines (line_of fault) × (result ≡ status_of fault)
+    × Sends before.lines after.lines (line_of fault) × (result ≡ fault_status fault)
 
 -- ---- a run
 

@@ -1,6 +1,6 @@
 //! Why no message is made, and the status of a run.
 ghost use Rattle.std.specs.Prelude.{◌≡◌};
-ghost use Rattle.ndef_make_tool.specs.Faults.{detail_fault, encode_fault, input_fault, line_of, name_fault, payload_line, record_fault, record_line, status_of, text_fault, fault_text};
+ghost use Rattle.ndef_make_tool.specs.Faults.{detail_fault, encode_fault, input_fault, line_of, name_fault, payload_line, record_fault, record_line, fault_status, text_fault, fault_text};
 ghost use Rattle.ndef_make_tool.specs.declared.fault.Fault.TheVariants.{Memory};
 
 use ndef_message::InputError;
@@ -266,8 +266,8 @@ const USAGE: &[u8] = b"usage: ndef-make text [--language L] [--utf16] TEXT | uri
     --help | --version\n";
 
 /// The status of a fault.
-pub(crate) fn status_of(fault: &Fault) -> Status
-    ensures { result ≡ status_of fault.now }
+pub(crate) fn fault_status(fault: &Fault) -> Status
+    ensures { result ≡ fault_status fault.now }
 {
     match fault {
         Fault::Usage => Status::Usage,

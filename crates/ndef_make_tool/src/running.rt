@@ -3,7 +3,7 @@ ghost use Rattle.std.specs.Prelude.{◌≡◌, false, map, string_bytes};
 ghost use Rattle.ndef_message.specs.States.{sink_state};
 ghost use Rattle.ndef_make_tool.specs.Runs.{Notes, PrintsAll, Runs, RunsFor, streams};
 
-use crate::fault::{line_of, status_of};
+use crate::fault::{line_of, fault_status};
 use crate::making::{Shown, make};
 use crate::pages::page_text;
 use ndef_message::{Sink, Source, send};
@@ -60,7 +60,7 @@ fn run_for<S: Source, K: Sink, L: Sink>(
         Err(fault) => {
             let told = line_of(&fault);
             print(told.as_slice(), lines);
-            status_of(&fault)
+            fault_status(&fault)
         }
     }
 }
