@@ -61,8 +61,8 @@ detail_fault details.NoMemory = Memory
 -- ---- what is printed
 
 -- for words that don't parse
-abbrev pub usage_line : Text
-usage_line =
+abbrev pub ndef_make_usage : Text
+ndef_make_usage =
     codes "usage: ndef-make text [--language L] [--utf16] TEXT | uri URI | poster URI [--title L=TEXT].. "
     ++ codes "[--action do|save|open] [--size N] [--media TYPE] | "
     ++ codes "handover request --collision N [--version 1.M] [--carrier POWER=ID[,ID]..].. | "
@@ -83,7 +83,7 @@ record_line reference = codes "refused: no record has the id \"" ++ reference ++
 
 -- the line of a fault
 abbrev pub line_of : Fault → Text
-line_of Usage = usage_line
+line_of Usage = ndef_make_usage
 line_of (Refused refused.LanguageTooLong) = codes "refused: a language code of more than 63 bytes\n"
 line_of (Refused refused.LanguageNotAscii) = codes "refused: a language code that is not ASCII\n"
 line_of (Refused refused.PayloadTooLong) = codes "refused: a payload of more than 4294967295 bytes\n"

@@ -24,8 +24,8 @@ use Rattle.ndef_program.specs.declared.status.Status.TheVariants as status
 -- ---- lines
 
 -- for words that don't parse
-abbrev pub usage_line : Text
-usage_line =
+abbrev pub ndef_usage : Text
+ndef_usage =
     codes "usage: ndef show|check|encode [--hex] [--payload N] [--records N] [--pieces N] [--form short|long] "
     ++ codes "[--chunk N] [--profile strict|standard]\n"
 

@@ -5,7 +5,7 @@ use Rattle.ndef_message.specs.States.{SourceState}
 use Rattle.ndef_message.specs.declared.message_reading.Read.{Read}
 use Rattle.ndef_program.specs.Statuses.{status_after}
 use Rattle.ndef_tool.specs.Chosen.{Chooses}
-use Rattle.ndef_tool.specs.Output.{IsOutput, status_of, usage_line}
+use Rattle.ndef_tool.specs.Output.{IsOutput, status_of, ndef_usage}
 use Rattle.ndef_tool.specs.Quoting.{Text}
 use Rattle.ndef_tool.specs.Inputs.{ReadsIn}
 use Rattle.ndef_program.specs.Outputs.{GoesOut}
@@ -25,7 +25,7 @@ Prints (Ok choice) before after sink_failed text st = (reads : List Read) × (en
     × ReadsIn choice.hex choice before after sink_failed reads ending
     × IsOutput choice reads ending text × (st ≡ status_of ending)
 Prints (Err Usage) before after sink_failed text st =
-    (after ≡ before) × (text ≡ usage_line) × (st ≡ status.Usage)
+    (after ≡ before) × (text ≡ ndef_usage) × (st ≡ status.Usage)
 Prints (Err NoMemory) before after sink_failed text st = (after ≡ before) × (text ≡ []) × (st ≡ status.Fault)
 
 -- the text goes out, or a front of it before the sink fails

@@ -1,6 +1,6 @@
 use Rattle.std.proofs.Common.{◌∙◌, [], Ok, Err, refl, inl, inr}
 use Rattle.std.proofs.KnownBytes.{Appends-nil, Keeps-refl}
-use Rattle.ndef_tool.specs.Output.{status_of, usage_line}
+use Rattle.ndef_tool.specs.Output.{status_of, ndef_usage}
 use Rattle.ndef_tool.specs.declared.choice.WordsError.TheVariants.{Usage, NoMemory}
 use Rattle.ndef_program.specs.declared.status.Status.TheVariants as status
 use Rattle.ndef_tool.proofs.Handling.{failed_status, session_ends, silent_ends}
@@ -19,11 +19,11 @@ returns-in-Err-Usage-clause-runs g c = λ clear. (
   Err Usage,
   (rw c.in-Err-Usage.field-0-is at c.in-Err-Usage.ensures).chosen,
   (
-    usage_line,
+    ndef_usage,
     status.Usage,
     (refl, refl, refl),
-    goes_behind _ _ _ (g.K.Sink.has_failed c.args.sink.now) _ [] usage_line c.send.result clear (Appends-nil _) c.send.ensures.sent c.send.ensures.mark,
-    usage_status (g.K.Sink.has_failed c.args.sink.now) _ usage_line c.send.result status.Usage _ clear c.send.ensures.mark c.end.ensures,
+    goes_behind _ _ _ (g.K.Sink.has_failed c.args.sink.now) _ [] ndef_usage c.send.result clear (Appends-nil _) c.send.ensures.sent c.send.ensures.mark,
+    usage_status (g.K.Sink.has_failed c.args.sink.now) _ ndef_usage c.send.result status.Usage _ clear c.send.ensures.mark c.end.ensures,
   ),
 )
 
@@ -53,8 +53,8 @@ returns-in-Err-NoMemory-clause-silent g c = λ marked. (Keeps-refl (g.K.Sink.wri
 pub returns-in-Err-Usage-clause-silent : goal.returns-in-Err-Usage-clause-silent
 returns-in-Err-Usage-clause-silent g c = λ marked. (
   c.send.ensures.silent marked,
-  stays_failed (g.K.Sink.has_failed c.args.sink.now) _ usage_line c.send.result c.send.ensures.mark marked,
-  elim (failed_status (g.K.Sink.has_failed c.args.sink.now) _ usage_line c.send.result status.Usage _ marked c.send.ensures.mark c.end.ensures) [ inl h ↦ absurd (let e = h.0 in cc) | inr h ↦ inl h ],
+  stays_failed (g.K.Sink.has_failed c.args.sink.now) _ ndef_usage c.send.result c.send.ensures.mark marked,
+  elim (failed_status (g.K.Sink.has_failed c.args.sink.now) _ ndef_usage c.send.result status.Usage _ marked c.send.ensures.mark c.end.ensures) [ inl h ↦ absurd (let e = h.0 in cc) | inr h ↦ inl h ],
 )
 
 pub returns-in-Ok-clause-silent : goal.returns-in-Ok-clause-silent
