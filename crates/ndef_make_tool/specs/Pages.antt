@@ -5,8 +5,8 @@ use Rattle.ndef_program.specs.declared.pages.Page.{Page}
 use Rattle.ndef_program.specs.declared.pages.Page.TheVariants as page
 
 -- what the program does, its words, and examples
-abbrev pub help_text : Text
-help_text =
+abbrev pub ndef_make_help : Text
+ndef_make_help =
     codes "ndef-make writes a message of the NFC Data Exchange Format.\n"
     ++ codes "\n"
     ++ codes "Usage: ndef-make RECORD [--and RECORD]..\n"
@@ -59,6 +59,6 @@ help_text =
     ++ codes "  ndef-make handover select --carrier active=0 --and record --tnf 2 --type a/b --id 0 < data > tag.bin\n"
 
 -- the text of a page
-abbrev pub page_text : Page → Text
-page_text page.Help = help_text
-page_text page.Version = codes "ndef-make 0.1.0\n"
+abbrev pub ndef_make_page : Page → Text
+ndef_make_page page.Help = ndef_make_help
+ndef_make_page page.Version = codes "ndef-make 0.1.0\n"

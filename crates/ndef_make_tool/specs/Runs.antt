@@ -9,7 +9,7 @@ use Rattle.ndef_program.specs.Pages.{page_asked}
 use Rattle.ndef_program.specs.Statuses.{status_after}
 use Rattle.ndef_make_tool.specs.Faults.{line_of, fault_status}
 use Rattle.ndef_make_tool.specs.Making.{IsMade}
-use Rattle.ndef_make_tool.specs.Pages.{page_text}
+use Rattle.ndef_make_tool.specs.Pages.{ndef_make_page}
 use Rattle.ndef_make_tool.specs.declared.fault.Fault.{Fault}
 use Rattle.ndef_program.specs.declared.pages.Page.{Page}
 use Rattle.ndef_program.specs.declared.status.Status.{Status}
@@ -71,7 +71,7 @@ RunsFor words terminal before after result = (made : Result Written Fault)
 -- a page goes out, and the input is left; or what the words ask for
 abbrev pub RunsAsked : Option Page → List Text → (terminal : Bool) → (before after : Streams) → Status → Type 0
 RunsAsked (Some page) words terminal before after result = (after.source ≡ before.source)
-    × PrintsAll (page_text page) before.output after.output result × (after.lines ≡ before.lines)
+    × PrintsAll (ndef_make_page page) before.output after.output result × (after.lines ≡ before.lines)
 RunsAsked None words terminal before after result = RunsFor words terminal before after result
 
 -- what the words and the input come to

@@ -1,22 +1,22 @@
 //! The pages about the program itself.
 ghost use Rattle.std.specs.Prelude.{◌≡◌};
-ghost use Rattle.ndef_make_tool.specs.Pages.{help_text, page_text};
+ghost use Rattle.ndef_make_tool.specs.Pages.{ndef_make_help, ndef_make_page};
 
 use ndef_program::Page;
 
 /// The page of help.
-fn help_text() -> &'static [u8]
-    ensures { result.now ≡ help_text }
+fn ndef_make_help() -> &'static [u8]
+    ensures { result.now ≡ ndef_make_help }
 {
     HELP
 }
 
 /// The text of a page.
-pub(crate) fn page_text(page: Page) -> &'static [u8]
-    ensures { result.now ≡ page_text page }
+pub(crate) fn ndef_make_page(page: Page) -> &'static [u8]
+    ensures { result.now ≡ ndef_make_page page }
 {
     match page {
-        Page::Help => help_text(),
+        Page::Help => ndef_make_help(),
         Page::Version => b"ndef-make 0.1.0\n",
     }
 }

@@ -5,7 +5,7 @@ ghost use Rattle.ndef_make_tool.specs.Runs.{Notes, PrintsAll, Runs, RunsFor, str
 
 use crate::fault::{line_of, fault_status};
 use crate::making::{Shown, make};
-use crate::pages::page_text;
+use crate::pages::ndef_make_page;
 use ndef_message::{Sink, Source, send};
 use ndef_program::{Status, page_asked};
 use std::alloc::Global;
@@ -84,7 +84,7 @@ pub fn run<S: Source, K: Sink, L: Sink>(
         (streams S.Source K.Sink L.Sink source.new sink.new lines.new) result }
 {
     match page_asked(words) {
-        Some(page) => print(page_text(page), sink),
+        Some(page) => print(ndef_make_page(page), sink),
         None => run_for(alloc, words, terminal, source, sink, lines),
     }
 }
