@@ -51,7 +51,8 @@ MakesBy (Some subject.Uri) rows input answer = MakesSaid MakesUri (uri_said rows
 MakesBy (Some subject.Poster) rows input answer = MakesPoster rows answer
 MakesBy (Some subject.Handover) rows input answer = MakesHandoverSaid rows answer
 MakesBy (Some subject.Record) rows input answer = MakesSaid MakesItem (item_said rows input) answer
-MakesBy (Some subject.Carrier) rows input answer = MakesSaid (MakesCarrier (id_said rows)) (carrier_said rows input) answer
+MakesBy (Some subject.Carrier) rows input answer =
+    MakesSaid (MakesCarrier (id_said rows)) (carrier_said rows input) answer
 
 -- what is made of a part, with the input: a record whose payload is one of its type, or isn't checked
 abbrev pub Makes : AskedPart → (input : List ℕ) → Answer → Type 0

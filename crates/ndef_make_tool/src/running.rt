@@ -3,7 +3,7 @@ ghost use Rattle.std.specs.Prelude.{◌≡◌, false, map, string_bytes};
 ghost use Rattle.ndef_message.specs.States.{sink_state};
 ghost use Rattle.ndef_make_tool.specs.Runs.{Notes, PrintsAll, Runs, RunsFor, streams};
 
-use crate::fault::{line_of, fault_status};
+use crate::fault::{fault_status, line_of};
 use crate::making::{Shown, make};
 use crate::pages::ndef_make_page;
 use ndef_message::{Sink, Source, send};

@@ -17,13 +17,15 @@ passes t = accepts false (vp.Unsigned 0 4294967295) t
 -- a number that is read
 pub number_read : (t : Text) (v : ℕ) → ParsesUnsigned {E = ℕ} 32 10 t (Ok v) → Some v ≡ number_in t
 number_read t v p =
-    let yes : passes t ≡ true = Accepts-accepts false (vp.Unsigned 0 4294967295) t (p.0.0, omega (arith, p.0.1), omega arith, omega (arith, p.0.1)) in
+    let yes : passes t ≡ true = Accepts-accepts false (vp.Unsigned 0 4294967295) t
+    (p.0.0, omega (arith, p.0.1), omega arith, omega (arith, p.0.1)) in
     ap (λ n. Some n) p.1 ∙ ap (λ b. cond b (Some (digits_value 10 (without_leading_plus t))) None) (sym yes)
 
 -- a word that is no number
 pub number_unread : (t : Text) → ParsesUnsigned {E = ℕ} 32 10 t (Err 0) → None ≡ number_in t
 number_unread t p =
-    let no : passes t ≡ false = false_from_ne_true (passes t) (λ y. let a = accepts-Accepts false (vp.Unsigned 0 4294967295) t y in p (a.0, omega (arith, a.3))) in
+    let no : passes t ≡ false = false_from_ne_true (passes t)
+    (λ y. let a = accepts-Accepts false (vp.Unsigned 0 4294967295) t y in p (a.0, omega (arith, a.3))) in
     ap (λ b. cond b (Some (digits_value 10 (without_leading_plus t))) None) (sym no)
 
 -- ---- faults
@@ -33,16 +35,18 @@ pub faultless : {X : Type 0} (built wanted : App) (words : List Text) (said : Op
     → is_simple_and_free wanted ≡ true → (is_simple_and_free built ≡ true → fault_of built words ≡ [])
     → unless_fault (fault_of wanted words) said ≡ said
 faultless built wanted words said is free kinds =
-    let none : fault_of wanted words ≡ [] = ap (λ (a : App). fault_of a words) (sym is) ∙ kinds (ap is_simple_and_free is ∙ free) in
+    let none : fault_of wanted words ≡ [] =
+    ap (λ (a : App). fault_of a words) (sym is) ∙ kinds (ap is_simple_and_free is ∙ free) in
     ap (λ (k : Kinds). unless_fault k said) none
 
-among : {X : Type 0} (k : ErrorKind) (kinds : Kinds) (said : Option X) → IsAmong k kinds → unless_fault kinds said ≡ None
+among : {X : Type 0} (k : ErrorKind) (kinds : Kinds) (said : Option X) → IsAmong k kinds
+    → unless_fault kinds said ≡ None
 among k [] said h = absurd h
 among k (x ∷ xs) said h = refl
 
 -- words that clap refuses, but not for memory, say nothing
-pub faulty : {X : Type 0} (built wanted : App) (words : List Text) (k memory : ErrorKind) (said : Option X) → built ≡ wanted
-    → is_simple_and_free wanted ≡ true → (k ≡ memory → ⊥)
+pub faulty : {X : Type 0} (built wanted : App) (words : List Text) (k memory : ErrorKind) (said : Option X)
+    → built ≡ wanted → is_simple_and_free wanted ≡ true → (k ≡ memory → ⊥)
     → (is_simple_and_free built ≡ true → (k ≡ memory) ⊎ IsAmong k (fault_of built words))
     → unless_fault (fault_of wanted words) said ≡ None
 faulty built wanted words k memory said is free other kinds = elim (kinds (ap is_simple_and_free is ∙ free)) [

@@ -93,7 +93,8 @@ IsShown profile number at read text =
 abbrev pub IsBlockBy : Action → Profile → (hex : Bool) → (number at : ℕ) → Read → Text → Type 0
 IsBlockBy Show profile hex number at read text = IsShown profile number at read text
 IsBlockBy Check profile hex number at read text = text ≡ message_line number at (length read.message) read.taken
-IsBlockBy (Encode form size) profile hex number at read text = text ≡ bytes_or_digits hex (cut_octets form size read.message)
+IsBlockBy (Encode form size) profile hex number at read text =
+    text ≡ bytes_or_digits hex (cut_octets form size read.message)
 
 -- what is printed of a message as it was chosen
 abbrev pub IsBlock : Choice → (number at : ℕ) → Read → Text → Type 0
