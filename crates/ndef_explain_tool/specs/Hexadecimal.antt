@@ -7,6 +7,7 @@ use Rattle.ndef_tool.specs.Hexadecimal.{fault_of}
 use Rattle.ndef_tool.specs.Quoting.{Text}
 use Rattle.ndef_tool.specs.declared.ending.Ending.{Ending}
 use Rattle.ndef_tool.specs.declared.ending.Ending.TheVariants.{Hex, Memory}
+use Rattle.ndef_explain_tool.specs.Lines.{lines_of}
 use Rattle.ndef_explain_tool.specs.declared.hexadecimal.Layout.{Layout}
 use Rattle.ndef_explain_tool.specs.declared.hexadecimal.Layout.TheVariants as layout
 
@@ -64,10 +65,6 @@ abbrev pub hexdump_digits : Text → List ℕ
 hexdump_digits line = word_digits (before_first (λ byte. byte == 124) (behind_place line))
 
 -- ---- the bytes
-
--- the lines of a text
-abbrev pub lines_of : Text → List Text
-lines_of text = slice_split (λ byte. byte == 10) text
 
 -- the first line of a text
 abbrev pub first_line : Text → Text

@@ -5,6 +5,7 @@ pub mod Explaining
 pub mod FieldLines
 pub mod Hexadecimal
 pub mod Inputs
+pub mod Lines
 pub mod Meanings
 pub mod Pages
 pub mod Painting

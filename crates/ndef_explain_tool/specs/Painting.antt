@@ -1,7 +1,8 @@
 -- Output in colour.
 use Rattle.std.specs.Prelude.{◌==◌, ◌||◌, ℕ, Bool, true, false, List, [], ◌∷◌, ◌++◌, codes, nat_eq, drop, take, map, slice_index, if◌then◌else◌}
-use Rattle.std.specs.List.{join_with_byte, slice_split, starts_with}
+use Rattle.std.specs.List.{join_with_byte, starts_with}
 use Rattle.ndef_tool.specs.Quoting.{Text}
+use Rattle.ndef_explain_tool.specs.Lines.{lines_of}
 use Rattle.ndef_explain_tool.specs.declared.painting.Ink.{Ink}
 use Rattle.ndef_explain_tool.specs.declared.painting.Ink.TheVariants as ink
 
@@ -41,10 +42,6 @@ painted_in ink.Plain line = line
 -- a line in colour
 abbrev pub painted_line : Text → Text
 painted_line line = painted_in (ink_of line) line
-
--- the lines of a text
-abbrev pub lines_of : Text → List Text
-lines_of text = slice_split (λ byte. byte == 10) text
 
 -- a text in colour
 abbrev pub painted : Text → Text

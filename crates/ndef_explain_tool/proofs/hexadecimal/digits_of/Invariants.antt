@@ -1,7 +1,8 @@
 use Rattle.std.proofs.Common.{◌≡◌, ◌++◌, ◌∷◌, [], ◌+◌, length}
 use Rattle.std.specs.List.{flat_map}
 use Rattle.std.specs.Option.{option_map_or}
-use Rattle.ndef_explain_tool.specs.Hexadecimal.{digits_of, line_digits, lines_of}
+use Rattle.ndef_explain_tool.specs.Hexadecimal.{digits_of, line_digits}
+use Rattle.ndef_explain_tool.specs.Lines.{lines_of}
 use Rattle.ndef_explain_tool.proofs.hexadecimal.digits_of.Given as goal
 
 abbrev pub invariant-loop-rest : goal.invariant-loop-rest

@@ -1,6 +1,7 @@
 use Rattle.std.proofs.Common.{◌≡◌, ◌++◌, ◌∷◌, [], ◌+◌, length}
 use Rattle.std.specs.Option.{option_map_or}
-use Rattle.ndef_explain_tool.specs.Painting.{lines_of, painted}
+use Rattle.ndef_explain_tool.specs.Lines.{lines_of}
+use Rattle.ndef_explain_tool.specs.Painting.{painted}
 use Rattle.ndef_explain_tool.proofs.Painted.{painted_lines}
 use Rattle.ndef_explain_tool.proofs.painting.push_painted.Given as goal
 
