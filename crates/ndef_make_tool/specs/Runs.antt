@@ -21,14 +21,14 @@ use Rattle.ndef_make_tool.specs.declared.making.Shown.TheVariants.{DigitsForTerm
 -- ---- what a run reads and writes
 
 -- the source of the input, the sink of the message or the page, and the sink of lines about them
-pub record Streams : Type 0 where
+pub record ThreeStreams : Type 0 where
   pub source : SourceState
   pub output : SinkState
   pub lines : SinkState
 
 -- what a contract sees of them
-abbrev pub streams : {S K L : Type 0} (source : SourceOf S) (output : SinkOf K) (lines : SinkOf L) → S → K → L → Streams
-streams source output lines s k l =
+abbrev pub three_streams : {S K L : Type 0} (source : SourceOf S) (output : SinkOf K) (lines : SinkOf L) → S → K → L → ThreeStreams
+three_streams source output lines s k l =
     record { source = source_state source s; output = sink_state output k; lines = sink_state lines l }
 
 -- the text goes out to a sink, or a front of it
@@ -51,12 +51,12 @@ Notes DigitsForTerminal before after = Sends before after note_line
 Notes _ before after = after ≡ before
 
 -- the message goes out
-abbrev pub TellsMade : Written → (before after : Streams) → Status → Type 0
+abbrev pub TellsMade : Written → (before after : ThreeStreams) → Status → Type 0
 TellsMade made before after result = PrintsAll made.text before.output after.output result
     × Notes made.shown before.lines after.lines
 
 -- the message goes out, or the line of the fault to the other sink
-abbrev pub TellsOutcome : Result Written Fault → (before after : Streams) → Status → Type 0
+abbrev pub TellsOutcome : Result Written Fault → (before after : ThreeStreams) → Status → Type 0
 TellsOutcome (Ok made) before after result = TellsMade made before after result
 TellsOutcome (Err fault) before after result = (after.output ≡ before.output)
     × Sends before.lines after.lines (line_of fault) × (result ≡ fault_status fault)
@@ -64,16 +64,16 @@ TellsOutcome (Err fault) before after result = (after.output ≡ before.output)
 -- ---- a run
 
 -- what the words and the input come to, where the words ask for records
-abbrev pub RunsFor : List Text → (terminal : Bool) → (before after : Streams) → Status → Type 0
+abbrev pub RunsFor : List Text → (terminal : Bool) → (before after : ThreeStreams) → Status → Type 0
 RunsFor words terminal before after result = (made : Result Written Fault)
     × IsMade words terminal before.source after.source made × TellsOutcome made before after result
 
 -- a page goes out, and the input is left; or what the words ask for
-abbrev pub RunsAsked : Option Page → List Text → (terminal : Bool) → (before after : Streams) → Status → Type 0
+abbrev pub RunsAsked : Option Page → List Text → (terminal : Bool) → (before after : ThreeStreams) → Status → Type 0
 RunsAsked (Some page) words terminal before after result = (after.source ≡ before.source)
     × PrintsAll (ndef_make_page page) before.output after.output result × (after.lines ≡ before.lines)
 RunsAsked None words terminal before after result = RunsFor words terminal before after result
 
 -- what the words and the input come to
-abbrev pub Runs : List Text → (terminal : Bool) → (before after : Streams) → Status → Type 0
+abbrev pub Runs : List Text → (terminal : Bool) → (before after : ThreeStreams) → Status → Type 0
 Runs words terminal before after result = RunsAsked (page_asked words) words terminal before after result

@@ -1,7 +1,7 @@
 //! The program, over any source and sinks.
 ghost use Rattle.std.specs.Prelude.{◌≡◌, false, map, string_bytes};
 ghost use Rattle.ndef_message.specs.States.{sink_state};
-ghost use Rattle.ndef_make_tool.specs.Runs.{Notes, PrintsAll, Runs, RunsFor, streams};
+ghost use Rattle.ndef_make_tool.specs.Runs.{Notes, PrintsAll, Runs, RunsFor, three_streams};
 
 use crate::fault::{fault_status, line_of};
 use crate::making::{Shown, make};
@@ -49,8 +49,9 @@ fn run_for<S: Source, K: Sink, L: Sink>(
     lines: &mut L,
 ) -> Status
     ensures { K.has_failed sink.old ≡ false → L.has_failed lines.old ≡ false
-        → RunsFor (map string_bytes words.now) terminal (streams S.Source K.Sink L.Sink source.old sink.old lines.old)
-        (streams S.Source K.Sink L.Sink source.new sink.new lines.new) result }
+        → RunsFor (map string_bytes words.now) terminal
+        (three_streams S.Source K.Sink L.Sink source.old sink.old lines.old)
+        (three_streams S.Source K.Sink L.Sink source.new sink.new lines.new) result }
 {
     match make(alloc, words, terminal, source) {
         Ok(made) => {
@@ -80,8 +81,9 @@ pub fn run<S: Source, K: Sink, L: Sink>(
     lines: &mut L,
 ) -> Status
     ensures { K.has_failed sink.old ≡ false → L.has_failed lines.old ≡ false
-        → Runs (map string_bytes words.now) terminal (streams S.Source K.Sink L.Sink source.old sink.old lines.old)
-        (streams S.Source K.Sink L.Sink source.new sink.new lines.new) result }
+        → Runs (map string_bytes words.now) terminal
+        (three_streams S.Source K.Sink L.Sink source.old sink.old lines.old)
+        (three_streams S.Source K.Sink L.Sink source.new sink.new lines.new) result }
 {
     match page_asked(words) {
         Some(page) => print(ndef_make_page(page), sink),
