@@ -27,7 +27,8 @@ pub record ThreeStreams : Type 0 where
   pub lines : SinkState
 
 -- what a contract sees of them
-abbrev pub three_streams : {S K L : Type 0} (source : SourceOf S) (output : SinkOf K) (lines : SinkOf L) → S → K → L → ThreeStreams
+abbrev pub three_streams : {S K L : Type 0} (source : SourceOf S) (output : SinkOf K) (lines : SinkOf L)
+    → S → K → L → ThreeStreams
 three_streams source output lines s k l =
     record { source = source_state source s; output = sink_state output k; lines = sink_state lines l }
 
@@ -64,16 +65,18 @@ TellsOutcome (Err fault) before after result = (after.output ≡ before.output)
 -- ---- a run
 
 -- what the words and the input come to, where the words ask for records
-abbrev pub RunsFor : List Text → (terminal : Bool) → (before after : ThreeStreams) → Status → Type 0
-RunsFor words terminal before after result = (made : Result Written Fault)
+abbrev pub RunsForRecords : List Text → (terminal : Bool) → (before after : ThreeStreams) → Status → Type 0
+RunsForRecords words terminal before after result = (made : Result Written Fault)
     × IsMade words terminal before.source after.source made × TellsOutcome made before after result
 
 -- a page goes out, and the input is left; or what the words ask for
-abbrev pub RunsAsked : Option Page → List Text → (terminal : Bool) → (before after : ThreeStreams) → Status → Type 0
-RunsAsked (Some page) words terminal before after result = (after.source ≡ before.source)
+abbrev pub RunsPageOrRecords : Option Page → List Text → (terminal : Bool) → (before after : ThreeStreams) → Status
+    → Type 0
+RunsPageOrRecords (Some page) words terminal before after result = (after.source ≡ before.source)
     × PrintsAll (ndef_make_page page) before.output after.output result × (after.lines ≡ before.lines)
-RunsAsked None words terminal before after result = RunsFor words terminal before after result
+RunsPageOrRecords None words terminal before after result = RunsForRecords words terminal before after result
 
 -- what the words and the input come to
-abbrev pub Runs : List Text → (terminal : Bool) → (before after : ThreeStreams) → Status → Type 0
-Runs words terminal before after result = RunsAsked (page_asked words) words terminal before after result
+abbrev pub RunsNdefMake : List Text → (terminal : Bool) → (before after : ThreeStreams) → Status → Type 0
+RunsNdefMake words terminal before after result =
+    RunsPageOrRecords (page_asked words) words terminal before after result

@@ -1,7 +1,7 @@
 //! The program, over any source and sinks.
 ghost use Rattle.std.specs.Prelude.{◌≡◌, false, map, string_bytes};
 ghost use Rattle.ndef_message.specs.States.{sink_state};
-ghost use Rattle.ndef_make_tool.specs.Runs.{Notes, PrintsAll, Runs, RunsFor, three_streams};
+ghost use Rattle.ndef_make_tool.specs.Runs.{Notes, PrintsAll, RunsForRecords, RunsNdefMake, three_streams};
 
 use crate::fault::{fault_status, line_of};
 use crate::making::{Shown, make};
@@ -49,7 +49,7 @@ fn run_for<S: Source, K: Sink, L: Sink>(
     lines: &mut L,
 ) -> Status
     ensures { K.has_failed sink.old ≡ false → L.has_failed lines.old ≡ false
-        → RunsFor (map string_bytes words.now) terminal
+        → RunsForRecords (map string_bytes words.now) terminal
         (three_streams S.Source K.Sink L.Sink source.old sink.old lines.old)
         (three_streams S.Source K.Sink L.Sink source.new sink.new lines.new) result }
 {
@@ -81,7 +81,7 @@ pub fn run<S: Source, K: Sink, L: Sink>(
     lines: &mut L,
 ) -> Status
     ensures { K.has_failed sink.old ≡ false → L.has_failed lines.old ≡ false
-        → Runs (map string_bytes words.now) terminal
+        → RunsNdefMake (map string_bytes words.now) terminal
         (three_streams S.Source K.Sink L.Sink source.old sink.old lines.old)
         (three_streams S.Source K.Sink L.Sink source.new sink.new lines.new) result }
 {

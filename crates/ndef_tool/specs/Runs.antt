@@ -29,8 +29,8 @@ Prints (Err Usage) before after sink_failed text st =
 Prints (Err NoMemory) before after sink_failed text st = (after ≡ before) × (text ≡ []) × (st ≡ status.Fault)
 
 -- the text goes out, or a front of it before the sink fails
-abbrev pub Runs : List Text → (before after : Streams) → Status → Type 0
-Runs words before after result = (chosen : Result Choice WordsError) × Chooses words chosen
+abbrev pub RunsNdef : List Text → (before after : Streams) → Status → Type 0
+RunsNdef words before after result = (chosen : Result Choice WordsError) × Chooses words chosen
     × ((text : Text) × (st : Status) × Prints chosen before.source after.source after.output.failed text st
     × GoesOut before.output.written after.output.written after.output.failed text
     × (result ≡ status_after after.output.failed st))

@@ -1,7 +1,7 @@
 //! The command, over any source and sink.
 ghost use Rattle.std.specs.Prelude.{◌≡◌, false, true, map, string_bytes};
 ghost use Rattle.ndef_tool.specs.Output.{ending_line, status_of};
-ghost use Rattle.ndef_tool.specs.Runs.{EndsCommand, IsSilent, Runs};
+ghost use Rattle.ndef_tool.specs.Runs.{EndsCommand, IsSilent, RunsNdef};
 ghost use Rattle.ndef_tool.specs.Streams.{streams};
 
 use crate::choice::{WordsError, choose};
@@ -53,7 +53,7 @@ pub fn run<S: Source, K: Sink>(
     sink: &mut K,
 ) -> Status
     ensures runs { K.has_failed sink.old ≡ false
-        → Runs (map string_bytes words.now) (streams S.Source K.Sink source.old sink.old)
+        → RunsNdef (map string_bytes words.now) (streams S.Source K.Sink source.old sink.old)
         (streams S.Source K.Sink source.new sink.new) result }
     ensures silent { K.has_failed sink.old ≡ true
         → IsSilent (map string_bytes words.now) (streams S.Source K.Sink source.old sink.old)
