@@ -71,7 +71,7 @@ fits_behind limits count at a b TooMany range few room t = tt
 fits_behind limits count at a b TooLong range few room t = tt
 
 -- these were read, and their blocks are written
-pub record SoFar (choice : Choice) (a b : Option (List ℕ)) (v w : Option (List ℕ)) (marked : Bool) (count at : ℕ) : Type 0 where
+pub record HandledSoFar (choice : Choice) (a b : Option (List ℕ)) (v w : Option (List ℕ)) (marked : Bool) (count at : ℕ) : Type 0 where
   pub reads : List Read
   pub number : count ≡ length reads
   pub place : at ≡ total_bytes reads
@@ -90,8 +90,8 @@ block_behind choice count at reads read done text n p are is =
 
 -- one message more, and its block
 pub handled_more : (choice : Choice) (a b c : Option (List ℕ)) (v w x : Option (List ℕ)) (marked : Bool) (count at : ℕ) (failed : Bool) (printed : Printed)
-    → SoFar choice a b v w marked count at → PrintsNext choice count at b c failed (Ok printed) → Appends w x (block_text printed.block)
-    → (marked ≡ true → (block_text printed.block ≡ []) × Keeps w x) → SoFar choice a c v x marked (count + 1) (at + printed.taken)
+    → HandledSoFar choice a b v w marked count at → PrintsNext choice count at b c failed (Ok printed) → Appends w x (block_text printed.block)
+    → (marked ≡ true → (block_text printed.block ≡ []) × Keeps w x) → HandledSoFar choice a c v x marked (count + 1) (at + printed.taken)
 handled_more choice a b c v w x marked count at failed printed s (read, next, is, e) sent still =
     let text = block_text printed.block in
     record {
@@ -112,7 +112,7 @@ still_out old new (x ∷ text) n m h = absurd (false≢true (sym (m.1 (omega ari
 
 -- the messages end, and none has a block
 pub silent_end : (choice : Choice) (a b c : Option (List ℕ)) (v w : Option (List ℕ)) (old : Bool) (count at : ℕ) (failed new : Bool) (ending : Ending)
-    → SoFar choice a b v w true count at → count ≤ 10000 → Stops (typed_rules choice.limits) count b c failed false ending → MayEnd choice.action ending → new ≡ true
+    → HandledSoFar choice a b v w true count at → count ≤ 10000 → Stops (typed_rules choice.limits) count b c failed false ending → MayEnd choice.action ending → new ≡ true
     → Silences (IsSession choice a c failed new) choice (sink v old) (sink w new) (record { at = at; ending = ending })
 silent_end choice a b c v w old count at failed new ending s few stops may mark = record {
   keeps = (s.quiet refl).1;
@@ -138,7 +138,7 @@ may_write (Encode form size) = tt
 
 -- one message more, and its block, of which a front went out
 pub handled_in_part : (choice : Choice) (a b c : Option (List ℕ)) (v w x : Option (List ℕ)) (first marked : Bool) (count at : ℕ) (printed : Printed)
-    (source_failed failed old new : Bool) (f : WriteFault) → SoFar choice a b v w marked count at → PrintsNext choice count at b c failed (Ok printed)
+    (source_failed failed old new : Bool) (f : WriteFault) → HandledSoFar choice a b v w marked count at → PrintsNext choice count at b c failed (Ok printed)
     → old ≡ false → Sent 0 w x (block_text printed.block) (Err f) → new ≡ true
     → Handles (IsSession choice a c source_failed new) choice (sink v first) (sink x new) (record { at = at + printed.taken; ending = Writing })
 handled_in_part choice a b c v w x first marked count at printed source_failed failed old new f s (read, next, is, e) clear sent m =

@@ -1,6 +1,6 @@
 use Rattle.std.proofs.Common.{◌≡◌, ◌≤◌, ◌-◌, ◌*◌, ◌^◌}
 use Rattle.ndef_message.specs.Sources.{Counts}
-use Rattle.ndef_tool.proofs.Handling.{SoFar}
+use Rattle.ndef_tool.proofs.Handling.{HandledSoFar}
 use Rattle.ndef_tool.proofs.session.handle_messages.Given as goal
 
 abbrev pub invariant-loop-printed : goal.invariant-loop-printed
@@ -9,7 +9,7 @@ invariant-loop-printed g l = record {
   room : l.at ≤ l.count * 2 ^ 49;
   taken : Counts (g.R.Reading.taken l.initial.from) (g.R.Reading.taken l.from) l.at;
   mark : g.K.Sink.has_failed l.sink ≡ g.K.Sink.has_failed l.initial.sink;
-  so_far : SoFar l.choice (g.R.Reading.coming l.initial.from) (g.R.Reading.coming l.from)
+  so_far : HandledSoFar l.choice (g.R.Reading.coming l.initial.from) (g.R.Reading.coming l.from)
       (g.K.Sink.written l.initial.sink) (g.K.Sink.written l.sink) (g.K.Sink.has_failed l.initial.sink) l.count l.at;
 }
 
