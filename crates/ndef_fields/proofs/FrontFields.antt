@@ -12,7 +12,7 @@ use Rattle.ndef_fields.specs.declared.front.HeadOctets.{HeadOctets}
 use Rattle.ndef_fields.specs.declared.inside.Inside.{Inside}
 use Rattle.ndef_fields.specs.declared.payload.Contents.{Contents}
 use Rattle.ndef_fields.specs.declared.name.FieldName.TheVariants as names
-use Rattle.ndef_fields.specs.Contents.{HasContents, inner_octets, inside_octets, inside_stage}
+use Rattle.ndef_fields.specs.Contents.{AreContentsOf, inner_octets, inside_octets, inside_stage}
 use Rattle.ndef_fields.specs.Cursors.{AreOuter, inner_in, inner_own, outer_in, parts_along}
 use Rattle.ndef_fields.specs.Fronts.{AreNestedFront, ArePayloadFront, IsHeadOctets, content_come, front_parts, inner_come, kind_come, tnf_come}
 use Rattle.ndef_fields.specs.Lefts.{from_header, inside_parts}
@@ -130,7 +130,7 @@ payload_front kinds.MediaType s x n = alone_front kinds.Other _ s x n
 payload_front kinds.Collision s x n = alone_front kinds.Other _ s x n
 payload_front kinds.Other s x n = alone_front kinds.Other _ s x n
 
-pub contents_front : (kind : Kind) (s : List ℕ) (c : Contents) (h : HasContents kind s c) (x : List Part) → AreNestedFront c.table c.inner.now x
+pub contents_front : (kind : Kind) (s : List ℕ) (c : Contents) (h : AreContentsOf kind s c) (x : List Part) → AreNestedFront c.table c.inner.now x
     → ArePayloadFront kind s (inside_parts 0 c.inside ++ x)
 contents_front kind s c h x n =
     let t = subst (λ table. AreNestedFront table c.inner.now x) h.table n in
@@ -138,7 +138,7 @@ contents_front kind s c h x n =
     subst (λ y. ArePayloadFront kind s (y ++ x)) (sym (ap₂ (λ a b. stage_parts 0 a b) h.stage h.octets)) (payload_front kind s x m)
 
 -- the octets of the fields before the nested message, and those of the nested message
-pub within : (s : List ℕ) (kind : Kind) (head : HeadOctets) (c : Contents) → IsHeadOctets s head → HasContents kind (content_come s) c
+pub within : (s : List ℕ) (kind : Kind) (head : HeadOctets) (c : Contents) → IsHeadOctets s head → AreContentsOf kind (content_come s) c
     → length (joined (from_header 0 head (inside_parts 0 c.inside))) + length c.inner.now ≡ length s
 within s kind head c h has =
     let inner = told 0 names.Payload c.inner.now in

@@ -7,7 +7,7 @@ use Rattle.ndef_format.specs.Kinds.{outer_kind}
 use Rattle.ndef_format.specs.Nested.{table_of}
 use Rattle.ndef_message.specs.Machine.Seen.{ArePieces}
 use Rattle.ndef_fields.specs.declared.payload.Contents.{Contents}
-use Rattle.ndef_fields.specs.Contents.{HasContents, inner_octets, inside_octets, inside_stage}
+use Rattle.ndef_fields.specs.Contents.{AreContentsOf, inner_octets, inside_octets, inside_stage}
 use Rattle.ndef_fields.specs.Cursors.{HoldsPieces, inner_in, payload_parts}
 use Rattle.ndef_fields.specs.Lefts.{inside_parts}
 use Rattle.ndef_fields.specs.Parts.{Part, joined}
@@ -105,7 +105,7 @@ inside_joined kinds.MediaType s = leaf_octets kinds.MediaType s
 inside_joined kinds.Collision s = leaf_octets kinds.Collision s
 inside_joined kinds.Other s = leaf_octets kinds.Other s
 
-module _ (kind : Kind) (s : List ℕ) (c : Contents) (h : HasContents kind s c) where
+module _ (kind : Kind) (s : List ℕ) (c : Contents) (h : AreContentsOf kind s c) where
   pub contents_split : payload_parts kind s ≡ inside_parts 0 c.inside ++ inner_in c.table c.inner.now
   contents_split = rw (h.stage, h.octets, h.table, h.inner) (split kind s)
 

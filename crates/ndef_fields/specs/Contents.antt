@@ -31,7 +31,7 @@ inner_octets kinds.Select s = drop 1 s
 inner_octets kind s = []
 
 -- the fields of a payload of this kind, and the message that it holds
-pub record HasContents (kind : Kind) (s : List ℕ) (contents : Contents) : Type 0 where
+pub record AreContentsOf (kind : Kind) (s : List ℕ) (contents : Contents) : Type 0 where
   pub stage : contents.inside.stage ≡ inside_stage kind
   pub octets : contents.inside.octets.now ≡ inside_octets kind s
   pub table : contents.table ≡ table_of kind

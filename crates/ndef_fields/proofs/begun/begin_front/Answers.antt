@@ -2,7 +2,7 @@ use Rattle.std.proofs.Common.{◌++◌, ◌∙◌, ap, ap₂, subst, arith}
 use Rattle.ndef_format.specs.Records.{tnf_of}
 use Rattle.ndef_format.specs.Kinds.{kind_of}
 use Rattle.ndef_format.specs.HeadReasons.{is_set, tnf_number}
-use Rattle.ndef_fields.specs.Contents.{HasContents}
+use Rattle.ndef_fields.specs.Contents.{AreContentsOf}
 use Rattle.ndef_fields.specs.Fronts.{ArePayloadFront, content_come}
 use Rattle.ndef_fields.specs.Lasts.{kind_there}
 use Rattle.ndef_fields.specs.Lefts.{inside_parts}
@@ -15,7 +15,7 @@ pub begin_with-requires : goal.begin_with-requires
 begin_with-requires c =
     let f = c.piece_front-front.ensures in
     let kind = c.kind_of.result in
-    let has = subst (λ x. HasContents kind x c.contents_of-contents.result) f.content c.contents_of-contents.ensures in
+    let has = subst (λ x. AreContentsOf kind x c.contents_of-contents.result) f.content c.contents_of-contents.ensures in
     let n = within c.args.octets.now kind c.piece_front-front.result.head c.contents_of-contents.result f.head has in
     omega (arith, n)
 
@@ -25,7 +25,7 @@ returns c =
     let f = c.piece_front-front.ensures in
     let contents = c.contents_of-contents.result in
     let kind = c.kind_of.result in
-    let has = subst (λ x. HasContents kind x contents) f.content c.contents_of-contents.ensures in
+    let has = subst (λ x. AreContentsOf kind x contents) f.content c.contents_of-contents.ensures in
     let b = c.begin_with.ensures in
     let own = inside_parts 0 contents.inside in
     let e = c.kind_of.ensures ∙ ap₂ (λ h k. kind_there (is_set 5 h) (kind_of (tnf_of (tnf_number h)) k)) f.header f.head.kind in
