@@ -1,7 +1,7 @@
 //! What the words ask for.
 ghost use Rattle.std.specs.Prelude.{◌≡◌, ◌≤◌, ◌<◌, map, option_and_then, string_bytes, IfOk, IfSome};
 ghost use Rattle.clap.specs.Words.{one_of, rows_of, found_of, subcommand_rows_of};
-ghost use Rattle.ndef_program.specs.Options.{hex_of, number_in};
+ghost use Rattle.ndef_program.specs.Options.{number_in};
 ghost use Rattle.ndef_tool.specs.Chosen.{Chooses, HasSize, HasSizeIfAny, chosen_action, subcommand_choice, chosen_of, chunk_of, form_named, chosen_form, given_number, chosen_limits, number_or, profile_named, chosen_profile, within};
 
 use crate::command::ndef_command;
