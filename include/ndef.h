@@ -19,9 +19,9 @@
  * All else is checked: whatever the numbers, bytes and structs hold, the answer is defined.
  *
  * Most calls return an ndef_status. With NDEF_BAD_ARGUMENT and NDEF_END the call has written nothing (but
- * ndef_begin has written its checker); with NDEF_NO_ROOM it has written *count alone. What `out`, `count`, `why`
- * and a room held before the call does not matter: nothing need have been written there, so a variable without a value
- * and fresh memory of malloc serve.
+ * ndef_begin has written its checker); with NDEF_NO_ROOM it has written *count alone. The calls that tell fields have
+ * also written *why, unless they answer NDEF_BAD_ARGUMENT. What `out`, `count`, `why` and a room held before the call
+ * does not matter: nothing need have been written there, so a variable without a value and fresh memory of malloc serve.
  *
  * A room is memory of the caller, `size` bytes long, to which a call writes bytes. The call puts the number of
  * bytes it wrote into *count. Where the room is too small, the answer is NDEF_NO_ROOM and *count has the size that
@@ -505,6 +505,104 @@ uint32_t ndef_find_type(const uint8_t *bytes, ndef_size length, ndef_size at, ui
  * NDEF_OK, NDEF_END, NDEF_BAD_ARGUMENT: as ndef_find_type. */
 uint32_t ndef_find_id(const uint8_t *bytes, ndef_size length, ndef_size at, const uint8_t *id, ndef_size id_length,
                       ndef_record *out);
+
+/* ---- fields
+ *
+ * In which field each byte of a message stands: the parts of the heads of its records, and of the payloads that the
+ * standards define. The fields follow one another without a gap from the first byte to the last. A message within a
+ * payload has fields of its own, with depth 1. The payload of a chunk is one field.
+ *
+ * All these calls write to *why what ndef_check tells of the bytes: where why->reason is 0, the fields are those of the
+ * message with which the bytes begin, why->place bytes; otherwise those of the bytes before the refused one, at
+ * why->place, and the last of them ends there, so that bytes of it may be missing. They look into payloads:
+ * NDEF_BAD_ARGUMENT also answers the flag NDEF_OPAQUE. */
+
+/* The names of fields. ndef_field_name gives each as text. */
+enum ndef_field_names {
+    NDEF_FIELD_HEADER = 1,               /* the header byte: MB, ME, CF, SR, IL and TNF */
+    NDEF_FIELD_TYPE_LENGTH = 2,
+    NDEF_FIELD_PAYLOAD_LENGTH = 3,       /* 1 byte in a short record, else 4 */
+    NDEF_FIELD_ID_LENGTH = 4,            /* only where IL is set */
+    NDEF_FIELD_TYPE = 5,
+    NDEF_FIELD_ID = 6,
+    NDEF_FIELD_PAYLOAD = 7,              /* a payload of another type, or a chunk */
+    NDEF_FIELD_STATUS = 8,               /* of a text */
+    NDEF_FIELD_LANGUAGE = 9,             /* of a text */
+    NDEF_FIELD_MARK = 10,                /* of a text in UTF-16 */
+    NDEF_FIELD_TEXT = 11,
+    NDEF_FIELD_URI_CODE = 12,            /* of a URI */
+    NDEF_FIELD_URI_REST = 13,            /* behind the prefix for which the code stands */
+    NDEF_FIELD_ACTION = 14,              /* of a smart poster */
+    NDEF_FIELD_SIZE = 15,                /* of a smart poster */
+    NDEF_FIELD_MEDIA_TYPE = 16,          /* of a smart poster */
+    NDEF_FIELD_VERSION = 17,             /* of a handover */
+    NDEF_FIELD_COLLISION = 18,           /* of a collision resolution */
+    NDEF_FIELD_POWER = 19,               /* of an alternative carrier, as the next six */
+    NDEF_FIELD_REFERENCE_LENGTH = 20,
+    NDEF_FIELD_REFERENCE = 21,
+    NDEF_FIELD_AUXILIARY_COUNT = 22,
+    NDEF_FIELD_AUXILIARY_LENGTH = 23,
+    NDEF_FIELD_AUXILIARY = 24,
+    NDEF_FIELD_AFTER_AUXILIARY = 25,     /* the bytes behind the references */
+    NDEF_FIELD_ERROR_REASON = 26,        /* of a handover's error */
+    NDEF_FIELD_ERROR_DATA = 27,
+    NDEF_FIELD_CARRIER_FORMAT = 28,      /* of a handover carrier, as the next three */
+    NDEF_FIELD_CARRIER_TYPE_LENGTH = 29,
+    NDEF_FIELD_CARRIER_TYPE = 30,
+    NDEF_FIELD_CARRIER_DATA = 31
+};
+
+/* The list of names, as NDEF_REASONS: NDEF_FIELDS(X) is X(number, name, text) for each. */
+#define NDEF_FIELDS(X) \
+    X(1, HEADER, "header") X(2, TYPE_LENGTH, "TYPE_LENGTH") X(3, PAYLOAD_LENGTH, "PAYLOAD_LENGTH") \
+    X(4, ID_LENGTH, "ID_LENGTH") X(5, TYPE, "TYPE") X(6, ID, "ID") X(7, PAYLOAD, "PAYLOAD") X(8, STATUS, "status") \
+    X(9, LANGUAGE, "language code") X(10, MARK, "byte order mark") X(11, TEXT, "text") \
+    X(12, URI_CODE, "identifier code") X(13, URI_REST, "URI") X(14, ACTION, "action") X(15, SIZE, "size") \
+    X(16, MEDIA_TYPE, "media type") X(17, VERSION, "version") X(18, COLLISION, "random number") \
+    X(19, POWER, "carrier power state") X(20, REFERENCE_LENGTH, "carrier data reference length") \
+    X(21, REFERENCE, "carrier data reference") X(22, AUXILIARY_COUNT, "auxiliary data reference count") \
+    X(23, AUXILIARY_LENGTH, "auxiliary data reference length") X(24, AUXILIARY, "auxiliary data reference") \
+    X(25, AFTER_AUXILIARY, "reserved") X(26, ERROR_REASON, "error reason") X(27, ERROR_DATA, "error data") \
+    X(28, CARRIER_FORMAT, "carrier type format") X(29, CARRIER_TYPE_LENGTH, "carrier type length") \
+    X(30, CARRIER_TYPE, "carrier type") X(31, CARRIER_DATA, "carrier data")
+
+/* A field: at least one byte. */
+typedef struct ndef_field {
+    ndef_size at, length; /* where it begins, and its bytes */
+    uint32_t depth;       /* 0 in the message itself, 1 in a message within a payload */
+    uint32_t name;        /* one of ndef_field_names */
+} ndef_field;
+
+/* Fills the array with the fields, in order. It has `size` elements; *count is the number of the fields.
+ * NDEF_OK: they are those of the message. NDEF_REFUSED: they are those before the refused byte. Elements behind *count
+ *   are unchanged.
+ * NDEF_NO_ROOM: the array is too small, whether the bytes are refused or not: *count has the size that is needed, *why
+ *   says the rest, and the array is unchanged.
+ * NDEF_BAD_ARGUMENT: a limit is out of range, NDEF_OPAQUE or an unknown flag is set. */
+uint32_t ndef_fields(const uint8_t *bytes, ndef_size length, const ndef_limits *limits, ndef_field *fields,
+                     ndef_size size, ndef_size *count, ndef_checked *why);
+
+/* Tells the field in which the byte at a place stands. Each call looks at the message from its start.
+ * NDEF_OK: `out` is that field.
+ * NDEF_END: the place is behind the message. NDEF_REFUSED: the bytes are refused, and the place is that of the refused
+ *   byte or behind it. After either, `out` is unchanged.
+ * NDEF_BAD_ARGUMENT: as ndef_fields answers it. */
+uint32_t ndef_field_at(const uint8_t *bytes, ndef_size length, const ndef_limits *limits, ndef_size place,
+                       ndef_field *out, ndef_checked *why);
+
+/* Steps to the next field: replaces the field by the one that holds the byte behind it. Before the first one the field
+ * has `at` and `length` 0. Each call looks at the message from its start; for all fields of a long message, use
+ * ndef_fields.
+ * NDEF_OK: there is one. NDEF_END: it was the last of the message. NDEF_REFUSED: it was the last before the refused
+ *   byte. After either, the field is unchanged.
+ * NDEF_BAD_ARGUMENT: as ndef_fields answers it. */
+uint32_t ndef_next_field(const uint8_t *bytes, ndef_size length, const ndef_limits *limits, ndef_field *field,
+                         ndef_checked *why);
+
+/* Writes the name of a field to the room, in ASCII, at most 31 bytes: as "PAYLOAD_LENGTH" for
+ * NDEF_FIELD_PAYLOAD_LENGTH.
+ * NDEF_OK, NDEF_NO_ROOM. NDEF_BAD_ARGUMENT: there is no such name. */
+uint32_t ndef_field_name(uint32_t name, uint8_t *room, ndef_size size, ndef_size *count);
 
 /* ---- names */
 

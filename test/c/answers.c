@@ -174,6 +174,22 @@ static void fill_links(const uint8_t *bytes, ndef_size length, const uint8_t *ha
     }
 }
 
+/* The fields of a message, or of what comes before a refused byte; the field of a byte, and the one behind it. */
+static void fill_fields(const uint8_t *bytes, ndef_size length, const ndef_limits *limits) {
+    static ndef_field fields[ELEMENTS];
+    const ndef_field mark = { 7, 7, 7, 7 };
+    for (int i = 0; i < 3; i++) {
+        ndef_size count = 77;
+        ndef_checked why = { 77, 77, 77 };
+        for (int k = 0; k < ELEMENTS; k++) fields[k] = mark;
+        mix_status(ndef_fields(bytes, length, limits, fields, sizes[i], &count, &why)), mix(count), mix_checked(&why);
+        mix_status(ndef_field_at(bytes, length, limits, length / 2, &fields[0], &why)), mix_checked(&why);
+        mix_status(ndef_next_field(bytes, length, limits, &fields[0], &why)), mix_checked(&why);
+        for (int k = 0; k < ELEMENTS; k++)
+            mix(fields[k].at), mix(fields[k].length), mix(fields[k].depth), mix(fields[k].name);
+    }
+}
+
 static void mix_text(const ndef_text_parts *text) {
     mix(text->language_at), mix(text->language_length), mix(text->text_at), mix(text->text_length), mix(text->utf16);
 }
@@ -312,6 +328,7 @@ static void look_at(const uint8_t *bytes, ndef_size length, ndef_limits limits) 
         limits.flags = flags;
         mix_status(ndef_check(bytes, length, &limits, &out)), mix_checked(&out);
         mix_status(ndef_check(bytes, length, &small, &out)), mix_checked(&out);
+        fill_fields(bytes, length, &limits), fill_fields(bytes, length, &small);
         feed(bytes, length, &limits);
     }
     walk(bytes, length, 0);
@@ -323,6 +340,8 @@ static void names(void) {
     mix(usual.payload), mix(usual.records), mix(usual.pieces), mix(usual.flags);
     for (uint32_t reason = 0; reason < 40; reason++)
         WRITTEN(24, ndef_reason_name(reason, to, reason % 20, &count));
+    for (uint32_t name = 0; name < 40; name++)
+        WRITTEN(40, ndef_field_name(name, to, name, &count));
     for (uint32_t number = 0; number < 8; number++)
         WRITTEN(24, ndef_status_name(number, to, number + 4, &count));
     for (uint32_t code = 0; code < 260; code++)

@@ -99,10 +99,23 @@ static void more_calls(int way, const uint8_t *none, ndef_part *no_parts, ndef_l
     answer(way, ndef_title((const uint8_t *)"\xd1\1\1U\0", 5, none, 0, &text));
 }
 
+/* The calls that tell fields. */
+static void field_calls(int way, const uint8_t *none, ndef_field *no_fields, uint8_t *room) {
+    ndef_limits limits;
+    ndef_field field = { 0, 0, 0, 0 };
+    ndef_usual_limits(&limits);
+    answer(way, ndef_fields(none, 0, &limits, no_fields, 0, &count, &why));
+    answer(way, ndef_fields((const uint8_t *)"\xd0\0", 3, &limits, no_fields, 0, &count, &why));
+    answer(way, ndef_field_at(none, 0, &limits, 0, &field, &why));
+    answer(way, ndef_next_field(none, 0, &limits, &field, &why));
+    answer(way, ndef_field_name(1, room, 0, &count));
+}
+
 int main(void) {
     static uint8_t byte[1], room[2][64];
     static ndef_part part[1];
     static ndef_link link[1];
+    static ndef_field field[1];
     int calls = 0;
     for (int way = 0; way < 2; way++) {
         made = 0;
@@ -110,6 +123,7 @@ int main(void) {
         count = 9;
         check_calls(way, way ? byte : NULL, way ? byte : NULL);
         reading_calls(way, way ? byte : NULL, way ? byte : NULL);
+        field_calls(way, way ? byte : NULL, way ? field : NULL, way ? byte : NULL);
         writing_calls(way, way ? byte : NULL, way ? part : NULL, way ? byte : NULL, 0);
         writing_calls(way, way ? byte : NULL, way ? part : NULL, room[way], sizeof room[way]);
         more_calls(way, way ? byte : NULL, way ? part : NULL, way ? link : NULL, way ? byte : NULL, 0);

@@ -515,6 +515,57 @@ static void rewrite(const uint8_t *bytes, ndef_size length, uint32_t records) {
     }
 }
 
+/* ---- fields */
+
+static int is_checked(const ndef_checked *one, const ndef_checked *other) {
+    return one->place == other->place && one->records == other->records && one->reason == other->reason;
+}
+
+static int is_field(const ndef_field *one, const ndef_field *other) {
+    return one->at == other->at && one->length == other->length && one->depth == other->depth
+        && one->name == other->name;
+}
+
+/* A byte of a field is in it, and the next step leads to the one behind it; behind the last there is none. */
+static void look_at_field(const uint8_t *bytes, ndef_size length, const ndef_limits *limits, const ndef_field *fields,
+                          ndef_size count, ndef_size index) {
+    ndef_field told;
+    ndef_checked why;
+    const ndef_size place = fields[index].at + index % fields[index].length;
+    HOLDS(ndef_field_at(bytes, length, limits, place, &told, &why) == NDEF_OK && is_field(&told, &fields[index]));
+    const uint32_t status = ndef_next_field(bytes, length, limits, &told, &why);
+    HOLDS((status == NDEF_OK) == (index + 1 < count));
+    HOLDS(is_field(&told, &fields[status == NDEF_OK ? index + 1 : index]));
+    if (status != NDEF_OK) HOLDS(status == (uint32_t)(why.reason ? NDEF_REFUSED : NDEF_END));
+}
+
+/* The fields follow one another without a gap, up to the end of the message or the refused byte. */
+static void look_at_fields(const uint8_t *bytes, ndef_size length, const ndef_limits *limits, uint32_t status,
+                           const ndef_checked *checked) {
+    ndef_size count = 0, again = 0, at = 0;
+    ndef_checked why;
+    const uint32_t asked = ndef_fields(bytes, length, limits, NULL, 0, &count, &why);
+    if (limits->flags & NDEF_OPAQUE) {
+        HOLDS(asked == NDEF_BAD_ARGUMENT && count == 0);
+        return;
+    }
+    HOLDS(asked == (count ? (uint32_t)NDEF_NO_ROOM : status) && is_checked(&why, checked));
+    ndef_field *fields = (ndef_field *)filled(count * sizeof *fields, 0x5a);
+    if (count) {
+        HOLDS(ndef_fields(bytes, length, limits, fields, count - 1, &again, &why) == NDEF_NO_ROOM && again == count);
+        HOLDS(is_checked(&why, checked) && is_filled((uint8_t *)fields, count * sizeof *fields, 0x5a));
+    }
+    HOLDS(ndef_fields(bytes, length, limits, fields, count, &again, &why) == status && again == count);
+    HOLDS(is_checked(&why, checked));
+    for (ndef_size i = 0; i < count; at += fields[i].length, i++) {
+        HOLDS(fields[i].at == at && fields[i].length > 0 && fields[i].depth <= 1);
+        HOLDS(fields[i].name >= NDEF_FIELD_HEADER && fields[i].name <= NDEF_FIELD_CARRIER_DATA);
+        if (i % 16 == 0 || i + 1 == count) look_at_field(bytes, length, limits, fields, count, i);
+    }
+    HOLDS(at == checked->place);
+    free(fields);
+}
+
 int LLVMFuzzerTestOneInput(const uint8_t *data, size_t size) {
     if (size < 2) return 0;
     const ndef_size length = size - 2, cut = length ? data[1] % (length + 1) : 0;
@@ -523,10 +574,12 @@ int LLVMFuzzerTestOneInput(const uint8_t *data, size_t size) {
     ndef_checked checked;
     uint32_t records;
     int is_last;
-    const uint32_t status = check(bytes, length, data[0] & 4 ? &small : &usual, cut, &checked);
+    const ndef_limits *limits = data[0] & 4 ? &small : &usual;
+    const uint32_t status = check(bytes, length, limits, cut, &checked);
     const ndef_size end = walk(bytes, length, 1 + (data[0] >> 3), &records, &is_last);
     HOLDS(status != NDEF_OK || (is_last && end == checked.place && records == checked.records));
     if (is_last) rewrite(bytes, length, records);
+    look_at_fields(bytes, length, limits, status, &checked);
     look_at_payload(bytes, length, bytes, length);
     return 0;
 }

@@ -8,6 +8,8 @@ pub mod Copied
 pub mod Counted
 pub mod Errors
 pub mod Feeds
+pub mod FieldChecks
+pub mod FieldLists
 pub mod Filled
 pub mod Followed
 pub mod Growing

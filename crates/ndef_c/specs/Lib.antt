@@ -14,6 +14,7 @@ pub mod Handovers
 pub mod Links
 pub mod Made
 pub mod Feeding
+pub mod Fields
 pub mod Finding
 pub mod Nested
 pub mod Numbers

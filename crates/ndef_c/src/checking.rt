@@ -22,7 +22,7 @@ pub struct NdefChecked {
 }
 
 /// Checks with the payloads of a language.
-fn check_in<L: OuterLanguage>(bytes: &[u8], limits: Limits, out: &mut NdefChecked) -> u32
+pub(crate) fn check_in<L: OuterLanguage>(bytes: &[u8], limits: Limits, out: &mut NdefChecked) -> u32
     ensures { ChecksTo L.set L.holds limits bytes.now result out.new }
 {
     match view::<L>(bytes, limits) {

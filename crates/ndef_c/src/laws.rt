@@ -1,5 +1,6 @@
 //! What holds of the calls together.
 ghost use Rattle.ndef_c.specs.Feeding.{FeedsAreChecks};
+ghost use Rattle.ndef_c.specs.Fields.{OneFieldWith, StepsLeadOn};
 ghost use Rattle.ndef_c.specs.Growing.{FirstIsHeld, HeldAreAMessage, OthersAreHeld};
 ghost use Rattle.ndef_c.specs.Links.{LinksAreTold};
 ghost use Rattle.ndef_c.specs.Walks.{ChecksAreWalked, OneRecordIsThere};
@@ -63,3 +64,10 @@ pub fn links_are_told<L: OuterLanguage>()
     strict_contents_are_read();
     alternatives_are_exact();
 }
+
+/// Of fields that follow one another without a gap the byte at a place stands in one, and the byte behind one of
+/// them in the next: so `ndef_next_field` steps from each to the one behind it.
+pub fn fields_are_stepped()
+    ensures one { OneFieldWith }
+    ensures next { StepsLeadOn }
+{}

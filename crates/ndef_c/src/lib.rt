@@ -6,6 +6,7 @@
 //! - `checking.rt`: check. `feeding.rt`, `specs/Feeding.antt`: check of bytes that come in parts.
 //! - `run.rt`, `record.rt`, `specs/Walks.antt`: the record at a place. `payload.rt`: its joined payload.
 //! - `pieces.rt`, `specs/Pieces.antt`: where its pieces lie. `specs/Arrays.antt`: what is written to an array.
+//! - `fields.rt`, `field_names.rt`, `specs/Fields.antt`: in which field each byte stands.
 //! - `finding.rt`, `specs/Finding.antt`: the first record with a type or an id.
 //! - `writing.rt`, `specs/Writes.antt`: a record written. `building.rt`, `specs/Built.antt`, `specs/Growing.antt`: a
 //!   message built in a room. `making.rt`, `specs/Made.antt`, `content.rt`, `specs/Contents.antt`: a record whose
@@ -33,6 +34,8 @@ mod content;
 mod error;
 mod error_writing;
 mod feeding;
+mod field_names;
+mod fields;
 mod finding;
 mod handover;
 mod handover_writing;
@@ -76,11 +79,13 @@ pub use checking::{NdefChecked, ndef_check};
 pub use error::{NdefError, ndef_error};
 pub use error_writing::{ndef_write_error, ndef_write_error_number};
 pub use feeding::{NdefChecker, ndef_begin, ndef_feed};
+pub use field_names::ndef_field_name;
+pub use fields::{NdefField, ndef_field_at, ndef_fields, ndef_next_field};
 pub use finding::{ndef_find_id, ndef_find_type};
 pub use handover_writing::{REQUEST, SELECT, ndef_write_handover};
 pub use laws::{
-    appended_records_are_held, checks_are_walked, feeds_are_checks, held_records_are_a_message,
-    links_are_told, one_record_is_there, records_make_a_message,
+    appended_records_are_held, checks_are_walked, feeds_are_checks, fields_are_stepped,
+    held_records_are_a_message, links_are_told, one_record_is_there, records_make_a_message,
 };
 pub use limits::{NdefLimits, ndef_usual_limits};
 pub use link::{NdefLink, ndef_link_at};

@@ -1,0 +1,131 @@
+-- In which field each byte of a message stands, as numbers.
+use Rattle.std.specs.Prelude.{◌≡◌, ℕ, ◌+◌, ◌<◌, ◌≤◌, List, ◌∷◌, ◌++◌, length, map, take}
+use Rattle.ndef_format.specs.Limits.{LimitValues}
+use Rattle.ndef_format.specs.NestedReasons.{TypedReason}
+use Rattle.ndef_format.specs.Payloads.{IsTypedPayload}
+use Rattle.ndef_fields.specs.FieldLaws.{AreGapless}
+use Rattle.ndef_fields.specs.Names.{name_text}
+use Rattle.ndef_fields.specs.Tellings.{AreFields, AreFieldsBefore}
+use Rattle.ndef_fields.specs.declared.field.Field.{Field}
+use Rattle.ndef_fields.specs.declared.name.FieldName.{FieldName}
+use Rattle.ndef_fields.specs.declared.name.FieldName.TheVariants as names
+use Rattle.ndef_c.specs.Arrays.{set_over}
+use Rattle.ndef_c.specs.Checks.{ChecksTo, MayBeSet}
+use Rattle.ndef_c.specs.Rooms.{Gives}
+use Rattle.ndef_c.specs.declared.checking.NdefChecked.{NdefChecked}
+use Rattle.ndef_c.specs.declared.fields.NdefField.{NdefField}
+use Rattle.ndef_c.specs.declared.limits.NdefLimits.{NdefLimits}
+use Rattle.ndef_c.specs.declared.status.TheConstants.{OK, REFUSED, NO_ROOM, END}
+
+-- ---- names
+
+-- the number of a name
+abbrev pub field_number : FieldName → ℕ
+field_number names.Header = 1
+field_number names.KindLength = 2
+field_number names.PayloadLength = 3
+field_number names.IdLength = 4
+field_number names.Kind = 5
+field_number names.Id = 6
+field_number names.Payload = 7
+field_number names.Status = 8
+field_number names.Language = 9
+field_number names.Mark = 10
+field_number names.Text = 11
+field_number names.UriCode = 12
+field_number names.UriRest = 13
+field_number names.Action = 14
+field_number names.Size = 15
+field_number names.MediaType = 16
+field_number names.Version = 17
+field_number names.Collision = 18
+field_number names.Power = 19
+field_number names.ReferenceLength = 20
+field_number names.Reference = 21
+field_number names.AuxiliaryCount = 22
+field_number names.AuxiliaryLength = 23
+field_number names.Auxiliary = 24
+field_number names.AfterAuxiliary = 25
+field_number names.ErrorReason = 26
+field_number names.ErrorData = 27
+field_number names.CarrierFormat = 28
+field_number names.CarrierKindLength = 29
+field_number names.CarrierKind = 30
+field_number names.CarrierData = 31
+
+-- the name of the field with this number is given
+pub record GivesFieldName (number : ℕ) (before after : List ℕ) (count status : ℕ) : Type 0 where
+  pub name : FieldName
+  pub number_is : field_number name ≡ number
+  pub gives : Gives (name_text name) before after count status
+
+-- ---- fields
+
+-- the limits may be set, and payloads are looked into
+abbrev pub MayTellFields : NdefLimits → Type 0
+MayTellFields n = MayBeSet n × (n.flags < 2)
+
+-- a field as numbers
+abbrev pub numbers_of : Field → NdefField
+numbers_of f = record { at = f.at; length = f.length; depth = f.depth; name = field_number f.name }
+
+-- NDEF 1.0, messages: what a check answers of the bytes, and the fields of the message with which they begin, or those
+-- before the refused byte
+pub record AreFieldsChecked (limits : LimitValues) (bytes : List ℕ) (checked : ℕ) (why : NdefChecked)
+    (told : List Field) : Type 0 where
+  pub checks : ChecksTo IsTypedPayload TypedReason limits bytes checked why
+  pub whole : checked ≡ OK → (a : AreFields limits bytes told) × (a.count ≡ why.place)
+  pub before : checked ≡ REFUSED → AreFieldsBefore (take why.place bytes) told
+
+-- the fields are written where the array has room, and what the check answered is; else it is as it was; their number
+-- is told
+pub record GivesEach (told : List Field) (checked : ℕ) (before after : List NdefField) (count status : ℕ)
+    : Type 0 where
+  pub count_is : count ≡ length told
+  pub fits : length told ≤ length before → (status ≡ checked) × (after ≡ set_over (map numbers_of told) before)
+  pub too_small : length before < length told → (status ≡ NO_ROOM) × (after ≡ before)
+
+-- NDEF 1.0, messages: the fields of the message are given, or those before the refused byte
+pub record GivesFields (limits : LimitValues) (bytes : List ℕ) (before after : List NdefField) (count status : ℕ)
+    (why : NdefChecked) : Type 0 where
+  pub checked : ℕ
+  pub told : List Field
+  pub are : AreFieldsChecked limits bytes checked why told
+  pub gives : GivesEach told checked before after count status
+
+-- ---- the field of a byte
+
+-- it is one of the fields, and the byte at the place stands in it
+pub record IsFieldWith (told : List Field) (place : ℕ) (f : Field) : Type 0 where
+  pub before : List Field
+  pub behind : List Field
+  pub split : told ≡ before ++ f ∷ behind
+  pub from : f.at ≤ place
+  pub to : place < f.at + f.length
+
+-- the field with the byte is given
+abbrev pub GivesWith : (told : List Field) (place : ℕ) (after : NdefField) → Type 0
+GivesWith told place after = (f : Field) × IsFieldWith told place f × (after ≡ numbers_of f)
+
+-- NDEF 1.0, messages: the field in which the byte at the place stands is given, of the message or before the refused
+-- byte; none where the place is behind
+pub record GivesFieldAt (limits : LimitValues) (bytes : List ℕ) (place : ℕ) (before after : NdefField) (status : ℕ)
+    (why : NdefChecked) : Type 0 where
+  pub checked : ℕ
+  pub told : List Field
+  pub are : AreFieldsChecked limits bytes checked why told
+  pub within : place < why.place → (status ≡ OK) × GivesWith told place after
+  pub ended : why.place ≤ place → checked ≡ OK → (status ≡ END) × (after ≡ before)
+  pub refused : why.place ≤ place → checked ≡ REFUSED → (status ≡ REFUSED) × (after ≡ before)
+
+-- ---- law
+
+-- The byte at a place stands in one field.
+abbrev pub OneFieldWith : Type 0
+OneFieldWith = (told : List Field) (end place : ℕ) (f g : Field) → AreGapless 0 told end
+    → IsFieldWith told place f → IsFieldWith told place g → f ≡ g
+
+-- The byte behind a field stands in the next one.
+abbrev pub StepsLeadOn : Type 0
+StepsLeadOn = (told before behind : List Field) (end : ℕ) (f g : Field) → AreGapless 0 told end
+    → told ≡ before ++ f ∷ g ∷ behind → IsFieldWith told (f.at + f.length) g

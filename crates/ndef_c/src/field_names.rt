@@ -1,0 +1,102 @@
+//! The names of fields.
+ghost use Rattle.std.specs.Prelude.{◌≡◌, ◌≢◌, ◌<◌, ◌≤◌, ◌⊎◌, ◌↔◌, IfSome, IsSome};
+ghost use Rattle.ndef_c.specs.Fields.{GivesFieldName, field_number};
+
+use crate::room::give;
+use crate::status::BAD_ARGUMENT;
+use ndef_fields::FieldName;
+
+/// The number of a name.
+pub(crate) fn number_of(name: FieldName) -> u32
+    ensures { result ≡ field_number name }
+{
+    match name {
+        FieldName::Header => 1,
+        FieldName::KindLength => 2,
+        FieldName::PayloadLength => 3,
+        FieldName::IdLength => 4,
+        FieldName::Kind => 5,
+        FieldName::Id => 6,
+        FieldName::Payload => 7,
+        FieldName::Status => 8,
+        FieldName::Language => 9,
+        FieldName::Mark => 10,
+        FieldName::Text => 11,
+        FieldName::UriCode => 12,
+        FieldName::UriRest => 13,
+        FieldName::Action => 14,
+        FieldName::Size => 15,
+        FieldName::MediaType => 16,
+        FieldName::Version => 17,
+        FieldName::Collision => 18,
+        FieldName::Power => 19,
+        FieldName::ReferenceLength => 20,
+        FieldName::Reference => 21,
+        FieldName::AuxiliaryCount => 22,
+        FieldName::AuxiliaryLength => 23,
+        FieldName::Auxiliary => 24,
+        FieldName::AfterAuxiliary => 25,
+        FieldName::ErrorReason => 26,
+        FieldName::ErrorData => 27,
+        FieldName::CarrierFormat => 28,
+        FieldName::CarrierKindLength => 29,
+        FieldName::CarrierKind => 30,
+        FieldName::CarrierData => 31,
+    }
+}
+
+/// The name with a number.
+fn name_of(number: u32) -> Option<FieldName>
+    ensures told { IfSome result (λ n. field_number n ≡ number) }
+    ensures some { IsSome result ↔ ((1 ≤ number) × (number ≤ 31)) }
+{
+    let name = match number {
+        1 => FieldName::Header,
+        2 => FieldName::KindLength,
+        3 => FieldName::PayloadLength,
+        4 => FieldName::IdLength,
+        5 => FieldName::Kind,
+        6 => FieldName::Id,
+        7 => FieldName::Payload,
+        8 => FieldName::Status,
+        9 => FieldName::Language,
+        10 => FieldName::Mark,
+        11 => FieldName::Text,
+        12 => FieldName::UriCode,
+        13 => FieldName::UriRest,
+        14 => FieldName::Action,
+        15 => FieldName::Size,
+        16 => FieldName::MediaType,
+        17 => FieldName::Version,
+        18 => FieldName::Collision,
+        19 => FieldName::Power,
+        20 => FieldName::ReferenceLength,
+        21 => FieldName::Reference,
+        22 => FieldName::AuxiliaryCount,
+        23 => FieldName::AuxiliaryLength,
+        24 => FieldName::Auxiliary,
+        25 => FieldName::AfterAuxiliary,
+        26 => FieldName::ErrorReason,
+        27 => FieldName::ErrorData,
+        28 => FieldName::CarrierFormat,
+        29 => FieldName::CarrierKindLength,
+        30 => FieldName::CarrierKind,
+        31 => FieldName::CarrierData,
+        _ => return None,
+    };
+    Some(name)
+}
+
+/// Writes the name of the field with a number, in ASCII and with no NUL behind it, to the room.
+#[unsafe(no_mangle)]
+pub extern "C" fn ndef_field_name(name: u32, room: &mut [u8], count: &mut usize) -> u32
+    ensures bad { result ≡ BAD_ARGUMENT ↔ ((name ≡ 0) ⊎ (31 < name)) }
+    ensures kept { result ≡ BAD_ARGUMENT → (room.new ≡ room.old) × (count.new ≡ count.old) }
+    ensures text { result ≢ BAD_ARGUMENT → GivesFieldName name room.old room.new count.new result }
+    ensures short { result ≢ BAD_ARGUMENT → count.new ≤ 31 }
+{
+    let Some(name) = name_of(name) else {
+        return BAD_ARGUMENT;
+    };
+    give(name.text(), room, count)
+}

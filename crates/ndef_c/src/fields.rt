@@ -1,0 +1,215 @@
+//! In which field each byte of a message stands.
+ghost use Rattle.std.specs.Prelude.{◌≡◌, ◌≢◌, ℕ, ◌+◌, ◌<◌, ◌≤◌, ◌^◌, ◌↔◌, ◌⊎◌, List, length, map, take, IfNone, IfSome, IsSome};
+ghost use Rattle.ndef_format.specs.NestedReasons.{TypedReason};
+ghost use Rattle.ndef_format.specs.Payloads.{IsTypedPayload};
+ghost use Rattle.ndef_fields.specs.FieldLaws.{AreGapless};
+ghost use Rattle.ndef_fields.specs.Tellings.{AreFieldsBefore, IsMessageFront};
+ghost use Rattle.ndef_fields.specs.declared.field.Field.{Field as Part};
+ghost use Rattle.ndef_c.specs.Arrays.{set_over};
+ghost use Rattle.ndef_c.specs.Checks.{ChecksTo, limits_of};
+ghost use Rattle.ndef_c.specs.Fields.{GivesEach, GivesFieldAt, GivesFields, GivesWith, IsFieldWith, MayTellFields, numbers_of};
+
+use crate::checking::{NdefChecked, check_in};
+use crate::field_names::number_of;
+use crate::limits::{NdefLimits, limits_of};
+use crate::status::{BAD_ARGUMENT, END, NO_ROOM, OK};
+use ndef_fields::{Field, Fields, fields_before, fields_before_are_exact};
+use ndef_nest::Typed;
+use ndef_piece::heads_are_apart;
+use ndef_value::Limits;
+
+/// A field of a message: at least one byte.
+#[repr(C)]
+#[derive(Clone, Copy, Drop)]
+pub struct NdefField {
+    /// Where it begins.
+    pub at: usize,
+    /// Its bytes.
+    pub length: usize,
+    /// 0 in the message itself, 1 in a message within a payload.
+    pub depth: u32,
+    /// The number of its name.
+    pub name: u32,
+}
+
+/// A field as numbers.
+fn numbers_of(field: &Field) -> NdefField
+    ensures { result ≡ numbers_of field.now }
+{
+    NdefField {
+        at: field.at,
+        length: field.length,
+        depth: u32::from(field.depth),
+        name: number_of(field.name),
+    }
+}
+
+/// The limits of these numbers, if payloads are looked into.
+fn typed_limits(numbers: &NdefLimits) -> Option<Limits>
+    ensures some { IsSome result ↔ MayTellFields numbers.now }
+    ensures limits { IfSome result (λ r. r ≡ limits_of numbers.now) }
+{
+    match limits_of(numbers) {
+        Some((limits, true)) => Some(limits),
+        Some((_, false)) | None => None,
+    }
+}
+
+/// The bytes of the message, or those before the refused byte, and what a check answers.
+fn checked_front<'a>(bytes: &'a [u8], limits: Limits, why: &mut NdefChecked) -> (&'a [u8], u32)
+    ensures checks { ChecksTo IsTypedPayload TypedReason limits bytes.now result.1 why.new }
+    ensures front { result.0.now ≡ take why.new.place bytes.now }
+    ensures viable { IsMessageFront result.0.now }
+    ensures size { length result.0.now ≡ why.new.place }
+{
+    let checked = check_in::<Typed>(bytes, limits, why);
+    let (front, _rest) = bytes.split_at(why.place as usize);
+    (front, checked)
+}
+
+/// How many fields there are.
+fn count_of(fields: Fields<'_>) -> usize
+    requires { length fields < 2 ^ 64 }
+    ensures { result ≡ length fields.entry }
+{
+    let mut count = 0;
+    for _field in fields {
+        count += 1;
+    }
+    count
+}
+
+/// Writes the fields to the front of the array.
+fn write_fields(fields: Fields<'_>, array: &mut [NdefField])
+    requires { length fields ≤ length array.old }
+    ensures { array.new ≡ set_over (map numbers_of fields.entry) array.old }
+{
+    let mut index = 0;
+    for field in fields {
+        array[index] = numbers_of(&field);
+        index += 1;
+    }
+}
+
+/// Writes the fields of these bytes, a front of a message, where the array has room for them, and tells how many
+/// they are. Answers what a check answered, or that there is no room.
+fn give_fields(front: &[u8], checked: u32, array: &mut [NdefField], count: &mut usize) -> u32
+    requires { IsMessageFront front.now }
+    ensures known { (result ≡ NO_ROOM) ⊎ (result ≡ checked) }
+    ensures fields { (told : List Part) × AreFieldsBefore front.now told
+        × GivesEach told checked array.old array.new count.new result }
+{
+    fields_before_are_exact();
+    let needed = count_of(fields_before(front));
+    *count = needed;
+    if array.len() < needed {
+        return NO_ROOM;
+    }
+    write_fields(fields_before(front), array);
+    checked
+}
+
+/// Tells in which field each byte stands of the message with which the bytes begin, or of those before the
+/// refused byte (NDEF 1.0, record layout), and what a check answers.
+#[unsafe(no_mangle)]
+pub extern "C" fn ndef_fields(
+    bytes: &[u8],
+    limits: &NdefLimits,
+    fields: &mut [NdefField],
+    count: &mut usize,
+    why: &mut NdefChecked,
+) -> u32
+    ensures bad { result ≡ BAD_ARGUMENT ↔ ¬ MayTellFields limits.now }
+    ensures kept { result ≡ BAD_ARGUMENT
+        → (fields.new ≡ fields.old) × (count.new ≡ count.old) × (why.new ≡ why.old) }
+    ensures fields { result ≢ BAD_ARGUMENT
+        → GivesFields (limits_of limits.now) bytes.now fields.old fields.new count.new result why.new }
+{
+    heads_are_apart();
+    let Some(limits) = typed_limits(limits) else {
+        return BAD_ARGUMENT;
+    };
+    let (front, checked) = checked_front(bytes, limits, why);
+    give_fields(front, checked, fields, count)
+}
+
+/// The field with the byte at a place, of fields that follow one another from 0 on.
+fn field_with(fields: Fields<'_>, place: usize) -> Option<Field>
+    requires { (end : ℕ) × AreGapless 0 fields end }
+    ensures some { IfSome result (IsFieldWith fields.entry place) }
+    ensures none { IfNone result ((end : ℕ) → AreGapless 0 fields.entry end → end ≤ place) }
+{
+    for field in fields {
+        if place - field.at < field.length {
+            return Some(field);
+        }
+    }
+    None
+}
+
+/// Tells the field with the byte at a place of these bytes, a front of a message. Answers `behind` where it has none.
+fn give_field(front: &[u8], place: usize, behind: u32, out: &mut NdefField) -> u32
+    requires { IsMessageFront front.now }
+    ensures known { (result ≡ OK) ⊎ (result ≡ behind) }
+    ensures within { (told : List Part) × AreFieldsBefore front.now told
+        × (place < length front.now → (result ≡ OK) × GivesWith told place out.new) }
+    ensures behind { length front.now ≤ place → (result ≡ behind) × (out.new ≡ out.old) }
+{
+    fields_before_are_exact();
+    match field_with(fields_before(front), place) {
+        Some(field) => {
+            *out = numbers_of(&field);
+            OK
+        }
+        None => behind,
+    }
+}
+
+/// What is answered behind the last field, by what a check answered.
+fn answer_behind(checked: u32) -> u32
+    ensures ended { checked ≡ OK → result ≡ END }
+    ensures refused { checked ≢ OK → result ≡ checked }
+{
+    if checked == OK { END } else { checked }
+}
+
+/// Tells in which field the byte at a place stands of the message with which the bytes begin, or of those
+/// before the refused byte, and what a check answers.
+#[unsafe(no_mangle)]
+pub extern "C" fn ndef_field_at(
+    bytes: &[u8],
+    limits: &NdefLimits,
+    place: usize,
+    out: &mut NdefField,
+    why: &mut NdefChecked,
+) -> u32
+    ensures bad { result ≡ BAD_ARGUMENT ↔ ¬ MayTellFields limits.now }
+    ensures kept { result ≡ BAD_ARGUMENT → (out.new ≡ out.old) × (why.new ≡ why.old) }
+    ensures field { result ≢ BAD_ARGUMENT
+        → GivesFieldAt (limits_of limits.now) bytes.now place out.old out.new result why.new }
+{
+    heads_are_apart();
+    let Some(limits) = typed_limits(limits) else {
+        return BAD_ARGUMENT;
+    };
+    let (front, checked) = checked_front(bytes, limits, why);
+    give_field(front, place, answer_behind(checked), out)
+}
+
+/// Steps to the field behind this one, of which the length 0 and the place 0 are before the first.
+#[unsafe(no_mangle)]
+pub extern "C" fn ndef_next_field(
+    bytes: &[u8],
+    limits: &NdefLimits,
+    field: &mut NdefField,
+    why: &mut NdefChecked,
+) -> u32
+    ensures bad { result ≡ BAD_ARGUMENT ↔ ¬ MayTellFields limits.now }
+    ensures kept { result ≡ BAD_ARGUMENT → (field.new ≡ field.old) × (why.new ≡ why.old) }
+    ensures next { result ≢ BAD_ARGUMENT
+        → GivesFieldAt (limits_of limits.now) bytes.now (field.old.at + field.old.length)
+        field.old field.new result why.new }
+{
+    let place = field.at.saturating_add(field.length);
+    ndef_field_at(bytes, limits, place, field, why)
+}
