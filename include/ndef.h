@@ -57,7 +57,7 @@ enum ndef_status {
     NDEF_REFUSED = 1,      /* the bytes are no message, or no such payload; the call tells the place and the reason */
     NDEF_NO_ROOM = 2,      /* the room is too small; *count has the size that is needed, and the room is unchanged */
     NDEF_BAD_ARGUMENT = 3, /* an argument is wrong; the comment at each call lists what it refuses */
-    NDEF_END = 4,          /* there are no more records, references or links */
+    NDEF_END = 4,          /* there are no more records, references, links or fields */
     NDEF_MORE = 5          /* the bytes so far begin a message, and more must follow (ndef_feed alone) */
 };
 
