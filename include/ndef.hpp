@@ -710,6 +710,61 @@ public:
     bytes error_data() const noexcept { return part(told.detail_at, told.detail_length); }
 };
 
+// ---- fields
+
+/// The name of a field: NDEF_FIELD_HEADER, ...
+using field_name = ::ndef_field_names;
+
+/// The name as text, as ndef_field_name writes it; "" for a number that is none.
+constexpr std::string_view to_string(field_name value) noexcept {
+#define NDEF_FIELD_TEXT(number, name, text) case NDEF_FIELD_##name: return text;
+    switch (value) { NDEF_FIELDS(NDEF_FIELD_TEXT) }
+#undef NDEF_FIELD_TEXT
+    return "";
+}
+
+/// Bytes of a message that stand in one field.
+struct field {
+    bytes octets;            ///< the bytes, at least one
+    std::size_t at = 0;      ///< where they begin
+    std::uint32_t depth = 0; ///< 0 in the message itself, 1 in a message within a payload
+    field_name name = {};
+};
+
+/// The fields of the message with which some bytes begin, in order; of bytes that are refused, those before the refused
+/// one. Payloads are looked into: with NDEF_OPAQUE there are no fields. Each step looks at the message from its start;
+/// ndef_fields fills an array with all of them and looks at it once.
+class fields {
+public:
+    using iterator = detail::iterator_of<fields, field>;
+    fields() noexcept = default;
+    explicit fields(bytes of, const ndef_limits &within = limits()) noexcept : whole(of), most(within) {}
+    iterator begin() const noexcept { return iterator(*this); }
+    iterator end() const noexcept { return {}; }
+
+    /// The field in which the byte at a place stands. NDEF_END: the place is behind the message. NDEF_REFUSED: the
+    /// bytes are refused, at the place or before it.
+    result<field> at(ndef_size place) const noexcept {
+        ndef_field told;
+        ndef_checked why = {};
+        const std::uint32_t answer = ndef_field_at(whole.data(), whole.size(), &most, place, &told, &why);
+        if (answer != NDEF_OK) return detail::failure(answer, why);
+        return field{whole.part(told.at, told.length), static_cast<std::size_t>(told.at), told.depth,
+                     static_cast<field_name>(told.name)};
+    }
+
+private:
+    friend iterator;
+    std::optional<detail::found_at<field>> look(ndef_size place) const noexcept {
+        const auto found = at(place);
+        if (!found) return std::nullopt;
+        return detail::found_at<field>{*found, ndef_size{found->at} + found->octets.size()};
+    }
+
+    bytes whole;
+    ndef_limits most = limits();
+};
+
 // ---- writing
 //
 // Each function writes to the front of a room and returns what it wrote. NDEF_NO_ROOM tells the size that is needed.

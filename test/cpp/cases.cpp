@@ -8,6 +8,7 @@
 #include <ranges>
 #include <span>
 static_assert(std::ranges::forward_range<ndef::message> && std::ranges::forward_range<ndef::links>);
+static_assert(std::ranges::forward_range<ndef::fields>);
 static_assert(std::ranges::forward_range<ndef::views<ndef::text>>);
 static_assert(std::is_constructible_v<ndef::bytes, std::span<const std::byte>>);
 static_assert(std::is_constructible_v<ndef::room, std::span<std::uint8_t> &>);
@@ -22,6 +23,7 @@ static_assert(!std::is_constructible_v<ndef::bytes, std::vector<int>>);
 static_assert(!std::is_constructible_v<ndef::room, const std::vector<std::uint8_t> &>);
 static_assert(ndef::to_string(NDEF_REASON_VERSION) == "Version" && ndef::to_string(NDEF_NO_ROOM) == "NoRoom");
 static_assert(ndef::to_string(static_cast<ndef::reason>(26)).empty());
+static_assert(ndef::to_string(NDEF_FIELD_CARRIER_DATA) == "carrier data");
 static constexpr std::uint8_t two[] = {1, 2};
 static_assert(ndef::bytes(two, 2).from(1).size() == 1 && ndef::bytes(two, 2).from(3).empty());
 static_assert(ndef::bytes(two, 2).part(1, 9).size() == 1 && ndef::bytes(two, 2).part(~0ull, 1).empty());
@@ -100,6 +102,25 @@ static bool are_records(ndef::message message, const std::vector<std::string> &w
     return count == words.size() && is_written_again(message, count);
 }
 
+/// Whether fields follow one another up to the end of the message or the refused byte, and none is behind. Of long
+/// messages only the first ones are looked at.
+static bool has_fields(ndef::bytes input, const ndef_limits &limits, const answer &checked) {
+    const ndef::fields fields(input, limits);
+    const auto behind = fields.at(checked.place);
+    if (limits.flags & NDEF_OPAQUE)
+        return !behind && behind.error().what == NDEF_BAD_ARGUMENT && fields.begin() == fields.end();
+    if (behind || behind.error().what != (checked.what == NDEF_OK ? NDEF_END : NDEF_REFUSED)) return false;
+    if (behind.error().why != checked.why) return false;
+    std::size_t at = 0, count = 0;
+    for (ndef::field field : fields) {
+        if (field.at != at || field.octets.empty() || field.octets.data() != input.data() + at) return false;
+        if (field.depth > 1 || ndef::to_string(field.name).empty()) return false;
+        at += field.octets.size();
+        if (++count == 40) return at <= checked.place;
+    }
+    return at == checked.place;
+}
+
 static bool is_answered(const std::vector<std::string> &fields, bool is_opaque) {
     ndef::limits limits;
     limits.flags = (fields[2] == "standard" ? NDEF_STANDARD : 0) | (is_opaque ? NDEF_OPAQUE : 0);
@@ -122,6 +143,7 @@ static bool is_answered(const std::vector<std::string> &fields, bool is_opaque) 
     bool holds = at_once(input, limits) == wanted;
     for (std::size_t cut = 0; cut <= input.size(); cut += 1 + input.size() / 64)
         holds = holds && in_parts(input, limits, cut) == wanted;
+    holds = holds && has_fields(input, limits, wanted);
     if (allocations != before) return false;
     return holds && (!is_accepted || are_records(*ndef::message::check(input, limits), rows));
 }
