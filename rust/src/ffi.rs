@@ -87,6 +87,8 @@ structs! {
     PosterParts (32) {
         uri_at: Size, uri_length: Size, has_action: u32, action: u32, has_size: u32, size: u32
     }
+    /// `ndef_field`
+    Field (24) { at: Size, length: Size, depth: u32, name: u32 }
     /// `ndef_error_parts`
     ErrorParts (32) { data_at: Size, data_length: Size, reason: u32, has_number: u32, number: u32 }
 }
@@ -126,6 +128,10 @@ mod c {
         pub(super) fn ndef_pieces(
             bytes: *const u8, length: Size, at: Size, parts: *mut Part, size: Size, count: *mut Size,
         ) -> u32;
+        pub(super) fn ndef_field_at(
+            bytes: *const u8, length: Size, limits: *const Limits, place: Size, out: *mut Field, why: *mut Checked,
+        ) -> u32;
+        pub(super) fn ndef_field_name(name: u32, room: *mut u8, size: Size, count: *mut Size) -> u32;
         pub(super) fn ndef_find_id(
             bytes: *const u8, length: Size, at: Size, id: *const u8, id_length: Size, out: *mut Record,
         ) -> u32;
@@ -279,6 +285,16 @@ pub(crate) fn pieces(bytes: &[u8], at: Size, parts: &mut [Part]) -> Result<usize
     filled(status, count, Checked::default())
 }
 
+// ---- fields
+
+/// The field in which the byte at a place stands.
+pub(crate) fn field_at(bytes: &[u8], limits: &Limits, place: usize) -> Option<Field> {
+    let (mut out, mut why) = (Field::default(), Checked::default());
+    // SAFETY: LEN, ONE, MAX: a slice, and values of their types. APART: `out` and `why` are local values.
+    let status = unsafe { c::ndef_field_at(bytes.as_ptr(), size(bytes), limits, place as Size, &mut out, &mut why) };
+    (status == OK).then_some(out)
+}
+
 // ---- rooms
 
 /// Why a room is not filled.
@@ -355,6 +371,7 @@ macro_rules! fills {
 
 fills! {
     reason_name(reason: u32) = ndef_reason_name(reason);
+    field_name(name: u32) = ndef_field_name(name);
     payload(bytes: &[u8], at: Size) = ndef_payload(bytes.as_ptr(), size(bytes), at);
     write_record(kind: &[u8], id: &[u8], payload: &[u8], how: &Writing) = ndef_write_record(
         kind.as_ptr(), size(kind), id.as_ptr(), size(id), payload.as_ptr(), size(payload), how);

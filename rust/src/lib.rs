@@ -34,6 +34,7 @@ mod check;
 mod chunks;
 mod error;
 mod ffi;
+mod field;
 mod handover;
 #[cfg(feature = "alloc")]
 mod handover_builder;
@@ -62,6 +63,7 @@ pub use check::{check, Checked, Checker};
 pub use chunks::Chunks;
 pub use error::{DecodeError, EncodeError};
 pub use ffi::Part;
+pub use field::{Field, FieldName, Fields};
 pub use handover::{Alternatives, HandoverRequest, HandoverSelect};
 #[cfg(feature = "alloc")]
 pub use handover_builder::{HandoverRequestBuilder, HandoverSelectBuilder};

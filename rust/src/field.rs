@@ -1,0 +1,194 @@
+//! In which field each byte of a message stands.
+use crate::ffi;
+use crate::{Limits, Payloads};
+use core::fmt;
+use core::iter::FusedIterator;
+
+macro_rules! names {
+    ($($number:literal $name:ident $text:literal,)*) => {
+        /// The name of a field. `Display` writes it as the program `ndef-explain` does.
+        #[derive(Clone, Copy, Debug, PartialEq, Eq, Hash, PartialOrd, Ord)]
+        #[non_exhaustive]
+        #[repr(u32)]
+        pub enum FieldName {
+            /// A name that only a newer library knows.
+            Unlisted = 0,
+            $(#[doc = concat!("`", $text, "`")] $name = $number,)*
+        }
+
+        impl FieldName {
+            /// The names, in the order of their numbers.
+            pub const ALL: &'static [FieldName] = &[$(FieldName::$name),*];
+
+            /// The name with a number.
+            pub const fn from_number(number: u32) -> Option<Self> {
+                match number {
+                    $($number => Some(Self::$name),)*
+                    _ => None,
+                }
+            }
+
+            /// The name as text.
+            pub const fn text(self) -> &'static str {
+                match self {
+                    Self::Unlisted => "unlisted",
+                    $(Self::$name => $text,)*
+                }
+            }
+        }
+    };
+}
+
+names! {
+    1 Header "header",
+    2 TypeLength "TYPE_LENGTH",
+    3 PayloadLength "PAYLOAD_LENGTH",
+    4 IdLength "ID_LENGTH",
+    5 Type "TYPE",
+    6 Id "ID",
+    7 Payload "PAYLOAD",
+    8 Status "status",
+    9 Language "language code",
+    10 Mark "byte order mark",
+    11 Text "text",
+    12 UriCode "identifier code",
+    13 UriRest "URI",
+    14 Action "action",
+    15 Size "size",
+    16 MediaType "media type",
+    17 Version "version",
+    18 Collision "random number",
+    19 Power "carrier power state",
+    20 ReferenceLength "carrier data reference length",
+    21 Reference "carrier data reference",
+    22 AuxiliaryCount "auxiliary data reference count",
+    23 AuxiliaryLength "auxiliary data reference length",
+    24 Auxiliary "auxiliary data reference",
+    25 AfterAuxiliary "reserved",
+    26 ErrorReason "error reason",
+    27 ErrorData "error data",
+    28 CarrierFormat "carrier type format",
+    29 CarrierTypeLength "carrier type length",
+    30 CarrierType "carrier type",
+    31 CarrierData "carrier data",
+}
+
+impl fmt::Display for FieldName {
+    fn fmt(&self, to: &mut fmt::Formatter<'_>) -> fmt::Result {
+        to.pad(self.text())
+    }
+}
+
+/// Bytes of a message that stand in one field.
+#[derive(Clone, Copy, Debug, PartialEq, Eq, Hash)]
+#[non_exhaustive]
+pub struct Field<'a> {
+    /// The place of the first of them.
+    pub at: usize,
+    /// The bytes, at least one.
+    pub bytes: &'a [u8],
+    /// 0 in the message itself, 1 in a message within a payload.
+    pub depth: u32,
+    /// The name of the field.
+    pub name: FieldName,
+}
+
+/// The fields of the message with which some bytes begin, in order; of bytes that are refused, those before the refused
+/// one. Payloads are looked into, whatever the limits say. Each step looks at the message from its start.
+///
+/// ```
+/// use simbegyor_ndef::{FieldName, Fields, Limits};
+///
+/// let fields = Fields::of(b"\xD1\x01\x08T\x02enHello, and more", &Limits::new());
+/// assert_eq!(fields.clone().count(), 7);
+/// assert_eq!(fields.at(5).unwrap().name, FieldName::Language);
+/// assert_eq!(fields.last().unwrap().bytes, b"Hello");
+/// ```
+#[derive(Clone)]
+#[must_use = "an iterator does nothing unless it is used"]
+pub struct Fields<'a> {
+    bytes: &'a [u8],
+    limits: Limits,
+    next: usize,
+}
+
+impl<'a> Fields<'a> {
+    /// The fields of the message with which these bytes begin.
+    pub fn of(bytes: &'a [u8], limits: &Limits) -> Self {
+        Self { bytes, limits: limits.with_payloads(Payloads::Typed), next: 0 }
+    }
+
+    /// The field in which the byte at a place stands; none behind the message, or from a refused byte on.
+    pub fn at(&self, place: usize) -> Option<Field<'a>> {
+        let told = ffi::field_at(self.bytes, &self.limits.raw(), place)?;
+        Some(Field {
+            at: ffi::index(told.at),
+            bytes: ffi::part(self.bytes, told.at, told.length),
+            depth: told.depth,
+            name: FieldName::from_number(told.name).unwrap_or(FieldName::Unlisted),
+        })
+    }
+}
+
+impl<'a> Iterator for Fields<'a> {
+    type Item = Field<'a>;
+
+    fn next(&mut self) -> Option<Field<'a>> {
+        let field = self.at(self.next)?;
+        self.next = field.at + field.bytes.len();
+        Some(field)
+    }
+}
+
+impl FusedIterator for Fields<'_> {}
+
+impl fmt::Debug for Fields<'_> {
+    fn fmt(&self, to: &mut fmt::Formatter<'_>) -> fmt::Result {
+        to.debug_list().entries(self.clone()).finish()
+    }
+}
+
+#[cfg(test)]
+mod tests {
+    use super::*;
+
+    #[test]
+    fn names_are_the_librarys() {
+        for number in 0..200 {
+            let mut room = [0; 31];
+            let told = ffi::field_name(number, &mut room[..]).map(|count| &room[..count]);
+            match FieldName::from_number(number) {
+                Some(name) => assert_eq!((told, name as u32), (Ok(name.text().as_bytes()), number)),
+                None => assert_eq!(told, Err(ffi::Unfilled::BadArgument)),
+            }
+        }
+    }
+
+    /// A poster with a URI, as RTD Smart Poster 1.0 lays it out, and one whose URI has a reserved code.
+    #[test]
+    fn fields_of_a_poster() {
+        let poster = b"\xD1\x02\x06Sp\xD1\x01\x02U\x00a";
+        let told: [(usize, u32, &str); 10] = [
+            (0, 0, "header"),
+            (1, 0, "TYPE_LENGTH"),
+            (2, 0, "PAYLOAD_LENGTH"),
+            (3, 0, "TYPE"),
+            (5, 1, "header"),
+            (6, 1, "TYPE_LENGTH"),
+            (7, 1, "PAYLOAD_LENGTH"),
+            (8, 1, "TYPE"),
+            (9, 1, "identifier code"),
+            (10, 1, "URI"),
+        ];
+        let fields = Fields::of(poster, &Limits::new().with_payloads(Payloads::Opaque));
+        assert!(fields.clone().map(|field| (field.at, field.depth, field.name.text())).eq(told));
+        assert!(fields.clone().flat_map(|field| field.bytes).eq(poster));
+        assert_eq!(fields.at(4), fields.at(3));
+        assert_eq!((fields.at(11), fields.at(usize::MAX)), (None, None));
+
+        let refused = b"\xD1\x02\x06Sp\xD1\x01\x02U\xFFa";
+        let fields = Fields::of(refused, &Limits::new());
+        assert!(fields.clone().map(|field| field.name.text()).eq(told[..8].iter().map(|field| field.2)));
+        assert_eq!((fields.at(8).unwrap().bytes, fields.at(9)), (&b"U"[..], None));
+    }
+}
