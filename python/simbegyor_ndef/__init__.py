@@ -4,6 +4,7 @@
     octets = b''.join(message_encoder(records))
 """
 from . import handover, message, record, smartposter, text, uri
+from ._fields import Field, fields
 from .errors import DecodeError, EncodeError
 from .handover import HandoverCarrierRecord, HandoverRequestRecord, HandoverSelectRecord
 from .message import message_decoder, message_encoder
@@ -14,5 +15,6 @@ from .uri import UriRecord
 
 __version__ = '@VERSION@'
 
-__all__ = ['DecodeError', 'EncodeError', 'GlobalRecord', 'HandoverCarrierRecord', 'HandoverRequestRecord', 'HandoverSelectRecord',
-           'LocalRecord', 'Record', 'SmartposterRecord', 'TextRecord', 'UriRecord', 'message_decoder', 'message_encoder']
+__all__ = ['DecodeError', 'EncodeError', 'Field', 'GlobalRecord', 'HandoverCarrierRecord', 'HandoverRequestRecord',
+           'HandoverSelectRecord', 'LocalRecord', 'Record', 'SmartposterRecord', 'TextRecord', 'UriRecord', 'fields',
+           'message_decoder', 'message_encoder']

@@ -95,6 +95,10 @@ class Part(ctypes.Structure):
     _fields_ = _sizes('at length')
 
 
+class FieldParts(ctypes.Structure):
+    _fields_ = _sizes('at length') + _numbers('depth name')
+
+
 # The fields of a RecordParts, all of them at once.
 record_fields = struct.Struct('@10N2I').unpack_from
 
@@ -114,6 +118,8 @@ def _call(name: str, loaded: Any = _short, result: Any = u32) -> Callable[..., i
 
 _usual_limits = _call('ndef_usual_limits', result=None)
 _reason_name = _call('ndef_reason_name')
+_field_name = _call('ndef_field_name')
+_fields = _call('ndef_fields', _long)
 check = _call('ndef_check', _long)
 begin = _call('ndef_begin')
 feed = _call('ndef_feed', _long)
@@ -214,6 +220,23 @@ def number(value: int, what: str) -> ctypes.c_uint32:
 def reason_name(reason: int) -> str:
     """The name of a reason."""
     return put(_reason_name, 16, u32(reason))[1].decode('ascii')
+
+
+@functools.lru_cache(maxsize=64)
+def field_name(name: int) -> str:
+    """The name of a field."""
+    return put(_field_name, 31, u32(name))[1].decode('ascii')
+
+
+def fields(octets: bytes, within: Any) -> Tuple[Checked, List[Any]]:
+    """What a check within these limits tells of the octets, and the fields of the message, or those before the refused octet."""
+    checked, count, room = Checked(), _size(), 128
+    while True:
+        array = (FieldParts * room)()
+        status = _fields(octets, SIZES[len(octets)], within, array, SIZES[room], byref(count), byref(checked))
+        if status != NO_ROOM:
+            return checked, array[:count.value]
+        room = count.value
 
 
 def refused(why: Checked, before: int = 0) -> DecodeError:

@@ -1,4 +1,7 @@
 """What is raised where octets are no message, and where a value can't be written."""
+from __future__ import annotations
+
+from typing import Any, List
 
 
 class DecodeError(Exception):
@@ -7,11 +10,13 @@ class DecodeError(Exception):
     reason: the name of the reason, as ndef.h gives it ('EndOfInput'), or the text of a record class of one's own.
     place: the place of the first octet with which no message goes on, counted from 0.
     number: the number of the reason in ndef.h, 1 to 25; 0 where a record class of one's own refuses.
+    fields: where `fields` raised it, the fields before that octet; else none.
     """
 
     def __init__(self, reason: str = '', place: int = 0, number: int = 0) -> None:
         super().__init__(reason, place, number)
         self.reason, self.place, self.number = reason, place, number
+        self.fields: List[Any] = []
 
     def __str__(self) -> str:
         return 'refused at %d: %s' % (self.place, _one_line(self.reason))

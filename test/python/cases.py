@@ -1,14 +1,25 @@
-"""The lines of the conformance cases and of the typed values, and the names of the reasons."""
+"""The lines of the conformance cases and of the typed values, and the names of the reasons and of the fields."""
 import pathlib
 import re
 
 TOP = pathlib.Path(__file__).resolve().parents[2]
 
 
+def listed(name):
+    """The texts by their numbers, as a list of ndef.h has them."""
+    header = (TOP / 'include/ndef.h').read_text()
+    found = re.search(r'#define %s\(X\)((?:.*\\\n)*.*)' % name, header)[1]
+    return {int(number): text for number, text in re.findall(r'X\((\d+), \w+, "([^"]+)"\)', found)}
+
+
 def reasons():
-    """The names of the reasons by their numbers, as the list NDEF_REASONS of ndef.h has them."""
-    found = re.findall(r'X\((\d+), \w+, "(\w+)"\)', (TOP / 'include/ndef.h').read_text())
-    return {int(number): name for number, name in found}
+    """The names of the reasons by their numbers."""
+    return listed('NDEF_REASONS')
+
+
+def field_names():
+    """The names of the fields by their numbers."""
+    return listed('NDEF_FIELDS')
 
 
 def lines(name):

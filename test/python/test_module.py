@@ -2,6 +2,7 @@
 import doctest
 import io
 import os
+import pickle
 import random
 import re
 import threading
@@ -9,7 +10,7 @@ import unittest
 
 import simbegyor_ndef as ndef
 from simbegyor_ndef import _library as library
-from cases import TOP, cases, octets_of, reasons, values
+from cases import TOP, cases, field_names, octets_of, reasons, values
 
 HELLO = bytes.fromhex('d101085402656e48656c6c6f')
 REASONS = reasons()
@@ -402,6 +403,48 @@ class Refusals(unittest.TestCase):
             self.assertEqual(list(ndef.message_decoder(octets(*records), known_types=known)), records)
             for record in records:
                 getattr(record, 'alternative_carriers', None)
+
+
+class Fields(unittest.TestCase):
+    """In which field each octet stands, as NDEF 1.0, RTD Text 1.0, RTD URI 1.0 and RTD Smart Poster 1.0 lay them out."""
+
+    def test_names(self):
+        names = field_names()
+        self.assertEqual(list(names), list(range(1, 32)))
+        self.assertEqual({number: library.field_name(number) for number in names}, names)
+
+    def test_a_poster(self):
+        given = bytes.fromhex('d1020d5370 91010255006151010354004142')
+        head, inner = ['header', 'TYPE_LENGTH', 'PAYLOAD_LENGTH', 'TYPE'], [0, 0, 0, 0]
+        for octets in (given, bytearray(given + HELLO), memoryview(given)):
+            told = ndef.fields(octets)
+            self.assertEqual([field.name for field in told],
+                             head + head + ['identifier code', 'URI'] + head + ['status', 'text'])
+            self.assertEqual([field.depth for field in told], inner + 12 * [1])
+            self.assertEqual([field.octets.hex() for field in told],
+                             'd1 02 0d 5370 91 01 02 55 00 61 51 01 03 54 00 4142'.split())
+            self.assertEqual([field.length for field in told], [len(field.octets) for field in told])
+            self.assertEqual([field.at for field in told], [sum(field.length for field in told[:i]) for i in range(16)])
+        self.assertEqual(told[3], ndef.Field(3, 2, 0, 'TYPE', b'Sp'))
+
+    def test_more_fields_than_are_guessed(self):
+        given = octets(*(ndef.UriRecord('http://www.a.com') for _ in range(100)))
+        self.assertEqual(len(ndef.fields(given)), 600)
+        self.assertEqual(b''.join(field.octets for field in ndef.fields(given)), given)
+
+    def test_refusals(self):
+        for given, place, reason, before in (('d101085402656e', 7, 'EndOfInput', 'd1 01 08 54 02 656e'),
+                                             ('d1010455242e', 4, 'UriCode', 'd1 01 04 55'), ('51', 0, 'BeginMissing', '')):
+            with self.assertRaises(ndef.DecodeError) as caught:
+                ndef.fields(bytes.fromhex(given))
+            error = pickle.loads(pickle.dumps(caught.exception))
+            self.assertEqual((error.place, error.reason), (place, reason))
+            self.assertEqual([field.octets.hex() for field in error.fields], before.split())
+        self.assertEqual(ndef.fields(b''), [])
+        self.assertRaises(TypeError, ndef.fields, 'd10000')
+        with self.assertRaises(ndef.DecodeError) as caught:
+            list(ndef.message_decoder(b'\xd1'))
+        self.assertEqual(caught.exception.fields, [])
 
 
 class Readme(unittest.TestCase):

@@ -1,0 +1,47 @@
+"""In which field each octet of a message stands."""
+from __future__ import annotations
+
+from typing import List, NamedTuple, Union
+
+from . import _library as library
+from .record import Record
+
+__all__ = ['Field', 'fields']
+
+
+class Field(NamedTuple):
+    """Octets of a message that stand in one field.
+
+    at: the place of the first of them, counted from 0.
+    length: how many they are, at least 1.
+    depth: 0 in the message itself, 1 in a message within a payload.
+    name: the name of the field, as ndef.h gives it ('TYPE_LENGTH').
+    octets: the octets themselves.
+    """
+
+    at: int
+    length: int
+    depth: int
+    name: str
+    octets: bytes
+
+
+def fields(octets: Union[bytes, bytearray, memoryview]) -> List[Field]:
+    """The fields of the message with which the octets begin, in order; none where there are no octets.
+
+    They follow one another without a gap from the first octet of the message to its last. Where the octets are refused,
+    DecodeError is raised; its `fields` are those before the refused octet.
+    """
+    if not isinstance(octets, (bytes, bytearray, memoryview)):
+        raise TypeError('octets are needed, not %s' % type(octets).__name__)
+    given = bytes(octets)
+    if not given:
+        return []
+    checked, told = library.fields(given, library.limits(Record.MAX_PAYLOAD_SIZE, 0))
+    listed = [Field(part.at, part.length, part.depth, library.field_name(part.name), given[part.at:part.at + part.length])
+              for part in told]
+    if checked.reason:
+        error = library.refused(checked)
+        error.fields = listed
+        raise error
+    return listed
