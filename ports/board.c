@@ -1,5 +1,5 @@
 /* What a program needs on qemu's board mps2-an385, a Cortex-M3 without an operating system: vectors, output by semihosting,
- * and the functions that a compiler may call. The library itself wants memcpy and memmove alone. */
+ * and the functions that a compiler may call. The library itself wants memcpy, memmove and memset alone. */
 #include <stddef.h>
 #include <stdint.h>
 
