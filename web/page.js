@@ -17,6 +17,13 @@ const KINDS = {
     value: "text, URI or data", chunk: "further chunks", rest: "not looked at", refused: "refused",
 };
 
+// The colour of each field, by its name; the others have that of a payload.
+const COLOURS = {
+    "header": "head", "TYPE_LENGTH": "head", "PAYLOAD_LENGTH": "head", "ID_LENGTH": "head", "TYPE": "type", "ID": "id",
+    "carrier type": "type", "language code": "language", "text": "value", "URI": "value", "media type": "value",
+    "carrier data reference": "value", "auxiliary data reference": "value", "error data": "value", "carrier data": "value",
+};
+
 const SAMPLES = {
     "text": "D1 01 08 54 02 65 6E 48 65 6C 6C 6F",
     "URI": "D1 01 0C 55 01 65 78 61 6D 70 6C 65 2E 63 6F 6D",
@@ -73,20 +80,19 @@ function messagesOf(ndef, bytes, options) {
     return messages;
 }
 
-// What a record's payload means: lines of text, the records within it, and parts of it by name.
+// What a record's payload means: lines of text, and where the records within it begin.
 function meaning(ndef, record, message, flags) {
     const read = record.tnf === 1 ? READERS[quoted(record.type)] : undefined;
-    if (!read) return { lines: [], nested: null, parts: [] };
+    if (!read) return { lines: [], nested: null };
     const told = read(ndef, record.payload, flags & Ndef.STANDARD, message);
-    if (told.status === Ndef.REFUSED) return { lines: [], why: refusal(ndef, told, " of the payload"), nested: null, parts: [] };
-    return { lines: [], nested: null, parts: [], ...told };
+    if (told.status === Ndef.REFUSED) return { lines: [], why: refusal(ndef, told, " of the payload"), nested: null };
+    return { lines: [], nested: null, ...told };
 }
 
 function readText(ndef, payload) {
     const told = ndef.text(payload);
     if (told.status !== Ndef.OK) return told;
-    const parts = [["language", told.languageAt, told.languageLength], ["value", told.textAt, told.textLength]];
-    return { lines: [`Text: ${told.text}`, `Language: ${told.language || "none"}${told.utf16 ? ", UTF-16" : ""}`], parts };
+    return { lines: [`Text: ${told.text}`, `Language: ${told.language || "none"}${told.utf16 ? ", UTF-16" : ""}`] };
 }
 
 function readUri(ndef, payload, flags) {
@@ -130,23 +136,21 @@ function readCarrier(ndef, payload) {
     const told = ndef.carrier(payload);
     if (told.status !== Ndef.OK) return told;
     const type = quoted(payload.slice(told.typeAt, told.typeAt + told.typeLength));
-    const parts = [["type", told.typeAt, told.typeLength], ["value", told.dataAt, told.dataLength]];
-    return { lines: [`Carrier type ${type}, format ${told.format}, ${plural(told.dataLength, "byte")} of data`], parts };
+    return { lines: [`Carrier type ${type}, format ${told.format}, ${plural(told.dataLength, "byte")} of data`] };
 }
 
 function readAlternative(ndef, payload) {
     const told = ndef.alternative(payload);
     if (told.status !== Ndef.OK) return told;
     const names = told.references.map(({ at, length }) => `"${quoted(payload.slice(at, at + length))}"`);
-    const parts = told.references.map(({ at, length }) => ["value", at, length]);
-    return { lines: [`Alternative carrier, power state ${POWER[told.power]}, references ${names.join(", ")}`], parts };
+    return { lines: [`Alternative carrier, power state ${POWER[told.power]}, references ${names.join(", ")}`] };
 }
 
 function readError(ndef, payload) {
     const told = ndef.error(payload);
     if (told.status !== Ndef.OK) return told;
     const number = told.number === null ? "" : `, number ${told.number}`;
-    return { lines: [`Error ${told.errorReason}${number}`], parts: [["value", told.dataAt, told.dataLength]] };
+    return { lines: [`Error ${told.errorReason}${number}`] };
 }
 
 // The call of the library for each type of the NFC Forum, as include/ndef.h names them.
@@ -161,7 +165,7 @@ function paint(fields, from, to, kind, record) {
     for (let at = from; at < to && at < fields.length; at++) fields[at] = { kind, record, begins: fields[at]?.begins };
 }
 
-function paintRecord(fields, start, record, name, told) {
+function paintRecord(fields, start, record, name) {
     const payload = start + record.payloadAt;
     paint(fields, start + record.at, start + record.typeAt, "head", name);
     paint(fields, start + record.typeAt, start + record.idAt, "type", name);
@@ -169,8 +173,14 @@ function paintRecord(fields, start, record, name, told) {
     paint(fields, payload, payload + record.partLength, "payload", name);
     paint(fields, payload + record.partLength, start + record.end, "chunk", name);
     fields[start + record.at].begins = true;
-    if (record.pieces !== 1) return;
-    told.parts.forEach(([kind, at, length]) => paint(fields, payload + at, payload + at + length, kind, name));
+}
+
+// Gives the bytes of a message the names and colours of their fields, as far as payloads are looked into.
+function paintFields(ndef, fields, { at, bytes }, options) {
+    (ndef.fields(bytes, options).fields ?? []).forEach((field) => {
+        for (let place = at + field.at; place < at + field.at + field.length; place++)
+            fields[place] = { ...fields[place], kind: COLOURS[field.name] ?? "payload", name: field.name };
+    });
 }
 
 // The rows of the records of a message, nested ones behind their own, and the fields of their bytes. `start` is where the
@@ -178,7 +188,7 @@ function paintRecord(fields, start, record, name, told) {
 function describe(ndef, bytes, records, start, flags, fields, depth, prefix) {
     return records.flatMap((record, index) => {
         const name = `${prefix}${index + 1}`, told = meaning(ndef, record, bytes, flags);
-        if (start !== null) paintRecord(fields, start, record, name, told);
+        if (start !== null) paintRecord(fields, start, record, name);
         const row = { name, record, told, depth };
         if (told.nested === null || depth > 3) return [row];
         const within = record.payload.slice(told.nested);
@@ -209,8 +219,8 @@ function showVerdict(ndef, messages, bytes) {
 function detailOf(bytes, fields, at) {
     if (at >= bytes.length) return `Byte ${at}: the end of the input`;
     const shown = ascii(bytes[at]), field = fields[at] ?? { kind: "rest" };
-    const record = field.record ? `, record ${field.record}` : "";
-    return `Byte ${at}: ${twoDigits(bytes[at])}${shown === null ? "" : ` "${shown}"`}${record}, ${KINDS[field.kind]}`;
+    const record = field.record ? `, record ${field.record}` : "", name = field.kind === "refused" ? null : field.name;
+    return `Byte ${at}: ${twoDigits(bytes[at])}${shown === null ? "" : ` "${shown}"`}${record}, ${name ?? KINDS[field.kind]}`;
 }
 
 function byteSpan(bytes, fields, at, detail) {
@@ -294,6 +304,7 @@ function showMessages(ndef, bytes, options) {
         const rows = describe(ndef, message.bytes, message.records, message.at, options.flags, fields, 0, "");
         return [element("h2", { text: messages.length > 1 ? `Message ${index + 1}, at byte ${message.at}` : "Records" }), ...recordTable(rows)];
     });
+    messages.forEach((message) => paintFields(ndef, fields, message, options));
     if (refused) {
         for (let at = place + 1; at < fields.length; at++) fields[at] = null;
         fields[place] = { ...fields[place], kind: "refused" };

@@ -26,10 +26,23 @@ function optionsOf(words, profile, opaque) {
     return options;
 }
 
+// The fields follow one another up to the end of the message, or to the refused byte.
+function areFields(bytes, options, checked) {
+    const told = ndef.fields(bytes, options);
+    if (options.flags & Ndef.OPAQUE) return told.status === Ndef.BAD_ARGUMENT;
+    let end = 0;
+    return told.status === checked.status && told.place === checked.place && told.reason === checked.reason
+        && told.fields.every(({ at, length, depth, name }) => {
+            const follows = at === end && length > 0 && depth <= 1 && name !== null;
+            end = at + length;
+            return follows;
+        }) && end === checked.place;
+}
+
 function isAnswered([, , profile, limits, hex, answer, records], opaque) {
-    const bytes = fromHex(hex), checked = ndef.check(bytes, optionsOf(limits.split(" "), profile, opaque));
+    const options = optionsOf(limits.split(" "), profile, opaque), bytes = fromHex(hex), checked = ndef.check(bytes, options);
     const [word, place, reason] = answer.split(" ");
-    if (checked.place !== Number(place)) return false;
+    if (checked.place !== Number(place) || !areFields(bytes, options, checked)) return false;
     if (word === "accepted") return checked.status === Ndef.OK && areRecords(records, bytes, checked.records);
     const why = word === "more" ? "EndOfInput" : null;
     return checked.status === Ndef.REFUSED && (why ? ndef.reasonName(checked.reason) === why : checked.reason === Number(reason));
@@ -41,6 +54,16 @@ function areTexts() {
     return utf8.text === "€" && utf8.language === "en" && !utf8.utf16 && utf8.textAt === 3 && utf16.text === "€" && utf16.utf16
         && ndef.text(fromHex("02656EC3")).status === Ndef.REFUSED && ndef.uri(fromHex("01612E62")).text === "http://www.a.b"
         && ndef.reasonName(ndef.uri(fromHex("FF61")).reason) === "UriCode" && ndef.uri(fromHex("FF61"), Ndef.STANDARD).text === "a";
+}
+
+// The fields of a poster, as RTD Smart Poster 1.0 lays them out.
+function areFieldsOfAPoster() {
+    const told = ndef.fields(fromHex("D1020D5370 910102550061 51010354004142 D00000"));
+    const words = told.fields.map(({ at, length, depth, name }) => `${at} ${length} ${depth} ${name}`);
+    return told.place === 18 && words.join() === "0 1 0 header,1 1 0 TYPE_LENGTH,2 1 0 PAYLOAD_LENGTH,3 2 0 TYPE,"
+        + "5 1 1 header,6 1 1 TYPE_LENGTH,7 1 1 PAYLOAD_LENGTH,8 1 1 TYPE,9 1 1 identifier code,10 1 1 URI,"
+        + "11 1 1 header,12 1 1 TYPE_LENGTH,13 1 1 PAYLOAD_LENGTH,14 1 1 TYPE,15 1 1 status,16 2 1 text"
+        && ndef.fieldName(0) === null && ndef.fieldName(31) === "carrier data" && ndef.fieldName(32) === null;
 }
 
 function arePosters() {
@@ -70,7 +93,7 @@ for (const line of readFileSync(0, "utf8").split("\n").filter(Boolean)) {
         if (!isAnswered(fields, opaque)) { failed++; console.log(line); }
     }
 }
-for (const holds of [areTexts, arePosters, areHandovers]) {
+for (const holds of [areTexts, areFieldsOfAPoster, arePosters, areHandovers]) {
     if (!holds()) { failed++; console.log(`${holds.name}: no`); }
 }
 console.log(`cases ${run}, failed ${failed}`);
