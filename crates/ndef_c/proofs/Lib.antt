@@ -23,11 +23,13 @@ pub mod OneCheck
 pub mod Passed
 pub mod PieceParts
 pub mod Places
+pub mod PosterSaid
 pub mod Posters
 pub mod Prefixed
 pub mod Puts
 pub mod Records
 pub mod Rewritten
+pub mod Several
 pub mod Stepped
 pub mod Texts
 pub mod TitleTexts

@@ -20,10 +20,13 @@ pub mod Nested
 pub mod Numbers
 pub mod Payloads
 pub mod Pieces
+pub mod PosterParts
+pub mod PosterWrites
 pub mod Posters
 pub mod Rewrites
 pub mod Rooms
 pub mod Runs
+pub mod Series
 pub mod Statuses
 pub mod Texts
 pub mod Titles

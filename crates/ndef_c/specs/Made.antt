@@ -1,9 +1,8 @@
--- A well-known record whose payload is written in place.
+-- A record whose payload is written in place.
 use Rattle.std.specs.Prelude.{◌≡◌, ℕ, List, length, None}
 use Rattle.ndef_format.specs.Canonical.{HasLengths}
 use Rattle.ndef_format.specs.Messages.{Item}
 use Rattle.ndef_format.specs.declared.tnf.Tnf.{Tnf}
-use Rattle.ndef_format.specs.declared.tnf.Tnf.TheVariants.{WellKnown}
 use Rattle.ndef_message.specs.declared.form.Form.TheVariants.{Short}
 use Rattle.ndef_c.specs.Contents.{IsContent, content_octets}
 use Rattle.ndef_c.specs.Writes.{record_octets}
@@ -16,7 +15,7 @@ item_with tnf kind id payload = record { tnf = tnf; kind = kind; id = id; payloa
 
 -- NDEF 1.0, record layout: the record
 abbrev pub made_item : Made → Item
-made_item m = record { tnf = WellKnown; kind = m.kind.now; id = m.id.now; payload = content_octets m.content }
+made_item m = record { tnf = m.tnf; kind = m.kind.now; id = m.id.now; payload = content_octets m.content }
 
 -- a piece can tell its lengths, and that of its payload is known
 pub record IsMade (m : Made) : Type 0 where

@@ -11,6 +11,7 @@ use crate::making::Made;
 use crate::status::BAD_ARGUMENT;
 use crate::text::text_content;
 use ndef_types::split;
+use ndef_value::Tnf;
 
 /// Whether a record with the id can stand behind the message with which the room begins.
 fn may_join(room: &[u8], built: &NdefBuilt, id: &[u8]) -> bool
@@ -48,6 +49,7 @@ pub extern "C" fn ndef_append_text(
         return BAD_ARGUMENT;
     }
     let made = Made {
+        tnf: Tnf::WellKnown,
         kind: b"T",
         id,
         content,
@@ -85,6 +87,7 @@ pub extern "C" fn ndef_append_uri(
         return BAD_ARGUMENT;
     }
     let made = Made {
+        tnf: Tnf::WellKnown,
         kind: b"U",
         id,
         content,

@@ -18,6 +18,8 @@ pub(crate) enum Content<'a> {
     Utf16 { language: &'a [u8], text: &'a str },
     /// RTD URI 1.0: the code of a prefix, and the rest of the URI.
     Uri { code: u8, rest: &'a [u8] },
+    /// Bytes, as they are given.
+    Octets { octets: &'a [u8] },
 }
 
 /// So many bytes and some behind them, unless no payload is that long.
@@ -55,6 +57,7 @@ pub(crate) fn content_length(content: &Content<'_>) -> Option<usize>
         Content::Utf8 { language, text } => payload_length(1 + language.len(), text.len()),
         Content::Utf16 { language, text } => units_length(3 + language.len(), text),
         Content::Uri { code: _, rest } => payload_length(1, rest.len()),
+        Content::Octets { octets } => payload_length(0, octets.len()),
     }
 }
 
@@ -76,6 +79,7 @@ pub(crate) fn put_content(room: &mut [u8], at: usize, content: &Content<'_>) -> 
             put_units(room, after_mark, text)
         }
         Content::Uri { code, rest } => put_parts(room, at, &[code], rest, &[]),
+        Content::Octets { octets } => put(room, at, octets),
     }
 }
 

@@ -1,4 +1,4 @@
-//! Well-known records whose payloads are written in place.
+//! Records whose payloads are written in place.
 ghost use Rattle.std.specs.Prelude.{◌≡◌, ◌+◌, ◌<◌, ◌≤◌, ◌^◌, ℕ, false, List, length};
 ghost use Rattle.ndef_format.specs.Records.{FitsForm, fields};
 ghost use Rattle.ndef_message.specs.Cut.{first_piece};
@@ -15,9 +15,10 @@ use ndef_message::Form;
 use ndef_piece::Head;
 use ndef_value::Tnf;
 
-/// A well-known record.
+/// A record.
 #[derive(Clone, Copy)]
 pub(crate) struct Made<'a> {
+    pub(crate) tnf: Tnf,
     pub(crate) kind: &'a [u8],
     pub(crate) id: &'a [u8],
     pub(crate) content: Content<'a>,
@@ -73,14 +74,7 @@ fn head_of(made: &Made<'_>, ends: Ends) -> Head
         (is_short Short (length (content_octets made.now.content))) }
     ensures form { FitsForm result.short result.payload_length }
 {
-    whole_head(
-        Tnf::WellKnown,
-        made.kind,
-        made.id,
-        made.bytes,
-        ends,
-        Form::Short,
-    )
+    whole_head(made.tnf, made.kind, made.id, made.bytes, ends, Form::Short)
 }
 
 /// The bytes of the record.

@@ -1,0 +1,72 @@
+-- Records that stand one behind another in a message that is written.
+use Rattle.std.specs.Prelude.{◌≡◌, ℕ, ◌+◌, ◌-◌, ◌<◌, ◌≤◌, ◌^◌, ◌==◌, ◌&&◌, ⊤, Bool, false, List, [], ◌∷◌, ◌++◌, length, map, None, slice_index_or}
+use Rattle.std.specs.List.{All, flat_map}
+use Rattle.ndef_format.specs.Canonical.{canonical, is_nil}
+use Rattle.ndef_format.specs.Messages.{Item}
+use Rattle.ndef_message.specs.declared.form.Form.TheVariants.{Short}
+use Rattle.ndef_c.specs.Made.{IsMade, made_item}
+use Rattle.ndef_c.specs.PosterParts.{MayBeIcon, MayBeTitle, icon_item, title_item}
+use Rattle.ndef_c.specs.Rooms.{IsPut}
+use Rattle.ndef_c.specs.Writes.{record_octets}
+use Rattle.ndef_c.specs.declared.poster_parts.NdefIconWriting.{NdefIconWriting}
+use Rattle.ndef_c.specs.declared.poster_parts.NdefTitleWriting.{NdefTitleWriting}
+use Rattle.ndef_c.specs.declared.series.Series.{Series}
+use Rattle.ndef_c.specs.declared.series.Series.TheVariants as several
+use Rattle.ndef_c.specs.declared.series_writing.Place.{Place}
+
+-- the records
+abbrev pub series_items : Series → List Item
+series_items several.Nothing = []
+series_items (several.One made) = made_item made ∷ []
+series_items (several.Titles bytes titles) = map (title_item bytes.now) titles.now
+series_items (several.Icons bytes icons) = map (icon_item bytes.now) icons.now
+
+-- one record that is made already may be written
+abbrev pub HoldsMade : Series → Type 0
+HoldsMade (several.One made) = IsMade made
+HoldsMade _ = ⊤
+
+-- the record with the index may be written
+abbrev pub MayBeIn : Series → (index : ℕ) → Type 0
+MayBeIn several.Nothing index = ⊤
+MayBeIn (several.One made) index = IsMade made
+MayBeIn (several.Titles bytes titles) index = (t : NdefTitleWriting) → MayBeTitle bytes.now (slice_index_or titles.now index t)
+MayBeIn (several.Icons bytes icons) index = (i : NdefIconWriting) → MayBeIcon bytes.now (slice_index_or icons.now index i)
+
+-- each of the records may be written
+abbrev pub IsSeries : Series → Type 0
+IsSeries s = (index : ℕ) → index < length (series_items s) → MayBeIn s index
+
+-- the records of several series
+abbrev pub all_items : List Series → List Item
+all_items = flat_map series_items
+
+-- NDEF 1.0, MB and ME: the octets of records of a message of which `left` are left, these and those behind them
+abbrev pub left_octets : (first : Bool) (left : ℕ) → List Item → List ℕ
+left_octets first left [] = []
+left_octets first left (m ∷ ms) = record_octets Short first (left == 1) None m ++ left_octets false (left - 1) ms
+
+-- where the records behind these are written
+abbrev pub behind : Place → List Item → Place
+behind p items = record {
+  at = p.at + length (left_octets p.first p.left items);
+  left = p.left - length items;
+  first = p.first && is_nil items;
+}
+
+-- the records are written at the place, and the other one is behind them
+pub record IsWritten (p : Place) (items : List Item) (old new : List ℕ) (q : Place) : Type 0 where
+  pub put : IsPut p.at (left_octets p.first p.left items) old new
+  pub size : length new ≡ length old
+  pub next : q ≡ behind p items
+
+-- NDEF 1.0, record layout: the octets of records that are neither the first nor the last
+abbrev pub middle_octets : List Item → List ℕ
+middle_octets = flat_map (λ m. record_octets Short false false None m)
+
+-- RTD Smart Poster 1.0 and Connection Handover 1.2: behind these octets a message of these records, each of which may
+-- be written, is no longer than a payload
+pub record MayBeMessage (front : List ℕ) (several : List Series) : Type 0 where
+  pub each : All IsSeries several
+  pub few : length (all_items several) ≤ 65535
+  pub fits : length (front ++ canonical (all_items several)) < 2 ^ 32

@@ -1,0 +1,169 @@
+//! Writes the payloads of Smart Poster records from what the poster is made of (RTD Smart Poster 1.0).
+ghost use Rattle.std.specs.Prelude.{◌≡◌, ◌≢◌, ◌<◌, ◌≤◌, ◌==◌, ◌⊎◌, ◌↔◌, [], ◌∷◌, length, if◌then◌else◌, IfNone, IfSome, IsTrue, IsUtf8};
+ghost use Rattle.ndef_format.specs.declared.tnf.Tnf.TheVariants.{WellKnown};
+ghost use Rattle.ndef_c.specs.AlternativeWrites.{IsPartWithin};
+ghost use Rattle.ndef_c.specs.Made.{item_with};
+ghost use Rattle.ndef_c.specs.PosterWrites.{AreNumbers, AreSaid, AreSeries, GivesPoster, MayBeAsked, MayBeMedia, MayBePoster, MayBeSaid, asked_by, media_of, poster_asked};
+
+use crate::content::Content;
+use crate::making::Made;
+use crate::part::NdefPart;
+use crate::poster_parts::{NdefIconWriting, NdefTitleWriting, content_made, part_in, uri_made};
+use crate::series::Series;
+use crate::series_writing::give_message;
+use crate::status::BAD_ARGUMENT;
+use ndef_types::uris_are_exact;
+use ndef_value::Tnf;
+
+/// What a smart poster that is written says, but for its titles and icons.
+#[repr(C)]
+#[derive(Clone, Copy, Drop)]
+pub struct NdefPosterWriting {
+    /// The URI itself, in UTF-8.
+    pub uri: NdefPart,
+    /// The media type of what the URI leads to, where `has_media_type` is 1.
+    pub media_type: NdefPart,
+    /// 1 or 0.
+    pub has_media_type: u32,
+    /// 1 or 0.
+    pub has_action: u32,
+    /// What to do with the URI, where `has_action` is 1.
+    pub action: u32,
+    /// 1 or 0.
+    pub has_size: u32,
+    /// The bytes of what the URI leads to, where `has_size` is 1.
+    pub size: u32,
+}
+
+/// What a smart poster is made of.
+#[derive(Clone, Copy)]
+struct Poster<'a> {
+    bytes: &'a [u8],
+    how: &'a NdefPosterWriting,
+    titles: &'a [NdefTitleWriting],
+    icons: &'a [NdefIconWriting],
+}
+
+/// The octets of the numbers that a smart poster says.
+#[derive(Clone, Copy)]
+struct Numbers {
+    action: [u8; 1],
+    size: [u8; 4],
+}
+
+/// The records of a smart poster but for its titles and icons.
+#[derive(Clone, Copy)]
+struct Said<'a> {
+    uri: Made<'a>,
+    action: Series<'a>,
+    size: Series<'a>,
+    media: Series<'a>,
+}
+
+/// The octets of the numbers.
+fn numbers_of(how: &NdefPosterWriting) -> Numbers
+    ensures { AreNumbers how.now result }
+{
+    Numbers {
+        action: [(how.action % 256) as u8],
+        size: how.size.to_be_bytes(),
+    }
+}
+
+/// The record of some octets where 1 asks for it.
+fn asked_series<'a>(has: u32, kind: &'a [u8], octets: &'a [u8]) -> Option<Series<'a>>
+    requires { length kind.now < 256 }
+    ensures none { IfNone result (¬ MayBeAsked has octets.now) }
+    ensures may { IfSome result (λ _. MayBeAsked has octets.now) }
+    ensures some { IfSome result
+        (AreSeries (if has == 1 then item_with WellKnown kind.now [] octets.now ∷ [] else [])) }
+{
+    match has {
+        0 => Some(Series::Nothing),
+        1 => {
+            let made = content_made(Tnf::WellKnown, kind, &Content::Octets { octets })?;
+            Some(Series::One { made })
+        }
+        _ => None,
+    }
+}
+
+/// The media type, or nothing where it isn't asked for.
+fn media_octets<'a>(poster: &Poster<'a>) -> Option<&'a [u8]>
+    ensures none { IfNone result (¬ MayBeMedia (asked_by poster.now)) }
+    ensures some { IfSome result (λ octets. (poster.now.how.now.has_media_type ≡ 0)
+        ⊎ ((octets.now ≡ media_of (asked_by poster.now)) × IsUtf8 octets.now
+        × IsPartWithin (length poster.now.bytes.now) poster.now.how.now.media_type)) }
+{
+    if poster.how.has_media_type == 0 {
+        return Some(&[]);
+    }
+    let octets = part_in(poster.bytes, &poster.how.media_type)?;
+    match simdutf8::basic::from_utf8(octets) {
+        Ok(_) => Some(octets),
+        Err(_) => None,
+    }
+}
+
+/// Whether the action is one octet, where it is asked for.
+fn says_octet(how: &NdefPosterWriting) -> bool
+    ensures { IsTrue result ↔ (how.now.has_action ≡ 1 → how.now.action < 256) }
+{
+    how.has_action != 1 || how.action <= 255
+}
+
+/// The records of what is said, if they may be written.
+fn said_of<'a>(poster: &Poster<'a>, numbers: &'a Numbers) -> Option<Said<'a>>
+    requires { AreNumbers poster.now.how.now numbers.now }
+    ensures none { IfNone result (¬ MayBeSaid (asked_by poster.now)) }
+    ensures some { IfSome result (AreSaid (asked_by poster.now)) }
+{
+    let how = poster.how;
+    if !says_octet(how) {
+        return None;
+    }
+    Some(Said {
+        uri: uri_made(part_in(poster.bytes, &how.uri)?)?,
+        action: asked_series(how.has_action, b"act", &numbers.action)?,
+        size: asked_series(how.has_size, b"s", &numbers.size)?,
+        media: asked_series(how.has_media_type, b"t", media_octets(poster)?)?,
+    })
+}
+
+/// Writes the payload of a Smart Poster record to the room. What the poster is made of are parts of the
+/// bytes.
+#[unsafe(no_mangle)]
+pub extern "C" fn ndef_write_poster<'a>(
+    bytes: &'a [u8],
+    how: &'a NdefPosterWriting,
+    titles: &'a [NdefTitleWriting],
+    icons: &'a [NdefIconWriting],
+    room: &mut [u8],
+    count: &mut usize,
+) -> u32
+    ensures bad { result ≡ BAD_ARGUMENT ↔ ¬ MayBePoster (poster_asked bytes.now how.now titles.now icons.now) }
+    ensures kept { result ≡ BAD_ARGUMENT → (room.new ≡ room.old) × (count.new ≡ count.old) }
+    ensures poster { result ≢ BAD_ARGUMENT
+        → GivesPoster (poster_asked bytes.now how.now titles.now icons.now) room.old room.new count.new result }
+{
+    uris_are_exact();
+    let poster = Poster {
+        bytes,
+        how,
+        titles,
+        icons,
+    };
+    let numbers = numbers_of(how);
+    let Some(said) = said_of(&poster, &numbers) else {
+        return BAD_ARGUMENT;
+    };
+    let several = [
+        Series::One { made: said.uri },
+        Series::Titles { bytes, titles },
+        said.action,
+        said.size,
+        said.media,
+        Series::Icons { bytes, icons },
+    ];
+    give_message(&[], &several, room, count)
+}
