@@ -705,6 +705,45 @@ uint32_t ndef_poster_media_type(const uint8_t *payload, ndef_size length, ndef_p
 uint32_t ndef_rewrite(const uint8_t *bytes, ndef_size length, uint32_t flags, uint8_t *room, ndef_size size,
                       ndef_size *count);
 
+/* ---- a smart poster written in one call */
+
+/* A title of a smart poster that is written. */
+typedef struct ndef_title_writing {
+    ndef_part language; /* its language code, such as "en": ASCII, at most 63 bytes */
+    ndef_part text;     /* the title, in UTF-8 */
+    uint32_t utf16;     /* 1 to write it in UTF-16, 0 to write it in UTF-8 */
+} ndef_title_writing;
+
+/* An icon of a smart poster that is written. */
+typedef struct ndef_icon_writing {
+    ndef_part media_type; /* such as "image/png", 1 to 255 bytes */
+    ndef_part data;       /* the bytes of the image */
+} ndef_icon_writing;
+
+/* What else a smart poster that is written says. What isn't there doesn't matter: `media_type` where has_media_type is
+ * 0, `action` where has_action is 0, `size` where has_size is 0. */
+typedef struct ndef_poster_writing {
+    ndef_part uri;               /* the URI itself, in UTF-8 */
+    ndef_part media_type;        /* the media type of what the URI leads to, in UTF-8 */
+    uint32_t has_media_type;     /* 1 or 0 */
+    uint32_t has_action, action; /* 1 and the action (0 do, 1 save, 2 open, 3 to 255 are reserved), or 0 */
+    uint32_t has_size, size;     /* 1 and the size in bytes of what the URI leads to, or 0 */
+} ndef_poster_writing;
+
+/* Writes the payload of a Smart Poster record (`Sp`) to the room: a message of the URI record (`U`), the titles (`T`),
+ * the action (`act`), the size (`s`), the media type (`t`) and the icons, in this order. Each part lies in `bytes`, and
+ * parts may overlap. The records have no ids, and each is written as ndef_write_record writes it without NDEF_WRITE_LONG
+ * in one chunk. An icon is a record of its media type (NDEF_TNF_MEDIA). Give each title a language of its own, and
+ * icons a type that begins with "image/" or "video/": the standard asks for that, and the call does not look at it.
+ * NDEF_OK, NDEF_NO_ROOM.
+ * NDEF_BAD_ARGUMENT: a part does not lie within `bytes`; the URI or the media type is not UTF-8; what ndef_write_text
+ *   answers so for a title; the media type of an icon has no bytes or more than 255; a has_ is neither 0 nor 1; the
+ *   action is above 255; there would be more than 65535 records; or a payload would have more than 4294967295
+ *   bytes. */
+uint32_t ndef_write_poster(const uint8_t *bytes, ndef_size length, const ndef_poster_writing *how,
+                           const ndef_title_writing *titles, ndef_size titles_size, const ndef_icon_writing *icons,
+                           ndef_size icons_size, uint8_t *room, ndef_size size, ndef_size *count);
+
 #ifdef __cplusplus
 }
 #endif

@@ -348,6 +348,63 @@ static void rewritten(void) {
     expect(count == 77 && memcmp(room, wide, sizeof wide) == 0, "rewritten: a wrong argument leaves something else");
 }
 
+/* ---- a poster written in one call */
+
+/* What a poster is made of, by places in these bytes. */
+static const uint8_t poster_bytes[] = "http://www.x.ytext/xenHidGimage/png\x89P\xff";
+enum { POSTER_BYTES = sizeof poster_bytes - 1 };
+
+/* A poster with two titles, one in UTF-16, and all else that there is; then one of a URI with an icon alone. */
+static void poster_written(void) {
+    static const uint8_t whole[] = {
+        0x91, 1, 4, 'U', 1, 'x', '.', 'y', 0x11, 1, 5, 'T', 2, 'e', 'n', 'H', 'i', 0x11, 1, 6, 'T', 0x81, 'd', 0xfe, 0xff, 0, 'G',
+        0x11, 3, 1, 'a', 'c', 't', 2, 0x11, 1, 4, 's', 1, 2, 3, 4, 0x11, 1, 6, 't', 't', 'e', 'x', 't', '/', 'x',
+        0x52, 9, 2, 'i', 'm', 'a', 'g', 'e', '/', 'p', 'n', 'g', 0x89, 'P' };
+    static const uint8_t plain[] = { 0x91, 1, 2, 'U', 0, 'H', 0x52, 4, 1, 'x', 't', '/', 'x', 'n' };
+    static const ndef_title_writing titles[2] = { { { 20, 2 }, { 22, 2 }, 0 }, { { 24, 1 }, { 25, 1 }, NDEF_AS_UTF16 } };
+    static const ndef_icon_writing icons[1] = { { { 26, 9 }, { 35, 2 } } };
+    static const ndef_icon_writing small[1] = { { { 16, 4 }, { 21, 1 } } };
+    const ndef_poster_writing how = { { 0, 14 }, { 14, 6 }, 1, 1, 2, 1, 0x01020304 };
+    const ndef_poster_writing short_one = { { 22, 1 }, { 9999, 9 }, 0, 0, 9999, 0, 9 };
+    uint8_t room[80];
+    ndef_size count = 77;
+    memset(room, 0xa5, sizeof room);
+    expect(ndef_write_poster(poster_bytes, POSTER_BYTES, &how, titles, 2, icons, 1, room, sizeof whole - 1, &count) == NDEF_NO_ROOM
+               && count == sizeof whole, "poster: another length is needed");
+    expect(room[0] == 0xa5, "poster: a small room is written");
+    expect(ndef_write_poster(poster_bytes, POSTER_BYTES, &how, titles, 2, icons, 1, room, sizeof whole, &count) == NDEF_OK && count == sizeof whole,
+           "poster: it isn't written");
+    expect(memcmp(room, whole, sizeof whole) == 0 && room[sizeof whole] == 0xa5, "poster: it is another payload");
+    expect(ndef_write_poster(poster_bytes, POSTER_BYTES, &short_one, NULL, 0, small, 1, room, sizeof room, &count) == NDEF_OK && count == sizeof plain,
+           "poster: a short one isn't written");
+    expect(memcmp(room, plain, sizeof plain) == 0 && room[sizeof plain] == whole[sizeof plain], "poster: a short one is another payload");
+}
+
+/* Each argument that is refused differs in one number from one that is taken. */
+static void poster_refused(void) {
+    static const ndef_title_writing titles[4] = {
+        { { 20, 2 }, { 22, 2 }, 2 }, { { 37, 1 }, { 22, 2 }, 0 }, { { 20, 2 }, { 37, 1 }, 0 }, { { 20, 2 }, { 38, 1 }, 0 } };
+    static const ndef_icon_writing icons[3] = { { { 26, 0 }, { 35, 2 } }, { { 26, 13 }, { 35, 2 } }, { { 26, 9 }, { 35, 4 } } };
+    static const ndef_poster_writing wrong[] = {
+        { { 0, 38 }, { 0, 0 }, 0, 0, 0, 0, 0 }, { { 0, 39 }, { 0, 0 }, 0, 0, 0, 0, 0 }, { { 0, 14 }, { 37, 1 }, 1, 0, 0, 0, 0 },
+        { { 0, 14 }, { 38, 1 }, 1, 0, 0, 0, 0 }, { { 0, 14 }, { 0, 0 }, 2, 0, 0, 0, 0 }, { { 0, 14 }, { 0, 0 }, 0, 2, 0, 0, 0 },
+        { { 0, 14 }, { 0, 0 }, 0, 1, 256, 0, 0 }, { { 0, 14 }, { 0, 0 }, 0, 0, 0, 2, 0 } };
+    static const ndef_poster_writing plain = { { 0, 14 }, { 0, 0 }, 0, 0, 0, 0, 0 };
+    uint8_t room[80];
+    ndef_size count = 77;
+    room[0] = 0xa5;
+    for (size_t i = 0; i < sizeof wrong / sizeof wrong[0]; i++)
+        expect(ndef_write_poster(poster_bytes, POSTER_BYTES, &wrong[i], NULL, 0, NULL, 0, room, sizeof room, &count) == NDEF_BAD_ARGUMENT,
+               "poster: a wrong number is taken");
+    for (int i = 0; i < 4; i++)
+        expect(ndef_write_poster(poster_bytes, POSTER_BYTES, &plain, &titles[i], 1, NULL, 0, room, sizeof room, &count) == NDEF_BAD_ARGUMENT,
+               "poster: a wrong title is taken");
+    for (int i = 0; i < 3; i++)
+        expect(ndef_write_poster(poster_bytes, POSTER_BYTES, &plain, NULL, 0, &icons[i], 1, room, sizeof room, &count) == NDEF_BAD_ARGUMENT,
+               "poster: a wrong icon is taken");
+    expect(count == 77 && room[0] == 0xa5, "poster: a wrong argument leaves something else");
+}
+
 int main(void) {
     make_message();
     pieces();
@@ -361,5 +418,7 @@ int main(void) {
     appended();
     titles();
     rewritten();
+    poster_written();
+    poster_refused();
     return failed != 0;
 }
