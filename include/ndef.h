@@ -19,9 +19,10 @@
  * All else is checked: whatever the numbers, bytes and structs hold, the answer is defined.
  *
  * Most calls return an ndef_status. With NDEF_BAD_ARGUMENT and NDEF_END the call has written nothing (but
- * ndef_begin has written its checker); with NDEF_NO_ROOM it has written *count alone. The calls that tell fields have
- * also written *why, unless they answer NDEF_BAD_ARGUMENT. What `out`, `count`, `why` and a room held before the call
- * does not matter: nothing need have been written there, so a variable without a value and fresh memory of malloc serve.
+ * ndef_begin has written its checker); with NDEF_NO_ROOM it has written *count alone. But with NDEF_NO_ROOM and
+ * NDEF_END ndef_fields, ndef_field_at and ndef_next_field have written *why as well. What `out`, `count`, `why` and a
+ * room held before the call does not matter: nothing need have been written there, so a variable without a value and
+ * fresh memory of malloc serve.
  *
  * A room is memory of the caller, `size` bytes long, to which a call writes bytes. The call puts the number of
  * bytes it wrote into *count. Where the room is too small, the answer is NDEF_NO_ROOM and *count has the size that
@@ -512,8 +513,8 @@ uint32_t ndef_find_id(const uint8_t *bytes, ndef_size length, ndef_size at, cons
  * standards define. The fields follow one another without a gap from the first byte to the last. A message within a
  * payload has fields of its own, with depth 1. The payload of a chunk is one field.
  *
- * All these calls write to *why what ndef_check tells of the bytes: where why->reason is 0, the fields are those of the
- * message with which the bytes begin, why->place bytes; otherwise those of the bytes before the refused one, at
+ * The calls with a `why` write to it what ndef_check tells of the bytes: where why->reason is 0, the fields are those
+ * of the message with which the bytes begin, why->place bytes; otherwise those of the bytes before the refused one, at
  * why->place, and the last of them ends there, so that bytes of it may be missing. They look into payloads:
  * NDEF_BAD_ARGUMENT also answers the flag NDEF_OPAQUE. */
 
@@ -598,6 +599,13 @@ uint32_t ndef_field_at(const uint8_t *bytes, ndef_size length, const ndef_limits
  * NDEF_BAD_ARGUMENT: as ndef_fields answers it. */
 uint32_t ndef_next_field(const uint8_t *bytes, ndef_size length, const ndef_limits *limits, ndef_field *field,
                          ndef_checked *why);
+
+/* Fills the array with the fields of a payload, its chunks joined, of a record with this type name format (an ndef_tnf)
+ * and this type: as ndef_fields does, but places count from the first byte of the payload. Whatever bytes it has, each
+ * of them stands in a field; where it is cut, bytes of the last field are missing.
+ * NDEF_OK, NDEF_NO_ROOM. NDEF_BAD_ARGUMENT: the type name format is above 5. */
+uint32_t ndef_payload_fields(uint32_t tnf, const uint8_t *type, ndef_size type_length, const uint8_t *payload,
+                             ndef_size length, ndef_field *fields, ndef_size size, ndef_size *count);
 
 /* Writes the name of a field to the room, in ASCII, at most 31 bytes: as "PAYLOAD_LENGTH" for
  * NDEF_FIELD_PAYLOAD_LENGTH.

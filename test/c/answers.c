@@ -183,6 +183,7 @@ static void fill_fields(const uint8_t *bytes, ndef_size length, const ndef_limit
         ndef_checked why = { 77, 77, 77 };
         for (int k = 0; k < ELEMENTS; k++) fields[k] = mark;
         mix_status(ndef_fields(bytes, length, limits, fields, sizes[i], &count, &why)), mix(count), mix_checked(&why);
+        mix_status(ndef_payload_fields(i, bytes, length % 4, bytes, length, fields + 1, i ? ELEMENTS - 1 : 0, &count)), mix(count);
         mix_status(ndef_field_at(bytes, length, limits, length / 2, &fields[0], &why)), mix_checked(&why);
         mix_status(ndef_next_field(bytes, length, limits, &fields[0], &why)), mix_checked(&why);
         for (int k = 0; k < ELEMENTS; k++)

@@ -108,6 +108,8 @@ static void field_calls(int way, const uint8_t *none, ndef_field *no_fields, uin
     answer(way, ndef_fields((const uint8_t *)"\xd0\0", 3, &limits, no_fields, 0, &count, &why));
     answer(way, ndef_field_at(none, 0, &limits, 0, &field, &why));
     answer(way, ndef_next_field(none, 0, &limits, &field, &why));
+    answer(way, ndef_payload_fields(NDEF_TNF_EMPTY, none, 0, none, 0, no_fields, 0, &count));
+    answer(way, ndef_payload_fields(NDEF_TNF_WELL_KNOWN, (const uint8_t *)"U", 1, none, 0, no_fields, 0, &count));
     answer(way, ndef_field_name(1, room, 0, &count));
 }
 

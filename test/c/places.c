@@ -187,6 +187,49 @@ static void try(const char *digits, const char *wanted) {
     free(bytes);
 }
 
+/* ---- joined payloads, and fronts of them */
+
+static const struct { uint32_t tnf; const char *type, *digits, *fields; } payloads[] = {
+    { NDEF_TNF_WELL_KNOWN, "T", "02656e 41", "status 1, language code 2, text 1" },
+    { NDEF_TNF_WELL_KNOWN, "T", "83656e", "status 1, language code 2" },
+    { NDEF_TNF_WELL_KNOWN, "T", "", "" },
+    { NDEF_TNF_WELL_KNOWN, "U", "01 61", "identifier code 1, URI 1" },
+    { NDEF_TNF_WELL_KNOWN, "U2", "01 61", "PAYLOAD 2" },
+    { NDEF_TNF_MEDIA, "T", "02656e 41", "PAYLOAD 4" },
+    { NDEF_TNF_UNKNOWN, "", "00", "PAYLOAD 1" },
+    { NDEF_TNF_WELL_KNOWN, "Sp", "d10102 55 0061",
+      ">header 1, >TYPE_LENGTH 1, >PAYLOAD_LENGTH 1, >TYPE 1, >identifier code 1, >URI 1" },
+    { NDEF_TNF_WELL_KNOWN, "Hs", "12 d102", "version 1, >header 1, >TYPE_LENGTH 1" },
+    { NDEF_TNF_WELL_KNOWN, "Hc", "02 03 612f62 09",
+      "carrier type format 1, carrier type length 1, carrier type 3, carrier data 1" },
+};
+
+static void joined_payloads(void) {
+    for (size_t i = 0; i < sizeof payloads / sizeof *payloads; i++) {
+        static char text[4096];
+        const uint8_t *type = (const uint8_t *)payloads[i].type;
+        const ndef_size type_length = strlen(payloads[i].type);
+        ndef_field fields[MOST];
+        ndef_size length, count = 77, again = 77;
+        uint8_t *bytes = bytes_of(payloads[i].digits, &length);
+        row = payloads[i].digits;
+        memset(fields, 0x5a, sizeof fields);
+        const ndef_field mark = fields[0];
+        expect(ndef_payload_fields(payloads[i].tnf, type, type_length, bytes, length, fields, MOST, &count) == NDEF_OK, "a payload has no fields");
+        print(fields, count, text);
+        if (strcmp(text, payloads[i].fields) != 0) failed++, printf("%s: fields are\n%s, not\n%s\n", row, text, payloads[i].fields);
+        expect(same(&fields[count], &mark), "an element behind them is written");
+        memset(fields, 0x5a, sizeof fields);
+        if (count > 0)
+            expect(ndef_payload_fields(payloads[i].tnf, type, type_length, bytes, length, fields, count - 1, &again) == NDEF_NO_ROOM
+                   && again == count && same(&fields[0], &mark), "an array that is one short is enough");
+        again = 77;
+        expect(ndef_payload_fields(6, type, type_length, bytes, length, fields, MOST, &again) == NDEF_BAD_ARGUMENT
+               && again == 77 && same(&fields[0], &mark), "an unchanged record has fields");
+        free(bytes);
+    }
+}
+
 /* ---- limits */
 
 static void wrong_limits(void) {
@@ -241,6 +284,7 @@ int main(void) {
         free(bytes);
         try(refusals[i].digits, refusals[i].fields);
     }
+    joined_payloads();
     wrong_limits();
     other_limits();
     return failed != 0;

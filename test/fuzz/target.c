@@ -403,11 +403,24 @@ static void write_record(const uint8_t *bytes, const ndef_record *record, const 
     }
 }
 
+/* The fields of a payload follow one another from its first byte to its last. */
+static void look_at_payload_fields(const uint8_t *type, ndef_size type_length, uint32_t tnf,
+                                   const struct made *payload) {
+    ndef_field *fields;
+    ndef_size number, at = 0;
+    LIST(fields, number, ndef_payload_fields(tnf, type, type_length, payload->bytes, payload->length, array, size, &count));
+    for (ndef_size i = 0; i < number; at += fields[i].length, i++)
+        HOLDS(fields[i].at == at && fields[i].length > 0 && fields[i].depth <= 1);
+    HOLDS(at == payload->length);
+    free(fields);
+}
+
 /* The chunks of a record, joined, are its payload. */
 static void look_at_pieces(const uint8_t *bytes, ndef_size length, const ndef_record *record,
                            const struct made *payload) {
     ndef_part *parts;
     ndef_size number, at = 0;
+    look_at_payload_fields(bytes + record->type_at, record->type_length, record->tnf, payload);
     LIST(parts, number, ndef_pieces(bytes, length, record->at, array, size, &count));
     HOLDS(number == record->pieces && parts[0].at == record->payload_at && parts[0].length == record->part_length);
     for (ndef_size i = 0; i < number; at += parts[i].length, i++) {

@@ -1,11 +1,13 @@
 -- In which field each byte of a message stands, as numbers.
 use Rattle.std.specs.Prelude.{◌≡◌, ℕ, ◌+◌, ◌<◌, ◌≤◌, List, ◌∷◌, ◌++◌, length, map, take}
+use Rattle.ndef_format.specs.Kinds.{kind_of}
 use Rattle.ndef_format.specs.Limits.{LimitValues}
 use Rattle.ndef_format.specs.NestedReasons.{TypedReason}
 use Rattle.ndef_format.specs.Payloads.{IsTypedPayload}
+use Rattle.ndef_format.specs.Records.{tnf_of}
 use Rattle.ndef_fields.specs.FieldLaws.{AreGapless}
 use Rattle.ndef_fields.specs.Names.{name_text}
-use Rattle.ndef_fields.specs.Tellings.{AreFields, AreFieldsBefore}
+use Rattle.ndef_fields.specs.Tellings.{AreFields, AreFieldsBefore, ArePayloadFields}
 use Rattle.ndef_fields.specs.declared.field.Field.{Field}
 use Rattle.ndef_fields.specs.declared.name.FieldName.{FieldName}
 use Rattle.ndef_fields.specs.declared.name.FieldName.TheVariants as names
@@ -92,6 +94,13 @@ pub record GivesFields (limits : LimitValues) (bytes : List ℕ) (before after :
   pub told : List Field
   pub are : AreFieldsChecked limits bytes checked why told
   pub gives : GivesEach told checked before after count status
+
+-- NDEF 1.0, TYPE and chunked payloads: the fields of the joined payload of a record with this type are given
+pub record GivesPayloadFields (tnf : ℕ) (kind payload : List ℕ) (before after : List NdefField) (count status : ℕ)
+    : Type 0 where
+  pub told : List Field
+  pub are : ArePayloadFields (kind_of (tnf_of tnf) kind) payload told
+  pub gives : GivesEach told OK before after count status
 
 -- ---- the field of a byte
 

@@ -68,7 +68,7 @@ fn checked_front<'a>(bytes: &'a [u8], limits: Limits, why: &mut NdefChecked) -> 
 }
 
 /// How many fields there are.
-fn count_of(fields: Fields<'_>) -> usize
+pub(crate) fn count_of(fields: Fields<'_>) -> usize
     requires { length fields < 2 ^ 64 }
     ensures { result ≡ length fields.entry }
 {
@@ -80,7 +80,7 @@ fn count_of(fields: Fields<'_>) -> usize
 }
 
 /// Writes the fields to the front of the array.
-fn write_fields(fields: Fields<'_>, array: &mut [NdefField])
+pub(crate) fn write_fields(fields: Fields<'_>, array: &mut [NdefField])
     requires { length fields ≤ length array.old }
     ensures { array.new ≡ set_over (map numbers_of fields.entry) array.old }
 {

@@ -6,7 +6,7 @@
 //! - `checking.rt`: check. `feeding.rt`, `specs/Feeding.antt`: check of bytes that come in parts.
 //! - `run.rt`, `record.rt`, `specs/Walks.antt`: the record at a place. `payload.rt`: its joined payload.
 //! - `pieces.rt`, `specs/Pieces.antt`: where its pieces lie. `specs/Arrays.antt`: what is written to an array.
-//! - `fields.rt`, `field_names.rt`, `specs/Fields.antt`: in which field each byte stands.
+//! - `fields.rt`, `field_names.rt`, `payload_fields.rt`, `specs/Fields.antt`: in which field each byte stands.
 //! - `finding.rt`, `specs/Finding.antt`: the first record with a type or an id.
 //! - `writing.rt`, `specs/Writes.antt`: a record written. `building.rt`, `specs/Built.antt`, `specs/Growing.antt`: a
 //!   message built in a room. `making.rt`, `specs/Made.antt`, `content.rt`, `specs/Contents.antt`: a record whose
@@ -49,6 +49,7 @@ mod nested;
 mod numbers;
 mod part;
 mod payload;
+mod payload_fields;
 mod pieces;
 mod poster;
 mod poster_parts;
@@ -97,6 +98,7 @@ pub use links::ndef_links;
 pub use numbers::{ndef_write_action, ndef_write_collision, ndef_write_size};
 pub use part::NdefPart;
 pub use payload::ndef_payload;
+pub use payload_fields::ndef_payload_fields;
 pub use pieces::ndef_pieces;
 pub use poster::{NdefPoster, ndef_poster};
 pub use poster_parts::{NdefIconWriting, NdefTitleWriting};

@@ -8,7 +8,7 @@ pub const REFUSED: u32 = 1;
 pub const NO_ROOM: u32 = 2;
 /// An argument isn't one of those that are allowed.
 pub const BAD_ARGUMENT: u32 = 3;
-/// There are no more records, references or links.
+/// There are no more records, references, links or fields.
 pub const END: u32 = 4;
 /// More bytes are wanted.
 pub const MORE: u32 = 5;

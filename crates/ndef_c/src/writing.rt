@@ -48,7 +48,7 @@ pub(crate) struct Way {
 }
 
 /// The type name format of a record with a number (NDEF 1.0, TNF).
-fn tnf_of(number: u32) -> Option<Tnf>
+pub(crate) fn tnf_of(number: u32) -> Option<Tnf>
     ensures some { IfSome result (λ t. t ≡ tnf_of number) }
     ensures known { IfSome result (λ _. number ≤ 5) }
     ensures none { IsNone result → 5 < number }

@@ -1,0 +1,53 @@
+//! In which field each byte of a payload stands, its chunks joined.
+ghost use Rattle.std.specs.Prelude.{◌≡◌, ◌≢◌, ◌<◌, ◌↔◌, ◌⊎◌, List};
+ghost use Rattle.ndef_fields.specs.Tellings.{ArePayloadFields};
+ghost use Rattle.ndef_fields.specs.declared.field.Field.{Field as Part};
+ghost use Rattle.ndef_c.specs.Fields.{GivesEach, GivesPayloadFields};
+
+use crate::fields::{NdefField, count_of, write_fields};
+use crate::status::{BAD_ARGUMENT, NO_ROOM, OK};
+use crate::writing::tnf_of;
+use ndef_fields::{payload_fields, payload_fields_are_exact};
+use ndef_lang::Kind;
+
+/// Writes the fields of a payload of this kind, where the array has room for them, and tells how many they are.
+fn give_payload_fields(
+    kind: Kind,
+    payload: &[u8],
+    array: &mut [NdefField],
+    count: &mut usize,
+) -> u32
+    ensures known { (result ≡ NO_ROOM) ⊎ (result ≡ OK) }
+    ensures fields { (told : List Part) × ArePayloadFields kind payload.now told
+        × GivesEach told OK array.old array.new count.new result }
+{
+    payload_fields_are_exact();
+    let needed = count_of(payload_fields(kind, payload));
+    *count = needed;
+    if array.len() < needed {
+        return NO_ROOM;
+    }
+    write_fields(payload_fields(kind, payload), array);
+    OK
+}
+
+/// Tells in which field each byte stands of the payload of a record with a type name format and a type, its
+/// chunks joined (RTD Text 1.0, RTD URI 1.0, RTD Smart Poster 1.0 and Connection Handover 1.2).
+#[unsafe(no_mangle)]
+pub extern "C" fn ndef_payload_fields(
+    tnf: u32,
+    kind: &[u8],
+    payload: &[u8],
+    fields: &mut [NdefField],
+    count: &mut usize,
+) -> u32
+    ensures bad { result ≡ BAD_ARGUMENT ↔ (5 < tnf) }
+    ensures kept { result ≡ BAD_ARGUMENT → (fields.new ≡ fields.old) × (count.new ≡ count.old) }
+    ensures fields { result ≢ BAD_ARGUMENT
+        → GivesPayloadFields tnf kind.now payload.now fields.old fields.new count.new result }
+{
+    let Some(tnf) = tnf_of(tnf) else {
+        return BAD_ARGUMENT;
+    };
+    give_payload_fields(Kind::of(tnf, kind), payload, fields, count)
+}
