@@ -117,6 +117,12 @@ static void write_from(const uint8_t *bytes, ndef_size length, ndef_size size) {
     WRITTEN(size, ndef_write_action(number * 3, to, size, &count));
     WRITTEN(size, ndef_write_size(number * 2654435761u, to, size, &count));
     WRITTEN(size, ndef_write_collision(number * 40503u, to, size, &count));
+    const ndef_title_writing titles[2] = { { parts[0], parts[1], number % 3 }, { parts[2], parts[0], 1 } };
+    const ndef_icon_writing icons[2] = { { parts[0], parts[1] }, { parts[1], parts[2] } };
+    for (uint32_t has = 0; has < 4; has++) {
+        const ndef_poster_writing how = { parts[number % 2], parts[0], has & 1, has >> 1, number * 3, has & 1, number };
+        WRITTEN(size, ndef_write_poster(bytes, length, &how, titles, has % 3, icons, has / 2, to, size, &count));
+    }
 }
 
 static void mix_built(const ndef_built *built) { mix(built->length), mix(built->last_at), mix(built->records); }

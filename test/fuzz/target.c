@@ -292,6 +292,46 @@ static void look_at_titles(const uint8_t *payload, ndef_size length, uint32_t st
     free(titles);
 }
 
+/* A poster is written again in one call, its titles as their octets of UTF-8, with its URI behind the payload; and read
+ * back as the same. */
+static void write_poster(const uint8_t *payload, ndef_size length, const ndef_poster_parts *parts) {
+    ndef_poster_parts again;
+    ndef_text_parts *titles, *back;
+    ndef_size number, others;
+    ndef_part media = { 0, 0 }, other = { 0, 0 };
+    ndef_checked why;
+    struct made uri, written;
+    MAKE(&uri, ndef_uri(payload + parts->uri_at, parts->uri_length, 0, room, size, &count, &why));
+    LIST(titles, number, ndef_poster_titles(payload, length, array, size, &count));
+    const uint32_t has_media = ndef_poster_media_type(payload, length, &media) == NDEF_OK;
+    uint8_t *bytes = filled(length + uri.length, 0);
+    memcpy(bytes, payload, length);
+    if (uri.length > 0) memcpy(bytes + length, uri.bytes, uri.length);
+    ndef_title_writing *said = (ndef_title_writing *)filled((number + 1) * sizeof *said, 0);
+    int are_utf8 = 1;
+    for (ndef_size i = 0; i < number; i++) {
+        said[i].language.at = titles[i].language_at, said[i].language.length = titles[i].language_length;
+        said[i].text.at = titles[i].text_at, said[i].text.length = titles[i].text_length;
+        said[i].utf16 = (uint32_t)i % 2;
+        are_utf8 &= !titles[i].utf16;
+    }
+    const ndef_icon_writing icon = { { 0, 1 }, { length, uri.length } };
+    const ndef_poster_writing how = { { length, uri.length }, media, has_media, parts->has_action, parts->action,
+                                      parts->has_size, parts->size };
+    if (are_utf8) {
+        MAKE(&written, ndef_write_poster(bytes, length + uri.length, &how, said, number, &icon, 1, room, size, &count));
+        HOLDS(written.status == NDEF_OK && ndef_poster(written.bytes, written.length, 0, &again, &why) == NDEF_OK);
+        HOLDS(again.has_action == parts->has_action && again.action == parts->action);
+        HOLDS(again.has_size == parts->has_size && again.size == parts->size);
+        LIST(back, others, ndef_poster_titles(written.bytes, written.length, array, size, &count));
+        HOLDS(others == number && (number == 0 || back[number - 1].utf16 == said[number - 1].utf16));
+        HOLDS((ndef_poster_media_type(written.bytes, written.length, &other) == NDEF_OK) == has_media);
+        HOLDS(other.length == media.length);
+        free(back), discard(&written);
+    }
+    free(said), free(bytes), free(titles), discard(&uri);
+}
+
 static void look_at_poster(const uint8_t *payload, ndef_size length, uint32_t flags) {
     ndef_poster_parts parts;
     ndef_checked why;
@@ -304,6 +344,7 @@ static void look_at_poster(const uint8_t *payload, ndef_size length, uint32_t fl
     HOLDS(status == NDEF_OK || status == NDEF_NO_ROOM);
     HOLDS(parts.has_action <= 1 && (parts.has_action || parts.action == 0));
     HOLDS(parts.has_size <= 1 && (parts.has_size || parts.size == 0));
+    if (flags == 0) write_poster(payload, length, &parts);
 }
 
 /* The links of a handover that stands in the message: as many as it has carriers. */

@@ -11,6 +11,9 @@
 //! - `writing.rt`, `specs/Writes.antt`: a record written. `building.rt`, `specs/Built.antt`, `specs/Growing.antt`: a
 //!   message built in a room. `making.rt`, `specs/Made.antt`, `content.rt`, `specs/Contents.antt`: a record whose
 //!   payload is written in place. `appending.rt`, `specs/Appending.antt`: texts and URIs appended so.
+//! - `poster_writing.rt`, `specs/PosterWrites.antt`: a smart poster written in one call. `poster_parts.rt`,
+//!   `specs/PosterParts.antt`: its titles and icons. `series.rt`, `series_writing.rt`, `specs/Series.antt`: records
+//!   written one behind another.
 //! - `rewriting.rt`, `specs/Rewrites.antt`: a message written again, each record in one piece.
 //! - `uri.rt`, `uri_view.rt`, `text.rt`, `carrier.rt`, `alternative.rt`, `request.rt`, `select.rt`, `poster.rt`,
 //!   `error.rt`: payloads of each kind. `numbers.rt` and `alternative_writing.rt`, `error_writing.rt`,
