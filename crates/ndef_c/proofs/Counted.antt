@@ -1,5 +1,5 @@
 -- References within some bytes, each behind its length, and the payload of an alternative carrier that has them.
-use Rattle.std.proofs.Common.{◌≡◌, ℕ, zero, suc, ◌+◌, ◌<◌, List, [], ◌∷◌, ◌++◌, take, drop, get_or, map, refl, sym, subst, ◌∙◌, ap, ap₂, arith, length, length-append, length-drop, append-nil}
+use Rattle.std.proofs.Common.{◌≡◌, ℕ, zero, suc, ◌+◌, ◌*◌, ◌<◌, ◌≤◌, ◌^◌, List, [], ◌∷◌, ◌++◌, take, drop, get_or, map, refl, sym, subst, ◌∙◌, ap, ap₂, arith, length, length-append, length-drop, append-nil}
 use Rattle.std.specs.List.{AllByRecursion, flat_map}
 use Rattle.std.proofs.lemmas.List.Elements.{recursion_from_All}
 use Rattle.ndef_value.specs.ListLaws.{octets_front}
@@ -11,7 +11,9 @@ use Rattle.std.proofs.lemmas.Grind.{flat_map-append}
 use Rattle.ndef_types.specs.Values.{AcValue, IsAcValue, IsReference, ac_payload, counted, power_code}
 use Rattle.ndef_types.specs.declared.power.Power.{Power}
 use Rattle.ndef_types.specs.declared.power.Power.TheVariants.{Inactive, Active, Activating, Unknown}
-use Rattle.ndef_c.specs.AlternativeWrites.{IsAlternativeOf, MayBeAlternative, MayBeReference, WritesAlternative, counted_part, part_of}
+use Rattle.ndef_c.specs.AlternativeWrites.{GivesAlternative, IsAlternativeOf, MayBeAlternative, MayBeReference, WritesAlternative, counted_part, part_of}
+use Rattle.ndef_c.specs.Contents.{alternative_payload}
+use Rattle.ndef_c.specs.Rooms.{Gives}
 use Rattle.ndef_c.proofs.AlternativePayload.{payload_in_set, payload_stands}
 use Rattle.ndef_c.specs.declared.part.NdefPart.{NdefPart}
 
@@ -99,3 +101,42 @@ put_length power bytes reference auxiliary h =
     let n = counted_length bytes reference h in
     let m = length-append (counted_part bytes reference) ((length auxiliary ∷ []) ++ flat_map (counted_part bytes) auxiliary) in
     omega (arith, n, m)
+
+-- ---- its length
+
+joined_bound : (bytes : List ℕ) (parts : List NdefPart) → AllByRecursion (MayBeReference (length bytes)) parts → length (flat_map (counted_part bytes) parts) ≤ 256 * length parts
+joined_bound bytes [] h = omega arith
+joined_bound bytes (part ∷ parts) h =
+    let n = length-append (counted_part bytes part) (flat_map (counted_part bytes) parts) in
+    let one = counted_length bytes part h.0 in
+    let few = h.0.1 in
+    let more = joined_bound bytes parts h.1 in
+    omega (arith, n, one, few, more)
+
+pub alternative_short : (power : ℕ) (bytes : List ℕ) (parts : List NdefPart) → MayBeAlternative power bytes parts → length (alternative_payload power bytes parts) < 2 ^ 32
+alternative_short power bytes [] may = omega arith
+alternative_short power bytes (reference ∷ auxiliary) may =
+    let all = recursion_from_All (MayBeReference (length bytes)) (reference ∷ auxiliary) may.references in
+    let n = put_length power bytes reference auxiliary all.0 in
+    let bound = joined_bound bytes auxiliary all.1 in
+    let few = may.few in
+    let one = all.0.1 in
+    omega (arith, n, bound, few, one)
+
+-- what is given of these octets is what is written for the alternative carrier
+pub gives_alternative : (power : ℕ) (bytes : List ℕ) (parts : List NdefPart) → AreOctets bytes → MayBeAlternative power bytes parts → (before after : List ℕ) (count status : ℕ)
+    → Gives (alternative_payload power bytes parts) before after count status → GivesAlternative power bytes parts before after count status
+gives_alternative power bytes [] a may before after count status g = let some = may.some in absurd (omega (arith, some))
+gives_alternative power bytes (reference ∷ auxiliary) a may before after count status g =
+    let is = is_alternative_of power bytes reference auxiliary a may in
+    let same = payload_of power bytes reference auxiliary may.two_bits in
+    record {
+      alternative = alternative_of power bytes reference auxiliary;
+      is = is;
+      gives = record {
+        payload = ac_payload (alternative_of power bytes reference auxiliary);
+        is = writes_alternative (alternative_of power bytes reference auxiliary) is.value;
+        short = subst (λ t. length t < 2 ^ 32) same (alternative_short power bytes (reference ∷ auxiliary) may);
+        gives = subst (λ t. Gives t before after count status) same g;
+      };
+    }

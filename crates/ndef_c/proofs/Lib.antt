@@ -13,6 +13,7 @@ pub mod FieldLists
 pub mod Filled
 pub mod Followed
 pub mod Growing
+pub mod HandoverSaid
 pub mod Handovers
 pub mod Linked
 pub mod LinkParts

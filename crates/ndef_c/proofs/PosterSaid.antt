@@ -15,9 +15,9 @@ use Rattle.ndef_c.specs.AlternativeWrites.{IsPartWithin}
 use Rattle.ndef_c.specs.Appending.{well_known}
 use Rattle.ndef_c.specs.Made.{made_item}
 use Rattle.ndef_c.specs.PosterParts.{IsUriItem, MayBeIcon, MayBeTitle, icon_item, title_item}
-use Rattle.ndef_c.specs.PosterWrites.{AreSaid, AreSeries, GivesPoster, MayBeAsked, MayBeMedia, MayBePoster, MayBeUri, PosterAsked, asked_for, media_of, poster_items, uri_of}
+use Rattle.ndef_c.specs.PosterWrites.{AreSaid, GivesPoster, MayBeAsked, MayBeMedia, MayBePoster, MayBeUri, PosterAsked, asked_for, media_of, poster_items, uri_of}
 use Rattle.ndef_c.specs.Rooms.{Gives}
-use Rattle.ndef_c.specs.Series.{IsSeries, MayBeMessage, all_items, series_items}
+use Rattle.ndef_c.specs.Series.{AreSeries, IsSeries, MayBeMessage, all_items, series_items}
 use Rattle.ndef_c.specs.declared.poster_parts.NdefIconWriting.{NdefIconWriting}
 use Rattle.ndef_c.specs.declared.poster_parts.NdefTitleWriting.{NdefTitleWriting}
 use Rattle.ndef_c.specs.declared.poster_writing.Said.{Said}

@@ -9,6 +9,8 @@ pub mod Contents
 pub mod ErrorWrites
 pub mod Errors
 pub mod Growing
+pub mod HandoverMaking
+pub mod HandoverParts
 pub mod HandoverWrites
 pub mod Handovers
 pub mod Links

@@ -13,14 +13,13 @@ use Rattle.ndef_c.specs.Appending.{well_known}
 use Rattle.ndef_c.specs.Made.{IsMade, made_item}
 use Rattle.ndef_c.specs.Payloads.{GivesFor}
 use Rattle.ndef_c.specs.PosterParts.{MayBeIcon, MayBeTitle, icon_item, title_item}
-use Rattle.ndef_c.specs.Series.{HoldsMade, IsSeries, series_items}
+use Rattle.ndef_c.specs.Series.{AreSeries}
 use Rattle.ndef_c.specs.declared.poster_parts.NdefIconWriting.{NdefIconWriting}
 use Rattle.ndef_c.specs.declared.poster_parts.NdefTitleWriting.{NdefTitleWriting}
 use Rattle.ndef_c.specs.declared.poster_writing.NdefPosterWriting.{NdefPosterWriting}
 use Rattle.ndef_c.specs.declared.poster_writing.Numbers.{Numbers}
 use Rattle.ndef_c.specs.declared.poster_writing.Poster.{Poster}
 use Rattle.ndef_c.specs.declared.poster_writing.Said.{Said}
-use Rattle.ndef_c.specs.declared.series.Series.{Series}
 
 -- RTD Smart Poster 1.0: what a poster is made of, as parts of some bytes
 pub record PosterAsked : Type 0 where
@@ -65,7 +64,7 @@ pub record MayBeUri (a : PosterAsked) (payload : List ℕ) : Type 0 where
 abbrev pub asked_for : (has : ℕ) → Kind → List ℕ → List Item
 asked_for has kind payload = if has == 1 then well_known kind [] payload ∷ [] else []
 
--- RTD Smart Poster 1.0: the records of a poster: its URI, its titles, its action, its size, its media type and its icons
+-- RTD Smart Poster 1.0: the records of a poster: its URI, its titles, its action, its size, its media type, its icons
 abbrev pub poster_items : (uri_payload : List ℕ) → PosterAsked → List Item
 poster_items uri_payload a =
     well_known kinds.Uri [] uri_payload ∷ (map (title_item a.bytes) a.titles
@@ -101,12 +100,6 @@ pub record GivesPoster (a : PosterAsked) (before after : List ℕ) (count status
 -- a record of these octets may be asked for: 1 asks for one, and 0 for none
 abbrev pub MayBeAsked : (has : ℕ) → List ℕ → Type 0
 MayBeAsked has octets = (has ≡ 0) ⊎ ((has ≡ 1) × (length octets < 2 ^ 32))
-
--- each of these records may be written
-pub record AreSeries (items : List Item) (s : Series) : Type 0 where
-  pub holds : HoldsMade s
-  pub may : IsSeries s
-  pub are : series_items s ≡ items
 
 -- RTD Smart Poster 1.0: what a poster is made of
 abbrev pub asked_by : Poster → PosterAsked

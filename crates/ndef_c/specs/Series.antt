@@ -5,9 +5,11 @@ use Rattle.ndef_format.specs.Canonical.{canonical, is_nil}
 use Rattle.ndef_format.specs.Messages.{Item}
 use Rattle.ndef_message.specs.declared.form.Form.TheVariants.{Short}
 use Rattle.ndef_c.specs.Made.{IsMade, made_item}
+use Rattle.ndef_c.specs.HandoverParts.{MayBeCarried, alternative_item}
 use Rattle.ndef_c.specs.PosterParts.{MayBeIcon, MayBeTitle, icon_item, title_item}
 use Rattle.ndef_c.specs.Rooms.{IsPut}
 use Rattle.ndef_c.specs.Writes.{record_octets}
+use Rattle.ndef_c.specs.declared.handover_parts.NdefAlternativeWriting.{NdefAlternativeWriting}
 use Rattle.ndef_c.specs.declared.poster_parts.NdefIconWriting.{NdefIconWriting}
 use Rattle.ndef_c.specs.declared.poster_parts.NdefTitleWriting.{NdefTitleWriting}
 use Rattle.ndef_c.specs.declared.series.Series.{Series}
@@ -20,6 +22,8 @@ series_items several.Nothing = []
 series_items (several.One made) = made_item made ∷ []
 series_items (several.Titles bytes titles) = map (title_item bytes.now) titles.now
 series_items (several.Icons bytes icons) = map (icon_item bytes.now) icons.now
+series_items (several.Alternatives bytes references alternatives) =
+    map (alternative_item bytes.now references.now) alternatives.now
 
 -- one record that is made already may be written
 abbrev pub HoldsMade : Series → Type 0
@@ -30,12 +34,22 @@ HoldsMade _ = ⊤
 abbrev pub MayBeIn : Series → (index : ℕ) → Type 0
 MayBeIn several.Nothing index = ⊤
 MayBeIn (several.One made) index = IsMade made
-MayBeIn (several.Titles bytes titles) index = (t : NdefTitleWriting) → MayBeTitle bytes.now (slice_index_or titles.now index t)
-MayBeIn (several.Icons bytes icons) index = (i : NdefIconWriting) → MayBeIcon bytes.now (slice_index_or icons.now index i)
+MayBeIn (several.Titles bytes titles) index =
+    (t : NdefTitleWriting) → MayBeTitle bytes.now (slice_index_or titles.now index t)
+MayBeIn (several.Icons bytes icons) index =
+    (i : NdefIconWriting) → MayBeIcon bytes.now (slice_index_or icons.now index i)
+MayBeIn (several.Alternatives bytes references alternatives) index = (a : NdefAlternativeWriting) →
+    MayBeCarried bytes.now references.now (slice_index_or alternatives.now index a)
 
 -- each of the records may be written
 abbrev pub IsSeries : Series → Type 0
 IsSeries s = (index : ℕ) → index < length (series_items s) → MayBeIn s index
+
+-- these are the records, and each of them may be written
+pub record AreSeries (items : List Item) (s : Series) : Type 0 where
+  pub holds : HoldsMade s
+  pub may : IsSeries s
+  pub are : series_items s ≡ items
 
 -- the records of several series
 abbrev pub all_items : List Series → List Item

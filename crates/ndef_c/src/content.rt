@@ -4,6 +4,8 @@ ghost use Rattle.ndef_format.specs.Texts.{units_of};
 ghost use Rattle.ndef_c.specs.Contents.{IsContent, content_octets};
 ghost use Rattle.ndef_c.specs.Rooms.{Gives, IsPut};
 
+use crate::alternative_writing::{alternative_length, put_alternative};
+use crate::part::NdefPart;
 use crate::room::{put, put_parts};
 use crate::status::{BAD_ARGUMENT, NO_ROOM, OK};
 use crate::utf16::put_units;
@@ -13,13 +15,37 @@ use ndef_types::units_len;
 #[derive(Clone, Copy)]
 pub(crate) enum Content<'a> {
     /// RTD Text 1.0: a text in UTF-8, and its language code of up to 63 bytes.
-    Utf8 { language: &'a [u8], text: &'a str },
+    Utf8 {
+        language: &'a [u8],
+        text: &'a str,
+    },
     /// RTD Text 1.0: the same in UTF-16, big-endian behind its byte order mark.
-    Utf16 { language: &'a [u8], text: &'a str },
+    Utf16 {
+        language: &'a [u8],
+        text: &'a str,
+    },
     /// RTD URI 1.0: the code of a prefix, and the rest of the URI.
-    Uri { code: u8, rest: &'a [u8] },
+    Uri {
+        code: u8,
+        rest: &'a [u8],
+    },
+    /// Connection Handover 1.2, Alternative Carrier record: a power state and references, each of which is a
+    /// part of the bytes.
+    Alternative {
+        power: u8,
+        bytes: &'a [u8],
+        reference: &'a NdefPart,
+        auxiliary: &'a [NdefPart],
+    },
+    /// Connection Handover 1.2, Error record: a reason, and its data.
+    Error {
+        reason: u8,
+        detail: &'a [u8],
+    },
     /// Bytes, as they are given.
-    Octets { octets: &'a [u8] },
+    Octets {
+        octets: &'a [u8],
+    },
 }
 
 /// So many bytes and some behind them, unless no payload is that long.
@@ -57,6 +83,13 @@ pub(crate) fn content_length(content: &Content<'_>) -> Option<usize>
         Content::Utf8 { language, text } => payload_length(1 + language.len(), text.len()),
         Content::Utf16 { language, text } => units_length(3 + language.len(), text),
         Content::Uri { code: _, rest } => payload_length(1, rest.len()),
+        Content::Alternative {
+            power: _,
+            bytes,
+            reference,
+            auxiliary,
+        } => Some(alternative_length(bytes, reference, auxiliary)),
+        Content::Error { reason: _, detail } => payload_length(1, detail.len()),
         Content::Octets { octets } => payload_length(0, octets.len()),
     }
 }
@@ -79,6 +112,13 @@ pub(crate) fn put_content(room: &mut [u8], at: usize, content: &Content<'_>) -> 
             put_units(room, after_mark, text)
         }
         Content::Uri { code, rest } => put_parts(room, at, &[code], rest, &[]),
+        Content::Alternative {
+            power,
+            bytes,
+            reference,
+            auxiliary,
+        } => put_alternative(room, at, power, bytes, reference, auxiliary),
+        Content::Error { reason, detail } => put_parts(room, at, &[reason], detail, &[]),
         Content::Octets { octets } => put(room, at, octets),
     }
 }

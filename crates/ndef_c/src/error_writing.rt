@@ -8,7 +8,7 @@ use crate::room::{give, give_parts};
 use crate::status::BAD_ARGUMENT;
 
 /// Whether an error of a reason and some data may be written.
-fn may_be_error(reason: u32, detail: &[u8]) -> bool
+pub(crate) fn may_be_error(reason: u32, detail: &[u8]) -> bool
     ensures { IsTrue result ↔ MayBeError reason detail.now }
 {
     let goes_with = match reason {

@@ -14,6 +14,8 @@
 //! - `poster_writing.rt`, `specs/PosterWrites.antt`: a smart poster written in one call. `poster_parts.rt`,
 //!   `specs/PosterParts.antt`: its titles and icons. `series.rt`, `series_writing.rt`, `specs/Series.antt`: records
 //!   written one behind another.
+//! - `handover_making.rt`, `specs/HandoverMaking.antt`: a request or a select written in one call. `handover_parts.rt`,
+//!   `specs/HandoverParts.antt`: its alternative carriers.
 //! - `rewriting.rt`, `specs/Rewrites.antt`: a message written again, each record in one piece.
 //! - `uri.rt`, `uri_view.rt`, `text.rt`, `carrier.rt`, `alternative.rt`, `request.rt`, `select.rt`, `poster.rt`,
 //!   `error.rt`: payloads of each kind. `numbers.rt` and `alternative_writing.rt`, `error_writing.rt`,
@@ -41,6 +43,8 @@ mod field_names;
 mod fields;
 mod finding;
 mod handover;
+mod handover_making;
+mod handover_parts;
 mod handover_writing;
 mod laws;
 mod limits;
@@ -90,6 +94,8 @@ pub use feeding::{NdefChecker, ndef_begin, ndef_feed};
 pub use field_names::ndef_field_name;
 pub use fields::{NdefField, ndef_field_at, ndef_fields, ndef_next_field};
 pub use finding::{ndef_find_id, ndef_find_type};
+pub use handover_making::{NdefSelectWriting, ndef_write_request, ndef_write_select};
+pub use handover_parts::NdefAlternativeWriting;
 pub use handover_writing::{REQUEST, SELECT, ndef_write_handover};
 pub use laws::{
     appended_records_are_held, checks_are_walked, feeds_are_checks, fields_are_stepped,

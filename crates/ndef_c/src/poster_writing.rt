@@ -3,7 +3,8 @@ ghost use Rattle.std.specs.Prelude.{◌≡◌, ◌≢◌, ◌<◌, ◌≤◌, �
 ghost use Rattle.ndef_format.specs.declared.tnf.Tnf.TheVariants.{WellKnown};
 ghost use Rattle.ndef_c.specs.AlternativeWrites.{IsPartWithin};
 ghost use Rattle.ndef_c.specs.Made.{item_with};
-ghost use Rattle.ndef_c.specs.PosterWrites.{AreNumbers, AreSaid, AreSeries, GivesPoster, MayBeAsked, MayBeMedia, MayBePoster, MayBeSaid, asked_by, media_of, poster_asked};
+ghost use Rattle.ndef_c.specs.Series.{AreSeries};
+ghost use Rattle.ndef_c.specs.PosterWrites.{AreNumbers, AreSaid, GivesPoster, MayBeAsked, MayBeMedia, MayBePoster, MayBeSaid, asked_by, media_of, poster_asked};
 
 use crate::content::Content;
 use crate::making::Made;

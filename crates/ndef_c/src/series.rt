@@ -3,7 +3,9 @@ ghost use Rattle.std.specs.Prelude.{◌≡◌, ◌<◌, length, slice_get, Some,
 ghost use Rattle.ndef_c.specs.Made.{IsMade, made_item};
 ghost use Rattle.ndef_c.specs.Series.{HoldsMade, MayBeIn, series_items};
 
+use crate::handover_parts::{NdefAlternativeWriting, alternative_made};
 use crate::making::Made;
+use crate::part::NdefPart;
 use crate::poster_parts::{NdefIconWriting, NdefTitleWriting, icon_made, title_made};
 
 /// Records that stand one behind another.
@@ -25,6 +27,12 @@ pub(crate) enum Series<'a> {
         bytes: &'a [u8],
         icons: &'a [NdefIconWriting],
     },
+    /// The alternative carriers of a handover, whose references are parts of the bytes.
+    Alternatives {
+        bytes: &'a [u8],
+        references: &'a [NdefPart],
+        alternatives: &'a [NdefAlternativeWriting],
+    },
 }
 
 /// How many records they are.
@@ -36,6 +44,11 @@ pub(crate) fn series_count(series: &Series<'_>) -> usize
         Series::One { made: _ } => 1,
         Series::Titles { bytes: _, titles } => titles.len(),
         Series::Icons { bytes: _, icons } => icons.len(),
+        Series::Alternatives {
+            bytes: _,
+            references: _,
+            alternatives,
+        } => alternatives.len(),
     }
 }
 
@@ -55,6 +68,14 @@ fn icon_of(icons: &[NdefIconWriting], index: usize) -> &NdefIconWriting
     &icons[index]
 }
 
+/// The alternative carrier with the index.
+fn alternative_of(alternatives: &[NdefAlternativeWriting], index: usize) -> &NdefAlternativeWriting
+    requires { index < length alternatives.now }
+    ensures { slice_get alternatives.now index ≡ Some result.now }
+{
+    &alternatives[index]
+}
+
 /// The record with the index, if it may be written.
 pub(crate) fn series_made<'a>(series: &Series<'a>, index: usize) -> Option<Made<'a>>
     requires holds { HoldsMade series.now }
@@ -69,5 +90,10 @@ pub(crate) fn series_made<'a>(series: &Series<'a>, index: usize) -> Option<Made<
         Series::One { made } => Some(made),
         Series::Titles { bytes, titles } => title_made(bytes, title_of(titles, index)),
         Series::Icons { bytes, icons } => icon_made(bytes, icon_of(icons, index)),
+        Series::Alternatives {
+            bytes,
+            references,
+            alternatives,
+        } => alternative_made(bytes, references, alternative_of(alternatives, index)),
     }
 }

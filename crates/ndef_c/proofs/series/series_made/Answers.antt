@@ -1,5 +1,6 @@
 use Rattle.std.proofs.Common.{◌≡◌, sym, subst, Some}
 use Rattle.std.specs.Prelude.{IfSome, slice_get}
+use Rattle.ndef_c.specs.HandoverParts.{alternative_item}
 use Rattle.ndef_c.specs.Made.{made_item}
 use Rattle.ndef_c.specs.PosterParts.{icon_item, title_item}
 use Rattle.ndef_c.specs.Series.{series_items}
@@ -17,3 +18,10 @@ returns-in-Icons-clause-item c =
     let r = c.icon_made.result in
     subst (λ s. IfSome r (λ m. slice_get (series_items s) c.args.index ≡ Some (made_item m))) (sym c.in-Icons.is)
     (item_at r (icon_item c.in-Icons.bytes.now) c.in-Icons.icons.now c.args.index c.icon_of.result.now c.icon_of.ensures c.icon_made.ensures.item)
+
+pub returns-in-Alternatives-clause-item : goal.returns-in-Alternatives-clause-item
+returns-in-Alternatives-clause-item c =
+    let r = c.alternative_made.result in
+    let a = c.in-Alternatives in
+    subst (λ s. IfSome r (λ m. slice_get (series_items s) c.args.index ≡ Some (made_item m))) (sym a.is)
+    (item_at r (alternative_item a.bytes.now a.references.now) a.alternatives.now c.args.index c.alternative_of.result.now c.alternative_of.ensures c.alternative_made.ensures.item)
