@@ -713,7 +713,7 @@ uint32_t ndef_poster_media_type(const uint8_t *payload, ndef_size length, ndef_p
 uint32_t ndef_rewrite(const uint8_t *bytes, ndef_size length, uint32_t flags, uint8_t *room, ndef_size size,
                       ndef_size *count);
 
-/* ---- a smart poster written in one call */
+/* ---- smart posters written in one call */
 
 /* A title of a smart poster that is written. */
 typedef struct ndef_title_writing {
@@ -751,6 +751,49 @@ typedef struct ndef_poster_writing {
 uint32_t ndef_write_poster(const uint8_t *bytes, ndef_size length, const ndef_poster_writing *how,
                            const ndef_title_writing *titles, ndef_size titles_size, const ndef_icon_writing *icons,
                            ndef_size icons_size, uint8_t *room, ndef_size size, ndef_size *count);
+
+/* ---- handovers written in one call */
+
+/* An alternative carrier of a handover that is written. Its references are some of an array of parts, one behind
+ * another: the carrier data reference, which is the id of the record that describes the carrier, and then the auxiliary
+ * references. */
+typedef struct ndef_alternative_writing {
+    ndef_size first;      /* which of the parts is the carrier data reference, counted from 0 */
+    ndef_size references; /* the number of its references, 1 to 256 */
+    uint32_t power;       /* the power state of the carrier: 0 inactive, 1 active, 2 activating, 3 unknown */
+} ndef_alternative_writing;
+
+/* Writes the payload of a Handover Request record (`Hr`) of version 1.minor to the room: a Collision Resolution record
+ * (`cr`) with a random number, and then an Alternative Carrier record (`ac`) for each alternative carrier, in their
+ * order. Each reference is a part of `bytes`. The records have no ids, and each is written as ndef_write_record writes
+ * it without NDEF_WRITE_LONG in one chunk.
+ * NDEF_OK, NDEF_NO_ROOM.
+ * NDEF_BAD_ARGUMENT: the minor version is above 15; the number is above 65535; the references of an alternative carrier
+ *   are not all among the parts; what ndef_write_alternative answers so for its power state and its references; there
+ *   would be more than 65535 records; or the payload would have more than 4294967295 bytes. */
+uint32_t ndef_write_request(uint32_t minor, uint32_t collision, const uint8_t *bytes, ndef_size length,
+                            const ndef_part *references, ndef_size references_size,
+                            const ndef_alternative_writing *alternatives, ndef_size alternatives_size, uint8_t *room,
+                            ndef_size size, ndef_size *count);
+
+/* What else a handover select that is written says. Where has_error is 0, `data` and `reason` don't matter. */
+typedef struct ndef_select_writing {
+    ndef_part data;             /* the data of the error */
+    uint32_t minor;             /* the minor version, 0 to 15; the major version is 1 */
+    uint32_t has_error, reason; /* 1 and the reason of the error, or 0 */
+} ndef_select_writing;
+
+/* Writes the payload of a Handover Select record (`Hs`) in the same way: an Alternative Carrier record (`ac`) for each
+ * alternative carrier, in their order, and then an Error record (`err`) where has_error is 1. Without any of them it is
+ * the version alone, which selects no carrier. The data of the error are a part of `bytes`.
+ * NDEF_OK, NDEF_NO_ROOM.
+ * NDEF_BAD_ARGUMENT: the minor version is above 15; has_error is neither 0 nor 1; the data do not lie within `bytes`;
+ *   what ndef_write_error answers so for the error; or what ndef_write_request answers so for the alternative carriers,
+ *   the records and the payload. */
+uint32_t ndef_write_select(const ndef_select_writing *how, const uint8_t *bytes, ndef_size length,
+                           const ndef_part *references, ndef_size references_size,
+                           const ndef_alternative_writing *alternatives, ndef_size alternatives_size, uint8_t *room,
+                           ndef_size size, ndef_size *count);
 
 #ifdef __cplusplus
 }

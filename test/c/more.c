@@ -405,6 +405,64 @@ static void poster_refused(void) {
     expect(count == 77 && room[0] == 0xa5, "poster: a wrong argument leaves something else");
 }
 
+/* ---- handovers written in one call */
+
+static const uint8_t carrier_bytes[] = "w0b1aux\xde\xad\xbe\xef";
+enum { CARRIER_BYTES = sizeof carrier_bytes - 1 };
+static const ndef_part carrier_parts[5] = { { 2, 2 }, { 4, 3 }, { 0, 2 }, { 5, 1 }, { 11, 1 } };
+
+/* A request with two carriers, of which the second has an auxiliary reference; and one with none. */
+static void request_written(void) {
+    static const uint8_t whole[] = {
+        0x15, 0x91, 2, 2, 'c', 'r', 0x12, 0x34, 0x11, 2, 5, 'a', 'c', 3, 2, 'w', '0', 0,
+        0x51, 2, 9, 'a', 'c', 1, 2, 'b', '1', 1, 3, 'a', 'u', 'x' };
+    static const uint8_t plain[] = { 0x10, 0xd1, 2, 2, 'c', 'r', 0xff, 0xff };
+    static const ndef_alternative_writing two[2] = { { 2, 1, 3 }, { 0, 2, 1 } };
+    static const ndef_alternative_writing wrong[] = { { 0, 1, 4 }, { 0, 0, 0 }, { 4, 1, 0 }, { 5, 1, 0 }, { 4, 2, 0 }, { 6, 0, 0 } };
+    uint8_t room[40];
+    ndef_size count = 77;
+    memset(room, 0xa5, sizeof room);
+    expect(ndef_write_request(5, 0x1234, carrier_bytes, CARRIER_BYTES, carrier_parts, 5, two, 2, room, sizeof whole - 1, &count) == NDEF_NO_ROOM
+               && count == sizeof whole && room[0] == 0xa5, "request: another length is needed");
+    expect(ndef_write_request(5, 0x1234, carrier_bytes, CARRIER_BYTES, carrier_parts, 5, two, 2, room, sizeof whole, &count) == NDEF_OK
+               && count == sizeof whole && memcmp(room, whole, sizeof whole) == 0 && room[sizeof whole] == 0xa5, "request: it is another payload");
+    expect(ndef_write_request(0, 65535, NULL, 0, NULL, 0, NULL, 0, room, sizeof room, &count) == NDEF_OK && count == sizeof plain
+               && memcmp(room, plain, sizeof plain) == 0, "request: one without carriers is another payload");
+    count = 77, room[0] = 0xa5;
+    for (size_t i = 0; i < sizeof wrong / sizeof wrong[0]; i++)
+        expect(ndef_write_request(5, 0, carrier_bytes, CARRIER_BYTES, carrier_parts, 5, &wrong[i], 1, room, sizeof room, &count) == NDEF_BAD_ARGUMENT,
+               "request: a wrong carrier is taken");
+    expect(ndef_write_request(16, 0, carrier_bytes, CARRIER_BYTES, carrier_parts, 5, two, 2, room, sizeof room, &count) == NDEF_BAD_ARGUMENT, "request: version 1.16 is taken");
+    expect(ndef_write_request(5, 65536, carrier_bytes, CARRIER_BYTES, carrier_parts, 5, two, 2, room, sizeof room, &count) == NDEF_BAD_ARGUMENT,
+           "request: a number of three octets is taken");
+    expect(count == 77 && room[0] == 0xa5, "request: a wrong argument leaves something else");
+}
+
+/* A select with a carrier and an error, one with an error alone, and one with neither. */
+static void select_written(void) {
+    static const uint8_t whole[] = { 0x12, 0x91, 2, 6, 'a', 'c', 2, 1, 'u', 1, 1, 'u', 0x51, 3, 5, 'e', 'r', 'r', 2, 0xde, 0xad, 0xbe, 0xef };
+    static const uint8_t error[] = { 0x1f, 0xd1, 3, 3, 'e', 'r', 'r', 0xff, 'b', '1' };
+    static const ndef_part same[2] = { { 5, 1 }, { 5, 1 } };
+    static const ndef_alternative_writing one[1] = { { 0, 2, 2 } };
+    static const ndef_select_writing how = { { 7, 4 }, 2, 1, 2 }, alone = { { 2, 2 }, 15, 1, 255 }, neither = { { 99, 9 }, 0, 0, 999 };
+    static const ndef_select_writing wrong[] = { { { 7, 4 }, 16, 1, 2 }, { { 7, 3 }, 2, 1, 2 }, { { 8, 4 }, 2, 1, 2 }, { { 7, 4 }, 2, 2, 2 }, { { 7, 4 }, 2, 1, 256 } };
+    uint8_t room[40];
+    ndef_size count = 77;
+    memset(room, 0xa5, sizeof room);
+    expect(ndef_write_select(&how, carrier_bytes, CARRIER_BYTES, same, 2, one, 1, room, sizeof whole - 1, &count) == NDEF_NO_ROOM && count == sizeof whole
+               && room[0] == 0xa5, "select: another length is needed");
+    expect(ndef_write_select(&how, carrier_bytes, CARRIER_BYTES, same, 2, one, 1, room, sizeof whole, &count) == NDEF_OK && count == sizeof whole
+               && memcmp(room, whole, sizeof whole) == 0 && room[sizeof whole] == 0xa5, "select: it is another payload");
+    expect(ndef_write_select(&alone, carrier_bytes, CARRIER_BYTES, NULL, 0, NULL, 0, room, sizeof room, &count) == NDEF_OK && count == sizeof error
+               && memcmp(room, error, sizeof error) == 0, "select: an error alone is another payload");
+    expect(ndef_write_select(&neither, NULL, 0, NULL, 0, NULL, 0, room, sizeof room, &count) == NDEF_OK && count == 1 && room[0] == 0x10, "select: the version alone isn't written");
+    count = 77, room[0] = 0xa5;
+    for (size_t i = 0; i < sizeof wrong / sizeof wrong[0]; i++)
+        expect(ndef_write_select(&wrong[i], carrier_bytes, CARRIER_BYTES, same, 2, one, 1, room, sizeof room, &count) == NDEF_BAD_ARGUMENT, "select: a wrong number is taken");
+    expect(ndef_write_select(&how, carrier_bytes, CARRIER_BYTES, same, 1, one, 1, room, sizeof room, &count) == NDEF_BAD_ARGUMENT, "select: a wrong carrier is taken");
+    expect(count == 77 && room[0] == 0xa5, "select: a wrong argument leaves something else");
+}
+
 int main(void) {
     make_message();
     pieces();
@@ -420,5 +478,7 @@ int main(void) {
     rewritten();
     poster_written();
     poster_refused();
+    request_written();
+    select_written();
     return failed != 0;
 }
