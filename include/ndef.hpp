@@ -839,6 +839,30 @@ inline result<bytes> write_handover(room &to, handover which, std::uint32_t majo
                        records.data(), records.size());
 }
 
+/// The payload of a Smart Poster record whose parts lie in some bytes, as ndef_write_poster writes it.
+inline result<bytes> write_poster(room &to, bytes from, const ndef_poster_writing &how,
+                                  const ndef_title_writing *titles = nullptr, std::size_t titles_count = 0,
+                                  const ndef_icon_writing *icons = nullptr, std::size_t icons_count = 0) noexcept {
+    return detail::put(to, ndef_write_poster, from.data(), from.size(), &how, titles, titles_count, icons, icons_count);
+}
+
+/// The payload of a Handover Request record whose references are parts of some bytes, as ndef_write_request writes it.
+inline result<bytes> write_request(room &to, std::uint32_t minor_version, std::uint32_t collision, bytes from,
+                                   const ndef_part *references, std::size_t references_count,
+                                   const ndef_alternative_writing *alternatives,
+                                   std::size_t alternatives_count) noexcept {
+    return detail::put(to, ndef_write_request, minor_version, collision, from.data(), from.size(), references,
+                       references_count, alternatives, alternatives_count);
+}
+
+/// The payload of a Handover Select record whose parts lie in some bytes, as ndef_write_select writes it.
+inline result<bytes> write_select(room &to, const ndef_select_writing &how, bytes from, const ndef_part *references,
+                                  std::size_t references_count, const ndef_alternative_writing *alternatives,
+                                  std::size_t alternatives_count) noexcept {
+    return detail::put(to, ndef_write_select, &how, from.data(), from.size(), references, references_count,
+                       alternatives, alternatives_count);
+}
+
 /// A record to be written.
 struct new_record {
     ndef::tnf format = NDEF_TNF_EMPTY;

@@ -118,6 +118,12 @@ static void write_from(const uint8_t *bytes, ndef_size length, ndef_size size) {
     WRITTEN(size, ndef_write_size(number * 2654435761u, to, size, &count));
     WRITTEN(size, ndef_write_collision(number * 40503u, to, size, &count));
     const ndef_title_writing titles[2] = { { parts[0], parts[1], number % 3 }, { parts[2], parts[0], 1 } };
+    const ndef_alternative_writing carriers[3] = { { number % 4, 1, number % 4 }, { 0, number % 3, 1 }, { 1, 2, 3 } };
+    for (uint32_t has = 0; has < 4; has++) {
+        const ndef_select_writing how = { parts[has % 3], number % 17, has & 1, number * 7 };
+        WRITTEN(size, ndef_write_request(number % 17, number * 40503u, bytes, length, parts, 3, carriers, has, to, size, &count));
+        WRITTEN(size, ndef_write_select(&how, bytes, length, parts, 3, carriers, has, to, size, &count));
+    }
     const ndef_icon_writing icons[2] = { { parts[0], parts[1] }, { parts[1], parts[2] } };
     for (uint32_t has = 0; has < 4; has++) {
         const ndef_poster_writing how = { parts[number % 2], parts[0], has & 1, has >> 1, number * 3, has & 1, number };

@@ -83,6 +83,8 @@ static void more_calls(int way, const uint8_t *none, ndef_part *no_parts, ndef_l
     const ndef_poster_writing poster = { { 0, 0 }, { 0, 0 }, 0, 0, 0, 0, 0 };
     const ndef_title_writing title = { { 0, 0 }, { 0, 0 }, 0 };
     const ndef_icon_writing icon = { { 0, 0 }, { 0, 0 } };
+    const ndef_alternative_writing alternative = { 0, 1, 0 };
+    const ndef_select_writing select = { { 0, 0 }, 1, 1, 9 };
     answer(way, ndef_pieces(none, 0, 0, no_parts, 0, &count));
     answer(way, ndef_pieces((const uint8_t *)"\xd0\0", 3, 0, no_parts, 0, &count));
     answer(way, ndef_references(none, 0, no_parts, 0, &count));
@@ -99,6 +101,8 @@ static void more_calls(int way, const uint8_t *none, ndef_part *no_parts, ndef_l
     answer(way, ndef_append_uri(&built, none, 0, none, 0, room, size, &count));
     answer(way, ndef_title(none, 0, none, 0, &text));
     answer(way, ndef_rewrite(none, 0, 0, room, size, &count));
+    answer(way, ndef_write_request(1, 2, none, 0, no_parts, 0, way ? &alternative : NULL, 0, room, size, &count));
+    answer(way, ndef_write_select(&select, none, 0, no_parts, 0, way ? &alternative : NULL, 0, room, size, &count));
     answer(way, ndef_write_poster(none, 0, &poster, way ? &title : NULL, 0, way ? &icon : NULL, 0, room, size, &count));
     answer(way, ndef_title((const uint8_t *)"\xd1\1\1U\0", 5, none, 0, &text));
 }

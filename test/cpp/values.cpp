@@ -162,6 +162,10 @@ static bool are_linked() {
     const auto nested = ndef::write_message(room, {ndef::well_known("cr", *collision), ndef::well_known("ac", *first),
                                                    ndef::well_known("ac", *second)});
     const auto payload = ndef::write_handover(room, ndef::handover::request, 1, 2, nested->octets());
+    const ndef_part parts[] = {{0, 1}, {1, 4}};
+    const ndef_alternative_writing both[] = {{0, 1, 1}, {1, 1, 0}};
+    const auto same = ndef::write_request(room, 2, 4660, std::string_view("bnone"), parts, 2, both, 2);
+    if (!payload || !same || hex(*same) != hex(*payload)) return false;
     const std::string_view data = "carrier data";
     const auto message = ndef::write_message(room, {ndef::well_known("Hr", *payload), ndef::media("a/b", data, "a"),
                                                     ndef::media("a/b", data.substr(0, 7), "b")});
@@ -179,6 +183,21 @@ static bool are_linked() {
     const auto found = message->find_id("a"), typed = message->find(NDEF_TNF_MEDIA, "a/b");
     return index == 2 && allocations == before && found && typed && found->place() == typed->place() &&
         !message->find_id("") && !message->find("T") && !message->begin()->as<ndef::select>();
+}
+
+/// A poster and a select, each written in one call.
+static bool are_made() {
+    ndef::room room(memory);
+    const ndef_poster_writing how = {{0, 14}, {14, 3}, 1, 1, 2, 0, 0};
+    const ndef_title_writing title = {{17, 2}, {19, 2}, 0};
+    const auto made = ndef::write_poster(room, std::string_view("http://www.x.ya/benHi"), how, &title, 1);
+    const ndef_part id = {0, 1};
+    const ndef_alternative_writing carrier = {0, 1, 3};
+    const ndef_select_writing said = {{1, 1}, 5, 1, 1};
+    const auto select = ndef::write_select(room, said, std::string_view("i\7"), &id, 1, &carrier, 1);
+    return made && select && hex(*made) == "91010455" "01782E79" "11010554" "02656E4869" "110301" "616374" "02"
+                                           "51010374" "612F62" &&
+        hex(*select) == "15" "910204" "6163" "03016900" "510302" "657272" "0107";
 }
 
 /// A record in chunks, and in the long form; and records that end where one is the last, whatever follows.
@@ -270,6 +289,7 @@ int main() {
     }
     if (!are_linked()) failed++, std::cout << "a request's links are told otherwise\n";
     if (!are_refused()) failed++, std::cout << "a wrong value is written\n";
+    if (!are_made()) failed++, std::cout << "a poster or a select is made otherwise\n";
     if (!are_chunked()) failed++, std::cout << "a record in chunks is another one\n";
     if (!is_built()) failed++, std::cout << "a message is built otherwise\n";
     if (!are_appended()) failed++, std::cout << "texts and URIs are appended otherwise\n";

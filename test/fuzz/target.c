@@ -376,6 +376,67 @@ static void look_at_links(const uint8_t *bytes, ndef_size length, const uint8_t 
     free(links);
 }
 
+/* The alternative carriers of a handover, whose references lie in its payload. */
+struct carriers {
+    ndef_alternative_writing *alternatives;
+    ndef_part *references;
+    ndef_size number, all;
+};
+
+static struct carriers carriers_of(const uint8_t *payload, ndef_size length, ndef_size number) {
+    struct carriers found = { NULL, NULL, 0, 0 };
+    ndef_record record;
+    ndef_alternative_parts told;
+    ndef_checked why;
+    found.alternatives = (ndef_alternative_writing *)filled((number + 1) * sizeof *found.alternatives, 0);
+    found.references = (ndef_part *)filled((256 * number + 1) * sizeof *found.references, 0);
+    for (ndef_size at = 0; found.number < number; at = record.end, found.number++) {
+        HOLDS(ndef_find_type(payload + 1, length - 1, at, NDEF_TNF_WELL_KNOWN, (const uint8_t *)"ac", 2, &record) == NDEF_OK);
+        const uint8_t *carrier = payload + 1 + record.payload_at;
+        ndef_part *own;
+        ndef_size many;
+        HOLDS(ndef_alternative(carrier, record.payload_length, &told, &why) == NDEF_OK);
+        LIST(own, many, ndef_references(carrier, record.payload_length, array, size, &count));
+        found.alternatives[found.number].first = found.all;
+        found.alternatives[found.number].references = many;
+        found.alternatives[found.number].power = told.power;
+        for (ndef_size i = 0; i < many; i++, found.all++) {
+            found.references[found.all].at = 1 + record.payload_at + own[i].at;
+            found.references[found.all].length = own[i].length;
+        }
+        free(own);
+    }
+    return found;
+}
+
+/* A request and a select are written again in one call, and read back as the same. */
+static void write_request(const uint8_t *payload, ndef_size length, const ndef_request_parts *parts) {
+    const struct carriers c = carriers_of(payload, length, parts->carriers);
+    ndef_request_parts again;
+    ndef_checked why;
+    struct made written;
+    MAKE(&written, ndef_write_request(parts->minor, parts->collision, payload, length, c.references, c.all,
+                                      c.alternatives, c.number, room, size, &count));
+    HOLDS(written.status == NDEF_OK && ndef_request(written.bytes, written.length, 0, &again, &why) == NDEF_OK);
+    HOLDS(again.carriers == parts->carriers && again.minor == parts->minor && again.collision == parts->collision);
+    discard(&written), free(c.alternatives), free(c.references);
+}
+
+static void write_select(const uint8_t *payload, ndef_size length, const ndef_select_parts *parts) {
+    const struct carriers c = carriers_of(payload, length, parts->carriers);
+    const ndef_select_writing how = { { parts->detail_at, parts->detail_length }, parts->minor, parts->has_error,
+                                      parts->error };
+    ndef_select_parts again;
+    ndef_checked why;
+    struct made written;
+    MAKE(&written, ndef_write_select(&how, payload, length, c.references, c.all, c.alternatives, c.number, room, size,
+                                     &count));
+    HOLDS(written.status == NDEF_OK && ndef_select(written.bytes, written.length, 0, &again, &why) == NDEF_OK);
+    HOLDS(again.carriers == parts->carriers && again.minor == parts->minor && again.has_error == parts->has_error);
+    HOLDS(again.error == parts->error && again.detail_length == parts->detail_length);
+    discard(&written), free(c.alternatives), free(c.references);
+}
+
 static void look_at_handover(const uint8_t *bytes, ndef_size length, const uint8_t *payload, ndef_size payload_length,
                              uint32_t flags) {
     ndef_request_parts request;
@@ -385,6 +446,8 @@ static void look_at_handover(const uint8_t *bytes, ndef_size length, const uint8
     const int is_request = ndef_request(payload, payload_length, flags, &request, &why) == NDEF_OK;
     const int is_select = ndef_select(payload, payload_length, flags, &select, &why) == NDEF_OK;
     if (is_request) look_at_links(bytes, length, payload, payload_length, request.carriers);
+    if (is_request && flags == 0) write_request(payload, payload_length, &request);
+    if (is_select && flags == 0) write_select(payload, payload_length, &select);
     if (is_select) {
         HOLDS(is_within(select.detail_at, select.detail_length, payload_length));
         if (!is_request) look_at_links(bytes, length, payload, payload_length, select.carriers);
