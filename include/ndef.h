@@ -740,17 +740,17 @@ typedef struct ndef_poster_writing {
 
 /* Writes the payload of a Smart Poster record (`Sp`) to the room: a message of the URI record (`U`), the titles (`T`),
  * the action (`act`), the size (`s`), the media type (`t`) and the icons, in this order. Each part lies in `bytes`, and
- * parts may overlap. The records have no ids, and each is written as ndef_write_record writes it without NDEF_WRITE_LONG
- * in one chunk. An icon is a record of its media type (NDEF_TNF_MEDIA). Give each title a language of its own, and
+ * parts may overlap. The records have no ids, and each is written in one chunk, as ndef_write_record writes it without
+ * NDEF_WRITE_LONG. An icon is a record of its media type (NDEF_TNF_MEDIA). Give each title a language of its own, and
  * icons a type that begins with "image/" or "video/": the standard asks for that, and the call does not look at it.
  * NDEF_OK, NDEF_NO_ROOM.
  * NDEF_BAD_ARGUMENT: a part does not lie within `bytes`; the URI or the media type is not UTF-8; what ndef_write_text
- *   answers so for a title; the media type of an icon has no bytes or more than 255; a has_ is neither 0 nor 1; the
- *   action is above 255; there would be more than 65535 records; or a payload would have more than 4294967295
- *   bytes. */
+ *   answers so for a title; the media type of an icon has no bytes or more than 255; has_media_type, has_action or
+ *   has_size is neither 0 nor 1; the action is above 255; there would be more than 65535 records; or a payload would
+ *   have more than 4294967295 bytes. */
 uint32_t ndef_write_poster(const uint8_t *bytes, ndef_size length, const ndef_poster_writing *how,
-                           const ndef_title_writing *titles, ndef_size titles_size, const ndef_icon_writing *icons,
-                           ndef_size icons_size, uint8_t *room, ndef_size size, ndef_size *count);
+                           const ndef_title_writing *titles, ndef_size titles_count, const ndef_icon_writing *icons,
+                           ndef_size icons_count, uint8_t *room, ndef_size size, ndef_size *count);
 
 /* ---- handovers written in one call */
 
@@ -765,15 +765,15 @@ typedef struct ndef_alternative_writing {
 
 /* Writes the payload of a Handover Request record (`Hr`) of version 1.minor to the room: a Collision Resolution record
  * (`cr`) with a random number, and then an Alternative Carrier record (`ac`) for each alternative carrier, in their
- * order. Each reference is a part of `bytes`. The records have no ids, and each is written as ndef_write_record writes
- * it without NDEF_WRITE_LONG in one chunk.
+ * order. Each reference is a part of `bytes`. The records have no ids, and each is written in one chunk, as
+ * ndef_write_record writes it without NDEF_WRITE_LONG.
  * NDEF_OK, NDEF_NO_ROOM.
  * NDEF_BAD_ARGUMENT: the minor version is above 15; the number is above 65535; the references of an alternative carrier
  *   are not all among the parts; what ndef_write_alternative answers so for its power state and its references; there
  *   would be more than 65535 records; or the payload would have more than 4294967295 bytes. */
 uint32_t ndef_write_request(uint32_t minor, uint32_t collision, const uint8_t *bytes, ndef_size length,
-                            const ndef_part *references, ndef_size references_size,
-                            const ndef_alternative_writing *alternatives, ndef_size alternatives_size, uint8_t *room,
+                            const ndef_part *references, ndef_size references_count,
+                            const ndef_alternative_writing *alternatives, ndef_size alternatives_count, uint8_t *room,
                             ndef_size size, ndef_size *count);
 
 /* What else a handover select that is written says. Where has_error is 0, `data` and `reason` don't matter. */
@@ -791,8 +791,8 @@ typedef struct ndef_select_writing {
  *   what ndef_write_error answers so for the error; or what ndef_write_request answers so for the alternative carriers,
  *   the records and the payload. */
 uint32_t ndef_write_select(const ndef_select_writing *how, const uint8_t *bytes, ndef_size length,
-                           const ndef_part *references, ndef_size references_size,
-                           const ndef_alternative_writing *alternatives, ndef_size alternatives_size, uint8_t *room,
+                           const ndef_part *references, ndef_size references_count,
+                           const ndef_alternative_writing *alternatives, ndef_size alternatives_count, uint8_t *room,
                            ndef_size size, ndef_size *count);
 
 #ifdef __cplusplus
