@@ -15,6 +15,10 @@ is_plain_octet byte = nat_le 0x20 byte && nat_le byte 0x7e && not (byte == 0x22)
 abbrev pub quoted_byte : ℕ → Text
 quoted_byte byte = if is_plain_octet byte then byte ∷ [] else codes "\\x" ++ encode_lower (byte ∷ [])
 
+-- the bytes as they stand between quotation marks
+abbrev pub quoted_bytes : List ℕ → Text
+quoted_bytes bytes = flat_map quoted_byte bytes
+
 -- the bytes between quotation marks
 abbrev pub quoted : List ℕ → Text
-quoted bytes = codes "\"" ++ flat_map quoted_byte bytes ++ codes "\""
+quoted bytes = codes "\"" ++ quoted_bytes bytes ++ codes "\""

@@ -1,7 +1,7 @@
 //! Bytes between quotation marks.
 ghost use Rattle.std.specs.Prelude.{◌≡◌, ◌++◌, ◌∷◌, [], OnOk};
 ghost use Rattle.hex.specs.Hex.{encode_lower};
-ghost use Rattle.ndef_tool.specs.Quoting.{is_plain_octet, quoted, quoted_byte};
+ghost use Rattle.ndef_tool.specs.Quoting.{is_plain_octet, quoted, quoted_byte, quoted_bytes};
 
 use ndef_value::{Bytes, NoMemory};
 
@@ -35,14 +35,22 @@ fn push_byte(line: &mut Bytes, byte: u8) -> Result<(), NoMemory>
     line.extend(&digits_of(byte))
 }
 
+/// Appends the bytes as they stand between quotation marks.
+pub fn push_quoted_bytes(line: &mut Bytes, bytes: &[u8]) -> Result<(), NoMemory>
+    ensures { OnOk result (line.new ≡ line.old ++ quoted_bytes bytes.now) }
+{
+    for byte in bytes {
+        push_byte(line, *byte)?;
+    }
+    Ok(())
+}
+
 /// Appends the bytes between quotation marks.
 pub fn push_quoted(line: &mut Bytes, bytes: &[u8]) -> Result<(), NoMemory>
     ensures { OnOk result (line.new ≡ line.old ++ quoted bytes.now) }
 {
     line.extend(b"\"")?;
-    for byte in bytes {
-        push_byte(line, *byte)?;
-    }
+    push_quoted_bytes(line, bytes)?;
     line.extend(b"\"")
 }
 
