@@ -1,8 +1,13 @@
 pub mod Asking
 pub mod Cuts
+pub mod Escapes
+pub mod MessageObjects
 pub mod Messages
+pub mod ObjectTexts
 pub mod Painted
+pub mod PayloadObjects
 pub mod Pieces
+pub mod Places
 pub mod Stops
 pub mod Tellings
 pub mod Words

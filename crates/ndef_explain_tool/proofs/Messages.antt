@@ -7,52 +7,57 @@ use Rattle.ndef_fields.specs.Tellings.{TellsFields}
 use Rattle.ndef_fields.specs.declared.telling.Told.{Told}
 use Rattle.ndef_tool.specs.Quoting.{Text}
 use Rattle.ndef_explain_tool.specs.Explaining.{AddsMessage, AddsStop, AreMessageTexts, AreTold, Explains, IsExplained, IsStopText, bytes_told}
+use Rattle.ndef_explain_tool.specs.Forms.{Form}
 use Rattle.ndef_explain_tool.specs.declared.explaining.Progress.{Progress}
 use Rattle.ndef_explain_tool.specs.declared.explaining.Stop.{Stop}
 
--- what goes on with the rest goes on with the input
-pub record GoesOn (limits : LimitValues) (input : List ℕ) (at : ℕ) (old text : Text) (size : ℕ) (stop : Stop) : Type 0 where
+-- what goes on with the rest goes on with the input: `more` are the messages of the rest
+pub record GoesOn (form : Form) (limits : LimitValues) (input : List ℕ) (at number : ℕ) (old text : Text) (more : List Told) (stop : Stop) : Type 0 where
   pub told : List Told
   pub are_told : AreTold limits told input stop
-  pub at_is : at + size ≡ bytes_told told
+  pub at_is : at + bytes_told more ≡ bytes_told told
+  pub number_is : number + length more ≡ length told + 1
   pub messages : Text
-  pub are_messages : AreMessageTexts 1 0 input told messages
+  pub are_messages : AreMessageTexts form 1 0 input told messages
   pub text_is : text ≡ old ++ messages
 
-abbrev pub KeepsOn : LimitValues → (input rest : List ℕ) → (at number : ℕ) → (old new : Text) → Type 0
-KeepsOn limits input rest at number old new = (told : List Told) (stop : Stop) (later : Text) → AreTold limits told rest stop
-    → AreMessageTexts number at rest told later → GoesOn limits input at old (new ++ later) (bytes_told told) stop
+abbrev pub KeepsOn : Form → LimitValues → (input rest : List ℕ) → (at number : ℕ) → (old new : Text) → Type 0
+KeepsOn form limits input rest at number old new = (more : List Told) (stop : Stop) (later : Text) → AreTold limits more rest stop
+    → AreMessageTexts form number at rest more later → GoesOn form limits input at number old (new ++ later) more stop
 
-pub keeps_first : (limits : LimitValues) (input : List ℕ) (old : Text) → KeepsOn limits input input 0 1 old old
-keeps_first limits input old told stop later h t =
-    record { told = told; are_told = h; at_is = omega arith; messages = later; are_messages = t; text_is = refl }
+pub keeps_first : (form : Form) (limits : LimitValues) (input : List ℕ) (old : Text) → KeepsOn form limits input input 0 1 old old
+keeps_first form limits input old more stop later h t =
+    record { told = more; are_told = h; at_is = omega arith; number_is = omega arith; messages = later; are_messages = t; text_is = refl }
 
 -- one message more
-pub keeps_next : (limits : LimitValues) (input rest next : List ℕ) (at number : ℕ) (old new newer : Text) (told : Told)
-    → KeepsOn limits input rest at number old new → TellsFields limits rest (Ok told) → AddsMessage number at rest told new newer
-    → next ≡ drop told.taken rest → KeepsOn limits input next (at + told.taken) (number + 1) old newer
-keeps_next limits input rest next at number old new newer told keeps tells (one, is, e) n more stop later h t =
-    let texts = subst (λ x. AreMessageTexts (number + 1) (at + told.taken) x more later) n t in
+pub keeps_next : (form : Form) (limits : LimitValues) (input rest next : List ℕ) (at number : ℕ) (old new newer : Text) (told : Told)
+    → KeepsOn form limits input rest at number old new → TellsFields limits rest (Ok told) → AddsMessage form number at rest told new newer
+    → next ≡ drop told.taken rest → KeepsOn form limits input next (at + told.taken) (number + 1) old newer
+keeps_next form limits input rest next at number old new newer told keeps tells (one, is, e) n more stop later h t =
+    let texts = subst (λ x. AreMessageTexts form (number + 1) (at + told.taken) x more later) n t in
     let g = keeps (told ∷ more) stop (one ++ later) (tells, subst (λ x. AreTold limits more x stop) n h) (one, later, is, texts, refl) in
     let a = g.at_is in
+    let k = g.number_is in
     record {
       told = g.told;
       are_told = g.are_told;
       at_is = omega (arith, a);
+      number_is = omega (arith, k);
       messages = g.messages;
       are_messages = g.are_messages;
       text_is = ap (λ x. x ++ later) e ∙ append_assoc new one later ∙ g.text_is;
     }
 
 -- no message more
-pub keeps_last : (limits : LimitValues) (input rest : List ℕ) (at number : ℕ) (old new : Text) (stop : Stop)
-    → KeepsOn limits input rest at number old new → AreTold limits [] rest stop → GoesOn limits input at old new 0 stop
-keeps_last limits input rest at number old new stop keeps h =
+pub keeps_last : (form : Form) (limits : LimitValues) (input rest : List ℕ) (at number : ℕ) (old new : Text) (stop : Stop)
+    → KeepsOn form limits input rest at number old new → AreTold limits [] rest stop → GoesOn form limits input at number old new [] stop
+keeps_last form limits input rest at number old new stop keeps h =
     let g = keeps [] stop [] h refl in
     record {
       told = g.told;
       are_told = g.are_told;
       at_is = g.at_is;
+      number_is = g.number_is;
       messages = g.messages;
       are_messages = g.are_messages;
       text_is = sym (append-nil new) ∙ g.text_is;
@@ -68,17 +73,18 @@ some_left at size [] input e n l = absurd (omega (arith, e, n, l))
 some_left at size (b ∷ s) input e n l = λ h. let k = ap length h in omega (arith, k)
 
 -- ---- all of it
-pub explained : (limits : LimitValues) (input : List ℕ) (old new newer : Text) (progress : Progress) → old ≡ []
-    → Explains limits input old new progress → AddsStop progress.at progress.rest.now progress.stop new newer
-    → IsExplained limits input progress.stop newer
-explained limits input old new newer progress none e s = record {
+pub explained : (form : Form) (limits : LimitValues) (input : List ℕ) (old new newer : Text) (progress : Progress) → old ≡ []
+    → Explains form limits input old new progress → AddsStop form progress.number progress.at progress.rest.now progress.stop new newer
+    → IsExplained form limits input progress.stop newer
+explained form limits input old new newer progress none e s = record {
   told = e.told;
   are_told = e.are_told;
   messages = e.messages;
   are_messages = e.are_messages;
   last = s.0;
   ends =
-      subst (λ n. IsStopText n (drop n input) progress.stop s.0) e.at_is
-      (subst (λ x. IsStopText progress.at x progress.stop s.0) e.rest_is s.1);
+      subst (λ k. IsStopText form k (bytes_told e.told) (drop (bytes_told e.told) input) progress.stop s.0) e.number_is
+      (subst (λ n. IsStopText form progress.number n (drop n input) progress.stop s.0) e.at_is
+      (subst (λ x. IsStopText form progress.number progress.at x progress.stop s.0) e.rest_is s.1));
   text_is = s.2 ∙ ap (λ x. x ++ s.0) (e.text_is ∙ ap (λ x. x ++ e.messages) none);
 }

@@ -1,9 +1,9 @@
 -- What the words ask for.
-use Rattle.std.specs.Prelude.{◌≡◌, List, [], ◌∷◌, Option, Some, None, Result, Ok, Err, ⊤, map, codes, if◌then◌else◌, option_and_then, option_map, unwrap_or}
+use Rattle.std.specs.Prelude.{◌≡◌, List, [], Option, Some, None, Result, Ok, Err, ⊤, map, codes, if◌then◌else◌, option_and_then, option_map, unwrap_or}
 use Rattle.std.specs.Option.{option_map_or}
 use Rattle.std.specs.Str.{bytes_eq}
 use Rattle.clap.specs.Words.{App, Row, Text, all_of, fault_of, first_of, matches_of}
-use Rattle.ndef_program.specs.Options.{hex_of, unless_fault}
+use Rattle.ndef_program.specs.Options.{flag_of, hex_of, unless_fault}
 use Rattle.ndef_tool.specs.Chosen.{chosen_limits}
 use Rattle.ndef_tool.specs.declared.choice.WordsError.{WordsError}
 use Rattle.ndef_tool.specs.declared.choice.WordsError.TheVariants.{Usage, NoMemory}
@@ -26,7 +26,8 @@ chosen_color rows = option_map_or color_named (first_of (codes "color") rows) (S
 -- the choice of the options
 abbrev pub choice_in : List Row → Option Choice
 choice_in rows =
-    option_and_then (λ limits. option_map (λ c. record { hex = hex_of rows; color = c; limits = limits })
+    option_and_then (λ limits.
+    option_map (λ c. record { hex = hex_of rows; color = c; json = flag_of (codes "json") rows; limits = limits })
     (chosen_color rows)) (chosen_limits rows)
 
 -- the names of files that are given

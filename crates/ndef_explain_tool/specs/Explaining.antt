@@ -1,4 +1,5 @@
--- What is printed of an input: the fields of its messages, one after another, and where it is refused.
+-- What is printed of an input: the fields of its messages, one after another, and where it is refused. It has
+-- either form.
 use Rattle.std.specs.Prelude.{◌≡◌, ◌≢◌, ℕ, ◌+◌, ◌^◌, ◌<◌, ⊤, List, [], ◌∷◌, ◌++◌, codes, decimal, drop, length, slice_index, take, Ok}
 use Rattle.std.specs.List.{flat_map}
 use Rattle.ndef_format.specs.Reasons.{reason_number, reason_name}
@@ -16,6 +17,8 @@ use Rattle.ndef_fields.specs.declared.telling.Told.{Told}
 use Rattle.ndef_tool.specs.Quoting.{Text}
 use Rattle.ndef_explain_tool.specs.Cells.{cells, start_of}
 use Rattle.ndef_explain_tool.specs.FieldLines.{field_text}
+use Rattle.ndef_explain_tool.specs.Forms.{Form, lines, objects}
+use Rattle.ndef_explain_tool.specs.Objects.{IsMessageObject, IsRefusedObject}
 use Rattle.ndef_explain_tool.specs.PayloadLines.{ArePayloadTexts}
 use Rattle.ndef_explain_tool.specs.Sentences.{sentence_of}
 use Rattle.ndef_explain_tool.specs.declared.explaining.Progress.{Progress}
@@ -46,20 +49,26 @@ abbrev pub fields_text : (number at : ℕ) (input : List ℕ) → Told → Text
 fields_text number at input told = message_head number at told.taken ++ flat_map (field_text at input) told.fields
 
 -- these, and the lines of its payloads in several pieces
-abbrev pub IsMessageText : (number at : ℕ) (input : List ℕ) → Told → Text → Type 0
-IsMessageText number at input told text =
+abbrev pub AreMessageLines : (number at : ℕ) (input : List ℕ) → Told → Text → Type 0
+AreMessageLines number at input told text =
     (payloads : Text) × ArePayloadTexts 1 told.items payloads × (text ≡ fields_text number at input told ++ payloads)
 
--- those of messages, of which the first has this number and this place
-abbrev pub AreMessageTexts : (number at : ℕ) (input : List ℕ) → List Told → Text → Type 0
-AreMessageTexts number at input [] text = text ≡ []
-AreMessageTexts number at input (told ∷ more) text =
-    (one : Text) × (later : Text) × IsMessageText number at input told one
-    × AreMessageTexts (number + 1) (at + told.taken) (drop told.taken input) more later × (text ≡ one ++ later)
+-- what is printed of a message: its lines, or its object
+abbrev pub IsMessageText : Form → (number at : ℕ) (input : List ℕ) → Told → Text → Type 0
+IsMessageText lines number at input told text = AreMessageLines number at input told text
+IsMessageText (objects file) number at input told text = IsMessageObject file number at input told text
 
--- the lines of a message are appended
-abbrev pub AddsMessage : (number at : ℕ) (input : List ℕ) → Told → (old new : Text) → Type 0
-AddsMessage number at input told old new = (text : Text) × IsMessageText number at input told text × (new ≡ old ++ text)
+-- the same of messages, of which the first has this number and this place
+abbrev pub AreMessageTexts : Form → (number at : ℕ) (input : List ℕ) → List Told → Text → Type 0
+AreMessageTexts form number at input [] text = text ≡ []
+AreMessageTexts form number at input (told ∷ more) text =
+    (one : Text) × (later : Text) × IsMessageText form number at input told one
+    × AreMessageTexts form (number + 1) (at + told.taken) (drop told.taken input) more later × (text ≡ one ++ later)
+
+-- what is printed of a message is appended
+abbrev pub AddsMessage : Form → (number at : ℕ) (input : List ℕ) → Told → (old new : Text) → Type 0
+AddsMessage form number at input told old new =
+    (text : Text) × IsMessageText form number at input told text × (new ≡ old ++ text)
 
 -- ---- the end
 
@@ -95,40 +104,57 @@ abbrev pub AddsBefore : (at : ℕ) (front : List ℕ) (old new : Text) → Type 
 AddsBefore at front old new =
     (before : List Field) × AreFieldsBefore front before × (new ≡ old ++ before_text at front before)
 
--- what is printed where the messages stop, at this place, with this input left
-abbrev pub IsStopText : (at : ℕ) (input : List ℕ) → Stop → Text → Type 0
-IsStopText at input End text = text ≡ []
-IsStopText at input (Refused refusal) text =
+-- the lines of a refusal, at this place, with this input left
+abbrev pub AreRefusedLines : (at : ℕ) (input : List ℕ) → Refusal → Text → Type 0
+AreRefusedLines at input refusal text =
     (before : List Field) × (byte : Text) × AreFieldsBefore (take refusal.at input) before
     × IsByteText at input refusal byte
     × (text ≡ before_text at (take refusal.at input) before ++ (byte ++ reason_lines at refusal))
 
+-- these lines are appended
+abbrev pub AddsRefusedLines : (at : ℕ) (input : List ℕ) → Refusal → (old new : Text) → Type 0
+AddsRefusedLines at input refusal old new =
+    (text : Text) × AreRefusedLines at input refusal text × (new ≡ old ++ text)
+
+-- what is printed of a refusal: its lines, or its object with the number that a message would have
+abbrev pub IsRefusedText : Form → (number at : ℕ) (input : List ℕ) → Refusal → Text → Type 0
+IsRefusedText lines number at input refusal text = AreRefusedLines at input refusal text
+IsRefusedText (objects file) number at input refusal text = IsRefusedObject file number at input refusal text
+
+-- what is printed where the messages stop
+abbrev pub IsStopText : Form → (number at : ℕ) (input : List ℕ) → Stop → Text → Type 0
+IsStopText form number at input End text = text ≡ []
+IsStopText form number at input (Refused refusal) text = IsRefusedText form number at input refusal text
+
 -- what is printed where the messages stop is appended
-abbrev pub AddsStop : (at : ℕ) (input : List ℕ) → Stop → (old new : Text) → Type 0
-AddsStop at input stop old new = (text : Text) × IsStopText at input stop text × (new ≡ old ++ text)
+abbrev pub AddsStop : Form → (number at : ℕ) (input : List ℕ) → Stop → (old new : Text) → Type 0
+AddsStop form number at input stop old new =
+    (text : Text) × IsStopText form number at input stop text × (new ≡ old ++ text)
 
 -- the place of a refusal can be counted, and the bytes before it are a front of a message
 abbrev pub FitsStop : (at : ℕ) (input : List ℕ) → Stop → Type 0
 FitsStop at input End = ⊤
 FitsStop at input (Refused refusal) = (at + refusal.at < 2 ^ 64) × IsMessageFront (take refusal.at input)
 
--- the lines of the messages are appended, and the rest of the input is left
-pub record Explains (limits : LimitValues) (input : List ℕ) (old new : Text) (progress : Progress) : Type 0 where
+-- what is printed of the messages is appended, and the rest of the input is left
+pub record Explains (form : Form) (limits : LimitValues) (input : List ℕ) (old new : Text) (progress : Progress)
+    : Type 0 where
   pub told : List Told
   pub are_told : AreTold limits told input progress.stop
+  pub number_is : progress.number ≡ length told + 1
   pub at_is : progress.at ≡ bytes_told told
   pub rest_is : progress.rest.now ≡ drop progress.at input
   pub messages : Text
-  pub are_messages : AreMessageTexts 1 0 input told messages
+  pub are_messages : AreMessageTexts form 1 0 input told messages
   pub text_is : new ≡ old ++ messages
   pub fits : FitsStop progress.at progress.rest.now progress.stop
 
 -- all that is printed of an input
-pub record IsExplained (limits : LimitValues) (input : List ℕ) (stop : Stop) (text : Text) : Type 0 where
+pub record IsExplained (form : Form) (limits : LimitValues) (input : List ℕ) (stop : Stop) (text : Text) : Type 0 where
   pub told : List Told
   pub are_told : AreTold limits told input stop
   pub messages : Text
-  pub are_messages : AreMessageTexts 1 0 input told messages
+  pub are_messages : AreMessageTexts form 1 0 input told messages
   pub last : Text
-  pub ends : IsStopText (bytes_told told) (drop (bytes_told told) input) stop last
+  pub ends : IsStopText form (length told + 1) (bytes_told told) (drop (bytes_told told) input) stop last
   pub text_is : text ≡ messages ++ last

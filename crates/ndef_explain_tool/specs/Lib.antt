@@ -3,10 +3,13 @@ pub mod Chosen
 pub mod CommandLine
 pub mod Explaining
 pub mod FieldLines
+pub mod Forms
 pub mod Hexadecimal
 pub mod Inputs
+pub mod JsonText
 pub mod Lines
 pub mod Meanings
+pub mod Objects
 pub mod Pages
 pub mod Painting
 pub mod PayloadLines

@@ -22,6 +22,7 @@ help_text =
     ++ codes "                      standard reads them as the standard says\n"
     ++ codes "  --color WHEN        always, never, or auto: in colour where output is a terminal and\n"
     ++ codes "                      NO_COLOR isn't set, as without the option\n"
+    ++ codes "  --json              print an object in JSON in a line for each message\n"
     ++ codes "\n"
     ++ codes "Alone:\n"
     ++ codes "\n"

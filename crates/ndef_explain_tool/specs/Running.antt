@@ -12,13 +12,14 @@ use Rattle.ndef_program.specs.Pages.{page_asked}
 use Rattle.ndef_tool.specs.declared.choice.WordsError.{WordsError}
 use Rattle.ndef_tool.specs.declared.choice.WordsError.TheVariants.{Usage, NoMemory}
 use Rattle.ndef_tool.specs.declared.ending.Ending.{Ending}
-use Rattle.ndef_tool.specs.declared.ending.Ending.TheVariants.{Memory}
 use Rattle.ndef_program.specs.declared.pages.Page.{Page}
 use Rattle.ndef_program.specs.declared.status.Status.{Status}
 use Rattle.ndef_program.specs.declared.status.Status.TheVariants as status
 use Rattle.ndef_explain_tool.specs.Chosen.{Asks, asked_parts}
 use Rattle.ndef_explain_tool.specs.Explaining.{IsExplained}
+use Rattle.ndef_explain_tool.specs.Forms.{Form, form_in, lines, objects}
 use Rattle.ndef_explain_tool.specs.Inputs.{AreOctets}
+use Rattle.ndef_explain_tool.specs.Objects.{fault_object, line_of}
 use Rattle.ndef_explain_tool.specs.Pages.{page_text}
 use Rattle.ndef_explain_tool.specs.Painting.{shown_in}
 use Rattle.ndef_explain_tool.specs.declared.choice.Asked.{Asked}
@@ -41,21 +42,38 @@ abbrev pub heading : (named : Bool) → (name : Text) → Text
 heading true name = codes "file " ++ quoted name ++ codes "\n"
 heading false name = []
 
+-- the line of a fault, or its object
+abbrev pub fault_text : Form → Ending → Text
+fault_text lines ending = ending_text 0 ending
+fault_text (objects file) ending = line_of (fault_object file ending)
+
 -- what is printed of the bytes of an input, and the status; or of the fault, where there are none
-abbrev pub IsBody : LimitValues → (octets : Result (List ℕ) Ending) → Text → Status → Type 0
-IsBody limits (Ok octets) text st = (stop : Stop) × IsExplained limits octets stop text × (st ≡ stop_status stop)
-IsBody limits (Err ending) text st = (text ≡ ending_text 0 ending) × (st ≡ status_of ending)
+abbrev pub IsBody : Form → LimitValues → (octets : Result (List ℕ) Ending) → Text → Status → Type 0
+IsBody form limits (Ok octets) text st =
+    (stop : Stop) × IsExplained form limits octets stop text × (st ≡ stop_status stop)
+IsBody form limits (Err ending) text st = (text ≡ fault_text form ending) × (st ≡ status_of ending)
+
+-- lines stand behind the name of the input, in colour or not; objects stand as they are
+abbrev pub sheet : Manner → (json : Bool) → (name : Text) → (body : Text) → Text
+sheet manner false name body = shown_in manner.in_color (heading manner.named name ++ body)
+sheet manner true name body = body
 
 -- all that is printed of an input of this name, of which this was read, and its status
 abbrev pub IsTold : Manner → (name : Text) → (read : Result (List ℕ) InputError) → Text → Status → Type 0
 IsTold manner name read text st =
     (octets : Result (List ℕ) Ending) × (body : Text) × AreOctets manner.hex read octets
-    × IsBody manner.limits octets body st × (text ≡ shown_in manner.in_color (heading manner.named name ++ body))
+    × IsBody (form_in manner.json manner.named name) manner.limits octets body st
+    × (text ≡ sheet manner manner.json name body)
+
+-- where memory is wanting
+abbrev pub memory_text : (json : Bool) → Text
+memory_text false = codes "fault: memory\n"
+memory_text true = codes "{\"fault\":\"memory\"}\n"
 
 -- the same; or the fault, where memory is wanting
 abbrev pub IsToldInMemory : Manner → (name : Text) → (read : Result (List ℕ) InputError) → Text → Status → Type 0
 IsToldInMemory manner name read text st =
-    IsTold manner name read text st ⊎ ((text ≡ ending_text 0 Memory) × (st ≡ status.Fault))
+    IsTold manner name read text st ⊎ ((text ≡ memory_text manner.json) × (st ≡ status.Fault))
 
 -- ---- the inputs, one after another
 
@@ -113,7 +131,7 @@ TellsAll {I} gives manner (name ∷ names) st before after result =
 -- for words that don't parse
 abbrev pub usage_line : Text
 usage_line = codes "usage: ndef-explain [--hex] [--payload N] [--records N] [--pieces N] "
-    ++ codes "[--profile strict|standard] [--color auto|always|never] [FILE]..\n"
+    ++ codes "[--profile strict|standard] [--color auto|always|never] [--json] [FILE]..\n"
 
 -- a text goes out, or a front of it before writing fails, and this is the status
 abbrev pub PrintsText : Text → Status → (before after : SinkState) → Status → Type 0
@@ -147,6 +165,7 @@ manner_of choice takes_color named = record {
   limits = choice.limits;
   hex = choice.hex;
   in_color = is_in_color choice.color takes_color;
+  json = choice.json;
   named = named;
 }
 

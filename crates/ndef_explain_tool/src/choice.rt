@@ -6,7 +6,7 @@ ghost use Rattle.ndef_explain_tool.specs.Chosen.{Answers, Asks, asked_in, choice
 use crate::command::explain_command;
 use clap::ArgMatches;
 use clap::error::ErrorKind;
-use ndef_program::{hex_given, option_text};
+use ndef_program::{flag_given, hex_given, option_text};
 use ndef_tool::{WordsError, limits_given};
 use ndef_value::{Limits, NoMemory};
 use std::alloc::{AllocError, Global};
@@ -26,6 +26,8 @@ pub(crate) struct Choice {
     /// Input is hexadecimal text.
     pub(crate) hex: bool,
     pub(crate) color: Color,
+    /// Output is in JSON.
+    pub(crate) json: bool,
     pub(crate) limits: Limits,
 }
 
@@ -68,6 +70,7 @@ fn choice_given(matches: &ArgMatches<'_>) -> Option<Choice>
     Some(Choice {
         hex: hex_given(matches),
         color,
+        json: flag_given(matches, "json"),
         limits,
     })
 }

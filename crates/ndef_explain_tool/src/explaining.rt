@@ -1,14 +1,26 @@
 //! What is printed of an input.
 ghost use Rattle.std.specs.Prelude.{◌≡◌, ◌++◌, ◌+◌, ◌<◌, ◌^◌, ◌≤◌, IfOk, OnOk, length};
-ghost use Rattle.ndef_explain_tool.specs.Explaining.{AddsMessage, Explains, IsExplained, message_head};
+ghost use Rattle.ndef_fields.specs.FieldLaws.{AreGapless};
+ghost use Rattle.ndef_fields.specs.Tellings.{TellsFields};
+ghost use Rattle.ndef_explain_tool.specs.Explaining.{AddsMessage, AddsStop, Explains, FitsStop, IsExplained};
+ghost use Rattle.ndef_explain_tool.specs.Forms.{form_of};
+ghost use Rattle.ndef_explain_tool.specs.declared.explaining.Stop.TheVariants.{Refused};
 
-use crate::field_lines::push_fields;
-use crate::payload_lines::push_payloads;
-use crate::refusal_lines::push_stop;
-use ndef_fields::{Told, fields};
-use ndef_tool::push_number;
+use crate::message_lines::push_message_lines;
+use crate::message_objects::{push_message_object, push_refused_object};
+use crate::refusal_lines::push_refused_lines;
+use ndef_fields::{Told, fields, fields_are_exact};
 use ndef_value::{Bytes, Limits, NoMemory, Refusal};
 use std::alloc::Global;
+
+/// The form of what is printed.
+#[derive(Clone, Copy, Debug)]
+pub(crate) enum Style<'a> {
+    /// Lines, at least one for each field.
+    Lines,
+    /// An object in JSON in a line for each message, with the name of the input where inputs are named.
+    Objects(Option<&'a str>),
+}
 
 /// Where the messages of an input stop.
 #[derive(Clone, Copy, Debug, PartialEq, Eq)]
@@ -31,81 +43,146 @@ pub(crate) struct Explained {
 struct Progress<'a> {
     /// The bytes that are left.
     rest: &'a [u8],
+    /// The number of the next message.
+    number: u64,
     /// The bytes of the messages.
     at: u64,
     stop: Stop,
 }
 
-/// Appends the line of a message, with its number and its place.
-fn push_message_line(line: &mut Bytes, number: u64, at: u64, bytes: u64) -> Result<(), NoMemory>
-    ensures { OnOk result (line.new ≡ line.old ++ message_head number at bytes) }
+/// The fields of the message with which the bytes begin.
+fn next_message(bytes: &[u8], limits: Limits) -> Result<Told<'_>, Refusal>
+    ensures told { TellsFields limits bytes.now result }
+    ensures some { IfOk result (λ told. (0 < told.taken) × (told.taken ≤ length bytes.now)) }
+    ensures few { IfOk result (λ told. length told.items ≤ 65535) }
+    ensures follow { IfOk result (λ told. AreGapless 0 told.fields told.taken) }
 {
-    line.extend(b"message ")?;
-    push_number(line, number)?;
-    line.extend(b" at ")?;
-    push_number(line, at)?;
-    line.extend(b": bytes ")?;
-    push_number(line, bytes)?;
-    line.extend(b"\n")
+    fields_are_exact();
+    fields(bytes, limits)
 }
 
-/// Appends the lines of a message and of its fields, and then of its payloads in several pieces.
+/// Appends what is printed of a message.
+#[tactic(auto, using(crate::proofs::Places::gapless_fit))]
 fn push_message(
     alloc: Global,
     line: &mut Bytes,
+    style: Style<'_>,
     number: u64,
     at: u64,
     bytes: &[u8],
     told: Told<'_>,
 ) -> Result<(), NoMemory>
-    requires { length told.items ≤ 65535 }
-    ensures { OnOk result (AddsMessage number at bytes.now told.entry line.old line.new) }
+    requires few { length told.items ≤ 65535 }
+    requires follow { AreGapless 0 told.fields told.taken }
+    requires fits { at + told.taken < 2 ^ 64 }
+    ensures { OnOk result (AddsMessage (form_of style.entry) number at bytes.now told.entry line.old line.new) }
 {
-    push_message_line(line, number, at, told.taken)?;
-    push_fields(line, at, bytes, told.fields)?;
-    push_payloads(alloc, line, told.items)?;
-    Ok(())
+    match style {
+        Style::Lines => push_message_lines(alloc, line, number, at, bytes, told),
+        Style::Objects(file) => push_message_object(alloc, line, file, number, at, bytes, told),
+    }
 }
 
-/// Appends the lines of the messages of an input, one after another.
+/// Appends what is printed of the messages of an input, one after another.
 fn push_messages<'a>(
     alloc: Global,
     line: &mut Bytes,
+    style: Style<'_>,
     limits: Limits,
     input: &'a [u8],
 ) -> Result<Progress<'a>, NoMemory>
-    ensures { IfOk result (λ progress. Explains limits input.now line.old line.new progress) }
+    ensures { IfOk result (λ progress.
+        Explains (form_of style.entry) limits input.now line.old line.new progress) }
 {
     let size = input.len() as u64;
     let mut rest = input;
     let mut at = 0;
     let mut number = 1;
     while at < size {
-        match fields(rest, limits) {
+        match next_message(rest, limits) {
             Ok(told) => {
                 let taken = told.taken;
-                push_message(alloc, line, number, at, rest, told)?;
+                push_message(alloc, line, style, number, at, rest, told)?;
                 (_, rest) = rest.split_at(taken as usize);
                 at += taken;
                 number += 1;
             }
             Err(refusal) => {
                 let stop = Stop::Refused(refusal);
-                return Ok(Progress { rest, at, stop });
+                return Ok(Progress {
+                    rest,
+                    number,
+                    at,
+                    stop,
+                });
             }
         }
     }
     let stop = Stop::End;
-    Ok(Progress { rest, at, stop })
+    Ok(Progress {
+        rest,
+        number,
+        at,
+        stop,
+    })
+}
+
+/// Appends what is printed of a refusal, behind so many bytes, with these bytes left.
+fn push_refused(
+    alloc: Global,
+    line: &mut Bytes,
+    style: Style<'_>,
+    number: u64,
+    at: u64,
+    bytes: &[u8],
+    refusal: Refusal,
+) -> Result<(), NoMemory>
+    requires { FitsStop at bytes.now (Refused refusal) }
+    ensures { OnOk result (AddsStop (form_of style.entry) number at bytes.now (Refused refusal) line.old line.new) }
+{
+    match style {
+        Style::Lines => push_refused_lines(line, at, bytes, refusal),
+        Style::Objects(file) => push_refused_object(alloc, line, file, number, at, bytes, refusal),
+    }
+}
+
+/// Appends what is printed where messages stop.
+fn push_stop(
+    alloc: Global,
+    line: &mut Bytes,
+    style: Style<'_>,
+    progress: &Progress<'_>,
+) -> Result<(), NoMemory>
+    requires { FitsStop progress.now.at progress.now.rest.now progress.now.stop }
+    ensures { OnOk result (AddsStop (form_of style.entry) progress.now.number progress.now.at progress.now.rest.now
+        progress.now.stop line.old line.new) }
+{
+    match progress.stop {
+        Stop::End => Ok(()),
+        Stop::Refused(refusal) => push_refused(
+            alloc,
+            line,
+            style,
+            progress.number,
+            progress.at,
+            progress.rest,
+            refusal,
+        ),
+    }
 }
 
 /// What is printed of an input: the fields of each message, and where it is refused.
-pub(crate) fn explain(alloc: Global, limits: Limits, input: &[u8]) -> Result<Explained, NoMemory>
-    ensures { IfOk result (λ made. IsExplained limits input.now made.stop made.text) }
+pub(crate) fn explain(
+    alloc: Global,
+    style: Style<'_>,
+    limits: Limits,
+    input: &[u8],
+) -> Result<Explained, NoMemory>
+    ensures { IfOk result (λ made. IsExplained (form_of style.entry) limits input.now made.stop made.text) }
 {
     let mut text = Bytes::new(alloc);
-    let progress = push_messages(alloc, &mut text, limits, input)?;
-    push_stop(&mut text, progress.at, progress.rest, progress.stop)?;
+    let progress = push_messages(alloc, &mut text, style, limits, input)?;
+    push_stop(alloc, &mut text, style, &progress)?;
     Ok(Explained {
         text,
         stop: progress.stop,

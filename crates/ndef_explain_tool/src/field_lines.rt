@@ -17,7 +17,7 @@ pub(crate) fn cut(octets: &[u8], count: usize) -> (&[u8], &[u8])
 }
 
 /// The octets of a field of these bytes.
-fn octets_of<'a>(bytes: &'a [u8], field: &Field) -> &'a [u8]
+pub(crate) fn octets_of<'a>(bytes: &'a [u8], field: &Field) -> &'a [u8]
     ensures { result.now ≡ octets_of bytes.now field.now }
 {
     cut(cut(bytes, field.at).1, field.length).0

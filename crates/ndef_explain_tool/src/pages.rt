@@ -38,6 +38,7 @@ Without a FILE, and for the FILE -, it reads standard input.
                       standard reads them as the standard says
   --color WHEN        always, never, or auto: in colour where output is a terminal and
                       NO_COLOR isn't set, as without the option
+  --json              print an object in JSON in a line for each message
 
 Alone:
 

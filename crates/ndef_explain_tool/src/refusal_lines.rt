@@ -1,18 +1,18 @@
 //! What is printed of a refusal.
 ghost use Rattle.std.specs.Prelude.{◌≡◌, ◌++◌, ◌+◌, ◌<◌, ◌^◌, ◌≤◌, OnOk, length};
-ghost use Rattle.ndef_explain_tool.specs.Explaining.{AddsBefore, AddsByte, AddsStop, FitsStop, byte_line, reason_lines};
+ghost use Rattle.ndef_explain_tool.specs.Explaining.{AddsBefore, AddsByte, AddsRefusedLines, FitsStop, byte_line, reason_lines};
 ghost use Rattle.ndef_fields.specs.Tellings.{IsMessageFront};
 ghost use Rattle.ndef_explain_tool.specs.Sentences.{sentence_of};
+ghost use Rattle.ndef_explain_tool.specs.declared.explaining.Stop.TheVariants.{Refused};
 
 use crate::cells::{push_cells, push_start};
-use crate::explaining::Stop;
 use crate::field_lines::{cut, push_fields};
 use ndef_fields::{ByteField, field_of_last, fields_before};
 use ndef_tool::push_number;
 use ndef_value::{Bytes, NoMemory, Reason, Refusal};
 
 /// What a reason means, in a sentence.
-fn sentence_of(reason: Reason) -> &'static [u8]
+pub(crate) fn sentence_of(reason: Reason) -> &'static [u8]
     ensures { result.now ≡ sentence_of reason }
 {
     match reason {
@@ -109,18 +109,18 @@ fn push_before(line: &mut Bytes, at: u64, front: &[u8]) -> Result<(), NoMemory>
     Ok(())
 }
 
-/// Appends what is printed where messages stop, behind so many bytes, with these bytes left.
-pub(crate) fn push_stop(line: &mut Bytes, at: u64, bytes: &[u8], stop: Stop) -> Result<(), NoMemory>
-    requires { FitsStop at bytes.now stop }
-    ensures { OnOk result (AddsStop at bytes.now stop line.old line.new) }
+/// Appends the lines of a refusal, behind so many bytes, with these bytes left.
+pub(crate) fn push_refused_lines(
+    line: &mut Bytes,
+    at: u64,
+    bytes: &[u8],
+    refusal: Refusal,
+) -> Result<(), NoMemory>
+    requires { FitsStop at bytes.now (Refused refusal) }
+    ensures { OnOk result (AddsRefusedLines at bytes.now refusal line.old line.new) }
 {
-    match stop {
-        Stop::End => Ok(()),
-        Stop::Refused(refusal) => {
-            push_before(line, at, cut(bytes, refusal.at as usize).0)?;
-            push_refused_byte(line, at, bytes, refusal)?;
-            push_reason(line, at, refusal)?;
-            Ok(())
-        }
-    }
+    push_before(line, at, cut(bytes, refusal.at as usize).0)?;
+    push_refused_byte(line, at, bytes, refusal)?;
+    push_reason(line, at, refusal)?;
+    Ok(())
 }

@@ -5,7 +5,7 @@ ghost use Rattle.ndef_message.specs.States.{sink_state};
 ghost use Rattle.ndef_tool.specs.Runs.{EndsCommand};
 ghost use Rattle.ndef_program.specs.declared.status.Status.TheVariants.{Clean};
 ghost use Rattle.ndef_explain_tool.specs.Chosen.{asked_parts};
-ghost use Rattle.ndef_explain_tool.specs.Running.{PrintsText, Runs, SendsOut, TellsAll, TellsAsked, TellsNext, is_in_color, manner_of, usage_line, world, worse};
+ghost use Rattle.ndef_explain_tool.specs.Running.{PrintsText, Runs, SendsOut, TellsAll, TellsAsked, TellsNext, is_in_color, manner_of, memory_text, usage_line, world, worse};
 
 use crate::choice::{Asked, Choice, Color, ask};
 use crate::inputs::Inputs;
@@ -19,10 +19,7 @@ use std::alloc::Global;
 
 /// What is printed where the words don't parse.
 const USAGE: &[u8] = b"usage: ndef-explain [--hex] [--payload N] [--records N] [--pieces N] \
-    [--profile strict|standard] [--color auto|always|never] [FILE]..\n";
-
-/// What is printed where memory is wanting.
-const NO_MEMORY: &[u8] = b"fault: memory\n";
+    [--profile strict|standard] [--color auto|always|never] [--json] [FILE]..\n";
 
 /// The status, unless the text couldn't be written.
 fn end(written: Result<u64, WriteFault>, status: Status) -> Status
@@ -39,6 +36,17 @@ fn usage() -> &'static [u8]
     ensures { result.now ≡ usage_line }
 {
     USAGE
+}
+
+/// What is printed where memory is wanting.
+fn memory_text(json: bool) -> &'static [u8]
+    ensures { result.now ≡ memory_text json }
+{
+    if json {
+        b"{\"fault\":\"memory\"}\n"
+    } else {
+        b"fault: memory\n"
+    }
 }
 
 /// The greater of two statuses.
@@ -70,6 +78,7 @@ fn manner_of(choice: Choice, takes_color: bool, named: bool) -> Manner
         limits: choice.limits,
         hex: choice.hex,
         in_color: is_in_color(choice.color, takes_color),
+        json: choice.json,
         named,
     }
 }
@@ -106,7 +115,7 @@ fn tell_next<K: Sink>(
 {
     match tell(alloc, manner, name, read) {
         Ok(told) => send_out(told.text.as_slice(), told.status, sink),
-        Err(NoMemory) => send_out(NO_MEMORY, Status::Fault, sink),
+        Err(NoMemory) => send_out(memory_text(manner.json), Status::Fault, sink),
     }
 }
 

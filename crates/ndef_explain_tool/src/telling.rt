@@ -1,10 +1,12 @@
 //! What is printed of an input.
-ghost use Rattle.std.specs.Prelude.{◌≡◌, ◌++◌, IfErr, IfOk, OnOk};
+ghost use Rattle.std.specs.Prelude.{◌≡◌, ◌++◌, false, IfErr, IfOk, OnOk};
 ghost use Rattle.ndef_message.specs.Inputs.{bytes_of};
-ghost use Rattle.ndef_tool.specs.Output.{FitsPlace, ending_text, status_of};
-ghost use Rattle.ndef_explain_tool.specs.Running.{IsBody, IsTold, heading, stop_status};
+ghost use Rattle.ndef_tool.specs.Output.{FitsPlace, status_of};
+ghost use Rattle.ndef_explain_tool.specs.Forms.{form_in, form_of};
+ghost use Rattle.ndef_explain_tool.specs.Running.{IsBody, IsTold, fault_text, heading, sheet, stop_status};
 
-use crate::explaining::{Stop, explain};
+use crate::explaining::{Stop, Style, explain};
+use crate::fault_objects::push_fault_object;
 use crate::inputs::octets_of;
 use crate::painting::push_shown;
 use ndef_message::InputError;
@@ -21,6 +23,8 @@ pub(crate) struct Manner {
     pub(crate) hex: bool,
     /// What is printed is in colour.
     pub(crate) in_color: bool,
+    /// It is in JSON.
+    pub(crate) json: bool,
     /// A line names each of them.
     pub(crate) named: bool,
 }
@@ -66,14 +70,42 @@ fn push_heading(text: &mut Bytes, named: bool, name: &str) -> Result<(), NoMemor
     text.extend(b"\n")
 }
 
-/// What is printed of a fault.
-fn tell_fault(alloc: Global, ending: Ending) -> Result<Told, NoMemory>
-    requires { FitsPlace 0 ending }
-    ensures { IfOk result (λ told. (told.text ≡ ending_text 0 ending) × (told.status ≡ status_of ending)) }
+/// The form of what is printed of an input of this name.
+fn style_of<'a>(manner: &Manner, name: &'a str) -> Style<'a>
+    ensures { form_of result ≡ form_in manner.now.json manner.now.named name.now }
 {
-    let line = ending_line(Action::Check, 0, ending);
+    if !manner.json {
+        return Style::Lines;
+    }
+    Style::Objects(if manner.named { Some(name) } else { None })
+}
+
+/// Appends what is printed of a fault.
+fn push_fault(
+    alloc: Global,
+    text: &mut Bytes,
+    style: Style<'_>,
+    ending: Ending,
+) -> Result<(), NoMemory>
+    requires { FitsPlace 0 ending }
+    ensures { OnOk result (text.new ≡ text.old ++ fault_text (form_of style.entry) ending) }
+{
+    match style {
+        Style::Lines => text.extend(ending_line(Action::Check, 0, ending).as_slice()),
+        Style::Objects(file) => push_fault_object(alloc, text, file, ending),
+    }
+}
+
+/// What is printed of a fault.
+fn tell_fault(alloc: Global, style: Style<'_>, ending: Ending) -> Result<Told, NoMemory>
+    requires { FitsPlace 0 ending }
+    ensures { IfOk result (λ told.
+        (told.text ≡ fault_text (form_of style.entry) ending) × (told.status ≡ status_of ending)) }
+{
+    let mut text = Bytes::new(alloc);
+    push_fault(alloc, &mut text, style, ending)?;
     Ok(Told {
-        text: Bytes::from_slice(alloc, line.as_slice())?,
+        text,
         status: status_of(ending),
     })
 }
@@ -81,22 +113,35 @@ fn tell_fault(alloc: Global, ending: Ending) -> Result<Told, NoMemory>
 /// What is printed of the bytes of an input, or of the fault, where there are none.
 fn tell_octets(
     alloc: Global,
+    style: Style<'_>,
     limits: Limits,
     octets: Result<Vec<u8>, Ending>,
 ) -> Result<Told, NoMemory>
     requires { IfErr octets (λ ending. FitsPlace 0 ending) }
-    ensures { IfOk result (λ told. IsBody limits (bytes_of octets) told.text told.status) }
+    ensures { IfOk result (λ told. IsBody (form_of style.entry) limits (bytes_of octets) told.text told.status) }
 {
     match octets {
         Ok(octets) => {
-            let explained = explain(alloc, limits, octets.as_slice())?;
+            let explained = explain(alloc, style, limits, octets.as_slice())?;
             Ok(Told {
                 text: explained.text,
                 status: stop_status(explained.stop),
             })
         }
-        Err(ending) => tell_fault(alloc, ending),
+        Err(ending) => tell_fault(alloc, style, ending),
     }
+}
+
+/// Lines behind the name of the input, where inputs are named, in colour or not.
+fn sheet_of(alloc: Global, manner: &Manner, name: &str, body: &[u8]) -> Result<Bytes, NoMemory>
+    ensures { IfOk result (λ text. text ≡ sheet manner.now false name.now body.now) }
+{
+    let mut plain = Bytes::new(alloc);
+    push_heading(&mut plain, manner.named, name)?;
+    plain.extend(body)?;
+    let mut text = Bytes::new(alloc);
+    push_shown(&mut text, manner.in_color, plain.as_slice())?;
+    Ok(text)
 }
 
 /// What is printed of an input of this name, of which this was read.
@@ -108,15 +153,13 @@ pub(crate) fn tell(
 ) -> Result<Told, NoMemory>
     ensures { IfOk result (λ told. IsTold manner.now name.now (bytes_of read) told.text told.status) }
 {
-    let mut plain = Bytes::new(alloc);
-    push_heading(&mut plain, manner.named, name)?;
     let octets = octets_of(alloc, manner.hex, read);
-    let body = tell_octets(alloc, manner.limits, octets)?;
-    plain.extend(body.text.as_slice())?;
-    let mut text = Bytes::new(alloc);
-    push_shown(&mut text, manner.in_color, plain.as_slice())?;
+    let body = tell_octets(alloc, style_of(manner, name), manner.limits, octets)?;
+    if manner.json {
+        return Ok(body);
+    }
     Ok(Told {
-        text,
+        text: sheet_of(alloc, manner, name, body.text.as_slice())?,
         status: body.status,
     })
 }

@@ -1,5 +1,6 @@
 use Rattle.std.proofs.Common.{inl, inr, refl, subst}
 use Rattle.ndef_message.specs.States.{sink_state}
+use Rattle.ndef_program.specs.declared.status.Status.TheVariants.{Fault}
 use Rattle.ndef_explain_tool.specs.Running.{SendsOut}
 use Rattle.ndef_explain_tool.proofs.running.tell_next.Goals as goal
 
@@ -13,4 +14,10 @@ returns-in-Ok g c = λ clear. (
 )
 
 pub returns-in-Err : goal.returns-in-Err
-returns-in-Err g c = λ clear. (_, _, inr (refl, refl), c.send_out-in-Err.ensures clear)
+returns-in-Err g c = λ clear. (
+  _,
+  _,
+  inr (refl, refl),
+  subst (λ text. SendsOut text Fault (sink_state g.K.Sink c.args.sink.now) (sink_state g.K.Sink c.send_out-in-Err.new.sink) c.send_out-in-Err.result)
+      c.memory_text.ensures (c.send_out-in-Err.ensures clear),
+)

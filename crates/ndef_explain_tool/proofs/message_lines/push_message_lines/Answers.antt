@@ -2,7 +2,7 @@ use Rattle.std.proofs.Common.{◌∙◌, ◌++◌, ap, refl, append_assoc}
 use Rattle.std.specs.List.{flat_map}
 use Rattle.ndef_explain_tool.specs.Explaining.{fields_text, message_head}
 use Rattle.ndef_explain_tool.specs.FieldLines.{field_text}
-use Rattle.ndef_explain_tool.proofs.explaining.push_message.Goals as goal
+use Rattle.ndef_explain_tool.proofs.message_lines.push_message_lines.Goals as goal
 
 pub returns : goal.returns
 returns c =

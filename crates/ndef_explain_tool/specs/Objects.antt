@@ -1,0 +1,222 @@
+-- What is printed in JSON. The members of an object stand in the order of their names.
+use Rattle.std.specs.Prelude.{◌≡◌, ℕ, Bool, false, ◌+◌, ◌<◌, ◌≤◌, ◌^◌, ⊤, List, [], ◌∷◌, ◌++◌, Option, Some, None, codes, length, map, slice_index, take}
+use Rattle.hex.specs.Hex.{encode_lower}
+use Rattle.ndef_format.specs.Kinds.{kind_of}
+use Rattle.ndef_format.specs.Messages.{Item, run_record}
+use Rattle.ndef_format.specs.Reasons.{reason_name, reason_number}
+use Rattle.ndef_format.specs.Records.{Piece, Run}
+use Rattle.ndef_format.specs.declared.kind.Kind.{Kind}
+use Rattle.ndef_format.specs.declared.refusal.Refusal.{Refusal}
+use Rattle.ndef_fields.specs.Lasts.{IsFieldOfLast}
+use Rattle.ndef_fields.specs.Names.{name_text}
+use Rattle.ndef_fields.specs.Tellings.{AreFieldsBefore, ArePayloadFields}
+use Rattle.ndef_fields.specs.declared.field.Field.{Field}
+use Rattle.ndef_fields.specs.declared.telling.Told.{Told}
+use Rattle.ndef_tool.specs.Quoting.{Text, quoted_bytes}
+use Rattle.ndef_tool.specs.declared.ending.Ending.{Ending}
+use Rattle.ndef_tool.specs.declared.ending.Ending.TheVariants as endings
+use Rattle.ndef_tool.specs.declared.ending.HexFault.{HexFault}
+use Rattle.ndef_tool.specs.declared.ending.HexFault.TheVariants.{BadDigit, Odd}
+use Rattle.serde_json.specs.Data.{Data, array, string}
+use Rattle.serde_json.specs.Written.{comma_if, compact_text, items_text}
+use Rattle.ndef_explain_tool.specs.FieldLines.{octets_of}
+use Rattle.ndef_explain_tool.specs.JsonText.{Pair, counted, items_of, later_members, member_text, object_of}
+use Rattle.ndef_explain_tool.specs.Meanings.{meaning_of, reading_of}
+use Rattle.ndef_explain_tool.specs.Sentences.{sentence_of}
+use Rattle.ndef_explain_tool.specs.declared.message_objects.RefusedByte.{RefusedByte}
+
+-- an object in a line
+abbrev pub line_of : Data → Text
+line_of value = compact_text value ++ codes "\n"
+
+-- the name of the input, where inputs are named; a byte that isn't plain stands in it as in a line
+abbrev pub file_pairs : Option Text → List Pair
+file_pairs None = []
+file_pairs (Some name) = (codes "file", string (quoted_bytes name)) ∷ []
+
+-- ---- fields
+
+-- what the octets of a field say, as in its line but for the blank before it, where they say anything
+abbrev pub meaning_pairs : Text → List Pair
+meaning_pairs [] = []
+meaning_pairs (blank ∷ meaning) = (codes "meaning", string meaning) ∷ []
+
+-- a field of an input: its place there, how deep it lies, what it says, its name, and its octets in hexadecimal digits
+abbrev pub field_pairs : (at : ℕ) → Field → (octets : List ℕ) → List Pair
+field_pairs at field octets =
+    (codes "at", counted (at + field.at)) ∷ (codes "depth", counted field.depth)
+    ∷ (codes "length", counted field.length) ∷ (meaning_pairs (meaning_of (reading_of field.name) octets)
+    ++ (codes "name", string (name_text field.name)) ∷ (codes "octets", string (encode_lower octets)) ∷ [])
+
+-- the same of a field of these bytes
+abbrev pub field_object : (at : ℕ) (bytes : List ℕ) → Field → Data
+field_object at bytes field = object_of (field_pairs at field (octets_of bytes field))
+
+-- the fields of these bytes
+abbrev pub fields_array : (at : ℕ) (bytes : List ℕ) → List Field → Data
+fields_array at bytes fields = array (items_of (map (field_object at bytes) fields))
+
+-- the places of fields of an input can be counted
+abbrev pub PlacesFit : (at : ℕ) → List Field → Type 0
+PlacesFit at [] = ⊤
+PlacesFit at (field ∷ fields) = (at + field.at < 2 ^ 64) × PlacesFit at fields
+
+-- ---- payloads in several pieces, joined
+
+-- the payload of the record of this number: its fields, and how many bytes it has
+abbrev pub payload_object : (number : ℕ) → (payload : List ℕ) → List Field → Data
+payload_object number payload fields =
+    object_of ((codes "fields", fields_array 0 payload fields) ∷ (codes "length", counted (length payload))
+    ∷ (codes "record", counted number) ∷ [])
+
+-- NDEF 1.0, TNF and TYPE: the kind of a record
+abbrev pub run_kind : Run → Kind
+run_kind run = kind_of (run_record run).tnf (run_record run).kind
+
+-- NDEF 1.0, chunked payloads: the object of a payload that has these pieces behind its first; none where there are none
+abbrev pub ArePayloadObjectsBy : (number : ℕ) → Item → (later : List Piece) → List Data → Type 0
+ArePayloadObjectsBy number item [] objects = objects ≡ []
+ArePayloadObjectsBy number item (p ∷ later) objects =
+    (fields : List Field) × ArePayloadFields (kind_of item.tnf item.kind) item.payload fields
+    × (objects ≡ payload_object number item.payload fields ∷ [])
+
+-- NDEF 1.0, chunked payloads: those of records, of which the first has this number
+abbrev pub ArePayloadObjects : (number : ℕ) → List Run → List Data → Type 0
+ArePayloadObjects number [] objects = objects ≡ []
+ArePayloadObjects number (run ∷ runs) objects =
+    (one : List Data) × (more : List Data) × ArePayloadObjectsBy number (run_record run) run.later one
+    × ArePayloadObjects (number + 1) runs more × (objects ≡ one ++ more)
+
+-- the object of a payload is appended, its pieces joined, after a comma where others come before
+abbrev pub AddsJoined : (number : ℕ) → Run → (later : Bool) → (old new : Text) → Type 0
+AddsJoined number run later old new =
+    (fields : List Field) × ArePayloadFields (run_kind run) (run_record run).payload fields
+    × (new ≡ old ++ (comma_if later ++ compact_text (payload_object number (run_record run).payload fields)))
+
+-- where an array goes on, these values are appended; `before` and `behind` say whether values come before and behind them
+abbrev pub AddsItems : List Data → (before behind : Bool) → (old new : Text) → Type 0
+AddsItems values before behind old new =
+    (rest : List Data) → new ++ items_text behind (items_of rest) ≡ old ++ items_text before (items_of (values ++ rest))
+
+-- the objects of the payload of a record are appended so
+abbrev pub AddsPayloadObjects : (number : ℕ) → Run → (before behind : Bool) → (old new : Text) → Type 0
+AddsPayloadObjects number run before behind old new =
+    (objects : List Data) × ArePayloadObjectsBy number (run_record run) run.later objects
+    × AddsItems objects before behind old new
+
+-- the array of the payloads of these records is appended
+abbrev pub AddsPayloadsArray : List Run → (old new : Text) → Type 0
+AddsPayloadsArray runs old new =
+    (payloads : List Data) × ArePayloadObjects 1 runs payloads × (new ≡ old ++ compact_text (array (items_of payloads)))
+
+-- ---- messages
+
+-- the number, the length and the payloads in several pieces of a message
+abbrev pub message_rest : (number taken : ℕ) → (payloads : List Data) → List Pair
+message_rest number taken payloads =
+    (codes "length", counted taken) ∷ (codes "message", counted number)
+    ∷ (codes "payloads", array (items_of payloads)) ∷ []
+
+-- a message with its number and its place
+abbrev pub message_object : Option Text → (number at : ℕ) (input : List ℕ) → Told → (payloads : List Data) → Data
+message_object file number at input told payloads =
+    object_of ((codes "at", counted at) ∷ (codes "fields", fields_array at input told.fields)
+    ∷ (file_pairs file ++ message_rest number told.taken payloads))
+
+-- the beginning of such a text, which that of a refusal has too
+abbrev pub message_front : Option Text → (at : ℕ) (bytes : List ℕ) → List Field → Text
+message_front file at bytes fields =
+    codes "{" ++ (member_text false (codes "at") (counted at)
+    ++ later_members ((codes "fields", fields_array at bytes fields) ∷ file_pairs file))
+
+-- these members, and the end of the line
+abbrev pub end_text : List Pair → Text
+end_text pairs = later_members pairs ++ codes "}\n"
+
+-- this rest is appended
+abbrev pub AddsMessageBack : (number taken : ℕ) → List Run → (old new : Text) → Type 0
+AddsMessageBack number taken runs old new =
+    (payloads : List Data) × ArePayloadObjects 1 runs payloads
+    × (new ≡ old ++ end_text (message_rest number taken payloads))
+
+-- the line of a message
+abbrev pub IsMessageObject : Option Text → (number at : ℕ) (input : List ℕ) → Told → Text → Type 0
+IsMessageObject file number at input told text =
+    (payloads : List Data) × ArePayloadObjects 1 told.items payloads
+    × (text ≡ line_of (message_object file number at input told payloads))
+
+-- ---- refusals
+
+-- the refused byte and its field; none where the input ends before it
+abbrev pub IsRefusedByte : (input : List ℕ) → Refusal → Option RefusedByte → Type 0
+IsRefusedByte input refusal None = length input ≤ refusal.at
+IsRefusedByte input refusal (Some byte) =
+    IsFieldOfLast (take (refusal.at + 1) input) byte.field × (byte.octet ≡ slice_index input refusal.at)
+
+-- how deep the field of a refused byte lies, and its name
+abbrev pub place_pairs : Option RefusedByte → List Pair
+place_pairs None = []
+place_pairs (Some byte) =
+    (codes "depth", counted byte.field.depth) ∷ (codes "field", string (name_text byte.field.name)) ∷ []
+
+-- a refused byte, in hexadecimal digits
+abbrev pub octet_pairs : Option RefusedByte → List Pair
+octet_pairs None = []
+octet_pairs (Some byte) = (codes "octet", string (encode_lower (byte.octet ∷ []))) ∷ []
+
+-- a refusal: its place in the input, the refused byte, the reason by name and number, and a sentence
+abbrev pub refusal_object : (at : ℕ) → Refusal → Option RefusedByte → Data
+refusal_object at refusal byte =
+    object_of ((codes "at", counted (at + refusal.at)) ∷ (place_pairs byte
+    ++ (codes "name", string (reason_name refusal.reason)) ∷ (octet_pairs byte
+    ++ (codes "reason", counted (reason_number refusal.reason))
+    ∷ (codes "sentence", string (sentence_of refusal.reason)) ∷ [])))
+
+-- the number that a message would have, and the refusal
+abbrev pub refused_rest : (number : ℕ) → (refusal : Data) → List Pair
+refused_rest number refusal = (codes "message", counted number) ∷ (codes "refused", refusal) ∷ []
+
+-- what is no message: its number and its place, the fields before the refused byte, and the refusal
+abbrev pub refused_object : Option Text → (number at : ℕ) (front : List ℕ) → List Field → (refusal : Data) → Data
+refused_object file number at front before refusal =
+    object_of ((codes "at", counted at) ∷ (codes "fields", fields_array at front before)
+    ∷ (file_pairs file ++ refused_rest number refusal))
+
+-- the line of a refusal
+abbrev pub IsRefusedObject : Option Text → (number at : ℕ) (input : List ℕ) → Refusal → Text → Type 0
+IsRefusedObject file number at input refusal text =
+    (before : List Field) × (byte : Option RefusedByte) × AreFieldsBefore (take refusal.at input) before
+    × IsRefusedByte input refusal byte
+    × (text ≡ line_of (refused_object file number at (take refusal.at input) before (refusal_object at refusal byte)))
+
+-- this line is appended
+abbrev pub AddsRefusedObject : Option Text → (number at : ℕ) (input : List ℕ) → Refusal → (old new : Text) → Type 0
+AddsRefusedObject file number at input refusal old new =
+    (text : Text) × IsRefusedObject file number at input refusal text × (new ≡ old ++ text)
+
+-- ---- faults
+
+-- an input of which there are no bytes: why, and its name
+abbrev pub named_fault : Option Text → (fault : Text) → Data
+named_fault file fault = object_of ((codes "fault", string fault) ∷ file_pairs file)
+
+-- the same where this digit isn't one
+abbrev pub digit_fault : Option Text → (digit : ℕ) → Data
+digit_fault file digit =
+    object_of ((codes "digit", counted digit) ∷ (codes "fault", string (codes "bad digit")) ∷ file_pairs file)
+
+-- the same of what is wrong with hexadecimal digits
+abbrev pub hex_object : Option Text → HexFault → Data
+hex_object file (BadDigit digit) = digit_fault file digit
+hex_object file Odd = named_fault file (codes "odd number of digits")
+
+-- the object for an ending; reading ends neither cleanly nor by a refusal, nor with too many messages, nor by writing
+abbrev pub fault_object : Option Text → Ending → Data
+fault_object file (endings.Hex fault) = hex_object file fault
+fault_object file endings.Reading = named_fault file (codes "reading")
+fault_object file endings.TooLong = named_fault file (codes "hexadecimal input too long")
+fault_object file endings.Memory = named_fault file (codes "memory")
+fault_object file endings.Clean = named_fault file (codes "none")
+fault_object file (endings.Refused refusal) = named_fault file (codes "refused")
+fault_object file endings.Writing = named_fault file (codes "writing")
+fault_object file endings.TooMany = named_fault file (codes "more than 10000 messages")
