@@ -8,7 +8,7 @@ ghost use Rattle.ndef_c.specs.Payloads.{RefusesWith};
 
 use crate::checking::NdefChecked;
 use crate::part::NdefPart;
-use crate::refusal::refused_by;
+use crate::refusal::refuse;
 use crate::status::{BAD_ARGUMENT, END, OK, REFUSED};
 use ndef_lang::{AcLang, Kind};
 use ndef_types::{accept, alternatives_are_exact};
@@ -57,10 +57,7 @@ pub extern "C" fn ndef_alternative(
             *out = alternative_at(payload);
             OK
         }
-        Err(refusal) => {
-            *why = refused_by(refusal);
-            REFUSED
-        }
+        Err(refusal) => refuse(refusal, why),
     }
 }
 

@@ -7,7 +7,7 @@ ghost use Rattle.ndef_c.specs.Carriers.{IsCarrierAt, MayBeCarrier, carrier_of};
 ghost use Rattle.ndef_c.specs.Payloads.{GivesFor, RefusesWith};
 
 use crate::checking::NdefChecked;
-use crate::refusal::refused_by;
+use crate::refusal::refuse;
 use crate::room::give_parts;
 use crate::status::{BAD_ARGUMENT, OK, REFUSED};
 use ndef_lang::{HcLang, Kind};
@@ -61,10 +61,7 @@ pub extern "C" fn ndef_carrier(payload: &[u8], out: &mut NdefCarrier, why: &mut 
             *out = carrier_at(payload);
             OK
         }
-        Err(refusal) => {
-            *why = refused_by(refusal);
-            REFUSED
-        }
+        Err(refusal) => refuse(refusal, why),
     }
 }
 

@@ -3,7 +3,8 @@ ghost use Rattle.std.specs.Prelude.{◌≡◌, ◌<◌, ◌≤◌, ◌↔◌};
 ghost use Rattle.ndef_c.specs.Checks.{limits_of, MayBeSet, ChecksTo};
 
 use crate::limits::{NdefLimits, limits_of};
-use crate::status::{BAD_ARGUMENT, OK, REFUSED};
+use crate::refusal::refuse;
+use crate::status::{BAD_ARGUMENT, OK};
 use ndef_lang::{Language, Opaque, OuterLanguage};
 use ndef_message::view;
 use ndef_nest::Typed;
@@ -34,14 +35,7 @@ pub(crate) fn check_in<L: OuterLanguage>(bytes: &[u8], limits: Limits, out: &mut
             };
             OK
         }
-        Err(refusal) => {
-            *out = NdefChecked {
-                place: refusal.at,
-                records: 0,
-                reason: u32::from(refusal.reason.number()),
-            };
-            REFUSED
-        }
+        Err(refusal) => refuse(refusal, out),
     }
 }
 

@@ -7,7 +7,7 @@ ghost use Rattle.ndef_c.specs.Payloads.{RefusesWith};
 
 use crate::checking::NdefChecked;
 use crate::poster::told;
-use crate::refusal::refused_by;
+use crate::refusal::refuse;
 use crate::status::{OK, REFUSED};
 use ndef_lang::{ErrLang, Kind};
 use ndef_types::accept;
@@ -75,9 +75,6 @@ pub extern "C" fn ndef_error(payload: &[u8], out: &mut NdefError, why: &mut Ndef
             *out = error_at(payload);
             OK
         }
-        Err(refusal) => {
-            *why = refused_by(refusal);
-            REFUSED
-        }
+        Err(refusal) => refuse(refusal, why),
     }
 }

@@ -10,8 +10,8 @@ ghost use Rattle.ndef_c.specs.contracts.feeding.NdefChecker as NdefCheckers;
 
 use crate::checking::NdefChecked;
 use crate::limits::{NdefLimits, limits_of};
-use crate::refusal::refused_by;
-use crate::status::{BAD_ARGUMENT, MORE, OK, REFUSED};
+use crate::refusal::{refuse, refused_by};
+use crate::status::{BAD_ARGUMENT, MORE, OK};
 use ndef_lang::{Language, Opaque, OuterLanguage};
 use ndef_message::{Checker, Fed, places_are_told};
 use ndef_nest::Typed;
@@ -63,10 +63,7 @@ fn feed<L: OuterLanguage>(checker: &mut Checker<L>, bytes: &[u8], out: &mut Ndef
             };
             OK
         }
-        Fed::Refused(refusal) => {
-            *out = refused_by(refusal);
-            REFUSED
-        }
+        Fed::Refused(refusal) => refuse(refusal, out),
     }
 }
 

@@ -18,7 +18,7 @@ ghost use Rattle.ndef_c.specs.Posters.{IsPosterAt, HasPosterRecords};
 use crate::checking::NdefChecked;
 use crate::limits::profile_of;
 use crate::nested::{Found, first_of};
-use crate::refusal::refused_by;
+use crate::refusal::refuse;
 use crate::status::{BAD_ARGUMENT, OK, REFUSED};
 use ndef_lang::Kind;
 use ndef_nest::{Nest, Table};
@@ -143,9 +143,6 @@ pub extern "C" fn ndef_poster(
             *out = poster_at(payload);
             OK
         }
-        Err(refusal) => {
-            *why = refused_by(refusal);
-            REFUSED
-        }
+        Err(refusal) => refuse(refusal, why),
     }
 }

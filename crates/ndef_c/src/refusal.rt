@@ -3,6 +3,7 @@ ghost use Rattle.std.specs.Prelude.{◌≡◌};
 ghost use Rattle.ndef_format.specs.Reasons.{reason_number};
 
 use crate::checking::NdefChecked;
+use crate::status::REFUSED;
 use ndef_value::Refusal;
 
 /// A refusal as numbers.
@@ -16,4 +17,15 @@ pub(crate) fn refused_by(refusal: Refusal) -> NdefChecked
         records: 0,
         reason: u32::from(refusal.reason.number()),
     }
+}
+
+/// Tells a refusal, and answers that the bytes are refused.
+pub(crate) fn refuse(refusal: Refusal, why: &mut NdefChecked) -> u32
+    ensures place { why.new.place ≡ refusal.at }
+    ensures records { why.new.records ≡ 0 }
+    ensures reason { why.new.reason ≡ reason_number refusal.reason }
+    ensures refused { result ≡ REFUSED }
+{
+    *why = refused_by(refusal);
+    REFUSED
 }

@@ -16,7 +16,7 @@ use crate::checking::NdefChecked;
 use crate::handover::{behind_version, version_of};
 use crate::limits::profile_of;
 use crate::nested::{alternatives_in, first_of};
-use crate::refusal::refused_by;
+use crate::refusal::refuse;
 use crate::status::{BAD_ARGUMENT, OK, REFUSED};
 use ndef_lang::Kind;
 use ndef_nest::{Nest, Table};
@@ -102,9 +102,6 @@ pub extern "C" fn ndef_request(
             *out = request_at(payload);
             OK
         }
-        Err(refusal) => {
-            *why = refused_by(refusal);
-            REFUSED
-        }
+        Err(refusal) => refuse(refusal, why),
     }
 }

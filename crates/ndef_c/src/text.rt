@@ -9,7 +9,7 @@ ghost use Rattle.ndef_c.specs.Texts.{GivesText, MayBeSpelled, MayBeText, asked_t
 
 use crate::checking::NdefChecked;
 use crate::content::{Content, give_content};
-use crate::refusal::refused_by;
+use crate::refusal::refuse;
 use crate::room::give;
 use crate::status::{BAD_ARGUMENT, NO_ROOM, OK, REFUSED};
 use crate::utf16::give_in_utf8;
@@ -64,10 +64,7 @@ pub extern "C" fn ndef_text(payload: &[u8], out: &mut NdefText, why: &mut NdefCh
             *out = text_at(payload);
             OK
         }
-        Err(refusal) => {
-            *why = refused_by(refusal);
-            REFUSED
-        }
+        Err(refusal) => refuse(refusal, why),
     }
 }
 
@@ -103,10 +100,7 @@ pub extern "C" fn ndef_text_in_utf8(
 {
     match accept::<TextLang>(Kind::Text, Profile::Strict, payload) {
         Ok(()) => give_text(payload, room, count),
-        Err(refusal) => {
-            *why = refused_by(refusal);
-            REFUSED
-        }
+        Err(refusal) => refuse(refusal, why),
     }
 }
 

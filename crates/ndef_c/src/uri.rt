@@ -12,7 +12,7 @@ ghost use Rattle.ndef_c.specs.Rooms.{Gives};
 use crate::checking::NdefChecked;
 use crate::content::{Content, give_content};
 use crate::limits::profile_of;
-use crate::refusal::refused_by;
+use crate::refusal::refuse;
 use crate::room::give_parts;
 use crate::status::{BAD_ARGUMENT, REFUSED};
 use ndef_lang::{Kind, UriLang};
@@ -52,10 +52,7 @@ pub extern "C" fn ndef_uri(
     }
     match accept::<UriLang>(Kind::Uri, profile_of(flags), payload) {
         Ok(()) => give_uri(payload, room, count),
-        Err(refusal) => {
-            *why = refused_by(refusal);
-            REFUSED
-        }
+        Err(refusal) => refuse(refusal, why),
     }
 }
 

@@ -10,7 +10,7 @@ ghost use Rattle.ndef_c.specs.Rooms.{Gives};
 
 use crate::checking::NdefChecked;
 use crate::limits::profile_of;
-use crate::refusal::refused_by;
+use crate::refusal::refuse;
 use crate::room::give;
 use crate::status::{BAD_ARGUMENT, OK, REFUSED};
 use ndef_lang::{Kind, UriLang};
@@ -69,10 +69,7 @@ pub extern "C" fn ndef_uri_view(
             *out = uri_at(payload);
             OK
         }
-        Err(refusal) => {
-            *why = refused_by(refusal);
-            REFUSED
-        }
+        Err(refusal) => refuse(refusal, why),
     }
 }
 

@@ -28,5 +28,5 @@ returns-in-Refused g c = λ limits front h.
     let bytes = front ++ c.args.bytes.now in
     let fed = c.in-Refused.ensures.fed limits front h in
     let told = c.in-Refused.ensures.tells limits front h in
-    let r = c.refused_by-in-Refused.ensures in
-    (fed, fed_refused L.holds bytes c.refused_by-in-Refused.result c.in-Refused.refusal told.0 told.1 r.place r.records r.reason)
+    let r = c.refuse.ensures in
+    (fed, rw r.refused (fed_refused L.holds bytes c.refuse.new.why c.in-Refused.refusal told.0 told.1 r.place r.records r.reason))

@@ -12,7 +12,7 @@ pub returns-in-Err-clause-refused : goal.returns-in-Err-clause-refused
 returns-in-Err-clause-refused c = λ _. record {
   refusal = c.in-Err.refusal;
   refused = subst (λ p. RefusesPayload (IsNest Select 65535 p) (NestReason Select 65535 p) c.args.payload.now c.in-Err.refusal) c.profile_of.ensures c.in-Err.ensures.err;
-  place = c.refused_by.ensures.place;
-  records = c.refused_by.ensures.records;
-  reason = c.refused_by.ensures.reason;
+  place = c.refuse.ensures.place;
+  records = c.refuse.ensures.records;
+  reason = c.refuse.ensures.reason;
 }
