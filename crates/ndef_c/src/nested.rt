@@ -1,5 +1,6 @@
 //! Records of the messages in payloads, where they lie.
-ghost use Rattle.std.specs.Prelude.{◌≡◌, ℕ, false, List, [], drop, length};
+ghost use Rattle.std.specs.Prelude.{◌≡◌, ◌↔◌, ℕ, Bool, false, List, [], drop, length, IsTrue};
+ghost use Rattle.std.specs.List.{filter};
 ghost use Rattle.ndef_format.specs.Messages.{Item};
 ghost use Rattle.ndef_format.specs.Records.{tnf_of};
 ghost use Rattle.ndef_format.specs.declared.profile.Profile.{Profile};
@@ -94,11 +95,11 @@ pub(crate) fn alternative_at(bytes: &[u8], index: usize) -> Option<Found<'_>>
     None
 }
 
-/// How many alternative carriers there are in a message, each record of which is in one piece.
-pub(crate) fn alternatives_in(bytes: &[u8]) -> usize
+/// How many records of a kind there are in a nested message, each record of which is in one piece.
+pub(crate) fn count_of(table: Table, bytes: &[u8], kind: Kind) -> usize
     requires { (profile : Profile) × (items : List Item) × MayBeInPieces profile items bytes.now }
-    ensures { (profile : Profile) (items : List Item) → MayBeInPieces profile items bytes.now
-        → result ≡ length (alternatives items) }
+    ensures { (profile : Profile) (items : List Item) (wanted : Item → Bool) → MayBeInPieces profile items bytes.now
+        → ((i : Item) → IsTrue (wanted i) ↔ IsOfKind table kind i) → result ≡ length (filter wanted items) }
 {
     heads_are_apart();
     let mut rest = bytes;
@@ -107,10 +108,20 @@ pub(crate) fn alternatives_in(bytes: &[u8]) -> usize
         let Some(piece) = whole_piece(rest) else {
             unreachable!()
         };
-        if is_alternative(&piece) {
+        if is_kind(table.kind(piece.tnf(), piece.kind), kind) {
             count += 1;
         }
         rest = piece.rest;
     }
     count
+}
+
+/// How many alternative carriers there are in a message, each record of which is in one piece.
+pub(crate) fn alternatives_in(bytes: &[u8]) -> usize
+    requires { (profile : Profile) × (items : List Item) × MayBeInPieces profile items bytes.now }
+    ensures { (profile : Profile) (items : List Item) → MayBeInPieces profile items bytes.now
+        → result ≡ length (alternatives items) }
+{
+    // A select has the same ones as a request.
+    count_of(Table::Request, bytes, Kind::Alternative)
 }

@@ -20,7 +20,7 @@ ghost use Rattle.ndef_c.specs.Walks.{Lies};
 ghost use Rattle.ndef_c.specs.declared.text.NdefText.{NdefText as Text};
 
 use crate::handover::is_nest;
-use crate::nested::{Found, first_of, found_in};
+use crate::nested::{Found, count_of, first_of, found_in};
 use crate::part::NdefPart;
 use crate::status::{BAD_ARGUMENT, END, NO_ROOM, OK};
 use crate::text::{NdefText, text_at};
@@ -68,19 +68,7 @@ fn titles_in(bytes: &[u8]) -> usize
     ensures { (profile : Profile) (items : List Item) → MayBeInPieces profile items bytes.now
         → result ≡ length (titles items) }
 {
-    heads_are_apart();
-    let mut rest = bytes;
-    let mut count = 0;
-    while !rest.is_empty() {
-        let Some(piece) = whole_piece(rest) else {
-            unreachable!()
-        };
-        if is_title(&piece) {
-            count += 1;
-        }
-        rest = piece.rest;
-    }
-    count
+    count_of(Table::SmartPoster, bytes, Kind::Text)
 }
 
 /// Writes where each title lies to the front of the texts.
