@@ -10,7 +10,7 @@ use Rattle.ndef_format.specs.Octets.{IsOctet}
 use Rattle.ndef_lang.specs.OctetLaws.{FieldParts, field_parts, octets_field}
 use Rattle.ndef_types.specs.declared.power.Power.{Power}
 use Rattle.ndef_types.specs.declared.power.Power.TheVariants.{Inactive, Active, Activating, Unknown}
-use Rattle.ndef_types.specs.Decoding.{OneValue, EachHasValue, ValuesRoundTrip}
+use Rattle.ndef_types.specs.Decoding.{OneValue, EachHasValue, ValuesRoundTrip, WritesPayloads}
 use Rattle.ndef_types.specs.Values.{AcValue, IsAcValue, IsReference, StandsForAc, StandForAuxiliary, StandForNames, WritesAc, ac_payload, counted, power_code}
 use Rattle.ndef_types.proofs.RoundTripLemmas.{round_trip}
 
@@ -135,6 +135,9 @@ ac_written v payload h e =
     let set : IsAlternative (ac_payload v) = (omega arith, (h.reference.0, octets_field IsOctet v.reference tail AreAuxiliary h.reference.1 (h.few, later.0))) in
     let stands : StandsForAc (ac_payload v) v = (omega arith, take-append_seam v.reference tail, subst (λ d. StandForAuxiliary d v.auxiliary v.rest) (sym (drop-append_seam v.reference tail)) later.1) in
     rw e (set, stands)
+
+pub payload_written : WritesPayloads IsAlternative IsAcValue WritesAc
+payload_written v payload h e = (ac_written v payload h e).0
 
 pub acs_round_trip : ValuesRoundTrip IsAlternative (λ s b. NoReason) StandsForAc IsAcValue WritesAc
 acs_round_trip = round_trip IsAlternative (λ s b. NoReason) StandsForAc IsAcValue WritesAc ac_written one_ac

@@ -7,7 +7,7 @@ use Rattle.ndef_format.specs.Handovers.{IsCarrier}
 use Rattle.ndef_format.specs.Reasons.{NoReason}
 use Rattle.ndef_format.specs.Octets.{IsOctet}
 use Rattle.ndef_lang.specs.OctetLaws.{field_parts, octets_field}
-use Rattle.ndef_types.specs.Decoding.{OneValue, EachHasValue, ValuesRoundTrip}
+use Rattle.ndef_types.specs.Decoding.{OneValue, EachHasValue, ValuesRoundTrip, WritesPayloads}
 use Rattle.ndef_types.specs.Values.{CarrierValue, IsCarrierValue, StandsForCarrier, WritesCarrier, carrier_payload}
 use Rattle.ndef_types.proofs.RoundTripLemmas.{round_trip}
 
@@ -48,6 +48,9 @@ written v payload h e =
     let set : IsCarrier (carrier_payload v) = (omega (arith, h.format), (h.short, octets_field IsOctet v.kind v.carried AreOctets h.kind h.carried)) in
     let stands : StandsForCarrier (carrier_payload v) v = (omega (arith, h.format), take-append_seam v.kind v.carried, drop-append_seam v.kind v.carried) in
     rw e (set, stands)
+
+pub carrier_written : WritesPayloads IsCarrier IsCarrierValue WritesCarrier
+carrier_written v payload h e = (written v payload h e).0
 
 pub carriers_round_trip : ValuesRoundTrip IsCarrier (λ s b. NoReason) StandsForCarrier IsCarrierValue WritesCarrier
 carriers_round_trip = round_trip IsCarrier (λ s b. NoReason) StandsForCarrier IsCarrierValue WritesCarrier written one_carrier

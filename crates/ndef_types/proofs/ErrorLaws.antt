@@ -2,7 +2,7 @@
 use Rattle.std.proofs.Common.{◌≡◌, ℕ, List, [], ◌∷◌, refl, sym, ◌∙◌}
 use Rattle.ndef_format.specs.Handovers.{IsError}
 use Rattle.ndef_format.specs.Reasons.{NoReason}
-use Rattle.ndef_types.specs.Decoding.{OneValue, EachHasValue, ValuesRoundTrip}
+use Rattle.ndef_types.specs.Decoding.{OneValue, EachHasValue, ValuesRoundTrip, WritesPayloads}
 use Rattle.ndef_types.specs.Values.{ErrorValue, IsErrorValue, StandsForError, WritesError, error_payload}
 use Rattle.ndef_types.proofs.RoundTripLemmas.{round_trip}
 
@@ -19,6 +19,9 @@ each_error (reason ∷ detail) h = (record { reason = reason; detail = detail },
 
 written : (v : ErrorValue) (payload : List ℕ) → IsErrorValue v → WritesError v payload → IsError payload × StandsForError payload v
 written v payload h e = (rw e h, e)
+
+pub error_written : WritesPayloads IsError IsErrorValue WritesError
+error_written v payload h e = (written v payload h e).0
 
 pub errors_round_trip : ValuesRoundTrip IsError (λ s b. NoReason) StandsForError IsErrorValue WritesError
 errors_round_trip = round_trip IsError (λ s b. NoReason) StandsForError IsErrorValue WritesError written one_error

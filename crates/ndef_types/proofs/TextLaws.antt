@@ -10,7 +10,7 @@ use Rattle.ndef_format.specs.Texts.{IsCodeOctet, IsText, IsTextIn, is_wide, unit
 use Rattle.ndef_format.specs.PayloadReasons.{TextReason}
 use Rattle.ndef_types.specs.declared.encoding.Encoding.{Encoding}
 use Rattle.ndef_types.specs.declared.encoding.Encoding.TheVariants.{Utf8, Utf16}
-use Rattle.ndef_types.specs.Decoding.{OneValue, EachHasValue, ValuesRoundTrip}
+use Rattle.ndef_types.specs.Decoding.{OneValue, EachHasValue, ValuesRoundTrip, WritesPayloads}
 use Rattle.ndef_types.specs.Values.{TextValue, IsTextValue, StandsForText, SpellsText, WritesText, is_utf16, status_octet, text_octets, language_octets, encoded_octets}
 use Rattle.ndef_types.proofs.RoundTripLemmas.{round_trip}
 use Rattle.ndef_types.proofs.TextLemmas.{TextParts, text_parts, of_ascii}
@@ -71,6 +71,9 @@ written_at v status h s =
 
 written : (v : TextValue) (payload : List ℕ) → IsTextValue v → WritesText v payload → IsText payload × StandsForText payload v
 written v payload h e = rw e (written_at v _ h (is_status v.encoding (length v.language) h.short))
+
+pub text_written : WritesPayloads IsText IsTextValue WritesText
+text_written v payload h e = (written v payload h e).0
 
 pub texts_round_trip : ValuesRoundTrip IsText TextReason StandsForText IsTextValue WritesText
 texts_round_trip = round_trip IsText TextReason StandsForText IsTextValue WritesText written one_text

@@ -8,7 +8,7 @@ use Rattle.ndef_format.specs.declared.profile.Profile.{Profile}
 use Rattle.ndef_format.specs.declared.profile.Profile.TheVariants.{Strict, Standard}
 use Rattle.ndef_format.specs.Uris.{IsUri, IsReserved}
 use Rattle.ndef_format.specs.PayloadReasons.{UriReason}
-use Rattle.ndef_types.specs.Decoding.{OneValue, EachHasValue, OnePayload, ValuesRoundTrip, IsTooLong}
+use Rattle.ndef_types.specs.Decoding.{OneValue, EachHasValue, OnePayload, ValuesRoundTrip, WritesPayloads, IsTooLong}
 use Rattle.ndef_types.specs.Prefixes.{prefixes, prefix_of, IsLongest}
 use Rattle.ndef_types.proofs.PrefixLemmas.{has_longest, one_longest}
 use Rattle.ndef_types.specs.Values.{StandsForUri, WritesUri}
@@ -68,6 +68,9 @@ free Standard code l h = h
 written : (profile : Profile) (uri payload : List ℕ) → IsUtf8 uri → WritesUri uri payload → IsUri profile payload × StandsForUri payload uri
 written profile uri [] u w = absurd w
 written profile uri (code ∷ rest) u w = ((omega (arith, w.0.known), free profile code w.0.known, rest_utf8 uri rest code u w.1), w.1)
+
+pub uri_written : (profile : Profile) → WritesPayloads (IsUri profile) IsUtf8 WritesUri
+uri_written profile uri payload u w = (written profile uri payload u w).0
 
 pub uris_round_trip : (profile : Profile) → ValuesRoundTrip (IsUri profile) (UriReason profile) StandsForUri IsUtf8 WritesUri
 uris_round_trip profile = round_trip (IsUri profile) (UriReason profile) StandsForUri IsUtf8 WritesUri (written profile) (one_uri profile)

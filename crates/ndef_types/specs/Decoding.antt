@@ -76,6 +76,11 @@ OnePayload {V} values written =
     (value : V) → values value → (payload : List ℕ)
     × (written value payload × ((other : List ℕ) → written value other → other ≡ payload))
 
+-- What is written for a value is a payload of the set.
+abbrev pub WritesPayloads : {V : Type 0} → Payloads → (values : V → Type 0) → Writing V → Type 0
+WritesPayloads {V} set values written =
+    (value : V) (payload : List ℕ) → values value → written value payload → set payload
+
 -- Each payload of the set stands for exactly one value, and what was written for a value is decoded to it.
 pub record AreExact {V : Type 0} (set : Payloads) (holds : Reasons) (stands : Meaning V) (values : V → Type 0)
     (written : Writing V) : Type 0 where

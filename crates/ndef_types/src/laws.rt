@@ -6,42 +6,47 @@ ghost use Rattle.ndef_format.specs.Reasons.{NoReason};
 ghost use Rattle.ndef_format.specs.Texts.{IsText};
 ghost use Rattle.ndef_format.specs.PayloadReasons.{TextReason, UriReason};
 ghost use Rattle.ndef_format.specs.Uris.{IsUri};
-ghost use Rattle.ndef_types.specs.Decoding.{AreExact, EachHasValue, OnePayload, OneValue, ValuesRoundTrip};
+ghost use Rattle.ndef_types.specs.Decoding.{AreExact, EachHasValue, OnePayload, OneValue, ValuesRoundTrip, WritesPayloads};
 ghost use Rattle.ndef_types.specs.Equality.{EqualAlternativesAreSame, EqualTextsAreSame};
 ghost use Rattle.ndef_types.specs.Values.{StandsForText, IsTextValue, WritesText, StandsForUri, WritesUri, StandsForError, IsErrorValue, WritesError, StandsForCarrier, IsCarrierValue, WritesCarrier, StandsForAc, IsAcValue, WritesAc};
 
-/// A payload of a Text record stands for one text, and what `Text::encode` writes is decoded to the
-/// text that was written.
+/// A payload of a Text record stands for one text, and what `Text::encode` writes is such a payload
+/// and is decoded to the text that was written.
 pub fn texts_are_exact()
-    ensures { AreExact IsText TextReason StandsForText IsTextValue WritesText }
+    ensures exact { AreExact IsText TextReason StandsForText IsTextValue WritesText }
+    ensures written { WritesPayloads IsText IsTextValue WritesText }
 {}
 
-/// A payload of a URI record stands for one URI, and what `Uri::encode` writes is decoded, for either
-/// profile, to the URI that was written.
+/// A payload of a URI record stands for one URI, and what `Uri::encode` writes is such a payload and is
+/// decoded, for either profile, to the URI that was written.
 pub fn uris_are_exact()
     ensures one { (profile : Profile) → OneValue (IsUri profile) StandsForUri }
     ensures each { (profile : Profile) → EachHasValue (IsUri profile) StandsForUri IsUtf8 }
     ensures payload { OnePayload IsUtf8 WritesUri }
+    ensures written { (profile : Profile) → WritesPayloads (IsUri profile) IsUtf8 WritesUri }
     ensures round_trip { (profile : Profile) →
         ValuesRoundTrip (IsUri profile) (UriReason profile) StandsForUri IsUtf8 WritesUri }
 {}
 
 /// A payload of a handover error record stands for one error, and what `HandoverError::encode` writes
-/// is decoded to the error that was written.
+/// is such a payload and is decoded to the error that was written.
 pub fn errors_are_exact()
-    ensures { AreExact IsError (λ s b. NoReason) StandsForError IsErrorValue WritesError }
+    ensures exact { AreExact IsError (λ s b. NoReason) StandsForError IsErrorValue WritesError }
+    ensures written { WritesPayloads IsError IsErrorValue WritesError }
 {}
 
 /// A payload of a handover carrier record stands for one carrier, and what `Carrier::encode` writes is
-/// decoded to the carrier that was written.
+/// such a payload and is decoded to the carrier that was written.
 pub fn carriers_are_exact()
-    ensures { AreExact IsCarrier (λ s b. NoReason) StandsForCarrier IsCarrierValue WritesCarrier }
+    ensures exact { AreExact IsCarrier (λ s b. NoReason) StandsForCarrier IsCarrierValue WritesCarrier }
+    ensures written { WritesPayloads IsCarrier IsCarrierValue WritesCarrier }
 {}
 
-/// A payload of an alternative carrier record stands for one value, and what `Ac::encode` writes is
-/// decoded to the value that was written.
+/// A payload of an alternative carrier record stands for one value, and what `Ac::encode` writes is such
+/// a payload and is decoded to the value that was written.
 pub fn alternatives_are_exact()
-    ensures { AreExact IsAlternative (λ s b. NoReason) StandsForAc IsAcValue WritesAc }
+    ensures exact { AreExact IsAlternative (λ s b. NoReason) StandsForAc IsAcValue WritesAc }
+    ensures written { WritesPayloads IsAlternative IsAcValue WritesAc }
 {}
 
 /// Texts and alternative carriers are equal, by `==`, exactly where all their parts are the same.

@@ -32,7 +32,7 @@ returns-in-Some-clause-link c = λ _.
     let h = handover_of c.args.payload.now c.requires.handover in
     let f = c.in-Some.ensures Standard h.items (subst (MayBeInPieces Standard h.items) (sym c.behind_version.ensures) h.records) in
     let l = subst (λ b. LiesWithIndex (alternatives h.items) c.args.index b (Some c.in-Some.carrier)) c.behind_version.ensures f in
-    let v = c.alternatives_are_exact.ensures.each c.in-Some.carrier.payload.now (carrier_in_set c.args.payload.now h c.args.index c.in-Some.carrier l) in
+    let v = c.alternatives_are_exact.ensures.exact.each c.in-Some.carrier.payload.now (carrier_in_set c.args.payload.now h c.args.index c.in-Some.carrier l) in
     link_is c.args.bytes.now c.args.payload.now c.requires h c.args.index c.in-Some.carrier c.link_of.result v.0 l c.link_of.ensures.at c.link_of.ensures.length v.1.1 (λ runs b. c.link_of.ensures.refers runs v.0 b v.1.1)
 
 pub returns-in-None-clause-end : goal.returns-in-None-clause-end

@@ -84,7 +84,7 @@ loop-message-preserved c =
           let h = carrier_here c.heads_are_apart.ensures.apart c.args.payload.now i.handover i.done c.loop-message.rest.now i.ahead (shown f) _ _ s (sym c.is_alternative.ensures ∙ w.if-is_alternative.true) w.found_in-carrier.result
           w.found_in-carrier.ensures.payload c.behind_version-message.result.now c.behind_version-message.ensures w.found_in-carrier.ensures.lies in
           let set = carrier_in_set c.args.payload.now i.handover _ w.found_in-carrier.result h in
-          let v = c.alternatives_are_exact.ensures.each w.found_in-carrier.result.payload.now set in
+          let v = c.alternatives_are_exact.ensures.exact.each w.found_in-carrier.result.payload.now set in
           let link = w.link_of.result in
           let is = link_is c.args.bytes.now c.args.payload.now c.requires.may i.handover _ w.found_in-carrier.result link v.0 h w.link_of.ensures.at w.link_of.ensures.length v.1.1 (λ runs b. w.link_of.ensures.refers runs v.0 b v.1.1) in
           let place : length (alternatives i.done) ≡ 0 + length i.told = omega (arith, count) in

@@ -6,7 +6,7 @@ use Rattle.ndef_c.proofs.references.give_references.Goals as goal
 pub returns-then-parts-needed : goal.returns-then-parts-needed
 returns-then-parts-needed c =
     let p = ac_at c.args.payload.now c.from.result c.requires.alternative c.from.ensures in
-    let v = c.alternatives_are_exact.ensures.each c.args.payload.now c.requires.alternative in
+    let v = c.alternatives_are_exact.ensures.exact.each c.args.payload.now c.requires.alternative in
     let n = names_count _ _ _ _ (p.stand v.0 v.1.1) in
     let k = c.from-needed.ensures in
     record {
@@ -20,7 +20,7 @@ returns-then-parts-needed c =
 pub returns : goal.returns
 returns c =
     let p = ac_at c.args.payload.now c.from.result c.requires.alternative c.from.ensures in
-    let v = c.alternatives_are_exact.ensures.each c.args.payload.now c.requires.alternative in
+    let v = c.alternatives_are_exact.ensures.exact.each c.args.payload.now c.requires.alternative in
     let n = names_count _ _ _ _ (p.stand v.0 v.1.1) in
     let k = c.from-needed.ensures in
     let l = c.if-parts-needed.false in

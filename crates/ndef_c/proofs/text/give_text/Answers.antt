@@ -6,7 +6,7 @@ use Rattle.ndef_c.proofs.text.give_text.Goals as goal
 pub returns-then-payload-lt128 : goal.returns-then-payload-lt128
 returns-then-payload-lt128 c =
     let payload = c.args.payload.now in
-    let v = c.texts_are_exact.ensures.each payload c.requires.text in
+    let v = c.texts_are_exact.ensures.exact.each payload c.requires.text in
     record {
       in_set = c.requires.text;
       short = c.requires.short;
@@ -18,13 +18,13 @@ returns-then-payload-lt128 c =
 pub give_in_utf8-requires-clause-text : goal.give_in_utf8-requires-clause-text
 give_in_utf8-requires-clause-text c =
     let payload = c.args.payload.now in
-    let v = c.texts_are_exact.ensures.each payload c.requires.text in
+    let v = c.texts_are_exact.ensures.exact.each payload c.requires.text in
     (v.0.text, given_utf16 payload _ v.0 v.1.1 c.split_language.ensures.text c.if-payload-lt128.false _ _ c.unmark-little.ensures.little c.unmark-little.ensures.rest)
 
 pub returns : goal.returns
 returns c =
     let payload = c.args.payload.now in
-    let v = c.texts_are_exact.ensures.each payload c.requires.text in
+    let v = c.texts_are_exact.ensures.exact.each payload c.requires.text in
     let s = given_utf16 payload _ v.0 v.1.1 c.split_language.ensures.text c.if-payload-lt128.false _ _ c.unmark-little.ensures.little c.unmark-little.ensures.rest in
     record {
       in_set = c.requires.text;

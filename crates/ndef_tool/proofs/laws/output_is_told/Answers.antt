@@ -3,9 +3,9 @@ use Rattle.ndef_tool.proofs.laws.output_is_told.Goals as goal
 
 pub returns : goal.returns
 returns c = one_output c.one_meaning.ensures.once (record {
-  texts = c.texts_are_exact.ensures.one;
+  texts = c.texts_are_exact.ensures.exact.one;
   posters = c.posters_are_exact.ensures.one;
   requests = c.requests_are_exact.ensures.one;
   selects = c.selects_are_exact.ensures.one;
-  carriers = c.carriers_are_exact.ensures.one;
+  carriers = c.carriers_are_exact.ensures.exact.one;
 })

@@ -1,4 +1,4 @@
-use Rattle.ndef_types.proofs.UriLaws.{one_uri, each_uri, one_payload, uris_round_trip}
+use Rattle.ndef_types.proofs.UriLaws.{one_uri, each_uri, one_payload, uri_written, uris_round_trip}
 use Rattle.ndef_types.proofs.laws.uris_are_exact.Goals as goal
 
 pub returns-clause-one : goal.returns-clause-one
@@ -12,3 +12,6 @@ returns-clause-payload c = one_payload
 
 pub returns-clause-round_trip : goal.returns-clause-round_trip
 returns-clause-round_trip c = uris_round_trip
+
+pub returns-clause-written : goal.returns-clause-written
+returns-clause-written c = uri_written
