@@ -51,7 +51,7 @@ code_named (suc (suc (suc n))) h = omega (arith, h)
 pub alternative_of : (power : ℕ) (bytes : List ℕ) (reference : NdefPart) (auxiliary : List NdefPart) → AcValue
 alternative_of power bytes reference auxiliary = record { power = power_named power; reference = part_of bytes reference; auxiliary = map (part_of bytes) auxiliary; rest = [] }
 
-part_octets : (bytes : List ℕ) (part : NdefPart) → AreOctets bytes → AreOctets (part_of bytes part)
+pub part_octets : (bytes : List ℕ) (part : NdefPart) → AreOctets bytes → AreOctets (part_of bytes part)
 part_octets bytes part a =
     let behind = octets_drop part.at bytes a in
     octets_front (part_of bytes part) (drop part.length (drop part.at bytes)) (subst AreOctets (sym (take-append-drop part.length (drop part.at bytes))) behind)

@@ -4,8 +4,9 @@ use Rattle.std.specs.Int.{w16, to_be_bytes}
 use Rattle.std.specs.List.{All}
 use Rattle.ndef_format.specs.Canonical.{canonical}
 use Rattle.ndef_format.specs.Messages.{Item}
+use Rattle.ndef_format.specs.Records.{AreOctets}
 use Rattle.ndef_format.specs.declared.kind.Kind.TheVariants as kinds
-use Rattle.ndef_types.specs.Handovers.{RequestValue, SelectValue, WritesRequest, WritesSelect}
+use Rattle.ndef_types.specs.Handovers.{IsRequestValue, IsSelectValue, RequestValue, SelectValue, WritesRequest, WritesSelect}
 use Rattle.ndef_c.specs.AlternativeWrites.{IsPartWithin, part_of}
 use Rattle.ndef_c.specs.Appending.{well_known}
 use Rattle.ndef_c.specs.ErrorWrites.{MayBeError}
@@ -58,6 +59,12 @@ pub record GivesRequest (minor collision : ℕ) (c : CarriersAsked) (before afte
   pub may : MayBeRequest minor collision c
   pub gives : GivesFor WritesRequest (request_of minor collision c) before after count status
 
+-- Connection Handover 1.2, Handover Request record: the records of a request that may be written are those of a request
+-- for a strict reader
+abbrev pub WrittenRequestsAreRead : Type 0
+WrittenRequestsAreRead = (minor collision : ℕ) (c : CarriersAsked) → MayBeRequest minor collision c → AreOctets c.bytes
+    → IsRequestValue (request_of minor collision c)
+
 -- ---- selects
 
 -- Connection Handover 1.2, Error record: a part of the bytes that goes with the reason
@@ -108,3 +115,8 @@ select_of s = record { minor = s.how.minor; message = message_of (select_items s
 pub record GivesSelect (s : SelectAsked) (before after : List ℕ) (count status : ℕ) : Type 0 where
   pub may : MayBeSelect s
   pub gives : GivesFor WritesSelect (select_of s) before after count status
+
+-- Connection Handover 1.2, Handover Select record: the records of a select that may be written are those of a select
+-- for a strict reader
+abbrev pub WrittenSelectsAreRead : Type 0
+WrittenSelectsAreRead = (s : SelectAsked) → MayBeSelect s → AreOctets s.carriers.bytes → IsSelectValue (select_of s)

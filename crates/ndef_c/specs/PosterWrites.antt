@@ -4,9 +4,10 @@ use Rattle.std.specs.Int.{w32, to_be_bytes}
 use Rattle.std.specs.List.{All}
 use Rattle.ndef_format.specs.Canonical.{canonical}
 use Rattle.ndef_format.specs.Messages.{Item}
+use Rattle.ndef_format.specs.Records.{AreOctets}
 use Rattle.ndef_format.specs.declared.kind.Kind.{Kind}
 use Rattle.ndef_format.specs.declared.kind.Kind.TheVariants as kinds
-use Rattle.ndef_types.specs.Posters.{WritesPoster}
+use Rattle.ndef_types.specs.Posters.{IsPosterValue, WritesPoster}
 use Rattle.ndef_types.specs.Values.{WritesUri}
 use Rattle.ndef_c.specs.AlternativeWrites.{IsPartWithin, part_of}
 use Rattle.ndef_c.specs.Appending.{well_known}
@@ -94,6 +95,11 @@ pub record MayBePoster (a : PosterAsked) : Type 0 where
 pub record GivesPoster (a : PosterAsked) (before after : List ℕ) (count status : ℕ) : Type 0 where
   pub may : MayBePoster a
   pub gives : GivesFor WritesPoster (poster_items may.said.payload a) before after count status
+
+-- RTD Smart Poster 1.0: the records of a poster that may be written are those of a poster for a strict reader
+abbrev pub WrittenPostersAreRead : Type 0
+WrittenPostersAreRead = (a : PosterAsked) (may : MayBePoster a) → AreOctets a.bytes
+    → IsPosterValue (poster_items may.said.payload a)
 
 -- ---- step by step
 

@@ -2,7 +2,9 @@
 ghost use Rattle.ndef_c.specs.Feeding.{FeedsAreChecks};
 ghost use Rattle.ndef_c.specs.Fields.{OneFieldWith, StepsLeadOn};
 ghost use Rattle.ndef_c.specs.Growing.{FirstIsHeld, HeldAreAMessage, OthersAreHeld};
+ghost use Rattle.ndef_c.specs.HandoverMaking.{WrittenRequestsAreRead, WrittenSelectsAreRead};
 ghost use Rattle.ndef_c.specs.Links.{LinksAreTold};
+ghost use Rattle.ndef_c.specs.PosterWrites.{WrittenPostersAreRead};
 ghost use Rattle.ndef_c.specs.Walks.{ChecksAreWalked, OneRecordIsThere};
 ghost use Rattle.ndef_c.specs.Writes.{RecordsMakeAMessage};
 
@@ -10,7 +12,7 @@ use ndef_lang::OuterLanguage;
 use ndef_message::{answers_are_told, views_are_exact, writing_is_spelling};
 use ndef_nest::strict_contents_are_read;
 use ndef_piece::heads_are_apart;
-use ndef_types::alternatives_are_exact;
+use ndef_types::{alternatives_are_exact, texts_are_exact, uris_are_exact};
 use ndef_value::one_meaning;
 
 /// What a check takes is walked from place 0 on: its records lie one after another, each where the one
@@ -71,3 +73,22 @@ pub fn fields_are_stepped()
     ensures one { OneFieldWith }
     ensures next { StepsLeadOn }
 {}
+
+/// The records that `ndef_write_poster` writes are those of a poster for a strict reader; so what is
+/// written is decoded to them, as `posters_are_exact` says.
+pub fn written_posters_are_read()
+    ensures { WrittenPostersAreRead }
+{
+    texts_are_exact();
+    uris_are_exact();
+}
+
+/// The records that `ndef_write_request` and `ndef_write_select` write are those of a request and of a
+/// select for a strict reader; so what is written is decoded to them, as `requests_are_exact` and
+/// `selects_are_exact` say.
+pub fn written_handovers_are_read()
+    ensures requests { WrittenRequestsAreRead }
+    ensures selects { WrittenSelectsAreRead }
+{
+    alternatives_are_exact();
+}

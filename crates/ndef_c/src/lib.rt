@@ -100,6 +100,7 @@ pub use handover_writing::{REQUEST, SELECT, ndef_write_handover};
 pub use laws::{
     appended_records_are_held, checks_are_walked, feeds_are_checks, fields_are_stepped,
     held_records_are_a_message, links_are_told, one_record_is_there, records_make_a_message,
+    written_handovers_are_read, written_posters_are_read,
 };
 pub use limits::{NdefLimits, ndef_usual_limits};
 pub use link::{NdefLink, ndef_link_at};
