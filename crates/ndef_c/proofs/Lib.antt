@@ -11,6 +11,7 @@ pub mod Feeds
 pub mod FieldChecks
 pub mod FieldLists
 pub mod Filled
+pub mod Filtered
 pub mod Followed
 pub mod Growing
 pub mod HandoverSaid

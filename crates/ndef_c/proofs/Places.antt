@@ -5,7 +5,8 @@ use Rattle.std.proofs.lemmas.List.{drop-drop, length-take, take-append-drop}
 use mir.Val.{bool_byte}
 use Rattle.ndef_format.specs.Records.{bit, Run, fields, octets}
 use Rattle.ndef_format.specs.HeadReasons.{is_set}
-use Rattle.ndef_piece.specs.Whole.{IsSplit, piece_of}
+use Rattle.ndef_piece.specs.Whole.{IsSplit, piece_of, shown}
+use Rattle.ndef_piece.specs.declared.whole.WholePiece.{WholePiece}
 use Rattle.ndef_c.specs.Walks.{BeginsWithRun, IsRecordThere, Lies}
 use Rattle.ndef_c.proofs.Followed.{initial_of, split_size}
 
@@ -86,6 +87,20 @@ shown_parts header short kind id payload rest behind bytes at e none i =
       head = take at bytes ++ o;
       joined = sym (take-append-drop at bytes) ∙ ap (λ x. take at bytes ++ x) (sym e ∙ j) ∙ sym (append_assoc (take at bytes) o _);
     }
+
+-- .. of one that is shown somewhere in the bytes
+pub shown_in : (f : WholePiece) (bytes : List ℕ) → (at : ℕ) × IsSplit (shown f) (is_set 4 f.header) f.rest.now (drop at bytes) → (is_set 3 f.header ≡ false → f.id.now ≡ [])
+    → Shown f.header f.kind.now f.id.now f.payload.now f.rest.now bytes
+shown_in f bytes s none = shown_parts f.header (is_set 4 f.header) f.kind.now f.id.now f.payload.now f.rest.now (drop s.0 bytes) bytes s.0 refl none s.1
+
+-- they are no longer than the bytes
+pub shown_size : (header : ℕ) (kind id payload rest bytes : List ℕ) → Shown header kind id payload rest bytes → length kind + length id + length payload + length rest ≤ length bytes
+shown_size header kind id payload rest bytes s =
+    let n = ap length s.joined ∙ length-append s.head (kind ++ (id ++ (payload ++ rest))) in
+    let a = length-append kind (id ++ (payload ++ rest)) in
+    let b = length-append id (payload ++ rest) in
+    let d = length-append payload rest in
+    omega (arith, n, a, b, d)
 
 -- they lie one before another
 pub record LieIn (bytes kind id payload rest : List ℕ) : Type 0 where

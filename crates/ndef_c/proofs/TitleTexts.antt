@@ -1,8 +1,7 @@
 -- The titles of posters.
-use Rattle.std.proofs.Common.{◌≡◌, ℕ, ◌+◌, ◌-◌, ◌≤◌, Bool, true, false, true≢false, List, [], ◌∷◌, ◌++◌, length, take, drop, refl, sym, ◌∙◌, ap, ap₂, subst, arith, append-nil, Some}
-use Rattle.std.specs.Prelude.{if◌then◌else◌, slice_get}
+use Rattle.std.proofs.Common.{◌≡◌, ℕ, ◌+◌, ◌-◌, ◌≤◌, Bool, true, true≢false, List, ◌∷◌, ◌++◌, length, take, drop, refl, sym, ◌∙◌, ap, ap₂, subst, arith}
+use Rattle.std.specs.Prelude.{slice_get}
 use Rattle.std.proofs.lemmas.List.{drop-drop, drop-take, take-take}
-use Rattle.std.proofs.lemmas.List.Elements.{filter-append}
 use Rattle.ndef_format.specs.Messages.{Item}
 use Rattle.ndef_format.specs.Nested.{IsPayload, kind_in}
 use Rattle.ndef_format.specs.Records.{Piece, tnf_of}
@@ -13,7 +12,7 @@ use Rattle.ndef_format.specs.declared.profile.Profile.TheVariants.{Standard}
 use Rattle.ndef_format.specs.declared.table.Table.TheVariants.{SmartPoster}
 use Rattle.ndef_types.specs.Contents.{IsOfKind}
 use Rattle.ndef_types.specs.ContentsLaws.{has_at}
-use Rattle.ndef_types.specs.Posters.{is_text, titles}
+use Rattle.ndef_types.specs.Posters.{is_text}
 use Rattle.ndef_c.specs.Posters.{HasPosterRecords}
 use Rattle.ndef_c.specs.Titles.{IsPosterPayload, LiesAsText}
 use Rattle.ndef_c.specs.Walks.{Lies}
@@ -26,19 +25,6 @@ is_title i = is_text (kind_in SmartPoster i.tnf i.kind)
 
 pub title_kind : (i : Item) (p : Piece) → IsOfPiece i p → is_title i ≡ is_text (kind_in SmartPoster (tnf_of p.tnf) p.kind)
 title_kind i p e = ap₂ (λ t k. is_text (kind_in SmartPoster t k)) e.tnf e.kind
-
-pub titles_more : (xs : List Item) (i : Item) → is_title i ≡ true → titles (xs ++ i ∷ []) ≡ titles xs ++ i ∷ []
-titles_more xs i e = filter-append is_title xs (i ∷ []) ∙ ap (λ b. titles xs ++ (if b then i ∷ [] else [])) e
-
-pub titles_same : (xs : List Item) (i : Item) → is_title i ≡ false → titles (xs ++ i ∷ []) ≡ titles xs
-titles_same xs i e = filter-append is_title xs (i ∷ []) ∙ ap (λ b. titles xs ++ (if b then i ∷ [] else [])) e ∙ append-nil (titles xs)
-
-titles_with : (items xs : List Item) (i : Item) → (w : (more : List Item) × (items ≡ xs ++ i ∷ more)) → is_title i ≡ true → titles items ≡ titles xs ++ i ∷ titles w.0
-titles_with items xs i w e =
-    ap titles w.1 ∙ filter-append is_title xs (i ∷ w.0) ∙ ap (λ b. titles xs ++ (if b then i ∷ titles w.0 else titles w.0)) e
-
-pub title_at : (items xs : List Item) (i : Item) → (w : (more : List Item) × (items ≡ xs ++ i ∷ more)) → is_title i ≡ true → slice_get (titles items) (length (titles xs)) ≡ Some i
-title_at items xs i w e = ap (λ ys. slice_get ys (length (titles xs))) (titles_with items xs i w e) ∙ get_behind (titles xs) i (titles w.0)
 
 text_kind : (kind : Kind) → is_text kind ≡ true → kind ≡ kinds.Text
 text_kind kinds.Text e = refl

@@ -21,6 +21,7 @@
 //!   `error.rt`: payloads of each kind. `numbers.rt` and `alternative_writing.rt`, `error_writing.rt`,
 //!   `handover_writing.rt`: those of records within posters and handovers, written.
 //! - `titles.rt`, `specs/Titles.antt`: the titles and the media type of a poster, where they lie.
+//! - `icons.rt`, `specs/Icons.antt`: the icons of a poster, where they lie.
 //! - `utf16.rt`: texts from and to UTF-16.
 //! - `link.rt`: the links of a message. `message.rt`: its records. `handover.rt`: what requests and
 //!   selects share. `links.rt`, `references.rt`: all links of a message, all references of an alternative carrier.
@@ -46,6 +47,7 @@ mod handover;
 mod handover_making;
 mod handover_parts;
 mod handover_writing;
+mod icons;
 mod laws;
 mod limits;
 mod link;
@@ -97,6 +99,7 @@ pub use finding::{ndef_find_id, ndef_find_type};
 pub use handover_making::{NdefSelectWriting, ndef_write_request, ndef_write_select};
 pub use handover_parts::NdefAlternativeWriting;
 pub use handover_writing::{REQUEST, SELECT, ndef_write_handover};
+pub use icons::{NdefIcon, ndef_poster_icons};
 pub use laws::{
     appended_records_are_held, checks_are_walked, feeds_are_checks, fields_are_stepped,
     held_records_are_a_message, links_are_told, one_record_is_there, records_make_a_message,

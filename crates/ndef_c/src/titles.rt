@@ -29,7 +29,7 @@ use ndef_nest::Table;
 use ndef_piece::{WholePiece, heads_are_apart, whole_piece};
 
 /// Whether the payload is that of a smart poster, as the standard reads it.
-fn is_poster(payload: &[u8]) -> bool
+pub(crate) fn is_poster(payload: &[u8]) -> bool
     ensures { IsTrue result ↔ IsPosterPayload payload.now }
 {
     is_nest(Kind::SmartPoster, payload)

@@ -1,7 +1,7 @@
-use Rattle.std.proofs.Common.{length-drop, refl, arith}
+use Rattle.std.proofs.Common.{length-drop, arith}
 use Rattle.ndef_piece.specs.Whole.{shown}
 use Rattle.ndef_c.proofs.Followed.{split_size}
-use Rattle.ndef_c.proofs.Places.{lie_in, shown_parts}
+use Rattle.ndef_c.proofs.Places.{lie_in, shown_in}
 use Rattle.ndef_c.proofs.nested.found_in.Goals as goal
 
 pub overflow_sub-result : goal.overflow_sub-result
@@ -19,9 +19,4 @@ overflow_sub-result-2 c =
     omega (arith, n, d)
 
 pub returns-clause-lies : goal.returns-clause-lies
-returns-clause-lies c =
-    let bytes = c.args.bytes.now in
-    let f = c.args.piece.now in
-    let s = c.requires.split in
-    (lie_in f.header f.kind.now f.id.now f.payload.now f.rest.now bytes
-    (shown_parts f.header _ f.kind.now f.id.now f.payload.now f.rest.now _ bytes s.0 refl c.requires.no_id s.1)).payload_lies
+returns-clause-lies c = (lie_in _ _ _ _ _ _ (shown_in c.args.piece.now c.args.bytes.now c.requires.split c.requires.no_id)).payload_lies

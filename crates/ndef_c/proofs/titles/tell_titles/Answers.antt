@@ -8,8 +8,9 @@ use Rattle.ndef_c.specs.Titles.{IsTitleAt}
 use Rattle.ndef_c.specs.Walks.{Lies}
 use Rattle.ndef_c.proofs.Ahead.{ahead_in, all_done, behind_piece, empty_rest, piece_ahead, reached}
 use Rattle.ndef_c.proofs.Filled.{each_more, filled_on, get_within, length-set_over}
+use Rattle.ndef_c.proofs.Filtered.{filter_at, filter_more, filter_same}
 use Rattle.ndef_c.proofs.Posters.{in_pieces}
-use Rattle.ndef_c.proofs.TitleTexts.{is_title, poster_of, text_lies, title_at, title_kind, title_text, titles_more, titles_same}
+use Rattle.ndef_c.proofs.TitleTexts.{is_title, poster_of, text_lies, title_kind, title_text}
 use Rattle.ndef_c.proofs.titles.tell_titles.Goals as goal
 use Rattle.ndef_c.proofs.titles.tell_titles.Goals.{then-is_title, else-is_title}
 
@@ -60,7 +61,7 @@ bounds-texts-index c =
     let f = c.in-Some.piece in
     let r = reached c.heads_are_apart.ensures.apart i.ahead (shown f) _ _ c.in-Some.ensures.piece in
     let k = title_kind r.item (shown f) r.is ∙ sym c.is_title.ensures ∙ c.if-is_title.true in
-    let l = get_within (titles i.items) (length (titles i.done)) r.item (title_at i.items i.done r.item r.within k) in
+    let l = get_within (titles i.items) (length (titles i.done)) r.item (filter_at is_title i.items i.done r.item r.within k) in
     let room = c.requires.room i.items i.records in
     let count = i.count in
     let index = i.index in
@@ -81,10 +82,10 @@ loop-rest-preserved c =
           let found = w.found_in.result in
           let lies = subst (λ p. Lies c.args.payload.now found.at (length p) p) (sym w.found_in.ensures.payload) w.found_in.ensures.lies in
           let text = w.text_of.result in
-          let at = title_at i.items i.done r.item r.within (k ∙ w.if-is_title.true) in
+          let at = filter_at is_title i.items i.done r.item r.within (k ∙ w.if-is_title.true) in
           let is = text_lies c.args.payload.now r.item found text (w.found_in.ensures.payload ∙ sym r.is.payload) (w.text_of.ensures c.args.payload.now lies) in
           let place : length (titles i.done) ≡ 0 + length i.told = omega (arith, count) in
-          let more = ap length (titles_more i.done r.item (k ∙ w.if-is_title.true)) ∙ length-append (titles i.done) (r.item ∷ []) in
+          let more = ap length (filter_more is_title i.done r.item (k ∙ w.if-is_title.true)) ∙ length-append (titles i.done) (r.item ∷ []) in
           let one = length-append i.told (text ∷ []) in
           let l = get_within (titles i.items) (length (titles i.done)) r.item at in
           let room = c.requires.room i.items i.records in
@@ -104,7 +105,7 @@ loop-rest-preserved c =
           }
           )
       | else-is_title w ↦ (
-          let same = ap length (titles_same i.done r.item (k ∙ w.if-is_title.false)) in
+          let same = ap length (filter_same is_title i.done r.item (k ∙ w.if-is_title.false)) in
           let e = w.index-is in
           record {
             items = i.items;

@@ -1,0 +1,22 @@
+-- The elements of a list that pass a test.
+use Rattle.std.proofs.Common.{◌≡◌, Bool, true, false, List, [], ◌∷◌, ◌++◌, length, ◌∙◌, ap, append-nil, Some}
+use Rattle.std.specs.Prelude.{if◌then◌else◌, filter, slice_get}
+use Rattle.std.proofs.lemmas.List.Elements.{filter-append}
+use Rattle.ndef_c.proofs.Ahead.{get_behind}
+
+-- one more that passes it
+pub filter_more : {T : Type 0} (test : T → Bool) (xs : List T) (x : T) → test x ≡ true → filter test (xs ++ x ∷ []) ≡ filter test xs ++ x ∷ []
+filter_more test xs x e = filter-append test xs (x ∷ []) ∙ ap (λ b. filter test xs ++ (if b then x ∷ [] else [])) e
+
+-- one more that doesn't
+pub filter_same : {T : Type 0} (test : T → Bool) (xs : List T) (x : T) → test x ≡ false → filter test (xs ++ x ∷ []) ≡ filter test xs
+filter_same test xs x e = filter-append test xs (x ∷ []) ∙ ap (λ b. filter test xs ++ (if b then x ∷ [] else [])) e ∙ append-nil (filter test xs)
+
+filter_with : {T : Type 0} (test : T → Bool) (all xs : List T) (x : T) → (w : (more : List T) × (all ≡ xs ++ x ∷ more)) → test x ≡ true → filter test all ≡ filter test xs ++ x ∷ filter test w.0
+filter_with test all xs x w e =
+    ap (filter test) w.1 ∙ filter-append test xs (x ∷ w.0) ∙ ap (λ b. filter test xs ++ (if b then x ∷ filter test w.0 else filter test w.0)) e
+
+-- the index of one that passes it
+pub filter_at : {T : Type 0} (test : T → Bool) (all xs : List T) (x : T) → (w : (more : List T) × (all ≡ xs ++ x ∷ more)) → test x ≡ true → slice_get (filter test all) (length (filter test xs)) ≡ Some x
+filter_at test all xs x w e =
+    ap (λ ys. slice_get ys (length (filter test xs))) (filter_with test all xs x w e) ∙ get_behind (filter test xs) x (filter test w.0)

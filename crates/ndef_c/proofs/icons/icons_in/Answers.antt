@@ -1,0 +1,55 @@
+use Rattle.std.proofs.Common.{◌≡◌, ◌++◌, ◌∷◌, [], length, length-append, refl, sym, ◌∙◌, ap, arith}
+use Rattle.ndef_message.specs.WrittenLaws.{some_left}
+use Rattle.ndef_piece.specs.Whole.{shown}
+use Rattle.ndef_c.specs.Icons.{icons, is_icon, is_media}
+use Rattle.ndef_c.proofs.Ahead.{ahead_in, all_done, empty_rest, piece_ahead, reached}
+use Rattle.ndef_c.proofs.Filtered.{filter_more, filter_same}
+use Rattle.ndef_c.proofs.Followed.{split_size}
+use Rattle.ndef_c.proofs.icons.icons_in.Goals as goal
+use Rattle.ndef_c.proofs.icons.icons_in.Goals.{then-is_icon, else-is_icon}
+
+pub loop-rest-init : goal.loop-rest-init
+loop-rest-init c = record { counted = omega arith; ahead = λ profile items h. ([], ahead_in profile items c.args.bytes.now h, refl) }
+
+pub unreachable-requires : goal.unreachable-requires
+unreachable-requires c =
+    let a = c.loop-rest.invariant.ahead c.requires.0 c.requires.1 c.requires.2 in
+    c.in_default.ensures.none (piece_ahead a.1 (some_left c.loop-rest.rest.now _ c.is_empty.ensures c.loop-rest-test.true))
+
+pub loop-rest-preserved : goal.loop-rest-preserved
+loop-rest-preserved c =
+    let f = c.in-Some.piece in
+    let i = c.loop-rest.invariant in
+    let s = c.in-Some.ensures.piece in
+    record {
+      counted =
+          let m = split_size (shown f) _ _ _ s in
+          let n = i.counted in
+          elim c.if-is_icon.branch [
+            | then-is_icon w ↦ let e = w.count-is in omega (arith, m, n, e)
+            | else-is_icon w ↦ let e = w.count-is in omega (arith, m, n, e)
+          ];
+      ahead = λ profile items h.
+          let a = i.ahead profile items h in
+          let n = a.2 in
+          let r = reached c.heads_are_apart.ensures.apart a.1 (shown f) _ _ s in
+          let k : is_icon r.item ≡ c.is_icon.result = ap is_media r.is.tnf ∙ sym c.is_icon.ensures in (
+            a.0 ++ r.item ∷ [],
+            r.next,
+            elim c.if-is_icon.branch [
+              | then-is_icon w ↦
+                  let more = ap length (filter_more is_icon a.0 r.item (k ∙ w.if-is_icon.true)) ∙ length-append (icons a.0) (r.item ∷ []) in
+                  let e = w.count-is in
+                  omega (arith, n, more, e)
+              | else-is_icon w ↦
+                  let same = ap length (filter_same is_icon a.0 r.item (k ∙ w.if-is_icon.false)) in
+                  let e = w.count-is in
+                  omega (arith, n, same, e)
+            ],
+          );
+    }
+
+pub returns : goal.returns
+returns c = λ profile items h.
+    let a = c.loop-rest.invariant.ahead profile items h in
+    a.2 ∙ ap (λ xs. length (icons xs)) (sym (all_done items a.0 c.loop-rest.rest.now a.1 (empty_rest c.loop-rest.rest.now (sym c.is_empty.ensures ∙ c.loop-rest-test.false))))
