@@ -680,7 +680,7 @@ uint32_t ndef_append_text(ndef_built *built, const uint8_t *id, ndef_size id_len
 uint32_t ndef_append_uri(ndef_built *built, const uint8_t *id, ndef_size id_length, const uint8_t *uri,
                          ndef_size uri_length, uint8_t *room, ndef_size size, ndef_size *count);
 
-/* ---- titles and media types of smart posters
+/* ---- titles, media types and icons of smart posters
  *
  * The payload is that of a Smart Poster record (`Sp`), its chunks joined. Reserved values are treated as the standard
  * says. Places count from the front of this payload. */
@@ -700,6 +700,20 @@ uint32_t ndef_title(const uint8_t *payload, ndef_size length, const uint8_t *lan
 /* Tells where the media type (`t`) of what the URI leads to lies, such as "text/html", in UTF-8; of several the first.
  * NDEF_OK. NDEF_END: the poster has none. NDEF_BAD_ARGUMENT: it is no such payload. */
 uint32_t ndef_poster_media_type(const uint8_t *payload, ndef_size length, ndef_part *out);
+
+/* Where an icon of a smart poster lies. */
+typedef struct ndef_icon {
+    ndef_part media_type; /* such as "image/png" */
+    ndef_part data;       /* the bytes of the image */
+} ndef_icon;
+
+/* Tells the icons of a smart poster: where the media type and the bytes of each lie, in the order of their records. It
+ * fills the array as the calls above do. Each record of a media type (NDEF_TNF_MEDIA) counts as an icon. The standard
+ * asks for types that begin with "image/" or "video/", and the call does not look at that: look at the type before you
+ * use the data.
+ * NDEF_OK, NDEF_NO_ROOM. NDEF_BAD_ARGUMENT: it is no such payload. */
+uint32_t ndef_poster_icons(const uint8_t *payload, ndef_size length, ndef_icon *icons, ndef_size size,
+                           ndef_size *count);
 
 /* ---- a message written again */
 
