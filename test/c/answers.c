@@ -223,6 +223,20 @@ static void look_at_titles(const uint8_t *bytes, ndef_size length) {
     mix_status(ndef_poster_media_type(bytes, length, &media)), mix(media.at), mix(media.length);
 }
 
+static void mix_part(const ndef_part *part) { mix(part->at), mix(part->length); }
+
+/* The icons of a poster. */
+static void look_at_icons(const uint8_t *bytes, ndef_size length) {
+    static ndef_icon icons[ELEMENTS];
+    const ndef_icon mark = { { 7, 7 }, { 7, 7 } };
+    for (int i = 0; i < 3; i++) {
+        ndef_size count = 77;
+        for (int k = 0; k < ELEMENTS; k++) icons[k] = mark;
+        mix_status(ndef_poster_icons(bytes, length, icons, sizes[i], &count)), mix(count);
+        for (int k = 0; k < ELEMENTS; k++) mix_part(&icons[k].media_type), mix_part(&icons[k].data);
+    }
+}
+
 static void look_at_payload(const uint8_t *bytes, ndef_size length, ndef_size size) {
     for (uint32_t flags = 0; flags < 3; flags++) {
         ndef_checked why = { 77, 77, 77 };
@@ -236,6 +250,7 @@ static void look_at_payload(const uint8_t *bytes, ndef_size length, ndef_size si
     write_from(bytes, length, size);
     append_from(bytes, length, size);
     look_at_titles(bytes, length);
+    look_at_icons(bytes, length);
 }
 
 static void follow_links(const uint8_t *bytes, ndef_size length, const uint8_t *handover, ndef_size handover_length) {

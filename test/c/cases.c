@@ -15,6 +15,7 @@ typedef char text_lies[sizeof(ndef_text_parts) == 40 && offsetof(ndef_text_parts
 typedef char carrier_lies[sizeof(ndef_carrier_parts) == 40 && offsetof(ndef_carrier_parts, format) == 32 ? 1 : -1];
 typedef char alternative_lies[sizeof(ndef_alternative_parts) == 8 && offsetof(ndef_alternative_parts, references) == 4 ? 1 : -1];
 typedef char part_lies[sizeof(ndef_part) == 16 && offsetof(ndef_part, length) == 8 ? 1 : -1];
+typedef char icon_lies[sizeof(ndef_icon) == 32 && offsetof(ndef_icon, data) == 16 ? 1 : -1];
 typedef char request_lies[sizeof(ndef_request_parts) == 24 && offsetof(ndef_request_parts, collision) == 16 ? 1 : -1];
 typedef char select_lies[sizeof(ndef_select_parts) == 40 && offsetof(ndef_select_parts, error) == 36 ? 1 : -1];
 typedef char link_lies[sizeof(ndef_link) == 40 && offsetof(ndef_link, has_record) == 32 ? 1 : -1];

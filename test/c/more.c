@@ -322,6 +322,36 @@ static void titles(void) {
     expect(ndef_poster_titles(octets("\xd1\1\2U\1x"), 6, told, 0, &count) == NDEF_OK && count == 0, "titles: a poster without titles has some");
 }
 
+/* ---- icons of posters */
+
+/* Whether the media type and the data of an icon lie there. */
+static int same_icon(const ndef_icon *icon, ndef_size type_at, ndef_size type_length, ndef_size data_at, ndef_size data_length) {
+    return same_part(&icon->media_type, type_at, type_length) && same_part(&icon->data, data_at, data_length);
+}
+
+/* A poster: a URI, an icon of image/png, a title, a record of video/x with an id, and one of a/b without data. */
+static void icons(void) {
+    static const uint8_t payload[] = {
+        0x91, 1, 2, 'U', 1, 'x',
+        0x12, 9, 3, 'i', 'm', 'a', 'g', 'e', '/', 'p', 'n', 'g', 0x89, 'P', 'N',
+        0x11, 1, 4, 'T', 2, 'd', 'e', 'A',
+        0x1a, 7, 2, 1, 'v', 'i', 'd', 'e', 'o', '/', 'x', 'i', 0, 1,
+        0x52, 3, 0, 'a', '/', 'b' };
+    ndef_icon told[4], marks[4];
+    ndef_size count = 77;
+    memset(told, 0x5a, sizeof told);
+    memcpy(marks, told, sizeof marks);
+    expect(ndef_poster_icons(payload, sizeof payload, told, 2, &count) == NDEF_NO_ROOM && count == 3, "icons: two are enough for three");
+    expect(memcmp(told, marks, sizeof marks) == 0, "icons: a small array is written");
+    expect(ndef_poster_icons(payload, sizeof payload, told, 3, &count) == NDEF_OK && count == 3, "icons: three aren't told");
+    expect(same_icon(told, 9, 9, 18, 3) && same_icon(told + 1, 33, 7, 41, 2) && same_icon(told + 2, 46, 3, 49, 0), "icons: they lie elsewhere");
+    expect(memcmp(told + 3, marks, sizeof told[3]) == 0, "icons: behind the last is another");
+    expect(ndef_poster_icons(octets("\xd1\1\2U\1x"), 6, told, 0, &count) == NDEF_OK && count == 0, "icons: a poster without icons has some");
+    count = 77;
+    expect(ndef_poster_icons(octets("\xd1\1\2T\1x"), 6, told, 4, &count) == NDEF_BAD_ARGUMENT && count == 77, "icons: a poster without URI has icons");
+    expect(ndef_poster_icons(payload, sizeof payload - 1, told, 4, &count) == NDEF_BAD_ARGUMENT && same_icon(told, 9, 9, 18, 3), "icons: a part of a poster has some");
+}
+
 /* ---- a message written again */
 
 /* A text in chunks of 3, 0 and 2 bytes, with an empty id; a record in the long form, with an id; and bytes behind them. */
@@ -366,6 +396,7 @@ static void poster_written(void) {
     static const ndef_icon_writing small[1] = { { { 16, 4 }, { 21, 1 } } };
     const ndef_poster_writing how = { { 0, 14 }, { 14, 6 }, 1, 1, 2, 1, 0x01020304 };
     const ndef_poster_writing short_one = { { 22, 1 }, { 9999, 9 }, 0, 0, 9999, 0, 9 };
+    ndef_icon icon;
     uint8_t room[80];
     ndef_size count = 77;
     memset(room, 0xa5, sizeof room);
@@ -375,6 +406,8 @@ static void poster_written(void) {
     expect(ndef_write_poster(poster_bytes, POSTER_BYTES, &how, titles, 2, icons, 1, room, sizeof whole, &count) == NDEF_OK && count == sizeof whole,
            "poster: it isn't written");
     expect(memcmp(room, whole, sizeof whole) == 0 && room[sizeof whole] == 0xa5, "poster: it is another payload");
+    expect(ndef_poster_icons(room, sizeof whole, &icon, 1, &count) == NDEF_OK && count == 1 && same_icon(&icon, sizeof whole - 11, 9, sizeof whole - 2, 2),
+           "poster: its icon isn't told");
     expect(ndef_write_poster(poster_bytes, POSTER_BYTES, &short_one, NULL, 0, small, 1, room, sizeof room, &count) == NDEF_OK && count == sizeof plain,
            "poster: a short one isn't written");
     expect(memcmp(room, plain, sizeof plain) == 0 && room[sizeof plain] == whole[sizeof plain], "poster: a short one is another payload");
@@ -475,6 +508,7 @@ int main(void) {
     built();
     appended();
     titles();
+    icons();
     rewritten();
     poster_written();
     poster_refused();

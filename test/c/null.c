@@ -4,7 +4,7 @@
 #include <stdio.h>
 #include <string.h>
 
-enum { CALLS = 96 };
+enum { CALLS = 128 };
 
 struct answer { uint32_t status, reason; uint64_t place, count; };
 static struct answer answers[2][CALLS];
@@ -83,6 +83,7 @@ static void more_calls(int way, const uint8_t *none, ndef_part *no_parts, ndef_l
     const ndef_poster_writing poster = { { 0, 0 }, { 0, 0 }, 0, 0, 0, 0, 0 };
     const ndef_title_writing title = { { 0, 0 }, { 0, 0 }, 0 };
     const ndef_icon_writing icon = { { 0, 0 }, { 0, 0 } };
+    ndef_icon place;
     const ndef_alternative_writing alternative = { 0, 1, 0 };
     const ndef_select_writing select = { { 0, 0 }, 1, 1, 9 };
     answer(way, ndef_pieces(none, 0, 0, no_parts, 0, &count));
@@ -100,6 +101,8 @@ static void more_calls(int way, const uint8_t *none, ndef_part *no_parts, ndef_l
     answer(way, ndef_append_text(&built, none, 0, none, 0, none, 0, 0, room, size, &count));
     answer(way, ndef_append_uri(&built, none, 0, none, 0, room, size, &count));
     answer(way, ndef_title(none, 0, none, 0, &text));
+    answer(way, ndef_poster_icons(none, 0, way ? &place : NULL, 0, &count));
+    answer(way, ndef_poster_icons((const uint8_t *)"\xd1\1\1U\0", 5, way ? &place : NULL, 0, &count));
     answer(way, ndef_rewrite(none, 0, 0, room, size, &count));
     answer(way, ndef_write_request(1, 2, none, 0, no_parts, 0, way ? &alternative : NULL, 0, room, size, &count));
     answer(way, ndef_write_select(&select, none, 0, no_parts, 0, way ? &alternative : NULL, 0, room, size, &count));

@@ -292,6 +292,26 @@ static void look_at_titles(const uint8_t *payload, ndef_size length, uint32_t st
     free(titles);
 }
 
+/* The icons of a poster are its records of a media type. */
+static void look_at_icons(const uint8_t *payload, ndef_size length, uint32_t status) {
+    ndef_icon *icons;
+    ndef_size number, found = 0, at = 0;
+    ndef_record record;
+    LIST(icons, number, ndef_poster_icons(payload, length, array, size, &count));
+    HOLDS(status == NDEF_OK || number == 0);
+    while (status == NDEF_OK && ndef_record_at(payload, length, at, &record) == NDEF_OK) {
+        if (record.tnf == NDEF_TNF_MEDIA) {
+            HOLDS(found < number);
+            const ndef_icon *icon = icons + found++;
+            HOLDS(icon->media_type.at == record.type_at && icon->media_type.length == record.type_length);
+            HOLDS(icon->data.at == record.payload_at && icon->data.length == record.payload_length);
+        }
+        at = record.end;
+    }
+    HOLDS(found == number);
+    free(icons);
+}
+
 /* A poster is written again in one call, its titles as their octets of UTF-8, with its URI behind the payload; and read
  * back as the same. */
 static void write_poster(const uint8_t *payload, ndef_size length, const ndef_poster_parts *parts) {
@@ -337,8 +357,9 @@ static void look_at_poster(const uint8_t *payload, ndef_size length, uint32_t fl
     ndef_checked why;
     ndef_size count;
     uint8_t byte;
-    if (flags == NDEF_STANDARD) look_at_titles(payload, length, ndef_poster(payload, length, flags, &parts, &why));
-    if (ndef_poster(payload, length, flags, &parts, &why) != NDEF_OK) return;
+    const uint32_t read = ndef_poster(payload, length, flags, &parts, &why);
+    if (flags == NDEF_STANDARD) look_at_titles(payload, length, read), look_at_icons(payload, length, read);
+    if (read != NDEF_OK) return;
     HOLDS(is_within(parts.uri_at, parts.uri_length, length));
     const uint32_t status = ndef_uri(payload + parts.uri_at, parts.uri_length, flags, &byte, 0, &count, &why);
     HOLDS(status == NDEF_OK || status == NDEF_NO_ROOM);
