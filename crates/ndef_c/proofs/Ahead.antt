@@ -1,9 +1,8 @@
 -- The records that are ahead in a message of one piece a record.
-use Rattle.std.proofs.Common.{◌≡◌, ℕ, suc, ◌+◌, ◌<◌, ◌∷◌, [], take, drop, refl, sym, ◌∙◌, ap, subst, arith, Bool, ne_eqb, true≢false, List, drop_at, ◌++◌, length, length-append, map, append_assoc, append-nil, take_at, Some, inl, inr}
-use Rattle.std.specs.List.{AllByRecursion, filter}
-use Rattle.std.specs.Prelude.{◌==◌, true, false, if◌then◌else◌, slice_get}
+use Rattle.std.proofs.Common.{◌≡◌, ℕ, suc, ◌+◌, ◌<◌, ◌∷◌, [], take, drop, refl, sym, ◌∙◌, ap, subst, arith, Bool, ne_eqb, true≢false, List, drop_at, ◌++◌, length, map, append_assoc, append-nil, take_at, Some, inl, inr}
+use Rattle.std.specs.List.{AllByRecursion}
+use Rattle.std.specs.Prelude.{◌==◌, true, slice_get}
 use Rattle.std.proofs.lemmas.List.{drop-drop}
-use Rattle.std.proofs.lemmas.List.Elements.{filter-append}
 use Rattle.ndef_format.specs.Messages.{Item, SpellsPieces, all_pieces, payload_of, run_record}
 use Rattle.ndef_format.specs.Records.{Piece, Run, tnf_of}
 use Rattle.ndef_format.specs.declared.profile.Profile.{Profile}
@@ -137,10 +136,3 @@ empty_rest (x ∷ rest) e = absurd (true≢false (sym e ∙ ne_eqb (suc (length 
 pub behind_piece : (p : Piece) (short : Bool) (behind rest bytes : List ℕ) (at : ℕ) → rest ≡ drop at bytes → (i : IsSplit p short behind rest) → behind ≡ drop (at + length i.front) bytes
 behind_piece p short behind rest bytes at e i =
     sym (drop_at i.front behind (length i.front) refl) ∙ ap (drop (length i.front)) (sym i.joined ∙ e) ∙ drop-drop (length i.front) at bytes
-
--- how many pass a test, with one record more
-pub count_more : (p : Item → Bool) (xs : List Item) (i : Item) → p i ≡ true → length (filter p (xs ++ i ∷ [])) ≡ length (filter p xs) + 1
-count_more p xs i e = ap length (filter-append p xs (i ∷ []) ∙ ap (λ b. filter p xs ++ (if b then i ∷ [] else [])) e) ∙ length-append (filter p xs) (i ∷ [])
-
-pub count_same : (p : Item → Bool) (xs : List Item) (i : Item) → p i ≡ false → length (filter p (xs ++ i ∷ [])) ≡ length (filter p xs)
-count_same p xs i e = ap length (filter-append p xs (i ∷ []) ∙ ap (λ b. filter p xs ++ (if b then i ∷ [] else [])) e ∙ append-nil (filter p xs))

@@ -1,5 +1,5 @@
 -- The elements of a list that pass a test.
-use Rattle.std.proofs.Common.{◌≡◌, Bool, true, false, List, [], ◌∷◌, ◌++◌, length, ◌∙◌, ap, append-nil, Some}
+use Rattle.std.proofs.Common.{◌≡◌, ◌+◌, Bool, true, false, List, [], ◌∷◌, ◌++◌, length, length-append, ◌∙◌, ap, append-nil, Some}
 use Rattle.std.specs.Prelude.{if◌then◌else◌, filter, slice_get}
 use Rattle.std.proofs.lemmas.List.Elements.{filter-append}
 use Rattle.ndef_c.proofs.Ahead.{get_behind}
@@ -11,6 +11,13 @@ filter_more test xs x e = filter-append test xs (x ∷ []) ∙ ap (λ b. filter 
 -- one more that doesn't
 pub filter_same : {T : Type 0} (test : T → Bool) (xs : List T) (x : T) → test x ≡ false → filter test (xs ++ x ∷ []) ≡ filter test xs
 filter_same test xs x e = filter-append test xs (x ∷ []) ∙ ap (λ b. filter test xs ++ (if b then x ∷ [] else [])) e ∙ append-nil (filter test xs)
+
+-- how many pass it, with one more
+pub count_more : {T : Type 0} (test : T → Bool) (xs : List T) (x : T) → test x ≡ true → length (filter test (xs ++ x ∷ [])) ≡ length (filter test xs) + 1
+count_more test xs x e = ap length (filter_more test xs x e) ∙ length-append (filter test xs) (x ∷ [])
+
+pub count_same : {T : Type 0} (test : T → Bool) (xs : List T) (x : T) → test x ≡ false → length (filter test (xs ++ x ∷ [])) ≡ length (filter test xs)
+count_same test xs x e = ap length (filter_same test xs x e)
 
 filter_with : {T : Type 0} (test : T → Bool) (all xs : List T) (x : T) → (w : (more : List T) × (all ≡ xs ++ x ∷ more)) → test x ≡ true → filter test all ≡ filter test xs ++ x ∷ filter test w.0
 filter_with test all xs x w e =

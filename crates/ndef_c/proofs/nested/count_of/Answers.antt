@@ -4,7 +4,8 @@ use Rattle.std.proofs.lemmas.Bool.{false_from_ne_true}
 use Rattle.ndef_format.specs.Nested.{kind_in}
 use Rattle.ndef_message.specs.WrittenLaws.{some_left}
 use Rattle.ndef_piece.specs.Whole.{shown}
-use Rattle.ndef_c.proofs.Ahead.{ahead_in, all_done, count_more, count_same, empty_rest, piece_ahead, reached}
+use Rattle.ndef_c.proofs.Ahead.{ahead_in, all_done, empty_rest, piece_ahead, reached}
+use Rattle.ndef_c.proofs.Filtered.{count_more, count_same}
 use Rattle.ndef_c.proofs.Followed.{split_size}
 use Rattle.ndef_c.proofs.nested.count_of.Goals as goal
 use Rattle.ndef_c.proofs.nested.count_of.Goals.{then-is_kind, else-is_kind}
