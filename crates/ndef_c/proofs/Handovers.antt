@@ -1,9 +1,8 @@
 -- The records of handovers.
-use Rattle.std.proofs.Common.{◌≡◌, ◌≢◌, ℕ, zero, suc, ◌+◌, ◌-◌, ◌<◌, ◌↔◌, ◌++◌, ◌∷◌, [], drop, get_or, refl, sym, ◌∙◌, ap, subst, arith, Bool, true, false, true≢false, List, length, append-nil, Some, inl, inr}
+use Rattle.std.proofs.Common.{◌≡◌, ◌≢◌, ℕ, zero, suc, ◌+◌, ◌-◌, ◌<◌, ◌↔◌, ◌∷◌, [], drop, get_or, refl, sym, ◌∙◌, ap, subst, arith, Bool, true, false, true≢false, List, length, Some, inl, inr}
 use Rattle.std.specs.Int.{w16, from_be_bytes}
 use Rattle.std.specs.List.{AllByRecursion}
 use Rattle.std.specs.Prelude.{slice_get, if◌then◌else◌}
-use Rattle.std.proofs.lemmas.List.Elements.{filter-append}
 use Rattle.ndef_format.specs.Messages.{Item}
 use Rattle.ndef_format.specs.declared.profile.Profile.{Profile}
 use Rattle.ndef_format.specs.declared.profile.Profile.TheVariants.{Standard}
@@ -27,17 +26,6 @@ use Rattle.ndef_c.proofs.Places.{lies_tail}
 
 abbrev pub is_carrier : Item → Bool
 is_carrier i = is_alternative (kind_of i.tnf i.kind)
-
-pub alternatives_more : (xs : List Item) (i : Item) → is_carrier i ≡ true → alternatives (xs ++ i ∷ []) ≡ alternatives xs ++ i ∷ []
-alternatives_more xs i e = filter-append is_carrier xs (i ∷ []) ∙ ap (λ b. alternatives xs ++ (if b then i ∷ [] else [])) e
-
-pub alternatives_same : (xs : List Item) (i : Item) → is_carrier i ≡ false → alternatives (xs ++ i ∷ []) ≡ alternatives xs
-alternatives_same xs i e = filter-append is_carrier xs (i ∷ []) ∙ ap (λ b. alternatives xs ++ (if b then i ∷ [] else [])) e ∙ append-nil (alternatives xs)
-
--- the alternative carrier behind some records, among all of them
-pub alternatives_with : (items xs : List Item) (i : Item) → (w : (more : List Item) × (items ≡ xs ++ i ∷ more)) → is_carrier i ≡ true → alternatives items ≡ alternatives xs ++ i ∷ alternatives w.0
-alternatives_with items xs i w e =
-    ap alternatives w.1 ∙ filter-append is_carrier xs (i ∷ w.0) ∙ ap (λ b. alternatives xs ++ (if b then i ∷ alternatives w.0 else alternatives w.0)) e
 
 keep : (b : Bool) (P : Item → Type 0) (i : Item) (rest : List Item) → (b ≡ true → P i) → AllByRecursion P rest → AllByRecursion P (if b then i ∷ rest else rest)
 keep true P i rest h r = (h refl, r)

@@ -1,6 +1,5 @@
 -- A link of a handover, by the place of its alternative carrier.
-use Rattle.std.proofs.Common.{◌≡◌, ℕ, ◌+◌, ◌<◌, ◌^◌, ◌∙◌, Bool, true, List, length, length-drop, drop, get_or, refl, sym, ap, subst, arith, Some}
-use Rattle.std.specs.Prelude.{slice_get}
+use Rattle.std.proofs.Common.{◌≡◌, ℕ, ◌+◌, ◌<◌, ◌^◌, ◌∙◌, Bool, true, List, length, length-drop, drop, get_or, refl, sym, subst, arith, Some}
 use Rattle.ndef_format.specs.Messages.{Item}
 use Rattle.ndef_format.specs.Records.{Piece, Run, tnf_of}
 use Rattle.ndef_format.specs.Handovers.{IsAlternative}
@@ -14,9 +13,10 @@ use Rattle.ndef_c.specs.Nested.{LiesWithIndex}
 use Rattle.ndef_c.specs.Walks.{Lies}
 use Rattle.ndef_c.specs.declared.link.NdefLink.{NdefLink}
 use Rattle.ndef_c.specs.declared.nested.Found.{Found}
-use Rattle.ndef_c.proofs.Ahead.{Ahead, found_of, get_behind, reached}
+use Rattle.ndef_c.proofs.Ahead.{Ahead, found_of, reached}
 use Rattle.ndef_c.proofs.Alternatives.{ac_at}
-use Rattle.ndef_c.proofs.Handovers.{Handover, alternatives_with, is_alternative_at, is_carrier}
+use Rattle.ndef_c.proofs.Filtered.{filter_at}
+use Rattle.ndef_c.proofs.Handovers.{Handover, is_alternative_at, is_carrier}
 use Rattle.ndef_c.proofs.Places.{lies_behind, lies_within}
 
 -- the alternative carrier with the index lies there in the message
@@ -67,6 +67,6 @@ carrier_here apart payload h done rest a p short behind s e f same message m lie
     let r = reached apart a p short behind s in
     let k : is_carrier r.item ≡ true = (λ j. is_alternative (kind_of (r.is.tnf j) (r.is.kind j))) ∙ e in (
       r.item,
-      ap (λ xs. slice_get xs (length (alternatives done))) (alternatives_with h.items done r.item r.within k) ∙ get_behind (alternatives done) r.item (alternatives r.within.0),
+      filter_at is_carrier h.items done r.item r.within k,
       found_of (drop 1 payload) r.item f p.payload same r.is.payload (subst (λ b. Lies b f.at (length p.payload) p.payload) m lies),
     )

@@ -8,7 +8,8 @@ use Rattle.ndef_c.specs.Links.{IsLinkAt}
 use Rattle.ndef_c.specs.Nested.{MayBeInPieces}
 use Rattle.ndef_c.proofs.Ahead.{ahead_in, all_done, behind_piece, empty_rest, piece_ahead, reached}
 use Rattle.ndef_c.proofs.Filled.{each_more, filled_on, get_within, length-set_over}
-use Rattle.ndef_c.proofs.Handovers.{alternatives_more, alternatives_same, handover_of, is_carrier}
+use Rattle.ndef_c.proofs.Filtered.{filter_more, filter_same}
+use Rattle.ndef_c.proofs.Handovers.{handover_of, is_carrier}
 use Rattle.ndef_c.proofs.LinkParts.{carrier_bound, carrier_here, carrier_in_set, link_is}
 use Rattle.ndef_c.proofs.links.tell_links.Goals as goal
 use Rattle.ndef_c.proofs.links.tell_links.Goals.{then-is_alternative, else-is_alternative}
@@ -88,7 +89,7 @@ loop-message-preserved c =
           let link = w.link_of.result in
           let is = link_is c.args.bytes.now c.args.payload.now c.requires.may i.handover _ w.found_in-carrier.result link v.0 h w.link_of.ensures.at w.link_of.ensures.length v.1.1 (λ runs b. w.link_of.ensures.refers runs v.0 b v.1.1) in
           let place : length (alternatives i.done) ≡ 0 + length i.told = omega (arith, count) in
-          let more = ap length (alternatives_more i.done r.item (k ∙ w.if-is_alternative.true)) ∙ length-append (alternatives i.done) (r.item ∷ []) in
+          let more = ap length (filter_more is_carrier i.done r.item (k ∙ w.if-is_alternative.true)) ∙ length-append (alternatives i.done) (r.item ∷ []) in
           let one = length-append i.told (link ∷ []) in
           let l = get_within (alternatives i.handover.items) (length (alternatives i.done)) h.0 h.1 in
           let room = c.requires.room i.handover.items i.handover.records in
@@ -107,7 +108,7 @@ loop-message-preserved c =
           }
           )
       | else-is_alternative w ↦ (
-          let same = ap length (alternatives_same i.done r.item (k ∙ w.if-is_alternative.false)) in
+          let same = ap length (filter_same is_carrier i.done r.item (k ∙ w.if-is_alternative.false)) in
           let e = w.index-is in
           record {
             handover = i.handover;

@@ -4,8 +4,9 @@ use Rattle.ndef_format.specs.Kinds.{kind_of}
 use Rattle.ndef_message.specs.WrittenLaws.{some_left}
 use Rattle.ndef_piece.specs.Whole.{IsSplit, shown}
 use Rattle.ndef_types.specs.Links.{alternatives, is_alternative}
-use Rattle.ndef_c.proofs.Ahead.{ahead_in, all_done, behind_piece, empty_rest, found_of, get_behind, piece_ahead, reached}
-use Rattle.ndef_c.proofs.Handovers.{alternatives_more, alternatives_same, alternatives_with, is_carrier}
+use Rattle.ndef_c.proofs.Ahead.{ahead_in, all_done, behind_piece, empty_rest, found_of, piece_ahead, reached}
+use Rattle.ndef_c.proofs.Filtered.{filter_at, filter_more, filter_same}
+use Rattle.ndef_c.proofs.Handovers.{is_carrier}
 use Rattle.ndef_c.proofs.nested.alternative_at.Goals as goal
 use Rattle.ndef_c.proofs.nested.alternative_at.Goals.{then-is_alternative+else-left-eq0, else-is_alternative}
 
@@ -34,8 +35,7 @@ returns-then-left-eq0 c = λ profile items h.
     let k : is_carrier r.item ≡ true = (λ j. is_alternative (kind_of (r.is.tnf j) (r.is.kind j))) ∙ sym c.is_alternative.ensures ∙ c.if-is_alternative.true in
     let place : c.args.index ≡ length (alternatives a.0) = omega (arith, n, none) in (
       r.item,
-      ap (slice_get (alternatives items)) place ∙ ap (λ xs. slice_get xs (length (alternatives a.0))) (alternatives_with items a.0 r.item r.within k)
-          ∙ get_behind (alternatives a.0) r.item (alternatives r.within.0),
+      ap (slice_get (alternatives items)) place ∙ filter_at is_carrier items a.0 r.item r.within k,
       found_of bytes r.item c.found_in.result f.payload.now c.found_in.ensures.payload r.is.payload c.found_in.ensures.lies,
     )
 
@@ -56,12 +56,12 @@ loop-rest-preserved c =
             r.next,
             elim c.if-is_alternative.branch [
               | then-is_alternative+else-left-eq0 w ↦
-                  let more = ap length (alternatives_more a.0 r.item (k ∙ w.if-is_alternative.true)) ∙ length-append (alternatives a.0) (r.item ∷ []) in
+                  let more = ap length (filter_more is_carrier a.0 r.item (k ∙ w.if-is_alternative.true)) ∙ length-append (alternatives a.0) (r.item ∷ []) in
                   let some = w.if-left-eq0.false in
                   let left = w.left-is in
                   omega (arith, n, more, some, left)
               | else-is_alternative w ↦
-                  let same = ap length (alternatives_same a.0 r.item (k ∙ w.if-is_alternative.false)) in
+                  let same = ap length (filter_same is_carrier a.0 r.item (k ∙ w.if-is_alternative.false)) in
                   let left = w.left-is in
                   omega (arith, n, same, left)
             ],
