@@ -93,7 +93,8 @@ AddsJoined number run later old new =
     (fields : List Field) × ArePayloadFields (run_kind run) (run_record run).payload fields
     × (new ≡ old ++ (comma_if later ++ compact_text (payload_object number (run_record run).payload fields)))
 
--- where an array goes on, these values are appended; `before` and `behind` say whether values come before and behind them
+-- where an array goes on, these values are appended; `before` and `behind` say whether values come before and behind
+-- them
 abbrev pub AddsItems : List Data → (before behind : Bool) → (old new : Text) → Type 0
 AddsItems values before behind old new =
     (rest : List Data) → new ++ items_text behind (items_of rest) ≡ old ++ items_text before (items_of (values ++ rest))

@@ -95,8 +95,8 @@ pub(crate) fn push_message_object(
 ) -> Result<(), NoMemory>
     requires few { length told.items ≤ 65535 }
     requires fit { PlacesFit at told.fields }
-    ensures { OnOk result (AddsMessage (objects (option_map (λ name. name.now) file.entry)) number at bytes.now told.entry
-        line.old line.new) }
+    ensures { OnOk result (AddsMessage (objects (option_map (λ name. name.now) file.entry))
+        number at bytes.now told.entry line.old line.new) }
 {
     push_message_front(alloc, line, file, at, bytes, told.fields)?;
     push_message_back(alloc, line, number, told.taken, told.items)?;
