@@ -19,8 +19,8 @@
  * All else is checked: whatever the numbers, bytes and structs hold, the answer is defined.
  *
  * Most calls return an ndef_status. With NDEF_BAD_ARGUMENT and NDEF_END the call has written nothing (but
- * ndef_begin has written its checker); with NDEF_NO_ROOM it has written *count alone. But with NDEF_NO_ROOM and
- * NDEF_END ndef_fields, ndef_field_at and ndef_next_field have written *why as well. What `out`, `count`, `why` and a
+ * ndef_begin has written its checker); with NDEF_NO_ROOM it has written *count alone. Where there is no room or no
+ * field, ndef_fields, ndef_field_at and ndef_next_field have written *why as well. What `out`, `count`, `why` and a
  * room held before the call does not matter: nothing need have been written there, so a variable without a value and
  * fresh memory of malloc serve.
  *
