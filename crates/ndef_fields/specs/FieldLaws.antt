@@ -1,5 +1,6 @@
 -- What is proved of the fields of messages, of fronts of messages, and of payloads.
 use Rattle.std.specs.Prelude.{◌≡◌, ℕ, ◌+◌, ◌<◌, List, [], ◌∷◌, length, map, take, drop}
+use Rattle.std.specs.List.{flat_map}
 use Rattle.ndef_format.specs.Limits.{LimitValues}
 use Rattle.ndef_format.specs.Payloads.{IsTypedPayload}
 use Rattle.ndef_format.specs.declared.kind.Kind.{Kind}
@@ -68,3 +69,27 @@ abbrev pub PayloadsAreTold : Type 0
 PayloadsAreTold = (kind : Kind) (records : ℕ) (profile : Profile) (payload : List ℕ) (told : List Field)
     → IsTypedPayload kind records profile payload
     → (a : ArePayloadFields kind payload told) → ArePayloadParts kind payload a.parts
+
+-- ---- the bytes of all fields
+
+-- the bytes of a field
+abbrev pub bytes_of_field : (bytes : List ℕ) → Field → List ℕ
+bytes_of_field bytes f = take f.length (drop f.at bytes)
+
+-- the bytes of all these fields, joined
+abbrev pub joined_bytes : (bytes : List ℕ) → List Field → List ℕ
+joined_bytes bytes fields = flat_map (bytes_of_field bytes) fields
+
+-- The bytes of the fields of an accepted message, joined, are the message.
+abbrev pub FieldsAreMessage : Type 0
+FieldsAreMessage = (limits : LimitValues) (input : List ℕ) (told : List Field) (a : AreFields limits input told)
+    → joined_bytes input told ≡ take a.count input
+
+-- Those of a front of a message are the front.
+abbrev pub FieldsAreFront : Type 0
+FieldsAreFront = (bytes : List ℕ) (told : List Field) → AreFieldsBefore bytes told → joined_bytes bytes told ≡ bytes
+
+-- Those of a payload are the payload.
+abbrev pub FieldsArePayload : Type 0
+FieldsArePayload = (kind : Kind) (payload : List ℕ) (told : List Field)
+    → ArePayloadFields kind payload told → joined_bytes payload told ≡ payload

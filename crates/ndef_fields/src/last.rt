@@ -1,7 +1,8 @@
 //! The field of the last of some bytes, in payloads and nested messages too.
 ghost use Rattle.std.specs.Prelude.{◌≡◌, ◌-◌, ◌<◌, ℕ, drop, length};
 ghost use Rattle.ndef_format.specs.Kinds.{kind_of};
-ghost use Rattle.ndef_fields.specs.Lasts.{EndsIn, IsFieldOfLast, IsHandoverLast, IsLastInside, IsPayloadLast, kind_there};
+ghost use Rattle.ndef_fields.specs.Lasts.{EndsIn, IsFieldOfLast, IsHandoverLast, IsLastInside, IsPayloadLast};
+ghost use Rattle.ndef_fields.specs.Lasts.{kind_there};
 ghost use Rattle.ndef_fields.specs.Stages.{stage_parts, stage_rank};
 
 use crate::FieldName;

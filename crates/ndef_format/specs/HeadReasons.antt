@@ -18,7 +18,7 @@ tnf_number b = b % 8
 abbrev pub width : ℕ → ℕ
 width header = if is_set 4 header then 1 else 4
 
--- whether what is reserved is refused
+-- whether the reserved type name format 7 is refused
 abbrev pub is_strict : Profile → Bool
 is_strict Strict = true
 is_strict Standard = false

@@ -1,16 +1,17 @@
 -- What holds of the format.
-use Rattle.std.specs.Prelude.{◌≡◌, ℕ, ◌+◌, List, [], ◌++◌, ◌≢◌, true, map, ◌≤◌, length, take, ◌<◌}
+use Rattle.std.specs.Prelude.{◌≡◌, ℕ, ◌+◌, List, [], ◌++◌, ◌≢◌, true, map, ◌≤◌, length, take, ◌<◌, ⊤}
 use Rattle.std.specs.List.{AllByRecursion}
 use Rattle.ndef_format.specs.Messages.{Item, Spells, SpellsBy}
 use Rattle.ndef_format.specs.Canonical.{IsItem, whole_pieces, canonical}
 use Rattle.ndef_format.specs.Records.{Run}
-use Rattle.ndef_format.specs.Limits.{LimitValues, IsWithin, greatest_length}
+use Rattle.ndef_format.specs.Limits.{AreInRange, LimitValues, IsWithin, greatest_length}
 use Rattle.ndef_format.specs.Payloads.{Sets}
 use Rattle.ndef_format.specs.Refusals.{IsPlace, Refuses}
-use Rattle.ndef_format.specs.Accepted.{IsAccepted}
+use Rattle.ndef_format.specs.Accepted.{Accepted, IsAccepted}
 use Rattle.ndef_format.specs.Reasons.{Conditions}
+use Rattle.ndef_format.specs.declared.kind.Kind.{Kind}
 use Rattle.ndef_format.specs.declared.profile.Profile.{Profile}
-use Rattle.ndef_format.specs.declared.profile.Profile.TheVariants.{Strict}
+use Rattle.ndef_format.specs.declared.profile.Profile.TheVariants.{Strict, Standard}
 use Rattle.ndef_format.specs.declared.refusal.Refusal.{Refusal}
 
 -- ---- messages and their spellings
@@ -33,6 +34,45 @@ CanonicalSpells = (profile : Profile) (m : List Item) → m ≢ [] → AllByRecu
 abbrev pub MessagesAreBounded : Type 0
 MessagesAreBounded = (limits : LimitValues) (runs : List Run) (m : List Item) (bytes : List ℕ)
     → SpellsBy limits.profile runs m bytes → IsWithin limits runs → length bytes ≤ greatest_length limits
+
+-- ---- lengths and limits
+
+-- No spelling of a message is shorter than the canonical one.
+abbrev pub CanonicalIsShortest : Type 0
+CanonicalIsShortest = (profile : Profile) (m : List Item) (bytes : List ℕ)
+    → Spells profile m bytes → length (canonical m) ≤ length bytes
+
+-- What is accepted is accepted in the canonical spelling too, as the same message.
+abbrev pub CanonicalIsAccepted : Sets → Type 0
+CanonicalIsAccepted set = (limits : LimitValues) (m : List Item) (bytes : List ℕ) → AreInRange limits
+    → Accepted set limits m bytes → Accepted set limits m (canonical m)
+
+-- the second profile is no stricter than the first
+abbrev pub IsNoStricter : Profile → Profile → Type 0
+IsNoStricter Strict other = ⊤
+IsNoStricter Standard other = other ≡ Standard
+
+-- no limit of the second is below that of the first, and its profile is no stricter
+pub record AreWider (limits wider : LimitValues) : Type 0 where
+  pub payload : limits.payload ≤ wider.payload
+  pub records : limits.records ≤ wider.records
+  pub pieces : limits.pieces ≤ wider.pieces
+  pub profile : IsNoStricter limits.profile wider.profile
+
+-- A payload of a kind is one too where a message may have more records and the profile is no stricter.
+abbrev pub PayloadsStay : Sets → Type 0
+PayloadsStay set = (kind : Kind) (records more : ℕ) (profile other : Profile) (payload : List ℕ) → records ≤ more
+    → IsNoStricter profile other → set kind records profile payload → set kind more other payload
+
+-- What is accepted is accepted within wider limits, as the same message.
+abbrev pub WiderAccept : Sets → Type 0
+WiderAccept set = (limits wider : LimitValues) (m : List Item) (bytes : List ℕ)
+    → AreWider limits wider → Accepted set limits m bytes → Accepted set wider m bytes
+
+-- Whatever the limits, some message within them has the greatest length.
+abbrev pub GreatestIsReached : Sets → Type 0
+GreatestIsReached set = (limits : LimitValues) → AreInRange limits
+    → (m : List Item) × (bytes : List ℕ) × Accepted set limits m bytes × (length bytes ≡ greatest_length limits)
 
 -- ---- refusals
 

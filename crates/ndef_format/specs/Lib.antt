@@ -23,4 +23,5 @@ pub mod NestedReasons
 pub mod Refusals
 -- what is printed, and what holds of all this
 pub mod Shown
+pub mod Sentences
 pub mod Laws

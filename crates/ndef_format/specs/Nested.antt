@@ -106,7 +106,7 @@ pub record HasContents (table : Table) (profile : Profile) (items : List Item) :
   pub members : AllByRecursion (λ i. IsPayload (kind_in table i.tnf i.kind) profile i.payload) items
   pub complete : IsComplete table items
 
--- a message of at most so many records, each in one piece
+-- a message of at most this number of records, each in one piece, which is our choice
 pub record IsNestedBy (table : Table) (records : ℕ) (profile : Profile)
     (runs : List Run) (items : List Item) (bytes : List ℕ) : Type 0 where
   pub spelling : SpellsBy profile runs items bytes

@@ -17,8 +17,8 @@ use Rattle.ndef_format.specs.declared.table.Table.{Table}
 use Rattle.ndef_format.specs.declared.reason.Reason.TheVariants as reasons
 use Rattle.ndef_format.specs.declared.kind.Kind.{Kind}
 
--- RTD Smart Poster 1.0 and Connection Handover 1.2: a nested message has at most so many records, each in one piece,
--- and any payloads
+-- limits of the reader, not of the standards: a nested message has at most this number of records, each in one piece,
+-- and any payloads (NDEF 1.0, 2.3.3 allows chunks in any message)
 abbrev pub nested_limits : (records : ℕ) → Profile → LimitValues
 nested_limits records profile = record { payload = 4294967295; records = records; pieces = 1; profile = profile }
 

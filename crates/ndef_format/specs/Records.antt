@@ -30,13 +30,14 @@ tnf_of n =
     else (if n == 4 then External
     else (if n == 6 then Unchanged else Unknown)))))
 
--- NDEF 1.0, TNF: the numbers that are read; a strict reader refuses the reserved 7
+-- NDEF 1.0, TNF: the numbers that are read; a strict reader refuses the reserved 7, though
+-- the standard says that readers should treat it as Unknown
 abbrev pub IsRead : Profile → ℕ → Type 0
 IsRead Strict n = n < 7
 IsRead Standard n = n < 8
 
--- NDEF 1.0, TNF: an empty record has no type, id or payload, an unknown type is not written, nor one that is unchanged,
--- any other is
+-- NDEF 1.0, TNF: an empty record has no type, id or payload, an unknown type is not written, nor one that is unchanged;
+-- that any other has an octet is our choice
 abbrev pub HasShape : Tnf → (kind id payload : ℕ) → Type 0
 HasShape Empty kind id payload = (kind ≡ 0) × (id ≡ 0) × (payload ≡ 0)
 HasShape Unknown kind id payload = kind ≡ 0
@@ -151,7 +152,7 @@ pieces r = r.initial ∷ r.later
 pub record IsInitial (profile : Profile) (p : Piece) : Type 0 where
   pub read : IsRead profile p.tnf
   pub changed : p.tnf ≢ 6
-  -- an empty record is not chunked
+  -- an empty record is not chunked, which is our choice
   pub not_empty : p.chunked ≡ true → p.tnf ≢ 0
 
 -- a middle or terminating piece: unchanged, without type and id

@@ -42,7 +42,7 @@ IsUtf16 s = IsSpelled (unmarked s).0 (unmarked s).1
 
 -- ---- the payloads
 
--- RTD Text 1.0, status octet: bit 6 is reserved
+-- RTD Text 1.0, status octet: bit 6 is reserved, and 0; that a reader refuses 1 is our choice
 abbrev pub IsReservedSet : ℕ → Type 0
 IsReservedSet status = 64 ≤ status % 128
 

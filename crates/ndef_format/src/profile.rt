@@ -2,12 +2,14 @@
 ghost use Rattle.std.specs.Prelude.{◌≡◌};
 ghost use Rattle.ndef_format.specs.declared.profile.Profile.TheVariants.{Strict};
 
-/// How a reader takes what the standards reserve (NDEF 1.0, TNF; RTD URI 1.0, identifier codes).
+/// How a reader takes the type name format 7 and the URI codes above 23 (hexadecimal), which NDEF 1.0
+/// and RTD URI 1.0 reserve. Other reserved values are the same in both: bit 6 of a text's status octet
+/// is refused; actions, error reasons and carrier formats are accepted.
 #[derive(Clone, Copy, Debug, PartialEq, Eq, Hash)]
 pub enum Profile {
-    /// Reserved values are refused.
+    /// Both are refused, though the standards say that readers accept them.
     Strict,
-    /// The reserved type name format 7 is read as Unknown, and a reserved URI code as code 0.
+    /// The type name format 7 is read as Unknown (with a type it is refused), and a reserved URI code as code 0.
     Standard,
 }
 

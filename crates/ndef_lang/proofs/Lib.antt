@@ -1,12 +1,15 @@
 pub mod AsciiLemmas
 pub mod Following
 pub mod KindLemmas
+pub mod Longest
 pub mod Members
 pub mod PlaceLemmas
 pub mod Reasons
+pub mod Rewritten
 pub mod TextLemmas
 pub mod UriLemmas
 pub mod Utf16Lemmas
 pub mod Utf16Whole
 pub mod Utf8Lemmas
 pub mod Utf8Whole
+pub mod Wider

@@ -23,14 +23,15 @@ pub mod Lent
 pub mod Lists
 pub mod LoneRecords
 pub mod Moved
+pub mod Needing
 pub mod Octets
 pub mod OpenRuns
 pub mod Opening
 pub mod Parts
 pub mod Placed
 pub mod Places
-pub mod ReadBack
 pub mod Reaching
+pub mod ReadBack
 pub mod Readers
 pub mod ReadingOn
 pub mod Rests

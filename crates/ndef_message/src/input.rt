@@ -17,7 +17,7 @@ pub enum InputError {
     /// More bytes come than were asked for; so many of them were taken.
     #[error("the input is too long")]
     TooLong,
-    /// A growth was refused. At most as many bytes as were asked for were taken.
+    /// A growth was refused for a byte that comes next. Fewer bytes than were asked for were taken.
     #[error("no memory")]
     NoMemory,
 }

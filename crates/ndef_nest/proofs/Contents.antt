@@ -3,31 +3,17 @@ use Rattle.std.proofs.Common.{◌≢◌, List, [], ◌∷◌, ℕ, refl}
 use Rattle.std.specs.List.{AllByRecursion}
 use Rattle.ndef_format.specs.Messages.{Item}
 use Rattle.ndef_format.specs.declared.profile.Profile.{Profile}
-use Rattle.ndef_format.specs.declared.profile.Profile.TheVariants.{Strict, Standard}
+use Rattle.ndef_format.specs.declared.profile.Profile.TheVariants.{Strict}
 use Rattle.ndef_format.specs.Kinds.{kind_of}
 use Rattle.ndef_format.specs.Nested.{IsPayload, HasContents, kind_in, checked}
-use Rattle.ndef_format.specs.Uris.{IsUri}
+use Rattle.ndef_nest.specs.WiderLaws.{contents_for_more}
 use Rattle.ndef_format.specs.declared.kind.Kind.{Kind}
 use Rattle.ndef_format.specs.declared.kind.Kind.TheVariants as kinds
 use Rattle.ndef_format.specs.declared.table.Table.{Table}
 use Rattle.ndef_format.specs.declared.table.Table.TheVariants.{SmartPoster, Request, Select}
 
-read_uri : (profile : Profile) (payload : List ℕ) → IsUri Strict payload → IsUri profile payload
-read_uri Strict payload h = h
-read_uri Standard [] h = h
-read_uri Standard (code ∷ rest) h = (h.0, λ k. k, h.2)
-
-read_payload : (profile : Profile) (kind : Kind) (payload : List ℕ) → IsPayload kind Strict payload → IsPayload kind profile payload
-read_payload profile kinds.Uri payload h = read_uri profile payload h
-read_payload profile _ payload h = h
-
-read_members : (table : Table) (profile : Profile) (items : List Item) → AllByRecursion (λ i. IsPayload (kind_in table i.tnf i.kind) Strict i.payload) items
-    → AllByRecursion (λ i. IsPayload (kind_in table i.tnf i.kind) profile i.payload) items
-read_members table profile [] h = tt
-read_members table profile (i ∷ items) h = (read_payload profile (kind_in table i.tnf i.kind) i.payload h.0, read_members table profile items h.1)
-
 pub strict_is_read : (table : Table) (profile : Profile) (items : List Item) → HasContents table Strict items → HasContents table profile items
-strict_is_read table profile items h = record { members = read_members table profile items h.members; complete = h.complete }
+strict_is_read table profile items h = contents_for_more table Strict profile items tt h
 
 request_payload : (profile : Profile) (kind : Kind) (payload : List ℕ) → IsPayload (checked Request kind) profile payload → IsPayload (checked Request kind) Strict payload
 request_payload profile kinds.Other payload h = h

@@ -8,7 +8,8 @@
 //! - `specs/Heads.antt`: which octets are heads that may stand at a spot. `bounds.rt`: which lengths they have.
 //! - `whole.rt`: a whole piece, or a whole head, at the front of a slice. `standing.rt`: whether it may
 //!   stand at a spot.
-//! - `specs/Field.antt`: the field of the next octet follows from those before it. `specs/Machine/`: the states of a reader.
+//! - `specs/Field.antt`: the field of the next octet follows from those before it. `specs/Machine/`: the
+//!   states of a reader.
 //! - `specs/Walk.antt`, `specs/Rest.antt`: the pieces of a message one after another, and what is known
 //!   before each.
 #![tactic(auto)]

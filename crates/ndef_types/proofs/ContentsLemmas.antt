@@ -1,5 +1,5 @@
 -- The records of nested messages, one after another.
-use Rattle.std.proofs.Common.{◌≡◌, ℕ, suc, ◌+◌, ◌<◌, ◌≤◌, ◌⊎◌, zero, get_or, Bool, List, [], ◌∷◌, ◌++◌, length, take, refl, sym, ◌∙◌, ap, subst, inl, inr, arith, Option, Some, None}
+use Rattle.std.proofs.Common.{◌≡◌, ◌≢◌, true, false, ℕ, suc, ◌+◌, ◌<◌, ◌≤◌, ◌⊎◌, zero, get_or, Bool, List, [], ◌∷◌, ◌++◌, length, take, refl, sym, ◌∙◌, ap, subst, inl, inr, arith, Option, Some, None}
 use Rattle.std.specs.Prelude.{slice_get, if◌then◌else◌, filter, option_map, IfSome}
 use Rattle.std.specs.List.{AllByRecursion}
 use Rattle.std.proofs.lemmas.Bool.{cases_lt}
@@ -34,6 +34,20 @@ lack_more P items n i e f h = rw (take_grows items n i e) (all_more (λ j. P j �
 
 pub lack_all : (P : Item → Type 0) (items : List Item) (n : ℕ) → length items ≤ n → Lack P (take n items) → Lack P items
 lack_all P items n l h = subst (Lack P) (take_all n items l) h
+
+-- a record that is wanted is among those that are
+pub filter_some : (P : Item → Bool) (items : List Item) (n : ℕ) (i : Item) → slice_get items n ≡ Some i → P i ≡ true → filter P items ≢ []
+filter_some P [] n i e h none = cc
+filter_some P (j ∷ items) zero i e h none =
+    let p : j ≡ i = cc in
+    let one : filter P (j ∷ items) ≡ j ∷ filter P items = ap (λ b. if b then j ∷ filter P items else filter P items) (ap P p ∙ h) in
+    let y : j ∷ filter P items ≡ [] = sym one ∙ none in
+    cc
+filter_some P (j ∷ items) (suc n) i e h none = filter_some P items n i e h (left (P j) j (filter P items) none)
+  where
+    left : (b : Bool) (x : Item) (xs : List Item) → (if b then x ∷ xs else xs) ≡ [] → xs ≡ []
+    left true x xs e = absurd (cc)
+    left false x xs e = e
 
 pub filter_grows : (P : Item → Bool) (items : List Item) (n : ℕ) (i : Item) → slice_get items n ≡ Some i → filter P (take (n + 1) items) ≡ filter P (take n items) ++ (if P i then i ∷ [] else [])
 filter_grows P items n i e =

@@ -17,7 +17,7 @@ use Rattle.ndef_format.specs.declared.table.Table.{Table}
 use Rattle.ndef_format.specs.declared.table.Table.TheVariants.{SmartPoster, Request, Select}
 use Rattle.ndef_types.specs.Contents.{StandsForMessage}
 use Rattle.ndef_types.specs.Decoding.{RefusesPayload}
-use Rattle.ndef_types.specs.Links.{AreLinks, LinksOf, StandsForLinks, alternatives, records_of}
+use Rattle.ndef_types.specs.Links.{AreLinks, HasCarriers, LinksOf, StandsForLinks, alternatives, records_of}
 use Rattle.ndef_types.specs.declared.link.Link.{Link}
 use Rattle.ndef_types.specs.declared.link.LinkError.{LinkError}
 use Rattle.ndef_types.specs.declared.link.LinkError.TheVariants as errors
@@ -68,6 +68,11 @@ pub links_stand : (profile : Profile) (outer : List Item) (payload : List ℕ) (
     → AreLinks outer (alternatives (records_of message)) links → StandsForLinks profile outer payload links
 links_stand profile outer [] message links l m h = absurd (omega arith)
 links_stand profile outer (version ∷ bytes) message links l m h = (message, m, h)
+
+pub carriers_stand : (profile : Profile) (payload : List ℕ) (message : Option (List Item)) → 0 < length payload → StandsForMessage profile (drop 1 payload) message
+    → alternatives (records_of message) ≢ [] → HasCarriers profile payload
+carriers_stand profile [] message l m h = absurd (omega arith)
+carriers_stand profile (version ∷ bytes) message l m h = (message, m, h)
 
 pub refused_links : (profile : Profile) (outer : List Item) (i : Item) (kind : Kind) (payload : List ℕ) (refusal : Refusal) → kind ≡ kind_of i.tnf i.kind → payload ≡ i.payload
     → RefusesPayload (IsNest (table_of kind) 65535 profile) (NestReason (table_of kind) 65535 profile) payload refusal → LinksOf profile outer (Some i) (Err (errors.Refused refusal))

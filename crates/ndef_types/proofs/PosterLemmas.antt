@@ -14,7 +14,7 @@ use Rattle.ndef_format.specs.declared.kind.Kind.TheVariants as kinds
 use Rattle.ndef_format.specs.Nested.{IsPayload, HasContents, kind_in, is_uri}
 use Rattle.ndef_format.specs.Uris.{IsUri}
 use Rattle.ndef_format.specs.declared.table.Table.TheVariants.{SmartPoster}
-use Rattle.ndef_types.proofs.ContentsLemmas.{filter_grows}
+use Rattle.ndef_types.proofs.ContentsLemmas.{filter_grows, filter_some}
 use Rattle.ndef_types.specs.ContentsLaws.{uris, one_if_uri}
 use Rattle.ndef_types.specs.Posters.{plain, plain_code, plain_payload, is_text, titles, StandForTexts}
 use Rattle.ndef_types.specs.Values.{TextValue, StandsForText}
@@ -126,3 +126,6 @@ title_same items n i values e k h =
     let x : titles (take (n + 1) items) ≡ titles (take n items) =
     filter_grows (λ j. is_text (kind_in SmartPoster j.tnf j.kind)) items n i e ∙ ap (λ b. titles (take n items) ++ (if b then i ∷ [] else [])) (no_text_kind (kind_in SmartPoster i.tnf i.kind) k) ∙ append-nil (titles (take n items)) in
     rw x h
+
+pub one_title : (items : List Item) (n : ℕ) (i : Item) → slice_get items n ≡ Some i → kind_in SmartPoster i.tnf i.kind ≡ kinds.Text → titles items ≢ []
+one_title items n i e k = filter_some (λ j. is_text (kind_in SmartPoster j.tnf j.kind)) items n i e (ap is_text k)

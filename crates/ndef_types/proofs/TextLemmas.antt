@@ -3,7 +3,7 @@ use Rattle.std.proofs.Common.{◌≡◌, ℕ, zero, suc, ◌+◌, ◌-◌, ◌*�
 use Rattle.std.proofs.lemmas.Str.{scalars-chars, encodes-chars}
 use Rattle.std.proofs.lemmas.Bool.{leb-true, le-leb}
 use Rattle.std.proofs.lemmas.List.{length-take-le}
-use Rattle.std.specs.Prelude.{IsAscii, IsUtf8, IsTrue, nat_le, chars}
+use Rattle.std.specs.Prelude.{IsAscii, IsUtf8, IsTrue, OnErr, nat_le, chars}
 use Rattle.std.specs.List.{AllByRecursion}
 use Rattle.ndef_lang.specs.OctetLaws.{field_parts}
 use Rattle.ndef_format.specs.Texts.{IsCodeOctet, IsText, IsTextIn, is_wide, code_length, spelled, units_of}
@@ -68,3 +68,8 @@ fits_utf16 text n most e l =
 pub if_ok : {T E : Type 0} (P Q : T → Type 0) → ((x : T) → P x → Q x) → (r : Result T E) → IfOk r P → IfOk r Q
 if_ok P Q f (Ok x) h = f x h
 if_ok P Q f (Err e) h = tt
+
+-- what holds anyway
+pub on_err : {T E P : Type 0} (r : Result T E) → P → OnErr r P
+on_err (Ok x) p = tt
+on_err (Err e) p = p

@@ -1,5 +1,5 @@
 -- The first handover of the records of a view.
-use Rattle.std.proofs.Common.{◌≡◌, ◌⊎◌, inl, inr, suc, true, false, List, [], ◌∷◌, map, refl, Option, None, Some, Bool}
+use Rattle.std.proofs.Common.{◌≡◌, ◌≢◌, sym, subst, ◌⊎◌, inl, inr, suc, true, false, List, [], ◌∷◌, map, refl, Option, None, Some, Bool}
 use Rattle.std.specs.Prelude.{if◌then◌else◌}
 use Rattle.std.specs.List.{find}
 use Rattle.ndef_format.specs.Messages.{Item, run_record}
@@ -8,7 +8,7 @@ use Rattle.ndef_format.specs.Kinds.{kind_of}
 use Rattle.ndef_format.specs.declared.kind.Kind.{Kind}
 use Rattle.ndef_format.specs.declared.kind.Kind.TheVariants as kinds
 use Rattle.ndef_types.specs.Contents.{IsFirstOf}
-use Rattle.ndef_types.specs.Links.{IsHandoverRecord, is_handover}
+use Rattle.ndef_types.specs.Links.{HandoverIsChunked, IsHandoverRecord, is_handover}
 
 -- the record of the run is a handover
 abbrev is_one : Run → Bool
@@ -45,3 +45,25 @@ first_here r runs false e f = first_later r runs (find is_one runs) (kinds_untol
 pub first_found : (runs : List Run) → IsFirstOf IsHandoverRecord (map run_record runs) (found_of (find (λ r. is_handover (kind_of (run_record r).tnf (run_record r).kind)) runs))
 first_found [] = tt
 first_found (r ∷ runs) = first_here r runs (is_one r) refl (first_found runs)
+
+-- ---- a chunked handover
+
+chunked_on : (r : Run) (runs : List Run) → ¬ IsHandoverRecord (run_record r) → HandoverIsChunked runs → HandoverIsChunked (r ∷ runs)
+chunked_on r runs n h = record {
+  index = suc h.index;
+  run = h.run;
+  at = h.at;
+  first = record { at = h.first.at; has = h.first.has; before = (n, h.first.before) };
+  chunked = h.chunked;
+}
+
+-- the first handover that is found is chunked
+pub found_chunked : (runs : List Run) (q : Run) → find (λ r. is_handover (kind_of (run_record r).tnf (run_record r).kind)) runs ≡ Some q → q.later ≢ [] → HandoverIsChunked runs
+found_chunked [] q e c = absurd (cc)
+found_chunked (r ∷ runs) q e c = by (is_one r) refl e (λ f. found_chunked runs q f c)
+  where
+    by : (b : Bool) → is_one r ≡ b → (if b then Some r else find is_one runs) ≡ Some q → (find is_one runs ≡ Some q → HandoverIsChunked runs) → HandoverIsChunked (r ∷ runs)
+    by true t f more =
+        let p : r ≡ q = cc in
+        record { index = 0; run = r; at = refl; first = record { at = refl; has = kinds_told _ t; before = tt }; chunked = subst (λ x. x.later ≢ []) (sym p) c }
+    by false t f more = chunked_on r runs (kinds_untold _ t) (more f)

@@ -1,6 +1,6 @@
 -- The links of a message: the alternative carriers of its handover, and the records that they refer to (NFC Forum,
 -- Connection Handover 1.2).
-use Rattle.std.specs.Prelude.{◌≡◌, ◌≢◌, ◌^◌, ◌<◌, ℕ, Bool, true, false, List, [], ◌∷◌, length, filter, Option, Some, None, ⊤, ◌⊎◌, Result, Ok, Err}
+use Rattle.std.specs.Prelude.{◌≡◌, ◌≢◌, ◌^◌, ◌<◌, ℕ, Bool, true, false, List, [], ◌∷◌, length, map, filter, slice_get, Option, Some, None, ⊤, ◌⊎◌, Result, Ok, Err}
 use Rattle.ndef_format.specs.Messages.{Item, run_record}
 use Rattle.ndef_format.specs.Records.{Run}
 use Rattle.ndef_format.specs.Handovers.{IsAlternative}
@@ -72,6 +72,12 @@ StandsForLinks profile outer (version ∷ bytes) links =
     (message : Option (List Item)) × StandsForMessage profile bytes message
     × AreLinks outer (alternatives (records_of message)) links
 
+-- Connection Handover 1.2: the payload of a handover, a version octet and a message, has an alternative carrier
+abbrev pub HasCarriers : Profile → List ℕ → Type 0
+HasCarriers profile [] = ⊥
+HasCarriers profile (version ∷ bytes) =
+    (message : Option (List Item)) × StandsForMessage profile bytes message × (alternatives (records_of message) ≢ [])
+
 -- the links of the handover, if there is one, unless memory is wanting; or its payload is refused
 abbrev pub LinksOf : Profile → List Item → Option Item → Result (List Link) LinkError → Type 0
 LinksOf profile outer None result = result ≡ Ok []
@@ -87,3 +93,15 @@ LinksOf profile outer (Some i) (Err errors.NoMemory) = (length i.payload < 2 ^ 3
 abbrev pub FindsLinks : Profile → List Item → Result (List Link) LinkError → Type 0
 FindsLinks profile outer result = (i : Option Item) × IsFirstOf IsHandoverRecord outer i
     × LinksOf profile outer i result
+
+-- Connection Handover 1.2: the first handover request or select of a message has an alternative carrier
+abbrev pub HasLinks : Profile → List Item → Type 0
+HasLinks profile outer = (i : Item) × IsFirstOf IsHandoverRecord outer (Some i) × HasCarriers profile i.payload
+
+-- NDEF 1.0, chunked payloads: the first handover request or select among the records of some runs is chunked
+pub record HandoverIsChunked (runs : List Run) : Type 0 where
+  pub index : ℕ
+  pub run : Run
+  pub at : slice_get runs index ≡ Some run
+  pub first : IsFirstAt IsHandoverRecord (map run_record runs) index (run_record run)
+  pub chunked : run.later ≢ []

@@ -1,6 +1,6 @@
 //! The links of a message.
 ghost use Rattle.std.specs.Iterator.Adapters.{IterYieldsInOrder, IterYieldsInReverse};
-ghost use Rattle.std.specs.Prelude.{◌≡◌, ◌≢◌, ◌<◌, ◌^◌, ◌++◌, ◌∷◌, ◌↔◌, ◌⊎◌, [], Some, length, map, slice_get, option_map, IfOk, IsTrue, OnOk};
+ghost use Rattle.std.specs.Prelude.{◌≡◌, ◌≢◌, ◌<◌, ◌^◌, ◌++◌, ◌∷◌, ◌↔◌, ◌⊎◌, [], Some, length, map, slice_get, option_map, IfOk, IsErrOf, IsTrue, OnErr, OnOk};
 ghost use Rattle.std.specs.Slice.Iter.{iter_rest};
 ghost use Rattle.std.specs.List.{AllByRecursion, find};
 ghost use Rattle.ndef_format.specs.Messages.{run_record};
@@ -13,7 +13,7 @@ ghost use Rattle.ndef_format.specs.declared.table.Table.{Table};
 ghost use Rattle.ndef_format.specs.declared.table.Table.TheVariants.{SmartPoster};
 ghost use Rattle.ndef_types.specs.Contents.{IsFirstOf};
 ghost use Rattle.ndef_types.specs.declared.link.LinkError.TheVariants as errors;
-ghost use Rattle.ndef_types.specs.Links.{AreLinks, FindsLinks, HasWholeCarrier, IsHandoverRecord, IsIndexOf, LinksOf, StandsForLinks, alternatives, is_handover};
+ghost use Rattle.ndef_types.specs.Links.{AreLinks, FindsLinks, HandoverIsChunked, HasCarriers, HasLinks, HasWholeCarrier, IsHandoverRecord, IsIndexOf, LinksOf, StandsForLinks, alternatives, is_handover};
 
 use crate::Ac;
 use crate::accepting::{accept, accept_item};
@@ -196,7 +196,8 @@ impl<'a> Outer for View<'a> {
 /// The links of the alternative carriers of a handover, to records of the outer message.
 fn links_of<O: Outer>(alloc: Global, outer: &O, handover: &View<'_>) -> Result<Links, NoMemory>
     requires { AllByRecursion HasWholeCarrier handover.now.runs }
-    ensures { IfOk result (AreLinks (O.items outer.now) (alternatives (map run_record handover.now.runs))) }
+    ensures value { IfOk result (AreLinks (O.items outer.now) (alternatives (map run_record handover.now.runs))) }
+    ensures memory { OnErr result (alternatives (map run_record handover.now.runs) ≢ []) }
 {
     let mut links = Links::new(alloc);
     for item in handover.items() {
@@ -220,7 +221,8 @@ fn read_links<O: Outer>(
     profile: Profile,
 ) -> Result<Links, NoMemory>
     requires { (table : Table) × (table ≢ SmartPoster) × IsNest table MOST_RECORDS profile payload.now }
-    ensures { IfOk result (StandsForLinks profile (O.items outer.now) payload.now) }
+    ensures value { IfOk result (StandsForLinks profile (O.items outer.now) payload.now) }
+    ensures memory { OnErr result (HasCarriers profile payload.now) }
 {
     let bytes = behind_first(payload);
     if bytes.is_empty() {
@@ -257,7 +259,8 @@ fn links_of_handover(
     profile: Profile,
 ) -> Result<Links, LinkError>
     requires { IsHandoverRecord handover.now }
-    ensures { LinksOf profile outer.now (Some handover.now) result }
+    ensures links { LinksOf profile outer.now (Some handover.now) result }
+    ensures memory { IsErrOf result LinkError.NoMemory → HasCarriers profile handover.now.payload }
 {
     let kind = Kind::of(handover.tnf(), handover.kind());
     if let Err(refusal) = accept::<Nest>(kind, profile, handover.payload()) {
@@ -268,18 +271,21 @@ fn links_of_handover(
 
 /// The links of a message as a strict reader takes it (Connection Handover 1.2, Alternative Carrier
 /// record): the alternative carriers of its first handover request or select, in order, each with the
-/// index of the record that it refers to. Without a handover there are none, and no memory is taken.
+/// index of the record that it refers to. Without a handover or an alternative carrier there are none, and no
+/// memory is taken.
 ///
 /// The payload of the handover is refused as `Request::decode` or `Select::decode` refuses it.
 pub fn carriers(alloc: Global, message: &Message) -> Result<Links, LinkError>
-    ensures { FindsLinks Strict message.now result }
+    ensures links { FindsLinks Strict message.now result }
+    ensures memory { IsErrOf result LinkError.NoMemory → HasLinks Strict message.now }
 {
     carriers_as(alloc, message, Profile::Strict)
 }
 
 /// The links of a message as a reader of the profile takes it; see `carriers`.
 pub fn carriers_as(alloc: Global, message: &Message, profile: Profile) -> Result<Links, LinkError>
-    ensures { FindsLinks profile message.now result }
+    ensures links { FindsLinks profile message.now result }
+    ensures memory { IsErrOf result LinkError.NoMemory → HasLinks profile message.now }
 {
     match first_handover(message.records()) {
         Some(handover) => links_of_handover(alloc, message, handover, profile),
@@ -312,7 +318,9 @@ fn viewed_handover<'a>(view: &View<'a>) -> Option<Item<'a>>
 /// The links of a handover record that is viewed, to records of the outer message.
 fn links_of_viewed(alloc: Global, outer: &View<'_>, handover: &Item<'_>) -> Result<Links, LinkError>
     requires { IsHandoverRecord (run_record handover.now) }
-    ensures { LinksOf outer.now.profile (map run_record outer.now.runs) (Some (run_record handover.now)) result }
+    ensures links { LinksOf outer.now.profile (map run_record outer.now.runs) (Some (run_record handover.now)) result }
+    ensures memory { IsErrOf result LinkError.NoMemory
+        → (handover.now.later ≢ []) ⊎ HasCarriers outer.now.profile (run_record handover.now).payload }
 {
     let profile = outer.profile();
     let kind = Kind::of(handover.tnf(), handover.kind());
@@ -326,10 +334,13 @@ fn links_of_viewed(alloc: Global, outer: &View<'_>, handover: &Item<'_>) -> Resu
     Ok(read_links(alloc, outer, payload.as_slice(), profile)?)
 }
 
-/// The links of a message that is viewed, for a reader of the view's profile. Without a handover there
-/// are none, and no memory is taken. Refusals as for `carriers`: they come before `NoMemory`.
+/// The links of a message that is viewed, for a reader of the view's profile. Without a handover there are none, and
+/// no memory is taken, nor for a handover that is not chunked and has no alternative carrier. Refusals as for
+/// `carriers`: they come before `NoMemory`.
 pub fn carriers_view(alloc: Global, view: &View<'_>) -> Result<Links, LinkError>
-    ensures { FindsLinks view.now.profile (map run_record view.now.runs) result }
+    ensures links { FindsLinks view.now.profile (map run_record view.now.runs) result }
+    ensures memory { IsErrOf result LinkError.NoMemory
+        → HandoverIsChunked view.now.runs ⊎ HasLinks view.now.profile (map run_record view.now.runs) }
 {
     match viewed_handover(view) {
         Some(handover) => links_of_viewed(alloc, view, &handover),

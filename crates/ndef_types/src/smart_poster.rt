@@ -1,5 +1,5 @@
 //! Smart posters.
-ghost use Rattle.std.specs.Prelude.{◌≡◌, ◌≤◌, ◌^◌, ◌↔◌, ◌⊎◌, length, map, option_map, IfOk, IfSome, IsErrOf, MatchOption};
+ghost use Rattle.std.specs.Prelude.{◌≡◌, ◌≢◌, ◌≤◌, ◌^◌, ◌↔◌, ◌⊎◌, [], length, map, option_map, IfOk, IfSome, IsErrOf, MatchOption, OnErr};
 ghost use Rattle.ndef_format.specs.Canonical.{canonical};
 ghost use Rattle.ndef_format.specs.declared.profile.Profile.TheVariants.{Strict};
 ghost use Rattle.ndef_value.specs.declared.limits.TheConstants.{MOST_RECORDS};
@@ -7,7 +7,7 @@ ghost use Rattle.ndef_format.specs.Nested.{IsPayload, HasContents, IsNest};
 ghost use Rattle.ndef_format.specs.declared.kind.Kind.TheVariants as kinds;
 ghost use Rattle.ndef_format.specs.NestedReasons.{NestReason};
 ghost use Rattle.ndef_format.specs.declared.table.Table.TheVariants as tables;
-ghost use Rattle.ndef_types.specs.Contents.{IsFirstOf, IsFirstWrong, IsOfKind};
+ghost use Rattle.ndef_types.specs.Contents.{IsFirstOf, IsFirstWrong, IsOfKind, Lack};
 ghost use Rattle.ndef_types.specs.Decoding.{DecodesTo};
 ghost use Rattle.ndef_types.specs.Posters.{IsUriOf, LacksUri, MakesPoster, Says, StandForTexts, StandsForPoster, WritesPoster, action_in, plain, size_in, titles};
 
@@ -232,9 +232,10 @@ impl SmartPoster {
     }
 
     /// The media type of what the poster refers to, as the first type record tells it; none without
-    /// one. Or `NoMemory`.
+    /// one, and then no memory is taken. Else `NoMemory`.
     pub fn media(&self, alloc: Global) -> Result<Option<Bytes>, NoMemory>
-        ensures { IfOk result (Says kinds.MediaType (λ i. i.payload) self.now) }
+        ensures value { IfOk result (Says kinds.MediaType (λ i. i.payload) self.now) }
+        ensures memory { OnErr result (¬ Lack (IsOfKind tables.SmartPoster kinds.MediaType) self.now) }
     {
         match self.first(Kind::MediaType) {
             Some(item) => Ok(Some(Bytes::from_slice(alloc, item.payload())?)),
@@ -242,9 +243,10 @@ impl SmartPoster {
         }
     }
 
-    /// The titles, which are its texts, in order; or `NoMemory`.
+    /// The titles, which are its texts, in order. Without one no memory is taken; else `NoMemory`.
     pub fn titles(&self, alloc: Global) -> Result<Texts, NoMemory>
-        ensures { IfOk result (StandForTexts (titles self.now)) }
+        ensures value { IfOk result (StandForTexts (titles self.now)) }
+        ensures memory { OnErr result (titles self.now ≢ []) }
     {
         let mut texts = Texts::new(alloc);
         for item in self.message.records() {

@@ -9,7 +9,7 @@ use Rattle.ndef_format.specs.Messages.{all_pieces, payload_of, SpellsPieces}
 use Rattle.ndef_format.specs.Laws.{MessagesAreBounded}
 use Rattle.ndef_format.specs.declared.profile.Profile.{Profile}
 
-length_octets_few : (short : Bool) (n : ℕ) → length (payload_length_octets short n) ≤ 4
+pub length_octets_few : (short : Bool) (n : ℕ) → length (payload_length_octets short n) ≤ 4
 length_octets_few true n = omega arith
 length_octets_few false n = omega arith
 
@@ -45,7 +45,7 @@ later_length p short bytes k i s =
     omega arith
 
 -- the pieces of two lists, spelled one list after the other
-split : (ps qs : List Piece) (bytes : List ℕ) → SpellsPieces (ps ++ qs) bytes
+pub split : (ps qs : List Piece) (bytes : List ℕ) → SpellsPieces (ps ++ qs) bytes
     → (front rest : List ℕ) × (bytes ≡ front ++ rest) × SpellsPieces ps front × SpellsPieces qs rest
 split [] qs bytes s = ([], bytes, refl, refl, s)
 split (p ∷ ps) qs bytes s =

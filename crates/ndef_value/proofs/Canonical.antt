@@ -12,7 +12,7 @@ use Rattle.ndef_format.specs.Laws.{CanonicalSpells}
 use Rattle.ndef_format.specs.declared.tnf.Tnf.{Tnf}
 use Rattle.ndef_format.specs.declared.profile.Profile.{Profile}
 
-same_id : (id : List ℕ) → unwrap_or (written_id id) [] ≡ id
+pub same_id : (id : List ℕ) → unwrap_or (written_id id) [] ≡ id
 same_id [] = refl
 same_id (x ∷ xs) = refl
 

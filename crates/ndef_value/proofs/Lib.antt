@@ -3,3 +3,4 @@ pub mod Unique
 pub mod Canonical
 pub mod Bounds
 pub mod Ranks
+pub mod Shortest

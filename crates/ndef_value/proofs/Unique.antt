@@ -6,12 +6,11 @@ use Rattle.std.specs.List.{AllByRecursion}
 use Rattle.std.specs.Int.{w32, to_be_bytes}
 use Rattle.std.proofs.lemmas.List.{append-nil}
 use Rattle.ndef_value.specs.PieceLaws.{same_body, same_fields, follow_once, same_run}
-use Rattle.ndef_value.specs.TnfLaws.{read_by_all}
+use Rattle.ndef_value.specs.ProfileLaws.{strict_spelling}
 use Rattle.ndef_format.specs.Records.{bit, header_octet, payload_length_octets, id_length_octets, octets, fields, body, Piece, SpellsPiece, Run, IsRun}
 use Rattle.ndef_format.specs.Messages.{all_pieces, run_record, EndsOnce, SpellsPieces}
 use Rattle.ndef_format.specs.Laws.{OneMeaning, StrictIsRead}
 use Rattle.ndef_format.specs.declared.profile.Profile.{Profile}
-use Rattle.ndef_format.specs.declared.profile.Profile.TheVariants.{Strict}
 
 -- ---- the header octet
 bit_small : (b : Bool) → bit b < 2
@@ -132,13 +131,5 @@ one_meaning p q m n front whole rest a b e =
 
 -- ---- profiles
 
-strict_runs : (profile : Profile) (rs : List Run) → AllByRecursion (IsRun Strict) rs → AllByRecursion (IsRun profile) rs
-strict_runs profile [] a = tt
-strict_runs profile (r ∷ rs) a =
-    let i = a.0.initial in
-    (record { initial = record { read = read_by_all profile _ i.read; changed = i.changed; not_empty = i.not_empty }; follow = a.0.follow }, strict_runs profile rs a.1)
-
 pub strict_is_read : StrictIsRead
-strict_is_read profile m bytes a =
-    let x = a.1.message in
-    (a.0, record { message = record { each_run = strict_runs profile a.0 x.each_run; items = x.items; shaped = x.shaped; begins = x.begins; ends = x.ends }; spelled = a.1.spelled })
+strict_is_read profile m bytes a = (a.0, strict_spelling profile a.0 m bytes a.1)

@@ -1,5 +1,6 @@
--- Lists that begin alike, and lists of octets.
+-- Lists that begin alike, lists of octets, and what holds of each element.
 use Rattle.std.proofs.Common.{◌≡◌, ℕ, zero, suc, ◌≤◌, ◌⊎◌, inl, inr, refl, sym, subst, arith, List, [], ◌∷◌, ◌++◌, length, take, drop}
+use Rattle.std.specs.List.{AllByRecursion}
 use Rattle.std.proofs.lemmas.List.{take-append-drop}
 use Rattle.ndef_format.specs.Records.{AreOctets}
 
@@ -64,3 +65,24 @@ pub zeros_octets : (n : ℕ) → AreOctets (zeros n)
 unfolding zeros
 zeros_octets zero = tt
 zeros_octets (suc n) = (omega arith, zeros_octets n)
+
+-- ---- what holds of each element
+
+pub all_front : {X : Type 0} (P : X → Type 0) (xs ys : List X) → AllByRecursion P (xs ++ ys) → AllByRecursion P xs
+all_front P [] ys h = tt
+all_front P (x ∷ xs) ys h = (h.0, all_front P xs ys h.1)
+
+pub all_back : {X : Type 0} (P : X → Type 0) (xs ys : List X) → AllByRecursion P (xs ++ ys) → AllByRecursion P ys
+all_back P [] ys h = h
+all_back P (x ∷ xs) ys h = all_back P xs ys h.1
+
+pub all_append : {X : Type 0} (P : X → Type 0) (xs ys : List X) → AllByRecursion P xs → AllByRecursion P ys
+    → AllByRecursion P (xs ++ ys)
+all_append P [] ys h k = k
+all_append P (x ∷ xs) ys h k = (h.0, all_append P xs ys h.1 k)
+
+-- what holds of each, and leads to more
+pub all_more : {X : Type 0} (P Q : X → Type 0) (xs : List X) → ((x : X) → P x → Q x) → AllByRecursion P xs
+    → AllByRecursion Q xs
+all_more P Q [] f h = tt
+all_more P Q (x ∷ xs) f h = (f x h.0, all_more P Q xs f h.1)

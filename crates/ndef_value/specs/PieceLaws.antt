@@ -1,10 +1,10 @@
--- Pieces with one head, and runs of the same pieces.
-use Rattle.std.proofs.Common.{◌≡◌, ℕ, Bool, refl, sym, ◌∙◌, ap, List, [], ◌∷◌, ◌++◌, length, append_assoc, Option, Some, None}
+-- Pieces with one head, runs of the same pieces, and how long a piece is.
+use Rattle.std.proofs.Common.{◌≡◌, ℕ, ◌+◌, Bool, refl, sym, ◌∙◌, ap, arith, List, [], ◌∷◌, ◌++◌, length, length-append, append_assoc, Option, Some, None}
 use Rattle.std.specs.Prelude.{unwrap_or}
 use Rattle.std.specs.Option.{option_map}
 use Rattle.std.proofs.lemmas.Bool.{false≢true}
 use Rattle.ndef_value.specs.ListLaws.{cut_alike}
-use Rattle.ndef_format.specs.Records.{HeadFields, Piece, Run, Follow, fields, body}
+use Rattle.ndef_format.specs.Records.{HeadFields, Piece, Run, Follow, fields, body, octets, payload_length_octets, id_length_octets}
 
 -- ids of one length are told by their octets
 same_id : (i j : Option (List ℕ)) → option_map length i ≡ option_map length j → unwrap_or i [] ≡ unwrap_or j [] → i ≡ j
@@ -86,3 +86,17 @@ pub same_run : (r s : Run) → r.initial ≡ s.initial → r.later ≡ s.later �
 same_run r s e f =
     let make : Piece → List Piece → Run = λ i l. record { initial = i; later = l } in
     ap (λ i. make i r.later) e ∙ ap (make s.initial) f
+
+-- ---- their lengths
+
+-- how many octets a piece has, by its parts
+pub piece_octets : (p : Piece) (short : Bool) → length (octets (fields p short) ++ body p)
+    ≡ 2 + length (payload_length_octets short (length p.payload)) + length (id_length_octets (option_map length p.id))
+    + length p.kind + length (unwrap_or p.id []) + length p.payload
+piece_octets p short =
+    let head = length-append (payload_length_octets short (length p.payload))
+    (id_length_octets (option_map length p.id)) in
+    let rest = length-append (unwrap_or p.id []) p.payload in
+    let all = length-append p.kind (unwrap_or p.id [] ++ p.payload) in
+    let whole = length-append (octets (fields p short)) (body p) in
+    omega arith

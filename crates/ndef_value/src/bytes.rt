@@ -4,7 +4,7 @@ ghost use Rattle.std.specs.Cmp.{partial_equiv_from_equiv};
 ghost use Rattle.std.specs.Cmp.Lexicographic.{nat_list_eq_equiv, pointwise};
 ghost use Rattle.std.specs.Cmp.Rules.{hashing};
 ghost use Rattle.std.specs.Hash as fed;
-ghost use Rattle.std.specs.Prelude.{◌≡◌, ◌==◌, ◌↔◌, [], ◌++◌, IsTrue, IfOk, OnOk, OnErr};
+ghost use Rattle.std.specs.Prelude.{◌≡◌, ◌==◌, ◌↔◌, [], ◌++◌, IsTrue, IsOk, IfOk, OnOk, OnErr};
 ghost use Rattle.ndef_format.specs.Records.{AreOctets};
 
 use crate::NoMemory;
@@ -39,19 +39,22 @@ impl Bytes {
         }
     }
 
-    /// A copy of the bytes; `NoMemory` where their growth is refused.
+    /// A copy of the bytes; `NoMemory` where their growth is refused, which of no bytes never comes, since they
+    /// take no memory.
     pub fn from_slice(alloc: Global, bytes: &[u8]) -> Result<Bytes, NoMemory>
-        ensures { IfOk result (λ b. b ≡ bytes.now) }
+        ensures ok { IfOk result (λ b. b ≡ bytes.now) }
+        ensures empty { bytes.now ≡ [] → IsOk result }
     {
-        Ok(Bytes {
-            bytes: Vec::from_slice(alloc, bytes)?,
-        })
+        let mut copy = Vec::with_capacity(alloc, bytes.len())?;
+        copy.extend_from_slice(bytes)?;
+        Ok(Bytes { bytes: copy })
     }
 
-    /// Appends the bytes. On `NoMemory` nothing has changed.
+    /// Appends the bytes, none without memory. On `NoMemory` nothing has changed.
     pub fn extend(&mut self, bytes: &[u8]) -> Result<(), NoMemory>
         ensures ok { OnOk result (self.new ≡ self.old ++ bytes.now) }
         ensures err { OnErr result (self.new ≡ self.old) }
+        ensures empty { bytes.now ≡ [] → IsOk result }
     {
         Ok(self.bytes.extend_from_slice(bytes)?)
     }

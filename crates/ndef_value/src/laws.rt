@@ -1,6 +1,6 @@
 //! What holds of the format, whoever reads or writes it.
 ghost use Rattle.ndef_format.specs.Reasons.{RanksAreApart};
-ghost use Rattle.ndef_format.specs.Laws.{OneMeaning, StrictIsRead, CanonicalSpells, MessagesAreBounded};
+ghost use Rattle.ndef_format.specs.Laws.{OneMeaning, StrictIsRead, CanonicalSpells, CanonicalIsShortest, MessagesAreBounded};
 
 /// Bytes that begin with the spelling of a message are the spelling of no other message, with other
 /// bytes after it: a byte string spells at most one message, and no spelling begins another. What a
@@ -15,7 +15,12 @@ pub fn canonical_is_a_spelling()
     ensures { CanonicalSpells }
 {}
 
-/// A message within the limits has at most so many bytes.
+/// No spelling of a message is shorter than the canonical one.
+pub fn canonical_is_shortest()
+    ensures { CanonicalIsShortest }
+{}
+
+/// A message within the limits has at most the greatest length that they allow.
 pub fn messages_are_bounded()
     ensures { MessagesAreBounded }
 {}

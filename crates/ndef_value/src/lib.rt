@@ -16,7 +16,10 @@ mod no_memory;
 mod record;
 
 pub use bytes::Bytes;
-pub use laws::{canonical_is_a_spelling, messages_are_bounded, one_meaning, ranks_are_apart};
+pub use laws::{
+    canonical_is_a_spelling, canonical_is_shortest, messages_are_bounded, one_meaning,
+    ranks_are_apart,
+};
 pub use limits::{Limits, MOST_PAYLOAD, MOST_PIECES, MOST_RECORDS, OutOfRange};
 pub use message::{Message, MessageError};
 pub use name::{Name, NameError};

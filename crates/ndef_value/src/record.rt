@@ -1,5 +1,5 @@
 //! A record.
-ghost use Rattle.std.specs.Prelude.{◌≡◌, ◌↔◌, IfOk, IsErrOf, IsTrue};
+ghost use Rattle.std.specs.Prelude.{◌≡◌, ◌≤◌, ◌↔◌, [], length, IfOk, IsErrOf, IsTrue};
 ghost use Rattle.ndef_value.specs.declared.record.RecordError.TheVariants as errors;
 ghost use Rattle.ndef_value.specs.Record.{record_error};
 ghost use Rattle.ndef_format.specs.Messages.{IsShaped};
@@ -91,7 +91,8 @@ fn has_lengths(tnf: Tnf, kind: &[u8], id: &[u8], payload: &[u8]) -> bool
 }
 
 impl Record {
-    /// A record of copies. `BadShape` comes before `TooLong`, and `TooLong` before `NoMemory`.
+    /// A record of copies. `BadShape` comes before `TooLong`, and `TooLong` before `NoMemory`, which never comes
+    /// of a type and an id of up to 32 bytes and no payload, since they take no memory.
     pub fn new(
         alloc: Global,
         tnf: Tnf,
@@ -106,6 +107,8 @@ impl Record {
         ensures too_long { IsErrOf result RecordError.TooLong
             ↔ (IsShaped (record { tnf = tnf; kind = kind.now; id = id.now; payload = payload.now })
             × ¬ HasLengths (record { tnf = tnf; kind = kind.now; id = id.now; payload = payload.now })) }
+        ensures inline { length kind.now ≤ 32 → length id.now ≤ 32 → payload.now ≡ []
+            → ¬ IsErrOf result RecordError.NoMemory }
     {
         if !is_shaped(tnf, kind, id, payload) {
             return Err(RecordError::BadShape);

@@ -1,7 +1,7 @@
 -- Which kinds of payload the types of records name.
 use Rattle.std.specs.Prelude.{◌≡◌, ℕ, ◌==◌, List, [], ◌∷◌, ◌++◌, length, codes, if◌then◌else◌}
 use Rattle.ndef_format.specs.declared.kind.Kind.{Kind}
-use Rattle.ndef_format.specs.declared.kind.Kind.TheVariants.{Other, Collision, Error}
+use Rattle.ndef_format.specs.declared.kind.Kind.TheVariants.{Other}
 use Rattle.ndef_lang.specs.declared.kind.Front.{Front}
 use Rattle.ndef_lang.specs.declared.kind.Front.TheVariants as fronts
 use Rattle.ndef_lang.specs.declared.kind.KindReader.{KindReader}

@@ -11,5 +11,5 @@ read_auxiliary-requires c = rw (c.split_counted.ensures.rest, c.behind_first.ens
 pub returns : goal.returns
 returns c =
     let reference = sym (c.in-Ok.ensures.ok ∙ c.split_counted.ensures.field ∙ ap (λ s. take (get_or s 0 0) (drop 1 s)) c.behind_first.ensures) in
-    let auxiliary = rw (c.split_counted.ensures.rest, c.behind_first.ensures, ← c.in_ok-rest.ensures) at c.in_ok-auxiliary.ensures.auxiliary in
+    let auxiliary = rw (c.split_counted.ensures.rest, c.behind_first.ensures, ← c.in_ok-rest.ensures.ok) at c.in_ok-auxiliary.ensures.auxiliary in
     rw c.in-Ok-new.ensures.1 ((ac_parts c.args.payload.now c.requires).stands _ c.of-power.ensures reference auxiliary)

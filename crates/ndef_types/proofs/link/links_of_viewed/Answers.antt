@@ -7,8 +7,8 @@ use Rattle.ndef_types.specs.Decoding.{RefusesPayload}
 use Rattle.ndef_types.proofs.HandoverLemmas.{refused_links}
 use Rattle.ndef_types.proofs.link.links_of_viewed.Goals as goal
 
-pub returns-in-Err : goal.returns-in-Err
-returns-in-Err c =
+pub returns-in-Err-clause-links : goal.returns-in-Err-clause-links
+returns-in-Err-clause-links c =
     let v = c.args.outer.now in
     let i = run_record c.args.handover.now in
     let kind = c.of-kind.result in

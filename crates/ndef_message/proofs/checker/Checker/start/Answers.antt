@@ -1,4 +1,4 @@
-use Rattle.std.proofs.Common.{true, false, ◌≡◌, [], refl, ◌∙◌, ap, subst, inl}
+use Rattle.std.proofs.Common.{◌≡◌, [], refl, ◌∙◌, ap, subst, inl}
 use Rattle.std.proofs.lemmas.Grind.{merely}
 use Rattle.ndef_format.specs.Positions.{IsOpen}
 use Rattle.ndef_piece.specs.Walk.{start, spot}

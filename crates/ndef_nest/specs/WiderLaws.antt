@@ -1,0 +1,57 @@
+-- Payloads of a message within some limits, as a reader with wider ones takes them.
+use Rattle.std.proofs.Common.{◌≡◌, ℕ, ◌≤◌, ◌⊎◌, inl, inr, arith, List, [], ◌∷◌}
+use Rattle.ndef_format.specs.Kinds.{outer_kind}
+use Rattle.ndef_format.specs.Laws.{IsNoStricter, PayloadsStay}
+use Rattle.ndef_format.specs.Messages.{Item}
+use Rattle.ndef_format.specs.Nested.{HasContents, IsNest, IsPayload, Nested, kind_in}
+use Rattle.ndef_format.specs.Payloads.{IsTypedPayload}
+use Rattle.ndef_format.specs.declared.kind.Kind.TheVariants as kinds
+use Rattle.ndef_format.specs.declared.profile.Profile.{Profile}
+use Rattle.ndef_format.specs.declared.table.Table.{Table}
+use Rattle.ndef_format.specs.declared.table.Table.TheVariants.{SmartPoster, Request, Select}
+use Rattle.ndef_lang.specs.ProfileLaws.{payload_for_more}
+use Rattle.ndef_value.specs.ListLaws.{all_more}
+use Rattle.ndef_value.specs.ProfileLaws.{spelling_for_more}
+
+pub contents_for_more : (table : Table) (profile other : Profile) (items : List Item) → IsNoStricter profile other
+    → HasContents table profile items → HasContents table other items
+contents_for_more table profile other items a h = record {
+  members = all_more (λ i. IsPayload (kind_in table i.tnf i.kind) profile i.payload)
+      (λ i. IsPayload (kind_in table i.tnf i.kind) other i.payload) items
+      (λ i x. payload_for_more (kind_in table i.tnf i.kind) profile other i.payload a x) h.members;
+  complete = h.complete;
+}
+
+module _ (records more : ℕ) (profile other : Profile) (few : records ≤ more) (a : IsNoStricter profile other) where
+  nested_stays : (table : Table) (s : List ℕ) → Nested table records profile s → Nested table more other s
+  nested_stays table s (runs, items, n) = (
+    runs,
+    items,
+    record {
+      spelling = spelling_for_more profile other runs items s a n.spelling;
+      single = n.single;
+      few = (let f = n.few in omega (arith, few));
+      contents = contents_for_more table profile other items a n.contents;
+    },
+  )
+
+  nest_stays : (table : Table) (s : List ℕ) → IsNest table records profile s → IsNest table more other s
+  nest_stays SmartPoster s n = nested_stays SmartPoster s n
+  nest_stays Request [] n = absurd n
+  nest_stays Request (v ∷ s) n = (n.0, nested_stays Request s n.1)
+  nest_stays Select [] n = absurd n
+  nest_stays Select (v ∷ s) n = (n.0, by_rest n.1)
+    where
+      by_rest : (s ≡ []) ⊎ Nested Select records profile s → (s ≡ []) ⊎ Nested Select more other s
+      by_rest (inl e) = inl e
+      by_rest (inr m) = inr (nested_stays Select s m)
+
+-- a payload of a record of a message is one within wider limits
+pub typed_stays : PayloadsStay IsTypedPayload
+typed_stays kinds.SmartPoster records more profile other s few a n =
+    nest_stays records more profile other few a SmartPoster s n
+typed_stays kinds.Request records more profile other s few a n =
+    nest_stays records more profile other few a Request s n
+typed_stays kinds.Select records more profile other s few a n =
+    nest_stays records more profile other few a Select s n
+typed_stays kind records more profile other s few a n = payload_for_more (outer_kind kind) profile other s a n
