@@ -35,7 +35,7 @@
 
 /* The version of this header. */
 #define NDEF_VERSION_MAJOR 0
-#define NDEF_VERSION_MINOR 1
+#define NDEF_VERSION_MINOR 2
 #define NDEF_VERSION_PATCH 0
 
 /* A length, or the place of a byte counted from 0. It has 64 bits on every machine, since the library is compiled
@@ -62,7 +62,7 @@ enum ndef_status {
     NDEF_MORE = 5          /* the bytes so far begin a message, and more must follow (ndef_feed alone) */
 };
 
-/* Why a byte is refused. ndef_reason_name gives the name of each as text. */
+/* Why a byte is refused. ndef_reason_text gives the name of each, and ndef_sentence_text what it means. */
 enum ndef_reason {
     NDEF_REASON_RESERVED_TNF = 1, NDEF_REASON_BEGIN_MISSING = 2, NDEF_REASON_BEGIN_AGAIN = 3,
     NDEF_REASON_UNCHANGED_OUTSIDE = 4, NDEF_REASON_CHANGED_INSIDE = 5, NDEF_REASON_ID_INSIDE = 6,
@@ -98,53 +98,17 @@ enum ndef_tnf {
     NDEF_TNF_UNKNOWN = 5 /* with NDEF_STANDARD the reserved 7 is read as this too */
 };
 
-/* The names that version 0.1 had for the reasons, the type name formats and the flags of ndef_writing. They are there
- * where NDEF_OLD_NAMES is defined before this header is included, and go with the next version. */
-#ifdef NDEF_OLD_NAMES
-#define NDEF_RESERVED_TNF NDEF_REASON_RESERVED_TNF
-#define NDEF_BEGIN_MISSING NDEF_REASON_BEGIN_MISSING
-#define NDEF_BEGIN_AGAIN NDEF_REASON_BEGIN_AGAIN
-#define NDEF_UNCHANGED_OUTSIDE NDEF_REASON_UNCHANGED_OUTSIDE
-#define NDEF_CHANGED_INSIDE NDEF_REASON_CHANGED_INSIDE
-#define NDEF_ID_INSIDE NDEF_REASON_ID_INSIDE
-#define NDEF_CHUNK_AT_END NDEF_REASON_CHUNK_AT_END
-#define NDEF_CHUNK_OF_EMPTY NDEF_REASON_CHUNK_OF_EMPTY
-#define NDEF_TOO_MANY_PIECES NDEF_REASON_TOO_MANY_PIECES
-#define NDEF_TOO_MANY_RECORDS NDEF_REASON_TOO_MANY_RECORDS
-#define NDEF_TYPE_NOT_EMPTY NDEF_REASON_TYPE_NOT_EMPTY
-#define NDEF_TYPE_EMPTY NDEF_REASON_TYPE_EMPTY
-#define NDEF_EMPTY_NOT_EMPTY NDEF_REASON_EMPTY_NOT_EMPTY
-#define NDEF_PAYLOAD_TOO_LARGE NDEF_REASON_PAYLOAD_TOO_LARGE
-#define NDEF_TEXT_BIT NDEF_REASON_TEXT_BIT
-#define NDEF_LANGUAGE NDEF_REASON_LANGUAGE
-#define NDEF_UTF8 NDEF_REASON_UTF8
-#define NDEF_UTF16 NDEF_REASON_UTF16
-#define NDEF_URI_CODE NDEF_REASON_URI_CODE
-#define NDEF_URI_MISSING NDEF_REASON_URI_MISSING
-#define NDEF_URI_AGAIN NDEF_REASON_URI_AGAIN
-#define NDEF_VERSION NDEF_REASON_VERSION
-#define NDEF_DOES_NOT_FIT NDEF_REASON_DOES_NOT_FIT
-#define NDEF_END_OF_INPUT NDEF_REASON_END_OF_INPUT
-#define NDEF_COLLISION_MISSING NDEF_REASON_COLLISION_MISSING
-#define NDEF_EMPTY NDEF_TNF_EMPTY
-#define NDEF_WELL_KNOWN NDEF_TNF_WELL_KNOWN
-#define NDEF_MEDIA NDEF_TNF_MEDIA
-#define NDEF_ABSOLUTE_URI NDEF_TNF_ABSOLUTE_URI
-#define NDEF_EXTERNAL NDEF_TNF_EXTERNAL
-#define NDEF_UNKNOWN NDEF_TNF_UNKNOWN
-#define NDEF_FIRST NDEF_WRITE_FIRST
-#define NDEF_LAST NDEF_WRITE_LAST
-#define NDEF_LONG NDEF_WRITE_LONG
-#endif
-
 /* ---- check */
 
 /* How large a message may be, and how it is checked.
  *   payload  the most bytes of one record's payload, its chunks joined: 1 to 4294967295
  *   records  the most records of the message: 1 to 65535
  *   pieces   the most chunks of one record: 1 to 65535
- *   flags    NDEF_STANDARD: treat reserved values as the standard says; without it they are refused. NDEF_OPAQUE:
- *            don't check payloads; without it texts, URIs, smart posters and handovers are checked too. */
+ *   flags    NDEF_STANDARD: read the reserved type name format 7 and URI codes above 0x23 as the standards say;
+ *            without it they are refused, though the standards bid a reader accept them. A type name format 7 with a
+ *            type, and bit 6 of a text's status octet, are refused in both. docs/FORMAT.md has each difference from
+ *            the standards.
+ *            NDEF_OPAQUE: don't check payloads; without it texts, URIs, smart posters and handovers are checked too. */
 typedef struct ndef_limits {
     uint32_t payload, records, pieces, flags;
 } ndef_limits;
@@ -193,9 +157,14 @@ uint32_t ndef_feed(ndef_checker *checker, const uint8_t *bytes, ndef_size length
  * NDEF_OK, NDEF_NO_ROOM. NDEF_BAD_ARGUMENT: there is no such reason. */
 uint32_t ndef_reason_name(uint32_t reason, uint8_t *room, ndef_size size, ndef_size *count);
 
+/* Writes what a reason means to the room: a sentence of English in ASCII, at most 70 bytes, as ndef-explain prints it.
+ * NDEF_OK, NDEF_NO_ROOM. NDEF_BAD_ARGUMENT: there is no such reason. */
+uint32_t ndef_reason_sentence(uint32_t reason, uint8_t *room, ndef_size size, ndef_size *count);
+
 /* ---- read records */
 
-/* A record: where its parts lie in the bytes of the message. */
+/* A record: where its parts lie in the bytes of the message. Of its first chunk the type, the id and the payload follow
+ * one another, up to the end of that chunk; so an empty part, too, has its place. */
 typedef struct ndef_record {
     ndef_size at;                   /* where the record begins */
     ndef_size end;                  /* where the next record begins */
@@ -215,6 +184,28 @@ typedef struct ndef_record {
  * chunk with all chunks that follow.
  * NDEF_OK: `out` has the record. NDEF_END: `at` is `length`. NDEF_BAD_ARGUMENT: no record begins at any other `at`. */
 uint32_t ndef_record_at(const uint8_t *bytes, ndef_size length, ndef_size at, ndef_record *out);
+
+/* What the payload of a record is, as its type says. */
+enum ndef_kinds {
+    NDEF_KIND_OTHER = 0,        /* a type that the standards read here do not define in that message */
+    NDEF_KIND_TEXT = 1,         /* T, for ndef_text */
+    NDEF_KIND_URI = 2,          /* U, for ndef_uri */
+    NDEF_KIND_SMART_POSTER = 3, /* Sp, for ndef_poster */
+    NDEF_KIND_REQUEST = 4,      /* Hr, for ndef_request */
+    NDEF_KIND_SELECT = 5,       /* Hs, for ndef_select */
+    NDEF_KIND_CARRIER = 6,      /* Hc, for ndef_carrier */
+    NDEF_KIND_ACTION = 7, NDEF_KIND_SIZE = 8, NDEF_KIND_MEDIA_TYPE = 9, /* act, s and t, in a smart poster */
+    NDEF_KIND_ALTERNATIVE = 10, /* ac, in a request or select, for ndef_alternative */
+    NDEF_KIND_COLLISION = 11,   /* cr, in a request */
+    NDEF_KIND_ERROR = 12        /* err, in a select, for ndef_error */
+};
+
+/* Returns what the payload of a record is: one of ndef_kinds. The record is what ndef_record_at wrote for the same
+ * bytes. `within` is 0 for a record of the message itself; for one of the message within a payload it is the kind of
+ * that payload. If ndef_check took the message without NDEF_OPAQUE, each payload whose kind is not NDEF_KIND_OTHER is a
+ * payload of that kind. The answer is also NDEF_KIND_OTHER where the type of the record does not lie within the bytes,
+ * its tnf is above 5, or payloads of the kind `within` hold no message. */
+uint32_t ndef_kind(const uint8_t *bytes, ndef_size length, const ndef_record *record, uint32_t within);
 
 /* Writes the whole payload of the record that begins at a place to the room, its chunks joined.
  * NDEF_OK, NDEF_NO_ROOM. NDEF_BAD_ARGUMENT: no record begins at the place, or the place is `length`. */
@@ -262,14 +253,14 @@ uint32_t ndef_uri(const uint8_t *payload, ndef_size length, uint32_t flags, uint
  *   bytes. */
 uint32_t ndef_write_uri(const uint8_t *uri, ndef_size length, uint8_t *room, ndef_size size, ndef_size *count);
 
-/* A text: where its parts lie in the payload. */
+/* A text: where its parts lie in the payload. The text begins where the language code ends, also if either is empty. */
 typedef struct ndef_text_parts {
     ndef_size language_at, language_length; /* the language code, up to 63 bytes of ASCII */
-    ndef_size text_at, text_length;
-    uint32_t utf16; /* 0: UTF-8. 1: UTF-16, as the byte order mark in front of it says; big-endian if there is none */
+    ndef_size text_at, text_length;         /* the text; in UTF-16 its byte order mark, if it has one, is its front */
+    uint32_t utf16; /* 0: UTF-8. 1: UTF-16, as the byte order mark says; big-endian if there is none */
 } ndef_text_parts;
 
-/* Tells where the parts of the text lie in the payload of a Text record (`T`).
+/* Tells where the parts of the text lie in the payload of a Text record (`T`): language_at is 1.
  * NDEF_OK, NDEF_REFUSED. */
 uint32_t ndef_text(const uint8_t *payload, ndef_size length, ndef_text_parts *out, ndef_checked *why);
 
@@ -290,8 +281,8 @@ enum { NDEF_AS_UTF16 = 1 };
 
 /* A handover carrier: where its parts lie in the payload. */
 typedef struct ndef_carrier_parts {
-    ndef_size type_at, type_length; /* the carrier type, up to 255 bytes */
-    ndef_size data_at, data_length; /* the carrier data */
+    ndef_size type_at, type_length; /* the carrier type, up to 255 bytes; type_at is 2 */
+    ndef_size data_at, data_length; /* the carrier data, which begin where the type ends */
     uint32_t format;                /* the carrier type format, 0 to 7: what kind of name the carrier type is */
 } ndef_carrier_parts;
 
@@ -318,7 +309,7 @@ typedef struct ndef_alternative_parts {
  * NDEF_OK, NDEF_REFUSED. */
 uint32_t ndef_alternative(const uint8_t *payload, ndef_size length, ndef_alternative_parts *out, ndef_checked *why);
 
-/* A part of an array of bytes. */
+/* A part of an array of bytes. An empty part, too, has the place where its bytes would begin. */
 typedef struct ndef_part {
     ndef_size at, length;
 } ndef_part;
@@ -345,8 +336,8 @@ typedef struct ndef_request_parts {
 
 /* Tells the version, the random number and the number of alternative carriers in the payload of a Handover Request
  * record (`Hr`). The payload is a version byte and then a message; pass what follows the version byte to
- * ndef_record_at to reach its records. Flags: NDEF_STANDARD treats reserved values as the standard says; without it
- * they are refused.
+ * ndef_record_at to reach its records. Flags: NDEF_STANDARD reads the reserved type name format 7 and URI codes above
+ * 0x23 as the standards say; without it they are refused.
  * NDEF_OK, NDEF_REFUSED. NDEF_BAD_ARGUMENT: an unknown flag is set. */
 uint32_t ndef_request(const uint8_t *payload, ndef_size length, uint32_t flags, ndef_request_parts *out,
                       ndef_checked *why);
@@ -354,15 +345,14 @@ uint32_t ndef_request(const uint8_t *payload, ndef_size length, uint32_t flags, 
 /* A handover select. */
 typedef struct ndef_select_parts {
     ndef_size carriers;                 /* the number of its alternative carriers; ndef_link_at tells each */
-    ndef_size detail_at, detail_length; /* where the data of its error lie in the payload; 0 and 0 if it has no error */
+    ndef_size detail_at, detail_length; /* where the data of its first error lie, in the payload; 0 and 0 without one */
     uint32_t major, minor;              /* its version: major is 1, minor 0 to 15 */
     uint32_t has_error, error;          /* 1 and the reason of its error (the standard defines 1 to 3), or 0 and 0 */
 } ndef_select_parts;
 
 /* Tells the version, the first error and the number of alternative carriers in the payload of a Handover Select
  * record (`Hs`). The payload is a version byte, alone or followed by a message; pass what follows the version byte
- * to ndef_record_at to reach its records. Flags: NDEF_STANDARD treats reserved values as the standard says; without
- * it they are refused.
+ * to ndef_record_at to reach its records. Flags: as ndef_request.
  * NDEF_OK, NDEF_REFUSED. NDEF_BAD_ARGUMENT: an unknown flag is set. */
 uint32_t ndef_select(const uint8_t *payload, ndef_size length, uint32_t flags, ndef_select_parts *out,
                      ndef_checked *why);
@@ -378,7 +368,7 @@ typedef struct ndef_link {
  * equals the carrier data reference. There is no such record if the reference is empty or no record has that id.
  * The bytes begin with the message, and other bytes may follow it. The payload is that of its Handover Request or
  * Handover Select record, its chunks joined, as ndef_payload writes it. Each call reads the whole payload and the
- * message from its start.
+ * message from its start; ndef_links reads the payload once.
  * NDEF_OK. NDEF_END: the handover has no alternative carrier with that index.
  * NDEF_BAD_ARGUMENT: the payload is neither a request nor a select, with reserved values treated as the standard
  *   says; or the bytes don't begin with whole records up to one that is the last. */
@@ -393,8 +383,7 @@ typedef struct ndef_poster_parts {
 } ndef_poster_parts;
 
 /* Tells the URI, the first action and the first size in the payload of a Smart Poster record (`Sp`). The payload is
- * a message; pass it to ndef_record_at to reach its records. Flags: NDEF_STANDARD treats reserved values as the
- * standard says; without it they are refused.
+ * a message; pass it to ndef_record_at to reach its records. Flags: as ndef_request.
  * NDEF_OK, NDEF_REFUSED. NDEF_BAD_ARGUMENT: an unknown flag is set. */
 uint32_t ndef_poster(const uint8_t *payload, ndef_size length, uint32_t flags, ndef_poster_parts *out,
                      ndef_checked *why);
@@ -417,7 +406,7 @@ uint32_t ndef_write_collision(uint32_t number, uint8_t *room, ndef_size size, nd
 
 /* A handover error. */
 typedef struct ndef_error_parts {
-    ndef_size data_at, data_length; /* where its data lie in the payload */
+    ndef_size data_at, data_length; /* where its data lie in the payload; data_at is 1, also if they are empty */
     uint32_t reason;                /* 0 to 255; the standard defines 1 to 3 */
     uint32_t has_number, number;    /* with the reasons 1 to 3, 1 and the number that the data tell; else 0 and 0 */
 } ndef_error_parts;
@@ -469,7 +458,8 @@ uint32_t ndef_references(const uint8_t *payload, ndef_size length, ndef_part *pa
                          ndef_size *count);
 
 /* Tells the links of a message: for each index what ndef_link_at tells of the same message and payload. The payload is
- * read once.
+ * read once. Each alternative carrier is compared with the records up to its own, so the time grows with carriers times
+ * records: for bytes of a stranger, have ndef_check take the message with limits first.
  * NDEF_OK, NDEF_NO_ROOM. NDEF_BAD_ARGUMENT: as ndef_link_at answers it. */
 uint32_t ndef_links(const uint8_t *bytes, ndef_size length, const uint8_t *payload, ndef_size payload_length,
                     ndef_link *links, ndef_size size, ndef_size *count);
@@ -573,8 +563,8 @@ uint32_t ndef_field_at(const uint8_t *bytes, ndef_size length, const ndef_limits
                        ndef_field *out, ndef_checked *why);
 
 /* Steps to the next field: replaces the field by the one that holds the byte behind it. Before the first one the field
- * has `at` and `length` 0. Each call looks at the message from its start; for all fields of a long message, use
- * ndef_fields.
+ * has `at` and `length` 0. Each call looks at the message from its start, so all fields of a message take time that
+ * grows with the square of its length; ndef_fields tells them all in one walk.
  * NDEF_OK: there is one. NDEF_END: it was the last of the message. NDEF_REFUSED: it was the last before the refused
  *   byte. After either, the field is unchanged.
  * NDEF_BAD_ARGUMENT: as ndef_fields answers it. */
@@ -682,7 +672,7 @@ uint32_t ndef_title(const uint8_t *payload, ndef_size length, const uint8_t *lan
  * NDEF_OK. NDEF_END: the poster has none. NDEF_BAD_ARGUMENT: it is no such payload. */
 uint32_t ndef_poster_media_type(const uint8_t *payload, ndef_size length, ndef_part *out);
 
-/* Where an icon of a smart poster lies. */
+/* Where an icon of a smart poster lies: its type, and after the id of its record the data. */
 typedef struct ndef_icon {
     ndef_part media_type; /* such as "image/png" */
     ndef_part data;       /* the bytes of the image */
@@ -789,6 +779,8 @@ uint32_t ndef_write_select(const ndef_select_writing *how, const uint8_t *bytes,
                            const ndef_part *references, ndef_size references_count,
                            const ndef_alternative_writing *alternatives, ndef_size alternatives_count, uint8_t *room,
                            ndef_size size, ndef_size *count);
+
+#include "ndef_names.h"
 
 #ifdef __cplusplus
 }

@@ -1,12 +1,14 @@
 -- Where the references of an alternative carrier lie.
-use Rattle.std.proofs.Common.{◌≡◌, ℕ, zero, suc, ◌+◌, ◌%◌, ◌<◌, ◌≤◌, ◌∷◌, [], take, drop, sym, refl, ◌∙◌, ap, subst, arith, List, length, length-drop, get_or, Some}
-use Rattle.std.specs.Prelude.{slice_get}
+use Rattle.std.proofs.Common.{◌≡◌, ℕ, zero, suc, ◌+◌, ◌%◌, ◌<◌, ◌≤◌, ◌∷◌, [], take, drop, sym, refl, ◌∙◌, ap, subst, arith, List, length, length-drop, get_or, ne_eqb, false, Some}
+use Rattle.std.specs.Prelude.{◌==◌, slice_get, sum_by, if◌then◌else◌}
 use Rattle.std.proofs.lemmas.List.{drop-drop, length-take-le}
+use Rattle.std.proofs.lemmas.List.Sums.{sum_by-cons, sum_by_more}
+use Rattle.std.proofs.lemmas.Option.{get_or_from_slice_get, slice_get_within}
 use Rattle.ndef_format.specs.Handovers.{IsAlternative, AreAuxiliary, AreReferences}
 use Rattle.ndef_format.specs.Octets.{IsOctet}
 use Rattle.ndef_lang.specs.OctetLaws.{field_parts}
 use Rattle.ndef_types.specs.Values.{AcValue, StandsForAc, StandForNames, power_code}
-use Rattle.ndef_c.specs.Alternatives.{LiesAt}
+use Rattle.ndef_c.specs.Alternatives.{LiesAt, reference_place, references}
 use Rattle.ndef_c.specs.Walks.{Lies}
 
 -- ---- the octet at a place, and those behind it
@@ -67,19 +69,37 @@ names_count (suc n) (k ∷ s) [] rest h = absurd h
 
 -- ---- the auxiliary references
 
+-- the octets of some references, each after its length
+abbrev names_size : List (List ℕ) → ℕ
+names_size = sum_by (λ name. 1 + length name)
+
 -- of count of them i are before the place
 pub record NamesAt (payload : List ℕ) (count at i : ℕ) : Type 0 where
   pub m : ℕ
   pub missing : m + i ≡ count
   pub are : AreReferences m (drop at payload)
   pub stand : (v : AcValue) → StandsForAc payload v → StandForNames m (drop at payload) (drop i v.auxiliary) v.rest
+  pub place : (v : AcValue) → StandsForAc payload v → at ≡ 3 + names_size (take i v.auxiliary) + length v.reference
 
 -- the next one lies behind its length, and the others behind it
 pub record NameThere (payload : List ℕ) (count at i : ℕ) : Type 0 where
   pub within : at < length payload
   pub bound : at + (1 + get_or payload at 0) ≤ length payload
   pub lies : (v : AcValue) → StandsForAc payload v → LiesAt payload v.auxiliary i (record { at = at + 1; length = get_or payload at 0 })
+  pub place : (v : AcValue) → StandsForAc payload v → at + 1 ≡ reference_place (references v) (i + 1)
   pub next : NamesAt payload count (at + (1 + get_or payload at 0)) (i + 1)
+
+-- where a reference begins after the first one
+place_is : (names : List (List ℕ)) (name : List ℕ) (i : ℕ) → reference_place (name ∷ names) (i + 1) ≡ 4 + length name + names_size (take i names)
+place_is names name i =
+    let one : i + 1 ≡ suc i = omega arith in
+    let later : (suc i == 0) ≡ false = ne_eqb (suc i) 0 (omega arith) in
+    let size = sum_by-cons (λ n. 1 + length n) name (take i names) in
+    ap (reference_place (name ∷ names)) one ∙ ap (λ b. (if b then 2 else 3) + names_size (name ∷ take i names)) later ∙ omega (arith, size)
+
+size_more : (names : List (List ℕ)) (i : ℕ) (name : List ℕ) → slice_get names i ≡ Some name → names_size (take (i + 1) names) ≡ names_size (take i names) + (1 + length name)
+size_more names i name e =
+    sum_by_more (λ n. 1 + length n) names i name (slice_get_within names i name e) ∙ ap (λ n. names_size (take i names) + (1 + length n)) (get_or_from_slice_get names i name name e)
 
 first_of : (names : List (List ℕ)) (i m k : ℕ) (s rest : List ℕ) → StandForNames (suc m) (k ∷ s) (drop i names) rest
     → (slice_get names i ≡ Some (take k s)) × StandForNames m (drop k s) (drop (i + 1) names) rest
@@ -92,10 +112,11 @@ first_of (x ∷ names) (suc i) m k s rest h =
     (g.0, subst (λ j. StandForNames m (drop k s) (drop j (x ∷ names)) rest) (sym place) g.1)
 
 there : (payload : List ℕ) (count at i m : ℕ) (rest : List ℕ) → 0 < m → m + i ≡ count → drop at payload ≡ rest → AreReferences m rest
-    → ((v : AcValue) → StandsForAc payload v → StandForNames m rest (drop i v.auxiliary) v.rest) → NameThere payload count at i
-there payload count at i zero rest l e d a f = absurd (omega (arith, l))
-there payload count at i (suc m) [] l e d a f = absurd a
-there payload count at i (suc m) (k ∷ s) h e d a f =
+    → ((v : AcValue) → StandsForAc payload v → StandForNames m rest (drop i v.auxiliary) v.rest)
+    → ((v : AcValue) → StandsForAc payload v → at ≡ 3 + names_size (take i v.auxiliary) + length v.reference) → NameThere payload count at i
+there payload count at i zero rest l e d a f g = absurd (omega (arith, l))
+there payload count at i (suc m) [] l e d a f g = absurd a
+there payload count at i (suc m) (k ∷ s) h e d a f g =
     let p = octet_at payload at k s d in
     let q = field_parts IsOctet k (AreReferences m) s a.1 in
     let l = ap length d in
@@ -108,25 +129,34 @@ there payload count at i (suc m) (k ∷ s) h e d a f =
       within = p.within;
       bound = omega (arith, l, n, w, p.is, q.within);
       lies = λ v x.
-          let g = first_of v.auxiliary i m k s v.rest (f v x) in (
+          let first = first_of v.auxiliary i m k s v.rest (f v x) in (
             take k s,
-            g.0,
+            first.0,
             record {
               within = omega (arith, l, n, w, p.is, q.within);
               are = ap (λ j. take j (drop (at + 1) payload)) p.is ∙ ap (take k) p.behind;
               count_is = p.is ∙ sym (length-take-le k s q.within);
             },
           );
+      place = λ v x.
+          let here = g v x in
+          let there = place_is v.auxiliary v.reference i in
+          omega (arith, here, there);
       next = record {
         m = m;
         missing = omega (arith, e);
         are = rw behind q.rest;
         stand = λ v x. rw behind (first_of v.auxiliary i m k s v.rest (f v x)).1;
+        place = λ v x.
+            let here = g v x in
+            let more = size_more v.auxiliary i (take k s) (first_of v.auxiliary i m k s v.rest (f v x)).0 in
+            let size = length-take-le k s q.within in
+            omega (arith, here, more, size, p.is);
       };
     }
 
 pub name_there : (payload : List ℕ) (count at i : ℕ) → i < count → NamesAt payload count at i → NameThere payload count at i
-name_there payload count at i l h = let e = h.missing in there payload count at i h.m (drop at payload) (omega (arith, l, e)) h.missing refl h.are h.stand
+name_there payload count at i l h = let e = h.missing in there payload count at i h.m (drop at payload) (omega (arith, l, e)) h.missing refl h.are h.stand h.place
 
 pub names_first : (payload : List ℕ) (n : ℕ) → AcAt payload n → NamesAt payload (get_or payload (2 + n) 0) (3 + n) 0
-names_first payload n h = record { m = get_or payload (2 + n) 0; missing = omega arith; are = h.are; stand = h.stand }
+names_first payload n h = record { m = get_or payload (2 + n) 0; missing = omega arith; are = h.are; stand = h.stand; place = λ v x. let n = (h.reference v x).count_is in omega (arith, n) }

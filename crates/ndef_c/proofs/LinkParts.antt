@@ -1,5 +1,5 @@
 -- A link of a handover, by the place of its alternative carrier.
-use Rattle.std.proofs.Common.{◌≡◌, ℕ, ◌+◌, ◌<◌, ◌^◌, ◌∙◌, Bool, true, List, length, length-drop, drop, get_or, refl, sym, subst, arith, Some}
+use Rattle.std.proofs.Common.{◌≡◌, ℕ, ◌+◌, ◌<◌, ◌^◌, ◌∙◌, ap, Bool, true, List, length, length-drop, drop, get_or, refl, sym, subst, arith, Some}
 use Rattle.ndef_format.specs.Messages.{Item}
 use Rattle.ndef_format.specs.Records.{Piece, Run, tnf_of}
 use Rattle.ndef_format.specs.Handovers.{IsAlternative}
@@ -9,11 +9,11 @@ use Rattle.ndef_piece.specs.Whole.{IsSplit}
 use Rattle.ndef_types.specs.Links.{alternatives, is_alternative}
 use Rattle.ndef_types.specs.Values.{AcValue, StandsForAc}
 use Rattle.ndef_c.specs.Links.{BeginsWithRuns, IsLinkAt, MayHaveLinks, TellsRecord}
-use Rattle.ndef_c.specs.Nested.{LiesWithIndex}
+use Rattle.ndef_c.specs.Nested.{CarrierLies}
 use Rattle.ndef_c.specs.Walks.{Lies}
 use Rattle.ndef_c.specs.declared.link.NdefLink.{NdefLink}
 use Rattle.ndef_c.specs.declared.nested.Found.{Found}
-use Rattle.ndef_c.proofs.Ahead.{Ahead, found_of, reached}
+use Rattle.ndef_c.proofs.Ahead.{Ahead, Before, found_of, reached, shown_at}
 use Rattle.ndef_c.proofs.Alternatives.{ac_at}
 use Rattle.ndef_c.proofs.Filtered.{filter_at}
 use Rattle.ndef_c.proofs.Handovers.{Handover, is_alternative_at, is_carrier}
@@ -21,7 +21,7 @@ use Rattle.ndef_c.proofs.Places.{lies_behind, lies_within}
 
 -- the alternative carrier with the index lies there in the message
 abbrev pub IsCarrier : (payload : List ℕ) → Handover payload → ℕ → Found → Type 0
-IsCarrier payload h index f = LiesWithIndex (alternatives h.items) index (drop 1 payload) (Some f)
+IsCarrier payload h index f = CarrierLies h.items index (drop 1 payload) (Some f)
 
 pub carrier_in_set : (payload : List ℕ) (h : Handover payload) (index : ℕ) (f : Found) → IsCarrier payload h index f → IsAlternative f.payload.now
 carrier_in_set payload h index f l = subst IsAlternative (sym l.2.payload) (is_alternative_at h.items index l.0 h.each l.1)
@@ -54,6 +54,9 @@ link_is bytes payload may h index f out v l at count stands refers =
       is_carrier = l.1;
       in_set = is_alternative_at h.items index l.0 h.each l.1;
       lies = rw (at, count) part;
+      at = f.at;
+      place = l.2.place;
+      behind_version = at;
       alternative = v;
       stands = subst (λ p. StandsForAc p v) l.2.payload stands;
       refers = refers may.message.0 may.message.1;
@@ -62,11 +65,13 @@ link_is bytes payload may h index f out v l at count stands refers =
 -- the piece that is shown is the next alternative carrier
 pub carrier_here : HeadsAreApart → (payload : List ℕ) (h : Handover payload) (done : List Item) (rest : List ℕ) → Ahead h.items rest done → (p : Piece) (short : Bool) (behind : List ℕ) → IsSplit p short behind rest
     → is_alternative (kind_of (tnf_of p.tnf) p.kind) ≡ true → (f : Found) → f.payload.now ≡ p.payload
-    → (message : List ℕ) → message ≡ drop 1 payload → Lies message f.at (length p.payload) p.payload → IsCarrier payload h (length (alternatives done)) f
-carrier_here apart payload h done rest a p short behind s e f same message m lies =
+    → (message : List ℕ) → message ≡ drop 1 payload → Lies message f.at (length p.payload) p.payload
+    → (at : ℕ) → Before (drop 1 payload) at done → rest ≡ drop at (drop 1 payload) → f.at + length p.payload + length behind ≡ length message → IsCarrier payload h (length (alternatives done)) f
+carrier_here apart payload h done rest a p short behind s e f same message m lies at before rest_is end =
     let r = reached apart a p short behind s in
     let k : is_carrier r.item ≡ true = (λ j. is_alternative (kind_of (r.is.tnf j) (r.is.kind j))) ∙ e in (
       r.item,
       filter_at is_carrier h.items done r.item r.within k,
-      found_of (drop 1 payload) r.item f p.payload same r.is.payload (subst (λ b. Lies b f.at (length p.payload) p.payload) m lies),
+      found_of (λ xs. length (alternatives xs) ≡ length (alternatives done)) (drop 1 payload) r.item f p.payload same r.is.payload (subst (λ b. Lies b f.at (length p.payload) p.payload) m lies)
+          (done, refl, shown_at (drop 1 payload) at f.at before r.one rest_is p short s r.is.payload (end ∙ ap length m)),
     )

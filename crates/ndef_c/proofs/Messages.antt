@@ -9,9 +9,9 @@ use Rattle.ndef_format.specs.HeadReasons.{is_set}
 use Rattle.ndef_piece.specs.Heads.{HeadsAreApart}
 use Rattle.ndef_types.specs.Contents.{IsFirstAt, Lack}
 use Rattle.ndef_types.specs.Links.{HasId, IsIndexOf}
-use Rattle.ndef_c.specs.Links.{BeginsWithRuns, IsPlaceOf, LieBetween}
+use Rattle.ndef_c.specs.Links.{BeginsWithRuns, IsPlaceOf}
 use Rattle.ndef_c.specs.Runs.{HasRun, IsFirstRun}
-use Rattle.ndef_c.specs.Walks.{AreWalked, BeginsWithRun, ends_message, is_last_run}
+use Rattle.ndef_c.specs.Walks.{AreWalked, BeginsWithRun, LieBetween, ends_message, is_last_run}
 use Rattle.ndef_c.specs.declared.message.Place.{Place}
 use Rattle.ndef_c.specs.declared.run.FirstRun.{FirstRun}
 use Rattle.ndef_c.proofs.Ahead.{first_at, get_behind, lack_on}
@@ -23,10 +23,6 @@ use Rattle.ndef_c.proofs.Places.{ends, id_is}
 -- it doesn't end its message
 abbrev pub IsAmid : Run → Type 0
 IsAmid r = ends_message r.initial r.later ≡ false
-
-pub between_on : (bytes : List ℕ) (from at next : ℕ) (done : List Run) (r : Run) → LieBetween bytes from done at → BeginsWithRun r (drop next bytes) (drop at bytes) → LieBetween bytes from (done ++ r ∷ []) next
-between_on bytes from at next [] r l b = (next, subst (λ n. BeginsWithRun r (drop next bytes) (drop n bytes)) (sym l) b, refl)
-between_on bytes from at next (d ∷ done) r l b = (l.0, l.1, between_on bytes l.0 at next done r l.2 b)
 
 pub amid_on : (done : List Run) (r : Run) → AllByRecursion IsAmid done → IsAmid r → AllByRecursion IsAmid (done ++ r ∷ [])
 amid_on [] r h e = (e, tt)

@@ -4,7 +4,7 @@ use Rattle.std.specs.List.{AllByRecursion}
 use Rattle.ndef_format.specs.Records.{Run}
 use Rattle.ndef_c.specs.Finding.{IsPassed, PassesTo, Sought}
 use Rattle.ndef_c.specs.Walks.{BeginsWithRun}
-use Rattle.ndef_c.proofs.Messages.{between_on}
+use Rattle.ndef_c.proofs.Walked.{between_on}
 
 all_on : (P : Run → Type 0) (runs : List Run) (run : Run) → AllByRecursion P runs → P run → AllByRecursion P (runs ++ run ∷ [])
 all_on P [] run h p = (p, tt)

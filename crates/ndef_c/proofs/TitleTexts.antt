@@ -64,5 +64,5 @@ lies_deeper bytes whole part at size from count l m =
         ap (λ x. take count (drop from x)) (sym e ∙ ap (λ n. take n xs) split) ∙ ap (take count) (drop-take from (size - from) xs) ∙ take-take count (size - from) (drop from xs) (omega (arith, h))
 
 -- a title, by where its payload lies
-pub text_lies : (payload : List ℕ) (i : Item) (f : Found) (out : NdefText) → f.payload.now ≡ i.payload → LiesAsText payload f.payload.now out → LiesAsText payload i.payload out
-text_lies payload i f out e l = subst (λ t. LiesAsText payload t out) e l
+pub text_lies : (payload : List ℕ) (i : Item) (f : Found) (out : NdefText) → f.payload.now ≡ i.payload → LiesAsText payload f.payload.now f.at out → LiesAsText payload i.payload f.at out
+text_lies payload i f out e l = subst (λ t. LiesAsText payload t f.at out) e l

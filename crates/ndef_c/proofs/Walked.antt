@@ -9,7 +9,7 @@ use Rattle.ndef_format.specs.declared.profile.Profile.{Profile}
 use Rattle.ndef_format.specs.declared.profile.Profile.TheVariants.{Strict, Standard}
 use Rattle.ndef_format.specs.Payloads.{Sets}
 use Rattle.ndef_format.specs.Reasons.{Conditions}
-use Rattle.ndef_c.specs.Walks.{AreWalked, ChecksAreWalked, ends_message}
+use Rattle.ndef_c.specs.Walks.{AreWalked, BeginsWithRun, ChecksAreWalked, LieBetween, ends_message}
 
 -- what one reader takes for a run, each does that reads reserved values
 pub read_standard : (profile : Profile) (r : Run) → IsRun profile r → IsRun Standard r
@@ -31,6 +31,11 @@ unended p (r ∷ ps) q qs e = unended r ps q qs e.1
 ended : (p : Piece) (ps : List Piece) → EndsOnce ((p ∷ ps) ++ []) → ends_message p ps ≡ true
 ended p [] e = e
 ended p (r ∷ ps) e = ended r ps e.1
+
+-- one run more lies after others
+pub between_on : (bytes : List ℕ) (from at next : ℕ) (done : List Run) (r : Run) → LieBetween bytes from done at → BeginsWithRun r (drop next bytes) (drop at bytes) → LieBetween bytes from (done ++ r ∷ []) next
+between_on bytes from at next [] r l b = (next, subst (λ n. BeginsWithRun r (drop next bytes) (drop n bytes)) (sym l) b, refl)
+between_on bytes from at next (d ∷ done) r l b = (l.0, l.1, between_on bytes l.0 at next done r l.2 b)
 
 walked : (profile : Profile) (rs : List Run) (bytes done left : List ℕ) (at : ℕ) → AllByRecursion (IsRun profile) rs → SpellsPieces (all_pieces rs) left → (rs ≡ [] → ⊥) → EndsOnce (all_pieces rs)
     → (rest : List ℕ) → bytes ≡ done ++ (left ++ rest) → at ≡ length done → AreWalked bytes at rs (at + length left)

@@ -14,6 +14,8 @@ pub record IsCarrierAt (payload : List ℕ) (out : NdefCarrier) : Type 0 where
   pub format : out.format ≡ carrier.format
   pub kind : Lies payload out.type_at out.type_length carrier.kind
   pub carried : Lies payload out.data_at out.data_length carrier.carried
+  pub kind_place : out.type_at ≡ 2
+  pub carried_place : out.data_at ≡ out.type_at + out.type_length
 
 -- Connection Handover 1.2, Handover Carrier record: a format of three bits and a type of up to 255 octets that leave
 -- room in a payload

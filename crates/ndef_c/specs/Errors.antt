@@ -25,4 +25,5 @@ pub record IsErrorAt (payload : List ℕ) (out : NdefError) : Type 0 where
   pub stands : StandsForError payload error
   pub reason : out.reason ≡ error.reason
   pub detail : Lies payload out.data_at out.data_length error.detail
+  pub place : out.data_at ≡ 1
   pub number : TellsNumber (number_told error.reason error.detail) out.has_number out.number

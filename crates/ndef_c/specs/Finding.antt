@@ -3,8 +3,7 @@ use Rattle.std.specs.Prelude.{◌≡◌, ◌≢◌, ℕ, true, false, List, [], 
 use Rattle.std.specs.List.{AllByRecursion}
 use Rattle.ndef_format.specs.Messages.{Item, run_record}
 use Rattle.ndef_format.specs.Records.{Run, code}
-use Rattle.ndef_c.specs.Links.{LieBetween}
-use Rattle.ndef_c.specs.Walks.{BeginsWithRun, IsRecordAt, IsRecordThere, ends_message}
+use Rattle.ndef_c.specs.Walks.{BeginsWithRun, IsRecordAt, IsRecordThere, LieBetween, ends_message}
 use Rattle.ndef_c.specs.declared.finding.Wanted.{Wanted}
 use Rattle.ndef_c.specs.declared.finding.Wanted.TheVariants.{Kind as OfKind, Id as WithId}
 use Rattle.ndef_c.specs.declared.finding.Walk.{Walk}

@@ -8,11 +8,11 @@ use Rattle.ndef_format.specs.declared.kind.Kind.TheVariants as kinds
 use Rattle.ndef_format.specs.Nested.{IsNest, HasContents}
 use Rattle.ndef_format.specs.declared.table.Table.{Table}
 use Rattle.ndef_format.specs.declared.table.Table.TheVariants.{Request, Select}
-use Rattle.ndef_types.specs.Contents.{IsFirstOf, IsOfKind}
+use Rattle.ndef_types.specs.Contents.{IsFirstOf, IsOfKind, Lack}
 use Rattle.ndef_types.specs.Handovers.{IsCollisionOf}
 use Rattle.ndef_types.specs.Links.{alternatives}
 use Rattle.ndef_types.specs.Values.{ErrorValue, StandsForError}
-use Rattle.ndef_c.specs.Nested.{MayBeInPieces}
+use Rattle.ndef_c.specs.Nested.{MayBeInPieces, StandsBehind}
 use Rattle.ndef_c.specs.Walks.{Lies}
 use Rattle.ndef_c.specs.declared.request.NdefRequest.{NdefRequest}
 use Rattle.ndef_c.specs.declared.select.NdefSelect.{NdefSelect}
@@ -48,11 +48,13 @@ pub record IsRequestAt (profile : Profile) (payload : List ℕ) (out : NdefReque
   pub collision : IsCollisionOf items out.collision
   pub carriers : out.carriers ≡ length (alternatives items)
 
--- Connection Handover 1.2, Error record: its reason, and where its data lies; or 0s for none
+-- Connection Handover 1.2, Error record: its reason, and where its data lies, after the version octet, the records in
+-- front of it and its reason; or 0s for none
 abbrev pub TellsError : List ℕ → Option Item → (has reason at count : ℕ) → Type 0
 TellsError payload None has reason at count = (has ≡ 0) × (reason ≡ 0) × (at ≡ 0) × (count ≡ 0)
 TellsError payload (Some i) has reason at count =
     (has ≡ 1) × (v : ErrorValue) × StandsForError i.payload v × (reason ≡ v.reason) × Lies payload at count v.detail
+    × (place : ℕ) × StandsBehind (Lack (IsOfKind Select kinds.Error)) (drop 1 payload) i place × (at ≡ place + 2)
 
 -- Connection Handover 1.2, Handover Select record: the payload is that of a select: its version, its first error, and
 -- its alternative carriers

@@ -1,5 +1,5 @@
 -- What is told of the links of a message.
-use Rattle.std.specs.Prelude.{◌≡◌, ◌≢◌, ℕ, ◌^◌, ◌<◌, ◌≤◌, List, [], ◌∷◌, length, map, take, drop, slice_get, Option, Some, None, Ok}
+use Rattle.std.specs.Prelude.{◌≡◌, ◌≢◌, ℕ, ◌+◌, ◌^◌, ◌<◌, ◌≤◌, List, [], ◌∷◌, length, map, take, drop, slice_get, Option, Some, None, Ok}
 use Rattle.ndef_format.specs.Messages.{Item, run_record}
 use Rattle.ndef_format.specs.Limits.{LimitValues}
 use Rattle.ndef_format.specs.Records.{Run}
@@ -13,8 +13,8 @@ use Rattle.ndef_types.specs.Values.{AcValue, StandsForAc}
 use Rattle.ndef_types.specs.declared.link.Link.{Link}
 use Rattle.ndef_c.specs.Arrays.{EachAt, GivesMany}
 use Rattle.ndef_c.specs.Handovers.{IsHandoverPayload, HasMessage}
-use Rattle.ndef_c.specs.Nested.{TellsNumber}
-use Rattle.ndef_c.specs.Walks.{BeginsWithRun, AreWalked, Lies}
+use Rattle.ndef_c.specs.Nested.{StandsBehind, TellsNumber}
+use Rattle.ndef_c.specs.Walks.{BeginsWithRun, AreWalked, LieBetween, Lies}
 use Rattle.ndef_c.specs.declared.link.NdefLink.{NdefLink}
 use Rattle.ndef_c.specs.declared.message.Place.{Place}
 
@@ -29,12 +29,6 @@ pub record BeginsWithRuns (runs : List Run) (bytes : List ℕ) : Type 0 where
 -- NDEF 1.0, messages: the bytes begin with the records of a message, all of them whole
 abbrev pub HasRuns : List ℕ → Type 0
 HasRuns bytes = (runs : List Run) × BeginsWithRuns runs bytes
-
--- these runs lie one behind another from a place to another
-abbrev pub LieBetween : List ℕ → (at : ℕ) → List Run → (end : ℕ) → Type 0
-LieBetween bytes at [] end = at ≡ end
-LieBetween bytes at (r ∷ rs) end = (next : ℕ) × BeginsWithRun r (drop next bytes) (drop at bytes)
-    × LieBetween bytes next rs end
 
 -- the run with the index begins at the place, behind those before it
 pub record IsPlaceOf (bytes : List ℕ) (runs : List Run) (p : Place) : Type 0 where
@@ -80,6 +74,9 @@ pub record IsLinkAt (bytes payload : List ℕ) (index : ℕ) (out : NdefLink) : 
   pub is_carrier : slice_get (alternatives items) index ≡ Some carrier
   pub in_set : IsAlternative carrier.payload
   pub lies : Lies payload out.carrier_at out.carrier_length carrier.payload
+  pub at : ℕ
+  pub place : StandsBehind (λ before. length (alternatives before) ≡ index) (drop 1 payload) carrier at
+  pub behind_version : out.carrier_at ≡ at + 1
   pub alternative : AcValue
   pub stands : StandsForAc carrier.payload alternative
   pub refers : TellsRecord bytes runs alternative.reference out

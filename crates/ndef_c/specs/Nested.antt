@@ -1,11 +1,12 @@
 -- Where the records of messages in payloads lie.
-use Rattle.std.specs.Prelude.{◌≡◌, ℕ, ◌≤◌, ◌⊎◌, List, [], length, slice_get, Option, Some, None}
+use Rattle.std.specs.Prelude.{◌≡◌, ℕ, ◌+◌, ◌≤◌, ◌⊎◌, List, [], length, map, drop, slice_get, Option, Some, None}
 use Rattle.std.specs.List.{AllByRecursion}
-use Rattle.ndef_format.specs.Messages.{Item, SpellsBy}
+use Rattle.ndef_format.specs.Messages.{Item, SpellsBy, run_record}
 use Rattle.ndef_format.specs.Records.{Run}
 use Rattle.ndef_format.specs.declared.profile.Profile.{Profile}
 use Rattle.ndef_types.specs.Contents.{IsFirstOf, Lack}
-use Rattle.ndef_c.specs.Walks.{Lies}
+use Rattle.ndef_types.specs.Links.{alternatives}
+use Rattle.ndef_c.specs.Walks.{BeginsWithRun, LieBetween, Lies}
 use Rattle.ndef_c.specs.declared.nested.Found.{Found}
 
 -- NDEF 1.0, messages: the bytes are a message of these records, each in one piece
@@ -18,20 +19,39 @@ pub record IsInPieces (profile : Profile) (items : List Item) (bytes : List ℕ)
 abbrev pub MayBeInPieces : Profile → List Item → List ℕ → Type 0
 MayBeInPieces profile items bytes = ((items ≡ []) × (bytes ≡ [])) ⊎ IsInPieces profile items bytes
 
--- it is the payload of the record, and lies there
-pub record IsFound (bytes : List ℕ) (i : Item) (f : Found) : Type 0 where
+-- NDEF 1.0, record layout: after these records, one after another, comes the record, in one piece, and the last of
+-- its parts, the payload, begins at the place
+pub record StandsAt (bytes : List ℕ) (before : List Item) (i : Item) (at : ℕ) : Type 0 where
+  pub runs : List Run
+  pub are : map run_record runs ≡ before
+  pub from : ℕ
+  pub between : LieBetween bytes 0 runs from
+  pub run : Run
+  pub is : run_record run ≡ i
+  pub single : run.later ≡ []
+  pub begins : BeginsWithRun run (drop (at + length i.payload) bytes) (drop from bytes)
+
+-- .. after records of which this holds
+abbrev pub StandsBehind : (List Item → Type 0) → List ℕ → Item → ℕ → Type 0
+StandsBehind Q bytes i at = (before : List Item) × Q before × StandsAt bytes before i at
+
+-- it is the payload of the record, and lies there, after records of which this holds
+pub record IsFound (Q : List Item → Type 0) (bytes : List ℕ) (i : Item) (f : Found) : Type 0 where
   pub payload : f.payload.now ≡ i.payload
   pub lies : Lies bytes f.at (length f.payload.now) i.payload
+  pub place : StandsBehind Q bytes i f.at
 
 -- the payload of the first record that has the property, if there is one
 abbrev pub FirstLies : (Item → Type 0) → List Item → List ℕ → Option Found → Type 0
 FirstLies P items bytes None = Lack P items
-FirstLies P items bytes (Some f) = (i : Item) × IsFirstOf P items (Some i) × IsFound bytes i f
+FirstLies P items bytes (Some f) = (i : Item) × IsFirstOf P items (Some i) × IsFound (Lack P) bytes i f
 
--- the payload of the record with the index, if there is one
-abbrev pub LiesWithIndex : List Item → ℕ → List ℕ → Option Found → Type 0
-LiesWithIndex items index bytes None = length items ≤ index
-LiesWithIndex items index bytes (Some f) = (i : Item) × (slice_get items index ≡ Some i) × IsFound bytes i f
+-- Connection Handover 1.2, Alternative Carrier record: the payload of the alternative carrier with the index, if there
+-- is one
+abbrev pub CarrierLies : List Item → ℕ → List ℕ → Option Found → Type 0
+CarrierLies items index bytes None = length (alternatives items) ≤ index
+CarrierLies items index bytes (Some f) = (i : Item) × (slice_get (alternatives items) index ≡ Some i)
+    × IsFound (λ before. length (alternatives before) ≡ index) bytes i f
 
 -- 1 and the number, or 0 and 0 for none
 abbrev pub TellsNumber : Option ℕ → (has number : ℕ) → Type 0

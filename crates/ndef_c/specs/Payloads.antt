@@ -1,5 +1,5 @@
 -- What is answered of the payload of a record, and what is written for a value.
-use Rattle.std.specs.Prelude.{◌≡◌, ℕ, ◌^◌, ◌<◌, List, ◌∷◌, length, slice_index}
+use Rattle.std.specs.Prelude.{◌≡◌, ℕ, ◌+◌, ◌^◌, ◌<◌, List, ◌∷◌, length, slice_index}
 use Rattle.ndef_format.specs.Records.{bit}
 use Rattle.ndef_format.specs.Reasons.{reason_number}
 use Rattle.ndef_format.specs.declared.refusal.Refusal.{Refusal}
@@ -30,12 +30,15 @@ pub record GivesUri (profile : Profile) (payload before after : List ℕ) (count
   pub stands : StandsForUri payload uri
   pub gives : Gives uri before after count status
 
--- RTD Text 1.0: the payload is that of a text, and where its parts lie
+-- RTD Text 1.0: the payload is that of a text, and where its parts lie, one after another; the byte order mark of a
+-- text in UTF-16 belongs to the text
 pub record IsTextAt (payload : List ℕ) (out : NdefText) : Type 0 where
   pub in_set : IsText payload
   pub short : length payload < 2 ^ 32
   pub language : Lies payload out.language_at out.language_length (language_octets payload)
   pub text : Lies payload out.text_at out.text_length (encoded_octets payload)
+  pub language_place : out.language_at ≡ 1
+  pub text_place : out.text_at ≡ out.language_at + out.language_length
   pub utf16 : out.utf16 ≡ bit (is_wide (slice_index payload 0))
 
 -- what is written for the value is given

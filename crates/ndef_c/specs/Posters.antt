@@ -7,9 +7,9 @@ use Rattle.ndef_value.specs.declared.limits.TheConstants.{MOST_RECORDS}
 use Rattle.ndef_format.specs.declared.kind.Kind.TheVariants as kinds
 use Rattle.ndef_format.specs.Nested.{IsNest, IsNestedBy}
 use Rattle.ndef_format.specs.declared.table.Table.TheVariants.{SmartPoster}
-use Rattle.ndef_types.specs.Contents.{IsFirstOf, IsOfKind, StandsForMessage}
+use Rattle.ndef_types.specs.Contents.{IsFirstOf, IsOfKind, Lack, StandsForMessage}
 use Rattle.ndef_types.specs.Posters.{Says, action_in, action_of, size_in}
-use Rattle.ndef_c.specs.Nested.{TellsNumber}
+use Rattle.ndef_c.specs.Nested.{StandsBehind, TellsNumber}
 use Rattle.ndef_c.specs.Walks.{Lies}
 use Rattle.ndef_c.specs.declared.poster.NdefPoster.{NdefPoster}
 
@@ -36,5 +36,6 @@ pub record IsPosterAt (profile : Profile) (payload : List ℕ) (out : NdefPoster
   pub uri : Item
   pub is_uri : IsFirstOf (IsOfKind SmartPoster kinds.Uri) items (Some uri)
   pub lies : Lies payload out.uri_at out.uri_length uri.payload
+  pub place : StandsBehind (Lack (IsOfKind SmartPoster kinds.Uri)) payload uri out.uri_at
   pub action : TellsAction items out.has_action out.action
   pub size : TellsSize items out.has_size out.size

@@ -1,6 +1,7 @@
 -- What a call leaves in the room that it is given.
 use Rattle.std.specs.Prelude.{◌≡◌, ℕ, ◌<◌, ◌≤◌, List, ◌++◌, ◌+◌, length, take, drop}
 use Rattle.ndef_format.specs.Reasons.{reason_number, reason_name}
+use Rattle.ndef_format.specs.Sentences.{reason_sentence}
 use Rattle.ndef_format.specs.declared.reason.Reason.{Reason}
 use Rattle.ndef_c.specs.declared.status.TheConstants.{OK, NO_ROOM}
 
@@ -23,3 +24,9 @@ pub record GivesName (number : ℕ) (before after : List ℕ) (count status : �
   pub reason : Reason
   pub number_is : reason_number reason ≡ number
   pub gives : Gives (reason_name reason) before after count status
+
+-- the sentence of the reason with this number is given
+pub record GivesSentence (number : ℕ) (before after : List ℕ) (count status : ℕ) : Type 0 where
+  pub reason : Reason
+  pub number_is : reason_number reason ≡ number
+  pub gives : Gives (reason_sentence reason) before after count status

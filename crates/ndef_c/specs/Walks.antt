@@ -7,6 +7,7 @@ use Rattle.ndef_format.specs.declared.profile.Profile.TheVariants.{Standard}
 use Rattle.ndef_format.specs.Payloads.{Sets}
 use Rattle.ndef_format.specs.Reasons.{Conditions}
 use Rattle.ndef_message.specs.Views.{Viewed, Views}
+use Rattle.ndef_piece.specs.Whole.{IsSplit}
 use Rattle.ndef_c.specs.Rooms.{Gives}
 use Rattle.ndef_c.specs.declared.record.NdefRecord.{NdefRecord}
 
@@ -32,8 +33,18 @@ pub record Lies (bytes : List ℕ) (at count : ℕ) (part : List ℕ) : Type 0 w
   pub are : take count (drop at bytes) ≡ part
   pub count_is : count ≡ length part
 
+-- these runs lie one after another from a place to another
+abbrev pub LieBetween : List ℕ → (at : ℕ) → List Run → (end : ℕ) → Type 0
+LieBetween bytes at [] end = at ≡ end
+LieBetween bytes at (r ∷ rs) end = (next : ℕ) × BeginsWithRun r (drop next bytes) (drop at bytes)
+    × LieBetween bytes next rs end
+
+-- NDEF 1.0, record layout: a piece begins at a place and ends at another
+abbrev pub LiesFromTo : List ℕ → (at : ℕ) → Piece → (end : ℕ) → Type 0
+LiesFromTo bytes at p end = (short : Bool) × IsSplit p short (drop end bytes) (drop at bytes)
+
 -- NDEF 1.0, record layout and chunked payloads: this is the record at the place, and where its parts lie, one behind
--- another
+-- another, the payload last
 pub record IsRecordAt (bytes : List ℕ) (at : ℕ) (r : NdefRecord) : Type 0 where
   pub run : Run
   pub begins : BeginsWithRun run (drop r.end bytes) (drop at bytes)
@@ -44,6 +55,7 @@ pub record IsRecordAt (bytes : List ℕ) (at : ℕ) (r : NdefRecord) : Type 0 wh
   pub kind : Lies bytes r.type_at r.type_length (run_record run).kind
   pub id : Lies bytes r.id_at r.id_length (run_record run).id
   pub part : Lies bytes r.payload_at r.part_length run.initial.payload
+  pub first : LiesFromTo bytes at run.initial (r.payload_at + r.part_length)
   pub id_behind : r.id_at ≡ r.type_at + r.type_length
   pub part_behind : r.payload_at ≡ r.id_at + r.id_length
   pub payload : r.payload_length ≡ length (run_record run).payload

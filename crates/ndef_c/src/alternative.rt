@@ -3,7 +3,7 @@ ghost use Rattle.std.specs.Prelude.{◌≡◌, ◌≢◌, ◌<◌, ◌≤◌, �
 ghost use Rattle.ndef_format.specs.Handovers.{IsAlternative};
 ghost use Rattle.ndef_format.specs.Reasons.{NoReason};
 ghost use Rattle.ndef_types.specs.Values.{AcValue, StandsForAc};
-ghost use Rattle.ndef_c.specs.Alternatives.{HasNoReference, IsAlternativeAt, IsReferenceAt, LiesAt, references};
+ghost use Rattle.ndef_c.specs.Alternatives.{HasNoReference, IsAlternativeAt, IsReference, IsReferenceAt, LiesAt, reference_place, references};
 ghost use Rattle.ndef_c.specs.Payloads.{RefusesWith};
 
 use crate::checking::NdefChecked;
@@ -87,7 +87,9 @@ pub(crate) fn carrier_reference(payload: &[u8]) -> &[u8]
 fn auxiliary_at(payload: &[u8], index: usize) -> NdefPart
     requires alternative { IsAlternative payload.now }
     requires index { index < slice_index payload.now (2 + slice_index payload.now 1) }
-    ensures { (v : AcValue) → StandsForAc payload.now v → LiesAt payload.now v.auxiliary index result }
+    ensures lies { (v : AcValue) → StandsForAc payload.now v → LiesAt payload.now v.auxiliary index result }
+    ensures place { (v : AcValue) → StandsForAc payload.now v
+        → result.at ≡ reference_place (references v) (index + 1) }
 {
     let mut at = 3 + usize::from(payload[1]);
     for _before in 0..index {
@@ -102,7 +104,7 @@ fn reference_at(payload: &[u8], index: usize) -> Option<NdefPart>
     ensures none { (v : AcValue) → StandsForAc payload.now v
         → IfNone result (length (references v) ≤ index) }
     ensures some { (v : AcValue) → StandsForAc payload.now v
-        → IfSome result (λ part. LiesAt payload.now (references v) index part) }
+        → IfSome result (IsReference payload.now v index) }
 {
     if index == 0 {
         return Some(counted_at(payload, 1));

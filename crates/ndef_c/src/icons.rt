@@ -1,5 +1,5 @@
 //! The icons of a smart poster, where they lie (RTD Smart Poster 1.0).
-ghost use Rattle.std.specs.Prelude.{◌≡◌, ◌≢◌, ℕ, ◌≤◌, ◌↔◌, false, List, [], length, drop};
+ghost use Rattle.std.specs.Prelude.{◌≡◌, ◌≢◌, ℕ, ◌+◌, ◌≤◌, ◌↔◌, false, List, [], length, drop};
 ghost use Rattle.ndef_format.specs.HeadReasons.{is_set};
 ghost use Rattle.ndef_format.specs.Messages.{Item};
 ghost use Rattle.ndef_format.specs.Records.{tnf_of};
@@ -47,6 +47,8 @@ fn icon_in(bytes: &[u8], piece: &WholePiece<'_>) -> NdefIcon
     requires no_id { is_set 3 piece.now.header ≡ false → piece.now.id.now ≡ [] }
     ensures kind { Lies bytes.now result.media_type.at result.media_type.length piece.now.kind.now }
     ensures image { Lies bytes.now result.octets.at result.octets.length piece.now.payload.now }
+    ensures id { result.media_type.at + (result.media_type.length + length piece.now.id.now) ≡ result.octets.at }
+    ensures end { result.octets.at + length piece.now.payload.now + length piece.now.rest.now ≡ length bytes.now }
 {
     let image_at = bytes.len() - piece.rest.len() - piece.payload.len();
     NdefIcon {

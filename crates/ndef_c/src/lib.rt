@@ -5,6 +5,7 @@
 //!
 //! - `checking.rt`: check. `feeding.rt`, `specs/Feeding.antt`: check of bytes that come in parts.
 //! - `run.rt`, `record.rt`, `specs/Walks.antt`: the record at a place. `payload.rt`: its joined payload.
+//! - `kinds.rt`, `specs/Kinds.antt`: what the payload of a record is, as its type says.
 //! - `pieces.rt`, `specs/Pieces.antt`: where its pieces lie. `specs/Arrays.antt`: what is written to an array.
 //! - `fields.rt`, `field_names.rt`, `payload_fields.rt`, `specs/Fields.antt`: in which field each byte stands.
 //! - `finding.rt`, `specs/Finding.antt`: the first record with a type or an id.
@@ -48,6 +49,7 @@ mod handover_making;
 mod handover_parts;
 mod handover_writing;
 mod icons;
+mod kinds;
 mod laws;
 mod limits;
 mod link;
@@ -100,6 +102,7 @@ pub use handover_making::{NdefSelectWriting, ndef_write_request, ndef_write_sele
 pub use handover_parts::NdefAlternativeWriting;
 pub use handover_writing::{REQUEST, SELECT, ndef_write_handover};
 pub use icons::{NdefIcon, ndef_poster_icons};
+pub use kinds::ndef_kind;
 pub use laws::{
     appended_records_are_held, checks_are_walked, feeds_are_checks, fields_are_stepped,
     held_records_are_a_message, links_are_told, one_record_is_there, records_make_a_message,
@@ -116,7 +119,7 @@ pub use pieces::ndef_pieces;
 pub use poster::{NdefPoster, ndef_poster};
 pub use poster_parts::{NdefIconWriting, NdefTitleWriting};
 pub use poster_writing::{NdefPosterWriting, ndef_write_poster};
-pub use reasons::ndef_reason_name;
+pub use reasons::{ndef_reason_name, ndef_reason_sentence};
 pub use record::{NdefRecord, ndef_record_at};
 pub use references::ndef_references;
 pub use request::{NdefRequest, ndef_request};

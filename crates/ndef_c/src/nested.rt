@@ -1,5 +1,5 @@
 //! Records of the messages in payloads, where they lie.
-ghost use Rattle.std.specs.Prelude.{◌≡◌, ◌↔◌, ℕ, Bool, false, List, [], drop, length, IsTrue};
+ghost use Rattle.std.specs.Prelude.{◌≡◌, ◌↔◌, ◌+◌, ℕ, Bool, false, List, [], drop, length, IsTrue};
 ghost use Rattle.std.specs.List.{filter};
 ghost use Rattle.ndef_format.specs.Messages.{Item};
 ghost use Rattle.ndef_format.specs.Records.{tnf_of};
@@ -9,7 +9,7 @@ ghost use Rattle.ndef_format.specs.HeadReasons.{is_set};
 ghost use Rattle.ndef_piece.specs.Whole.{IsSplit, shown};
 ghost use Rattle.ndef_types.specs.Contents.{IsOfKind};
 ghost use Rattle.ndef_types.specs.Links.{alternatives, is_alternative};
-ghost use Rattle.ndef_c.specs.Nested.{MayBeInPieces, FirstLies, LiesWithIndex};
+ghost use Rattle.ndef_c.specs.Nested.{MayBeInPieces, CarrierLies, FirstLies};
 ghost use Rattle.ndef_c.specs.Walks.{Lies};
 
 use ndef_lang::Kind;
@@ -33,6 +33,7 @@ pub(crate) fn found_in<'a>(bytes: &'a [u8], piece: &WholePiece<'a>) -> Found<'a>
     requires no_id { is_set 3 piece.now.header ≡ false → piece.now.id.now ≡ [] }
     ensures payload { result.payload.now ≡ piece.now.payload.now }
     ensures lies { Lies bytes.now result.at (length piece.now.payload.now) piece.now.payload.now }
+    ensures end { result.at + length piece.now.payload.now + length piece.now.rest.now ≡ length bytes.now }
 {
     Found {
         at: bytes.len() - piece.rest.len() - piece.payload.len(),
@@ -75,7 +76,7 @@ pub(crate) fn is_alternative(piece: &WholePiece<'_>) -> bool
 pub(crate) fn alternative_at(bytes: &[u8], index: usize) -> Option<Found<'_>>
     requires { (profile : Profile) × (items : List Item) × MayBeInPieces profile items bytes.now }
     ensures { (profile : Profile) (items : List Item) → MayBeInPieces profile items bytes.now
-        → LiesWithIndex (alternatives items) index bytes.now result }
+        → CarrierLies items index bytes.now result }
 {
     heads_are_apart();
     let mut rest = bytes;

@@ -1,7 +1,7 @@
-//! The names of reasons.
+//! The names of reasons, and what they mean.
 ghost use Rattle.std.specs.Prelude.{◌≡◌, ◌≢◌, ◌<◌, ◌≤◌, ◌⊎◌, ◌↔◌, IfSome, IsSome};
 ghost use Rattle.ndef_format.specs.Reasons.{reason_number};
-ghost use Rattle.ndef_c.specs.Rooms.{GivesName};
+ghost use Rattle.ndef_c.specs.Rooms.{GivesName, GivesSentence};
 
 use crate::room::give;
 use crate::status::BAD_ARGUMENT;
@@ -55,4 +55,18 @@ pub extern "C" fn ndef_reason_name(reason: u32, room: &mut [u8], count: &mut usi
         return BAD_ARGUMENT;
     };
     give(reason.name(), room, count)
+}
+
+/// Writes what the reason with a number means to the room: a sentence of English, in ASCII and with no NUL after it.
+#[unsafe(no_mangle)]
+pub extern "C" fn ndef_reason_sentence(reason: u32, room: &mut [u8], count: &mut usize) -> u32
+    ensures bad { result ≡ BAD_ARGUMENT ↔ ((reason ≡ 0) ⊎ (25 < reason)) }
+    ensures kept { result ≡ BAD_ARGUMENT → (room.new ≡ room.old) × (count.new ≡ count.old) }
+    ensures sentence { result ≢ BAD_ARGUMENT → GivesSentence reason room.old room.new count.new result }
+    ensures short { result ≢ BAD_ARGUMENT → count.new ≤ 70 }
+{
+    let Some(reason) = reason_of(reason) else {
+        return BAD_ARGUMENT;
+    };
+    give(reason.sentence(), room, count)
 }

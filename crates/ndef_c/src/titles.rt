@@ -50,7 +50,7 @@ fn text_of(found: &Found<'_>) -> NdefText
     requires text { IsText found.now.payload.now }
     requires bound { found.now.at + length found.now.payload.now < 2 ^ 32 }
     ensures { (bytes : List ℕ) → Lies bytes found.now.at (length found.now.payload.now) found.now.payload.now
-        → LiesAsText bytes found.now.payload.now result }
+        → LiesAsText bytes found.now.payload.now found.now.at result }
 {
     let text = text_at(found.payload);
     NdefText {

@@ -1,5 +1,6 @@
 use Rattle.std.proofs.Common.{◌≡◌, ◌+◌, get_or, refl, sym, ◌∙◌, ap, subst, arith}
 use Rattle.std.specs.Prelude.{slice_get}
+use Rattle.ndef_c.specs.Alternatives.{reference_place, references}
 use Rattle.ndef_c.proofs.Alternatives.{NamesAt, ac_at, name_there, names_first}
 use Rattle.ndef_c.proofs.alternative.auxiliary_at.Goals as goal
 
@@ -41,8 +42,8 @@ counted_at-requires c =
     let n = c.requires.index in
     (name_there _ _ _ _ (omega (arith, i, n)) c.loop-before.invariant.1).within
 
-pub returns : goal.returns
-returns c = λ v s.
+pub returns-clause-lies : goal.returns-clause-lies
+returns-clause-lies c = λ v s.
     let i = c.loop-before.invariant.0 in
     let n = c.requires.index in
     let l = c.loop-before-test.false in
@@ -50,3 +51,12 @@ returns c = λ v s.
     let t = name_there _ _ _ _ (omega (arith, i, n)) c.loop-before.invariant.1 in
     let g = t.lies v s in
     (g.0, ap (λ k. slice_get v.auxiliary k) same ∙ g.1, rw (c.counted_at.ensures.at, c.counted_at.ensures.length) g.2)
+
+pub returns-clause-place : goal.returns-clause-place
+returns-clause-place c = λ v s.
+    let i = c.loop-before.invariant.0 in
+    let n = c.requires.index in
+    let l = c.loop-before-test.false in
+    let same : c.loop-before._before ≡ c.args.index = omega (arith, i, l) in
+    let t = name_there _ _ _ _ (omega (arith, i, n)) c.loop-before.invariant.1 in
+    c.counted_at.ensures.at ∙ t.place v s ∙ ap (λ k. reference_place (references v) (k + 1)) same

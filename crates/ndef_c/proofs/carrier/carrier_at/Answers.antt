@@ -1,4 +1,4 @@
-use Rattle.std.proofs.Common.{◌∙◌}
+use Rattle.std.proofs.Common.{refl, ◌∙◌}
 use Rattle.ndef_c.proofs.Carriers.{carrier_parts}
 use Rattle.ndef_c.proofs.carrier.carrier_at.Goals as goal
 
@@ -16,4 +16,6 @@ returns c =
       format = c.from.ensures ∙ p.format;
       kind = p.kind;
       carried = p.carried;
+      kind_place = refl;
+      carried_place = refl;
     }

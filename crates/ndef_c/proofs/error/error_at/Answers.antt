@@ -1,4 +1,4 @@
-use Rattle.std.proofs.Common.{get_or, sym}
+use Rattle.std.proofs.Common.{get_or, refl, sym}
 use Rattle.ndef_value.specs.SliceLaws.{behind, cut_one}
 use Rattle.ndef_c.proofs.Errors.{lies_behind}
 use Rattle.ndef_c.proofs.error.error_at.Goals as goal
@@ -13,5 +13,6 @@ returns c =
       stands = sym (cut_one payload c.in-len1-up.len_at_least);
       reason = c.from.ensures;
       detail = lies_behind 1 payload c.in-len1-up.len_at_least;
+      place = refl;
       number = rw c.number_of.ensures at c.told-has_number.ensures;
     }

@@ -27,3 +27,13 @@ returns-clause-kind c = (lie_in _ _ _ _ _ _ (shown_in c.args.piece.now c.args.by
 
 pub returns-clause-image : goal.returns-clause-image
 returns-clause-image c = (lie_in _ _ _ _ _ _ (shown_in c.args.piece.now c.args.bytes.now c.requires.split c.requires.no_id)).payload_lies
+
+pub returns-clause-id : goal.returns-clause-id
+returns-clause-id c =
+    let n = shown_size _ _ _ _ _ _ (shown_in c.args.piece.now c.args.bytes.now c.requires.split c.requires.no_id) in
+    omega (arith, n)
+
+pub returns-clause-end : goal.returns-clause-end
+returns-clause-end c =
+    let n = shown_size _ _ _ _ _ _ (shown_in c.args.piece.now c.args.bytes.now c.requires.split c.requires.no_id) in
+    omega (arith, n)

@@ -1,12 +1,14 @@
 use Rattle.std.proofs.Common.{◌≡◌, ◌+◌, ◌++◌, ◌∷◌, [], length, length-append, refl, sym, ◌∙◌, ap, subst, arith}
 use Rattle.ndef_format.specs.declared.profile.Profile.TheVariants.{Standard}
+use Rattle.ndef_format.specs.HeadReasons.{is_set}
 use Rattle.ndef_message.specs.WrittenLaws.{some_left}
 use Rattle.ndef_piece.specs.Whole.{IsSplit, shown}
 use Rattle.ndef_c.specs.Icons.{IsIconAt, icons, is_icon, is_media}
 use Rattle.ndef_c.specs.Walks.{Lies}
-use Rattle.ndef_c.proofs.Ahead.{ahead_in, all_done, behind_piece, empty_rest, piece_ahead, reached}
+use Rattle.ndef_c.proofs.Ahead.{ahead_in, all_done, behind_piece, empty_rest, none_before, one_before, piece_ahead, reached, shown_at}
 use Rattle.ndef_c.proofs.Filled.{each_more, filled_on, get_within, length-set_over}
 use Rattle.ndef_c.proofs.Filtered.{filter_at, filter_more, filter_same}
+use Rattle.ndef_c.proofs.Places.{id_is}
 use Rattle.ndef_c.proofs.Posters.{in_pieces}
 use Rattle.ndef_c.proofs.TitleTexts.{poster_of}
 use Rattle.ndef_c.proofs.icons.tell_icons.Goals as goal
@@ -22,6 +24,7 @@ loop-rest-init c =
       rest_is = refl;
       done = [];
       ahead = ahead_in Standard h.0 _ (in_pieces Standard h.0 c.args.payload.now h.1);
+      before = none_before c.args.payload.now;
       told = [];
       are = tt;
       count = refl;
@@ -69,6 +72,11 @@ loop-rest-preserved c =
             is = at;
             media_type = subst (Lies c.args.payload.now icon.media_type.at icon.media_type.length) (sym r.is.kind) w.icon_in.ensures.kind;
             image = subst (Lies c.args.payload.now icon.octets.at icon.octets.length) (sym r.is.payload) w.icon_in.ensures.image;
+            place = (i.done, refl, shown_at c.args.payload.now i.at icon.octets.at i.before r.one i.rest_is (shown f) _ s r.is.payload w.icon_in.ensures.end);
+            type_place =
+                let id = w.icon_in.ensures.id in
+                let e = ap length (r.is.id ∙ id_is (is_set 3 f.header) f.id.now c.in-Some.ensures.no_id) in
+                omega (arith, id, e);
           } in
           let place : length (icons i.done) ≡ 0 + length i.told = omega (arith, count) in
           let more = ap length (filter_more is_icon i.done r.item (k ∙ w.if-is_icon.true)) ∙ length-append (icons i.done) (r.item ∷ []) in
@@ -83,6 +91,7 @@ loop-rest-preserved c =
             rest_is = behind_piece (shown f) _ _ _ c.args.payload.now i.at i.rest_is s;
             done = i.done ++ r.item ∷ [];
             ahead = r.next;
+            before = one_before i.before r.one i.rest_is (behind_piece (shown f) _ _ _ c.args.payload.now i.at i.rest_is s);
             told = i.told ++ icon ∷ [];
             are = each_more (IsIconAt c.args.payload.now i.items) 0 i.told icon i.are (subst (λ j. IsIconAt c.args.payload.now i.items j icon) place is);
             count = omega (arith, count, more, one);
@@ -100,6 +109,7 @@ loop-rest-preserved c =
             rest_is = behind_piece (shown f) _ _ _ c.args.payload.now i.at i.rest_is s;
             done = i.done ++ r.item ∷ [];
             ahead = r.next;
+            before = one_before i.before r.one i.rest_is (behind_piece (shown f) _ _ _ c.args.payload.now i.at i.rest_is s);
             told = i.told;
             are = i.are;
             count = omega (arith, count, same);

@@ -5,7 +5,7 @@ use Rattle.ndef_c.specs.Arrays.{EachAt, set_over}
 use Rattle.ndef_c.specs.Icons.{IsIconAt, icons}
 use Rattle.ndef_c.specs.Posters.{HasPosterRecords}
 use Rattle.ndef_c.specs.declared.icons.NdefIcon.{NdefIcon}
-use Rattle.ndef_c.proofs.Ahead.{Ahead}
+use Rattle.ndef_c.proofs.Ahead.{Ahead, Before}
 use Rattle.ndef_c.proofs.icons.tell_icons.Given as goal
 
 abbrev pub invariant-loop-rest : goal.invariant-loop-rest
@@ -16,6 +16,7 @@ invariant-loop-rest l = record {
   rest_is : l.rest ≡ drop at l.payload;
   done : List Item;
   ahead : Ahead items l.rest done;
+  before : Before l.payload at done;
   told : List NdefIcon;
   are : EachAt (IsIconAt l.payload items) 0 told;
   count : length told ≡ length (icons done);

@@ -6,7 +6,7 @@ use Rattle.ndef_piece.specs.Whole.{IsSplit, shown}
 use Rattle.ndef_types.specs.Links.{alternatives, is_alternative}
 use Rattle.ndef_c.specs.Links.{IsLinkAt}
 use Rattle.ndef_c.specs.Nested.{MayBeInPieces}
-use Rattle.ndef_c.proofs.Ahead.{ahead_in, all_done, behind_piece, empty_rest, piece_ahead, reached}
+use Rattle.ndef_c.proofs.Ahead.{ahead_in, all_done, behind_piece, empty_rest, none_before, one_before, piece_ahead, reached}
 use Rattle.ndef_c.proofs.Filled.{each_more, filled_on, get_within, length-set_over}
 use Rattle.ndef_c.proofs.Filtered.{filter_more, filter_same}
 use Rattle.ndef_c.proofs.Handovers.{handover_of, is_carrier}
@@ -26,6 +26,7 @@ loop-message-init c =
       rest_is = c.behind_version-message.ensures;
       done = [];
       ahead = ahead_in Standard h.items _ (subst (MayBeInPieces Standard h.items) (sym c.behind_version-message.ensures) h.records);
+      before = none_before (drop 1 c.args.payload.now);
       told = [];
       are = tt;
       count = refl;
@@ -49,21 +50,24 @@ pub link_of-requires-clause-alternative : goal.link_of-requires-clause-alternati
 link_of-requires-clause-alternative c =
     let i = c.loop-message.invariant in
     let h = carrier_here c.heads_are_apart.ensures.apart c.args.payload.now i.handover i.done c.loop-message.rest.now i.ahead (shown c.in-Some.piece) _ _ c.in-Some.ensures.piece (sym c.is_alternative.ensures ∙ c.if-is_alternative.true) c.found_in-carrier.result
-    c.found_in-carrier.ensures.payload c.behind_version-message.result.now c.behind_version-message.ensures c.found_in-carrier.ensures.lies in
+    c.found_in-carrier.ensures.payload c.behind_version-message.result.now c.behind_version-message.ensures c.found_in-carrier.ensures.lies
+    i.at i.before i.rest_is c.found_in-carrier.ensures.end in
     carrier_in_set c.args.payload.now i.handover _ c.found_in-carrier.result h
 
 pub link_of-requires-clause-bound : goal.link_of-requires-clause-bound
 link_of-requires-clause-bound c =
     let i = c.loop-message.invariant in
     let h = carrier_here c.heads_are_apart.ensures.apart c.args.payload.now i.handover i.done c.loop-message.rest.now i.ahead (shown c.in-Some.piece) _ _ c.in-Some.ensures.piece (sym c.is_alternative.ensures ∙ c.if-is_alternative.true) c.found_in-carrier.result
-    c.found_in-carrier.ensures.payload c.behind_version-message.result.now c.behind_version-message.ensures c.found_in-carrier.ensures.lies in
+    c.found_in-carrier.ensures.payload c.behind_version-message.result.now c.behind_version-message.ensures c.found_in-carrier.ensures.lies
+    i.at i.before i.rest_is c.found_in-carrier.ensures.end in
     carrier_bound c.args.payload.now i.handover _ c.found_in-carrier.result h c.requires.may.short
 
 pub bounds-links-index : goal.bounds-links-index
 bounds-links-index c =
     let i = c.loop-message.invariant in
     let h = carrier_here c.heads_are_apart.ensures.apart c.args.payload.now i.handover i.done c.loop-message.rest.now i.ahead (shown c.in-Some.piece) _ _ c.in-Some.ensures.piece (sym c.is_alternative.ensures ∙ c.if-is_alternative.true) c.found_in-carrier.result
-    c.found_in-carrier.ensures.payload c.behind_version-message.result.now c.behind_version-message.ensures c.found_in-carrier.ensures.lies in
+    c.found_in-carrier.ensures.payload c.behind_version-message.result.now c.behind_version-message.ensures c.found_in-carrier.ensures.lies
+    i.at i.before i.rest_is c.found_in-carrier.ensures.end in
     let l = get_within (alternatives i.handover.items) (length (alternatives i.done)) h.0 h.1 in
     let room = c.requires.room i.handover.items i.handover.records in
     let count = i.count in
@@ -83,7 +87,8 @@ loop-message-preserved c =
     elim c.if-is_alternative.branch [
       | then-is_alternative w ↦ (
           let h = carrier_here c.heads_are_apart.ensures.apart c.args.payload.now i.handover i.done c.loop-message.rest.now i.ahead (shown f) _ _ s (sym c.is_alternative.ensures ∙ w.if-is_alternative.true) w.found_in-carrier.result
-          w.found_in-carrier.ensures.payload c.behind_version-message.result.now c.behind_version-message.ensures w.found_in-carrier.ensures.lies in
+          w.found_in-carrier.ensures.payload c.behind_version-message.result.now c.behind_version-message.ensures w.found_in-carrier.ensures.lies
+          i.at i.before i.rest_is w.found_in-carrier.ensures.end in
           let set = carrier_in_set c.args.payload.now i.handover _ w.found_in-carrier.result h in
           let v = c.alternatives_are_exact.ensures.exact.each w.found_in-carrier.result.payload.now set in
           let link = w.link_of.result in
@@ -100,6 +105,7 @@ loop-message-preserved c =
             rest_is = behind_piece (shown f) _ _ _ (drop 1 c.args.payload.now) i.at i.rest_is s;
             done = i.done ++ r.item ∷ [];
             ahead = r.next;
+            before = one_before i.before r.one i.rest_is (behind_piece (shown f) _ _ _ (drop 1 c.args.payload.now) i.at i.rest_is s);
             told = i.told ++ link ∷ [];
             are = each_more (IsLinkAt c.args.bytes.now c.args.payload.now) 0 i.told link i.are (subst (λ j. IsLinkAt c.args.bytes.now c.args.payload.now j link) place is);
             count = omega (arith, count, more, one);
@@ -116,6 +122,7 @@ loop-message-preserved c =
             rest_is = behind_piece (shown f) _ _ _ (drop 1 c.args.payload.now) i.at i.rest_is s;
             done = i.done ++ r.item ∷ [];
             ahead = r.next;
+            before = one_before i.before r.one i.rest_is (behind_piece (shown f) _ _ _ (drop 1 c.args.payload.now) i.at i.rest_is s);
             told = i.told;
             are = i.are;
             count = omega (arith, count, same);

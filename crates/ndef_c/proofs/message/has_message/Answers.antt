@@ -1,6 +1,7 @@
 use Rattle.std.proofs.Common.{◌-◌, ◌++◌, ◌∷◌, [], length, refl, sym, ◌∙◌, subst, arith, true≢false}
 use Rattle.ndef_c.specs.Runs.{HasRun}
-use Rattle.ndef_c.proofs.Messages.{amid_on, between_on, left_at, next_at, onward, run_there, some_runs, walked_to}
+use Rattle.ndef_c.proofs.Messages.{amid_on, left_at, next_at, onward, run_there, some_runs, walked_to}
+use Rattle.ndef_c.proofs.Walked.{between_on}
 use Rattle.ndef_c.proofs.message.has_message.Goals as goal
 
 pub loop-found-init : goal.loop-found-init

@@ -1,7 +1,8 @@
 use Rattle.std.proofs.Common.{◌≡◌, ◌≤◌, ℕ, List, length, drop}
 use Rattle.std.specs.List.{AllByRecursion}
 use Rattle.ndef_format.specs.Records.{Run}
-use Rattle.ndef_c.specs.Links.{BeginsWithRuns, LieBetween}
+use Rattle.ndef_c.specs.Links.{BeginsWithRuns}
+use Rattle.ndef_c.specs.Walks.{LieBetween}
 use Rattle.ndef_c.proofs.Messages.{IsAmid, Left}
 use Rattle.ndef_c.proofs.message.has_message.Given as goal
 

@@ -2,7 +2,8 @@ use Rattle.std.proofs.Common.{◌-◌, ◌++◌, ◌∷◌, [], length, length-a
 use Rattle.ndef_c.specs.Runs.{HasRun}
 use Rattle.std.proofs.lemmas.Slice.Eq.{bytes_eq-Decides}
 use Rattle.ndef_message.specs.WrittenLaws.{some_left}
-use Rattle.ndef_c.proofs.Messages.{between_on, id_of, index_of, left_at, next_at, lack_all, none_with, onward, place_of, run_there}
+use Rattle.ndef_c.proofs.Messages.{id_of, index_of, left_at, next_at, lack_all, none_with, onward, place_of, run_there}
+use Rattle.ndef_c.proofs.Walked.{between_on}
 use Rattle.ndef_c.proofs.message.record_with.Goals as goal
 
 pub loop-found-init : goal.loop-found-init

@@ -4,7 +4,8 @@ use Rattle.ndef_format.specs.Records.{Run}
 use Rattle.ndef_format.specs.Messages.{run_record}
 use Rattle.ndef_types.specs.Contents.{Lack}
 use Rattle.ndef_types.specs.Links.{HasId}
-use Rattle.ndef_c.specs.Links.{BeginsWithRuns, LieBetween}
+use Rattle.ndef_c.specs.Links.{BeginsWithRuns}
+use Rattle.ndef_c.specs.Walks.{LieBetween}
 use Rattle.ndef_c.proofs.Messages.{Left}
 use Rattle.ndef_c.proofs.message.record_with.Given as goal
 

@@ -4,14 +4,14 @@ use Rattle.ndef_format.specs.Kinds.{kind_of}
 use Rattle.ndef_message.specs.WrittenLaws.{some_left}
 use Rattle.ndef_piece.specs.Whole.{IsSplit, shown}
 use Rattle.ndef_types.specs.Links.{alternatives, is_alternative}
-use Rattle.ndef_c.proofs.Ahead.{ahead_in, all_done, behind_piece, empty_rest, found_of, piece_ahead, reached}
+use Rattle.ndef_c.proofs.Ahead.{ahead_in, all_done, behind_piece, empty_rest, found_of, none_before, one_before, piece_ahead, reached, shown_at}
 use Rattle.ndef_c.proofs.Filtered.{filter_at, filter_more, filter_same}
 use Rattle.ndef_c.proofs.Handovers.{is_carrier}
 use Rattle.ndef_c.proofs.nested.alternative_at.Goals as goal
 use Rattle.ndef_c.proofs.nested.alternative_at.Goals.{then-is_alternative+else-left-eq0, else-is_alternative}
 
 pub loop-rest-init : goal.loop-rest-init
-loop-rest-init c = record { at = 0; rest_is = refl; ahead = λ profile items h. ([], ahead_in profile items c.args.bytes.now h, omega arith) }
+loop-rest-init c = record { at = 0; rest_is = refl; ahead = λ profile items h. ([], ahead_in profile items c.args.bytes.now h, none_before c.args.bytes.now, omega arith) }
 
 pub unreachable-requires : goal.unreachable-requires
 unreachable-requires c =
@@ -28,15 +28,17 @@ pub returns-then-left-eq0 : goal.returns-then-left-eq0
 returns-then-left-eq0 c = λ profile items h.
     let bytes = c.args.bytes.now in
     let f = c.in-Some.piece in
-    let a = c.loop-rest.invariant.ahead profile items h in
-    let n = a.2 in
+    let i = c.loop-rest.invariant in
+    let a = i.ahead profile items h in
+    let n = a.3 in
     let none = c.if-left-eq0.true in
     let r = reached c.heads_are_apart.ensures.apart a.1 (shown f) _ _ c.in-Some.ensures.piece in
     let k : is_carrier r.item ≡ true = (λ j. is_alternative (kind_of (r.is.tnf j) (r.is.kind j))) ∙ sym c.is_alternative.ensures ∙ c.if-is_alternative.true in
     let place : c.args.index ≡ length (alternatives a.0) = omega (arith, n, none) in (
       r.item,
       ap (slice_get (alternatives items)) place ∙ filter_at is_carrier items a.0 r.item r.within k,
-      found_of bytes r.item c.found_in.result f.payload.now c.found_in.ensures.payload r.is.payload c.found_in.ensures.lies,
+      found_of (λ before. length (alternatives before) ≡ c.args.index) bytes r.item c.found_in.result f.payload.now c.found_in.ensures.payload r.is.payload c.found_in.ensures.lies
+          (a.0, sym place, shown_at bytes i.at c.found_in.result.at a.2 r.one i.rest_is (shown f) _ c.in-Some.ensures.piece r.is.payload c.found_in.ensures.end),
     )
 
 pub loop-rest-preserved : goal.loop-rest-preserved
@@ -49,11 +51,12 @@ loop-rest-preserved c =
       rest_is = behind_piece (shown f) _ _ _ c.args.bytes.now i.at i.rest_is s;
       ahead = λ profile items h.
           let a = i.ahead profile items h in
-          let n = a.2 in
+          let n = a.3 in
           let r = reached c.heads_are_apart.ensures.apart a.1 (shown f) _ _ s in
           let k : is_carrier r.item ≡ c.is_alternative.result = (λ j. is_alternative (kind_of (r.is.tnf j) (r.is.kind j))) ∙ sym c.is_alternative.ensures in (
             a.0 ++ r.item ∷ [],
             r.next,
+            one_before a.2 r.one i.rest_is (behind_piece (shown f) _ _ _ c.args.bytes.now i.at i.rest_is s),
             elim c.if-is_alternative.branch [
               | then-is_alternative+else-left-eq0 w ↦
                   let more = ap length (filter_more is_carrier a.0 r.item (k ∙ w.if-is_alternative.true)) ∙ length-append (alternatives a.0) (r.item ∷ []) in
@@ -71,6 +74,6 @@ loop-rest-preserved c =
 pub returns : goal.returns
 returns c = λ profile items h.
     let a = c.loop-rest.invariant.ahead profile items h in
-    let n = a.2 in
+    let n = a.3 in
     let e = ap (λ xs. length (alternatives xs)) (all_done items a.0 c.loop-rest.rest.now a.1 (empty_rest c.loop-rest.rest.now (sym c.is_empty.ensures ∙ c.loop-rest-test.false))) in
     omega (arith, n, e)

@@ -1,9 +1,11 @@
-use Rattle.std.proofs.Common.{◌≡◌, [], ◌≤◌, ◌-◌, length, drop, refl, sym, ◌∙◌, ap, subst, arith}
+use Rattle.std.proofs.Common.{◌≡◌, [], ◌≤◌, ◌+◌, ◌-◌, length, drop, refl, sym, ◌∙◌, ap, subst, arith}
 use Rattle.ndef_format.specs.Records.{bit, code, tnf_of}
 use Rattle.ndef_format.specs.Messages.{run_record}
 use Rattle.ndef_format.specs.HeadReasons.{is_set}
 use Rattle.std.specs.Prelude.{unwrap_or}
+use Rattle.ndef_piece.specs.Whole.{IsSplit}
 use Rattle.ndef_c.specs.Walks.{BeginsWithRun, Lies}
+use Rattle.ndef_c.proofs.PieceParts.{part_of, piece_there}
 use Rattle.ndef_c.proofs.Places.{ends, shown_parts, byte_is_bit, lie_in, id_is, none_beyond}
 use Rattle.ndef_c.proofs.record.record_at.Goals as goal
 
@@ -24,6 +26,8 @@ returns-clause-some c =
     let e = ends x.run bytes c.split_at.result.1.now run.rest.now c.args.at within behind x.begins in
     let p = lie_in f.header f.kind.now f.id.now f.payload.now f.rest.now bytes
     (shown_parts f.header _ f.kind.now f.id.now f.payload.now f.rest.now c.split_at.result.1.now bytes c.args.at behind x.no_id x.split) in
+    let size = part_of bytes f.rest.now f.payload.now in
+    let t = piece_there f.header _ f.kind.now f.id.now f.payload.now f.rest.now c.split_at.result.1.now bytes c.args.at size within behind x.no_id x.split refl refl in
     let kind : f.kind.now ≡ (run_record x.run).kind = ap (λ q. q.kind) x.initial in
     let id : f.id.now ≡ (run_record x.run).id = sym (id_is (is_set 3 f.header) f.id.now x.no_id) ∙ ap (λ q. unwrap_or q.id []) x.initial in
     let part : f.payload.now ≡ x.run.initial.payload = ap (λ q. q.payload) x.initial in
@@ -37,6 +41,7 @@ returns-clause-some c =
       kind = subst (Lies bytes _ _) kind p.kind_lies;
       id = subst (Lies bytes _ _) id p.id_lies;
       part = subst (Lies bytes _ _) part p.payload_lies;
+      first = (t.is.short, subst (λ q. IsSplit q t.is.short (drop (size.at + size.length) bytes) (drop c.args.at bytes)) x.initial t.is.split);
       id_behind = p.id_behind;
       part_behind = p.payload_behind;
       payload = x.payload;

@@ -1,6 +1,6 @@
 use Rattle.std.proofs.Common.{◌≡◌, ◌+◌, ◌++◌, ◌∷◌, [], suc, length, length-append, get_or, refl, sym, ◌∙◌, ap, subst, arith}
 use Rattle.std.specs.Prelude.{slice_get}
-use Rattle.ndef_c.specs.Alternatives.{LiesAt, references}
+use Rattle.ndef_c.specs.Alternatives.{IsReference, reference_place, references}
 use Rattle.ndef_c.proofs.Alternatives.{NamesAt, ac_at, name_there, names_count, names_first}
 use Rattle.ndef_c.proofs.Filled.{each_more, filled_on}
 use Rattle.ndef_c.proofs.references.tell_references.Goals as goal
@@ -18,7 +18,7 @@ loop-before-init c =
       within = omega arith;
       names = subst (λ k. NamesAt payload k (3 + c.from-first.result) 0) (sym c.from-count.ensures) (names_first payload c.from-first.result p);
       told = c.counted_at.result ∷ [];
-      are = λ v s. ((v.reference, refl, rw (c.counted_at.ensures.at, c.counted_at.ensures.length) (q.reference v s)), tt);
+      are = λ v s. (record { lies = (v.reference, refl, rw (c.counted_at.ensures.at, c.counted_at.ensures.length) (q.reference v s)); place = c.counted_at.ensures.at }, tt);
       count = refl;
       filled = filled_on [] c.counted_at.result c.args.parts.now c.args.parts.now 0 refl refl (omega (arith, room));
     }
@@ -49,7 +49,11 @@ loop-before-preserved c =
       are = λ v s.
           let g = t.lies v s in
           let place : 0 + length i.told ≡ suc c.loop-before.before = omega (arith, count) in
-          each_more (LiesAt payload (references v)) 0 i.told part (i.are v s) (g.0, ap (λ k. slice_get (references v) k) place ∙ g.1, rw (at, size) g.2);
+          let next : c.loop-before.before + 1 ≡ 0 + length i.told = omega (arith, count) in
+          each_more (IsReference payload v) 0 i.told part (i.are v s) (record {
+            lies = (g.0, ap (λ k. slice_get (references v) k) place ∙ g.1, rw (at, size) g.2);
+            place = at ∙ t.place v s ∙ ap (reference_place (references v)) next;
+          });
       count = omega (arith, count, more);
       filled = filled_on i.told part _ _ _ i.filled (omega (arith, count)) (omega (arith, count, room, many, l));
     }

@@ -1,7 +1,8 @@
 use Rattle.std.proofs.Common.{◌+◌, ◌-◌, None, Some, drop, length, length-drop, get_or, refl, sym, ◌∙◌, ap, subst, arith}
 use Rattle.ndef_format.specs.declared.kind.Kind.TheVariants as kinds
 use Rattle.ndef_format.specs.declared.table.Table.TheVariants as tables
-use Rattle.ndef_c.specs.Nested.{MayBeInPieces}
+use Rattle.ndef_types.specs.Contents.{IsOfKind, Lack}
+use Rattle.ndef_c.specs.Nested.{MayBeInPieces, StandsBehind}
 use Rattle.ndef_c.specs.Walks.{Lies}
 use Rattle.ndef_c.proofs.Handovers.{error_some, error_told, first_has, select_nest}
 use Rattle.ndef_c.proofs.Places.{lies_behind, lies_within}
@@ -43,5 +44,17 @@ returns c = λ profile items h.
     let error = first_has tables.Select profile items (drop 1 c.args.payload.now) kinds.Error f.0 h f.1 in
     let within = lies_within _ _ _ _ f.2.lies (error_some f.0.payload error) in
     let l = lies_behind c.args.payload.now c.behind_version.result.now f.0.payload c.in-Some.found.at (length c.in-Some.found.payload.now) c.behind_version.ensures within f.2.lies in
-    let t = error_told c.args.payload.now f.0.payload c.in-Some.found.at error (subst (λ n. Lies c.args.payload.now (c.in-Some.found.at + 1) n f.0.payload) (ap length f.2.payload) l) in
-    (Some f.0, f.1, (refl, t.0, t.1, c.from.ensures ∙ ap (λ s. get_or s 0 0) f.2.payload ∙ t.2, subst (λ n. Lies c.args.payload.now (c.in-Some.found.at + 2) (n - 1) t.0.detail) (sym (ap length f.2.payload)) t.3))
+    let t = error_told c.args.payload.now f.0.payload c.in-Some.found.at error (subst (λ n. Lies c.args.payload.now (c.in-Some.found.at + 1) n f.0.payload) (ap length f.2.payload) l) in (
+      Some f.0,
+      f.1,
+      (
+        refl,
+        t.0,
+        t.1,
+        c.from.ensures ∙ ap (λ s. get_or s 0 0) f.2.payload ∙ t.2,
+        subst (λ n. Lies c.args.payload.now (c.in-Some.found.at + 2) (n - 1) t.0.detail) (sym (ap length f.2.payload)) t.3,
+        c.in-Some.found.at,
+        subst (λ b. StandsBehind (Lack (IsOfKind tables.Select kinds.Error)) b f.0 c.in-Some.found.at) c.behind_version.ensures f.2.place,
+        refl,
+      ),
+    )

@@ -1,4 +1,4 @@
-use Rattle.std.proofs.Common.{◌∙◌, arith}
+use Rattle.std.proofs.Common.{refl, ◌∙◌, arith}
 use Rattle.ndef_c.proofs.Places.{byte_is_bit}
 use Rattle.ndef_c.proofs.Texts.{code_within, parts_lie}
 use Rattle.ndef_c.proofs.text.text_at.Goals as goal
@@ -15,5 +15,7 @@ returns c =
       short = c.requires.short;
       language = p.language;
       text = p.text;
+      language_place = refl;
+      text_place = omega arith;
       utf16 = c.from.ensures ∙ byte_is_bit _;
     }

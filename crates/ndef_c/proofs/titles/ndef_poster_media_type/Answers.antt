@@ -14,4 +14,4 @@ returns-clause-found c = λ _.
     let p = c.is_poster.ensures.0 c.if-not-is_poster.false in
     let h = poster_of c.args.payload.now p in
     let f = c.in-Some.ensures Standard h.0 (in_pieces Standard h.0 c.args.payload.now h.1) in
-    record { poster = p; items = h.0; records = h.1; media = f.0; is_first = f.1; lies = f.2.lies }
+    record { poster = p; items = h.0; records = h.1; media = f.0; is_first = f.1; lies = f.2.lies; place = f.2.place }

@@ -6,7 +6,7 @@ use Rattle.ndef_piece.specs.Whole.{IsSplit, shown}
 use Rattle.ndef_types.specs.Posters.{titles}
 use Rattle.ndef_c.specs.Titles.{IsTitleAt}
 use Rattle.ndef_c.specs.Walks.{Lies}
-use Rattle.ndef_c.proofs.Ahead.{ahead_in, all_done, behind_piece, empty_rest, piece_ahead, reached}
+use Rattle.ndef_c.proofs.Ahead.{ahead_in, all_done, behind_piece, empty_rest, none_before, one_before, piece_ahead, reached, shown_at}
 use Rattle.ndef_c.proofs.Filled.{each_more, filled_on, get_within, length-set_over}
 use Rattle.ndef_c.proofs.Filtered.{filter_at, filter_more, filter_same}
 use Rattle.ndef_c.proofs.Posters.{in_pieces}
@@ -24,6 +24,7 @@ loop-rest-init c =
       rest_is = refl;
       done = [];
       ahead = ahead_in Standard h.0 _ (in_pieces Standard h.0 c.args.payload.now h.1);
+      before = none_before c.args.payload.now;
       told = [];
       are = tt;
       count = refl;
@@ -83,6 +84,7 @@ loop-rest-preserved c =
           let lies = subst (λ p. Lies c.args.payload.now found.at (length p) p) (sym w.found_in.ensures.payload) w.found_in.ensures.lies in
           let text = w.text_of.result in
           let at = filter_at is_title i.items i.done r.item r.within (k ∙ w.if-is_title.true) in
+          let stands = shown_at c.args.payload.now i.at found.at i.before r.one i.rest_is (shown f) _ s r.is.payload w.found_in.ensures.end in
           let is = text_lies c.args.payload.now r.item found text (w.found_in.ensures.payload ∙ sym r.is.payload) (w.text_of.ensures c.args.payload.now lies) in
           let place : length (titles i.done) ≡ 0 + length i.told = omega (arith, count) in
           let more = ap length (filter_more is_title i.done r.item (k ∙ w.if-is_title.true)) ∙ length-append (titles i.done) (r.item ∷ []) in
@@ -97,8 +99,9 @@ loop-rest-preserved c =
             rest_is = behind_piece (shown f) _ _ _ c.args.payload.now i.at i.rest_is s;
             done = i.done ++ r.item ∷ [];
             ahead = r.next;
+            before = one_before i.before r.one i.rest_is (behind_piece (shown f) _ _ _ c.args.payload.now i.at i.rest_is s);
             told = i.told ++ text ∷ [];
-            are = each_more (IsTitleAt c.args.payload.now i.items) 0 i.told text i.are (subst (λ j. IsTitleAt c.args.payload.now i.items j text) place (r.item, at, is));
+            are = each_more (IsTitleAt c.args.payload.now i.items) 0 i.told text i.are (subst (λ j. IsTitleAt c.args.payload.now i.items j text) place (r.item, at, found.at, (i.done, refl, stands), is));
             count = omega (arith, count, more, one);
             filled = w.texts-is ∙ filled_on i.told text _ _ _ i.filled i.index (omega (arith, l, room, count));
             index = omega (arith, index, one, e);
@@ -114,6 +117,7 @@ loop-rest-preserved c =
             rest_is = behind_piece (shown f) _ _ _ c.args.payload.now i.at i.rest_is s;
             done = i.done ++ r.item ∷ [];
             ahead = r.next;
+            before = one_before i.before r.one i.rest_is (behind_piece (shown f) _ _ _ c.args.payload.now i.at i.rest_is s);
             told = i.told;
             are = i.are;
             count = omega (arith, count, same);

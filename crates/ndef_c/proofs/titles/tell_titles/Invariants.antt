@@ -6,7 +6,7 @@ use Rattle.ndef_c.specs.Arrays.{EachAt, set_over}
 use Rattle.ndef_c.specs.Posters.{HasPosterRecords}
 use Rattle.ndef_c.specs.Titles.{IsTitleAt}
 use Rattle.ndef_c.specs.declared.text.NdefText.{NdefText}
-use Rattle.ndef_c.proofs.Ahead.{Ahead}
+use Rattle.ndef_c.proofs.Ahead.{Ahead, Before}
 use Rattle.ndef_c.proofs.titles.tell_titles.Given as goal
 
 abbrev pub invariant-loop-rest : goal.invariant-loop-rest
@@ -17,6 +17,7 @@ invariant-loop-rest l = record {
   rest_is : l.rest ≡ drop at l.payload;
   done : List Item;
   ahead : Ahead items l.rest done;
+  before : Before l.payload at done;
   told : List NdefText;
   are : EachAt (IsTitleAt l.payload items) 0 told;
   count : length told ≡ length (titles done);

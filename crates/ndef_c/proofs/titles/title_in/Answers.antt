@@ -6,7 +6,7 @@ use Rattle.ndef_piece.specs.Whole.{IsSplit, shown}
 use Rattle.ndef_types.specs.Contents.{Lack}
 use Rattle.ndef_c.specs.Titles.{IsTitleIn}
 use Rattle.ndef_c.specs.Walks.{Lies}
-use Rattle.ndef_c.proofs.Ahead.{ahead_in, all_done, behind_piece, empty_rest, first_is, lack_on, piece_ahead, reached}
+use Rattle.ndef_c.proofs.Ahead.{ahead_in, all_done, behind_piece, empty_rest, first_is, lack_on, none_before, one_before, piece_ahead, reached, shown_at}
 use Rattle.ndef_c.proofs.Posters.{in_pieces}
 use Rattle.ndef_c.proofs.TitleTexts.{is_title, is_title_of, of_text, poster_of, text_lies, title_kind, title_text}
 use Rattle.ndef_c.proofs.titles.title_in.Goals as goal
@@ -15,7 +15,7 @@ use Rattle.ndef_c.proofs.titles.title_in.Goals.{then-is_title+else-is_language, 
 pub loop-rest-init : goal.loop-rest-init
 loop-rest-init c =
     let h = poster_of c.args.payload.now c.requires in
-    record { items = h.0; records = h.1; at = 0; rest_is = refl; done = []; ahead = ahead_in Standard h.0 _ (in_pieces Standard h.0 c.args.payload.now h.1); lack = tt }
+    record { items = h.0; records = h.1; at = 0; rest_is = refl; done = []; ahead = ahead_in Standard h.0 _ (in_pieces Standard h.0 c.args.payload.now h.1); before = none_before c.args.payload.now; lack = tt }
 
 pub unreachable-requires : goal.unreachable-requires
 unreachable-requires c = c.in_default.ensures.none (piece_ahead c.loop-rest.invariant.ahead (some_left c.loop-rest.rest.now _ c.is_empty.ensures c.loop-rest-test.true))
@@ -59,6 +59,8 @@ returns-then-is_language-clause-some c =
       records = i.records;
       title = r.item;
       is_first = first_is (IsTitleIn c.args.language.now) i.items i.done r.item r.within i.lack title;
+      at = found.at;
+      place = (i.done, i.lack, shown_at payload i.at found.at i.before r.one i.rest_is (shown f) _ c.in-Some.ensures.piece r.is.payload c.found_in.ensures.end);
       lies = is;
     }
 
@@ -77,6 +79,7 @@ loop-rest-preserved c =
       rest_is = behind_piece (shown f) _ _ _ payload i.at i.rest_is s;
       done = i.done ++ r.item ∷ [];
       ahead = r.next;
+      before = one_before i.before r.one i.rest_is (behind_piece (shown f) _ _ _ payload i.at i.rest_is s);
       lack = lack_on (IsTitleIn c.args.language.now) i.done r.item i.lack (λ h. elim c.if-is_title.branch [
         | then-is_title+else-is_language w ↦ (
             let found = w.found_in.result in

@@ -4,7 +4,7 @@ use Rattle.ndef_format.specs.declared.profile.Profile.TheVariants.{Standard}
 use Rattle.ndef_types.specs.Contents.{Lack}
 use Rattle.ndef_c.specs.Posters.{HasPosterRecords}
 use Rattle.ndef_c.specs.Titles.{IsTitleIn}
-use Rattle.ndef_c.proofs.Ahead.{Ahead}
+use Rattle.ndef_c.proofs.Ahead.{Ahead, Before}
 use Rattle.ndef_c.proofs.titles.title_in.Given as goal
 
 abbrev pub invariant-loop-rest : goal.invariant-loop-rest
@@ -15,6 +15,7 @@ invariant-loop-rest l = record {
   rest_is : l.rest ≡ drop at l.payload;
   done : List Item;
   ahead : Ahead items l.rest done;
+  before : Before l.payload at done;
   lack : Lack (IsTitleIn l.language) done;
 }
 

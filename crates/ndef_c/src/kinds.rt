@@ -1,0 +1,70 @@
+//! What the payload of a record is, as its type says.
+ghost use Rattle.std.specs.Prelude.{◌≡◌, ◌≤◌, ℕ};
+ghost use Rattle.ndef_format.specs.Kinds.{kind_of};
+ghost use Rattle.ndef_format.specs.Messages.{run_record};
+ghost use Rattle.ndef_c.specs.Kinds.{HasType, kind_number, kind_within, type_kind};
+ghost use Rattle.ndef_c.specs.Walks.{IsRecordAt};
+
+use crate::part::NdefPart;
+use crate::poster_parts::part_in;
+use crate::record::NdefRecord;
+use crate::writing::tnf_of;
+use ndef_lang::Kind;
+use ndef_nest::Table;
+
+/// The number of a kind.
+fn number_of(kind: Kind) -> u32
+    ensures number { result ≡ kind_number kind }
+    ensures bound { result ≤ 12 }
+{
+    match kind {
+        Kind::Other => 0,
+        Kind::Text => 1,
+        Kind::Uri => 2,
+        Kind::SmartPoster => 3,
+        Kind::Request => 4,
+        Kind::Select => 5,
+        Kind::Carrier => 6,
+        Kind::Action => 7,
+        Kind::Size => 8,
+        Kind::MediaType => 9,
+        Kind::Alternative => 10,
+        Kind::Collision => 11,
+        Kind::Error => 12,
+    }
+}
+
+/// The kind of a record in a message, by the kind of its type; `within` is the number of the kind of payload that
+/// holds the message, 0 for a message of its own.
+fn kind_within(within: u32, kind: Kind) -> Kind
+    ensures { result ≡ kind_within within kind }
+{
+    match within {
+        0 => kind.outer(),
+        3 => Table::SmartPoster.checked(kind),
+        4 => Table::Request.checked(kind),
+        5 => Table::Select.checked(kind),
+        _ => Kind::Other,
+    }
+}
+
+/// Tells what the payload of a record is, by its type: the number of its kind, 0 for any other. `within` is the
+/// number of the kind of payload that holds the message of the record, 0 for a message of its own.
+#[unsafe(no_mangle)]
+pub extern "C" fn ndef_kind(bytes: &[u8], record: &NdefRecord, within: u32) -> u32
+    ensures known { result ≤ 12 }
+    ensures kind { HasType bytes.now record.now
+        → result ≡ kind_number (kind_within within (type_kind bytes.now record.now)) }
+    ensures other { (¬ HasType bytes.now record.now) → result ≡ 0 }
+    ensures record { (at : ℕ) → (r : IsRecordAt bytes.now at record.now)
+        → result ≡ kind_number (kind_within within (kind_of (run_record r.run).tnf (run_record r.run).kind)) }
+{
+    let place = NdefPart {
+        at: record.type_at,
+        length: record.type_length,
+    };
+    match (tnf_of(record.tnf), part_in(bytes, &place)) {
+        (Some(tnf), Some(name)) => number_of(kind_within(within, Kind::of(tnf, name))),
+        _ => number_of(Kind::Other),
+    }
+}

@@ -1,0 +1,297 @@
+/// ndef_answers.hpp: what all calls for C++ share: results and errors, views of bytes, rooms, iterators. Include ndef.hpp.
+#ifndef NDEF_ANSWERS_HPP
+#define NDEF_ANSWERS_HPP
+
+#include "ndef.h"
+
+#include <cassert>
+#include <cstddef>
+#include <cstdint>
+#include <iterator>
+#include <optional>
+#include <string>
+#include <string_view>
+#include <type_traits>
+#include <utility>
+#include <variant>
+#include <vector>
+
+namespace ndef {
+
+// ---- answers
+
+/// What a call answers, why a byte is refused, and what kind of name the type of a record is: NDEF_OK, ..,
+/// NDEF_REASON_RESERVED_TNF, .. and NDEF_TNF_EMPTY, ...
+using status = ::ndef_status;
+using reason = ::ndef_reason;
+using tnf = ::ndef_tnf;
+
+/// The name of a status.
+constexpr std::string_view to_string(status value) noexcept {
+    constexpr std::string_view names[] = {"Ok", "Refused", "NoRoom", "BadArgument", "End", "More"};
+    return value <= NDEF_MORE ? names[value] : std::string_view();
+}
+
+/// The name of a reason, as ndef_reason_name writes it; "" for a number that is none.
+constexpr std::string_view to_string(reason value) noexcept {
+#define NDEF_REASON_TEXT(number, name, text) case NDEF_REASON_##name: return text;
+    switch (value) { NDEF_REASONS(NDEF_REASON_TEXT) }
+#undef NDEF_REASON_TEXT
+    return "";
+}
+
+/// Why there is no value.
+struct error {
+    status what = NDEF_BAD_ARGUMENT; ///< never NDEF_OK
+    reason why = {};                 ///< with NDEF_REFUSED, the reason; else 0
+    std::uint64_t place = 0;         ///< with NDEF_REFUSED, the place of the first refused byte; else 0
+    ndef_size needed = 0;            ///< with NDEF_NO_ROOM, the size that the room must have; else 0
+};
+
+/// A value, or the error that says why there is none. It is used as std::expected of C++23 is.
+template <class T> class [[nodiscard]] result {
+public:
+    using value_type = T;
+    constexpr result(T value) noexcept(std::is_nothrow_move_constructible_v<T>) : held(std::move(value)) {}
+    constexpr result(ndef::error why) noexcept : held(why) {}
+
+    constexpr bool has_value() const noexcept { return held.index() == 0; }
+    constexpr explicit operator bool() const noexcept { return has_value(); }
+
+    /// The value. There must be one: ask first.
+    constexpr const T &operator*() const noexcept { return *value_pointer(); }
+    constexpr T &operator*() noexcept { return *const_cast<T *>(value_pointer()); }
+    constexpr const T *operator->() const noexcept { return value_pointer(); }
+    constexpr T *operator->() noexcept { return const_cast<T *>(value_pointer()); }
+    constexpr T value_or(T other) const { return has_value() ? **this : std::move(other); }
+
+    /// The error. There must be one: ask first.
+    constexpr const ndef::error &error() const noexcept {
+        assert(!has_value());
+        return *std::get_if<1>(&held);
+    }
+
+    /// What a function makes of the value, which is a result; or the error.
+    template <class F> constexpr auto and_then(F &&next) const -> std::invoke_result_t<F, const T &> {
+        if (has_value()) return std::forward<F>(next)(**this);
+        return error();
+    }
+
+    /// What a function makes of the value, as a result; or the error.
+    template <class F> constexpr auto transform(F &&next) const -> result<std::invoke_result_t<F, const T &>> {
+        if (has_value()) return std::forward<F>(next)(**this);
+        return error();
+    }
+
+private:
+    constexpr const T *value_pointer() const noexcept {
+        assert(has_value());
+        return std::get_if<0>(&held);
+    }
+
+    std::variant<T, ndef::error> held;
+};
+
+// ---- memory
+
+namespace detail {
+/// Memory of characters, std::bytes or numbers of 8 bits, as bytes.
+template <class T, class = std::enable_if_t<sizeof(T) == 1 && std::is_trivial_v<T>>> auto octets(T *data) noexcept {
+    return reinterpret_cast<std::conditional_t<std::is_const_v<T>, const std::uint8_t *, std::uint8_t *>>(data);
+}
+} // namespace detail
+
+/// A view of bytes: of a std::vector, std::array, std::span, std::string or array of std::uint8_t, std::byte or char.
+class bytes {
+public:
+    constexpr bytes() noexcept = default;
+    constexpr bytes(const std::uint8_t *data, std::size_t size) noexcept : first(data), length(size) {}
+    template <class Container, class = decltype(detail::octets(std::data(std::declval<const Container &>())))>
+    bytes(const Container &of) noexcept : first(detail::octets(std::data(of))), length(std::size(of)) {}
+    /// It isn't clear whether the NUL of a literal counts: give a std::string_view.
+    template <std::size_t Count> bytes(const char (&)[Count]) = delete;
+
+    constexpr const std::uint8_t *data() const noexcept { return first; }
+    constexpr std::size_t size() const noexcept { return length; }
+    constexpr bool empty() const noexcept { return length == 0; }
+    constexpr const std::uint8_t *begin() const noexcept { return first; }
+    constexpr const std::uint8_t *end() const noexcept { return first + length; }
+    constexpr std::uint8_t operator[](std::size_t index) const noexcept {
+        assert(index < length);
+        return first[index];
+    }
+
+    /// The bytes from a place on; none if the place is beyond the end.
+    constexpr bytes from(ndef_size at) const noexcept { return part(at, length); }
+
+    /// So many bytes from a place on, or as many of them as there are.
+    constexpr bytes part(ndef_size at, ndef_size count) const noexcept {
+        if (at > length) return {};
+        const std::size_t place = static_cast<std::size_t>(at), rest = length - place;
+        return {first + place, count < rest ? static_cast<std::size_t>(count) : rest};
+    }
+
+    /// The same bytes as characters.
+    std::string_view text() const noexcept { return {reinterpret_cast<const char *>(first), length}; }
+
+    friend bool operator==(bytes left, bytes right) noexcept { return left.text() == right.text(); }
+    friend bool operator!=(bytes left, bytes right) noexcept { return !(left == right); }
+
+private:
+    const std::uint8_t *first = nullptr;
+    std::size_t length = 0;
+};
+
+/// Memory of the caller to which calls write, one after the other. A call that succeeds takes what it wrote from the
+/// front of the room, so what it returned stays as it is. A call that fails takes nothing.
+class room {
+public:
+    /// A room of no bytes. A call that writes to it tells what it needs.
+    constexpr room() noexcept = default;
+    constexpr room(std::uint8_t *data, std::size_t size) noexcept : first(data), length(size) {}
+    template <class Container, class = std::enable_if_t<std::is_same_v<std::uint8_t *, decltype(detail::octets(
+                                                                  std::data(std::declval<Container &>())))>>>
+    explicit room(Container &of) noexcept : first(detail::octets(std::data(of))), length(std::size(of)) {}
+
+    constexpr std::uint8_t *data() const noexcept { return first; }
+    constexpr std::size_t size() const noexcept { return length; }
+
+    /// Takes bytes from the front of the room; all of them if there are fewer.
+    constexpr bytes take(ndef_size count) noexcept {
+        const std::size_t taken = count < length ? static_cast<std::size_t>(count) : length;
+        const bytes front{first, taken};
+        first += taken;
+        length -= taken;
+        return front;
+    }
+
+private:
+    std::uint8_t *first = nullptr;
+    std::size_t length = 0;
+};
+
+namespace detail {
+constexpr error failure(std::uint32_t answer, const ndef_checked &why = {}, ndef_size needed = 0) noexcept {
+    if (answer == NDEF_REFUSED) return {NDEF_REFUSED, static_cast<reason>(why.reason), why.place, 0};
+    return {static_cast<status>(answer), {}, 0, answer == NDEF_NO_ROOM ? needed : 0};
+}
+
+/// What a call writes to a room: call(memory, size, count, why).
+template <class Call> result<bytes> written(room &to, Call call) noexcept {
+    ndef_size count = 0;
+    ndef_checked why = {};
+    const std::uint32_t answer = call(to.data(), ndef_size{to.size()}, &count, &why);
+    if (answer != NDEF_OK) return failure(answer, why, count);
+    return to.take(count);
+}
+
+/// The same as a string, of which the call is asked for the size first; empty if the call fails.
+template <class Call> std::string as_string(Call call) {
+    ndef_size count = 0;
+    ndef_checked why = {};
+    std::string text;
+    if (call(static_cast<std::uint8_t *>(nullptr), ndef_size{0}, &count, &why) != NDEF_NO_ROOM) return text;
+    text.resize(static_cast<std::size_t>(count));
+    call(reinterpret_cast<std::uint8_t *>(text.data()), count, &count, &why);
+    return text;
+}
+
+/// What a call of ndef.h writes whose last words are a room: call(words.., memory, size, count).
+template <class Call, class... Words> result<bytes> put(room &to, Call call, Words... words) noexcept {
+    return written(to, [&](std::uint8_t *memory, ndef_size size, ndef_size *count, ndef_checked *) {
+        return call(words..., memory, size, count);
+    });
+}
+
+/// The elements that a call of ndef.h writes to an array of the caller: call(words.., array, size, count). The count, or
+/// NDEF_NO_ROOM with the number of elements that are needed.
+template <class Element, class Call, class... Words>
+result<std::size_t> filled(Element *array, std::size_t size, Call call, Words... words) noexcept {
+    ndef_size count = 0;
+    const std::uint32_t answer = call(words..., array, ndef_size{size}, &count);
+    if (answer != NDEF_OK) return failure(answer, {}, count);
+    return static_cast<std::size_t>(count);
+}
+
+/// The same in a std::vector; an empty one where the call answers something else.
+template <class Element, class Call, class... Words> std::vector<Element> all_of(Call call, Words... words) {
+    std::vector<Element> array;
+    const auto asked = filled<Element>(nullptr, 0, call, words...);
+    if (asked || asked.error().what != NDEF_NO_ROOM) return array;
+    array.resize(static_cast<std::size_t>(asked.error().needed));
+    filled(array.data(), array.size(), call, words...).has_value();
+    return array;
+}
+
+/// What all views of payloads have: the payload, and what a call told of it.
+template <class Parts> class payload_view {
+public:
+    /// The payload itself.
+    bytes payload() const noexcept { return whole; }
+
+protected:
+    /// Reads a payload by a call of ndef.h: call(payload, length, words.., parts, why).
+    template <class View, class Call, class... Words>
+    static result<View> read_by(bytes payload, Call call, Words... words) noexcept {
+        View found;
+        ndef_checked why = {};
+        const std::uint32_t answer = call(payload.data(), payload.size(), words..., &found.told, &why);
+        if (answer != NDEF_OK) return failure(answer, why);
+        found.whole = payload;
+        return found;
+    }
+
+    bytes part(ndef_size at, ndef_size length) const noexcept { return whole.part(at, length); }
+
+    bytes whole;
+    Parts told = {};
+};
+
+/// A value of a range, and the place from which the next one is looked for.
+template <class T> struct found_at {
+    T value;
+    ndef_size next;
+};
+
+/// No more values follow.
+inline constexpr ndef_size no_place = ~ndef_size{0};
+
+/// An iterator over a range that has look(place): the first value from a place on, if there is one.
+template <class Range, class T> class iterator_of {
+public:
+    using iterator_category = std::input_iterator_tag;
+    using iterator_concept = std::forward_iterator_tag;
+    using value_type = T;
+    using difference_type = std::ptrdiff_t;
+    using pointer = const T *;
+    using reference = T;
+
+    iterator_of() noexcept = default;
+    explicit iterator_of(const Range &of) noexcept : range(of), now(of.look(0)) {}
+    T operator*() const noexcept { return now->value; }
+    const T *operator->() const noexcept { return &now->value; }
+    iterator_of &operator++() noexcept {
+        place = now->next;
+        now = range.look(place);
+        return *this;
+    }
+    iterator_of operator++(int) noexcept {
+        iterator_of before = *this;
+        ++*this;
+        return before;
+    }
+    friend bool operator==(const iterator_of &left, const iterator_of &right) noexcept {
+        return left.now.has_value() == right.now.has_value() && (!left.now || left.place == right.place);
+    }
+    friend bool operator!=(const iterator_of &left, const iterator_of &right) noexcept { return !(left == right); }
+
+private:
+    Range range;
+    std::optional<found_at<T>> now;
+    ndef_size place = 0;
+};
+} // namespace detail
+
+} // namespace ndef
+
+#endif

@@ -1,0 +1,118 @@
+/// ndef_fields.hpp: in which field each byte of a message stands. Include ndef.hpp.
+#ifndef NDEF_FIELDS_HPP
+#define NDEF_FIELDS_HPP
+
+#include "ndef_messages.hpp"
+
+#include <algorithm>
+#include <vector>
+
+namespace ndef {
+
+// ---- fields
+
+/// The name of a field: NDEF_FIELD_HEADER, ...
+using field_name = ::ndef_field_names;
+
+/// The name as text, as ndef_field_name writes it; "" for a number that is none.
+constexpr std::string_view to_string(field_name value) noexcept {
+#define NDEF_FIELD_TEXT(number, name, text) case NDEF_FIELD_##name: return text;
+    switch (value) { NDEF_FIELDS(NDEF_FIELD_TEXT) }
+#undef NDEF_FIELD_TEXT
+    return "";
+}
+
+/// Bytes of a message that stand in one field.
+struct field {
+    bytes octets;            ///< the bytes, at least one
+    std::size_t at = 0;      ///< where they begin
+    std::uint32_t depth = 0; ///< 0 in the message itself, 1 in a message within a payload
+    field_name name = {};
+};
+
+/// The fields of the message with which some bytes begin, in order, as one call of ndef_fields tells them; of bytes that
+/// are refused, those before the refused one. Payloads are looked into: with NDEF_OPAQUE there are no fields.
+class fields {
+    /// The fields that lie in an array.
+    struct told_fields {
+        field at(std::size_t index) const noexcept {
+            const ndef_field &one = first[index];
+            return {whole.part(one.at, one.length), static_cast<std::size_t>(one.at), one.depth,
+                    static_cast<field_name>(one.name)};
+        }
+        std::optional<detail::found_at<field>> look(ndef_size index) const noexcept {
+            if (index >= count) return std::nullopt;
+            return detail::found_at<field>{at(static_cast<std::size_t>(index)), index + 1};
+        }
+
+        bytes whole;
+        const ndef_field *first = nullptr;
+        std::size_t count = 0;
+    };
+
+public:
+    using iterator = detail::iterator_of<told_fields, field>;
+    fields() noexcept = default;
+
+    /// The fields, in memory of their own.
+    explicit fields(bytes of, const ndef_limits &within = limits()) {
+        ndef_size count = 0;
+        if (tell(nullptr, 0, of, within, &count) != NDEF_NO_ROOM) return;
+        own.resize(static_cast<std::size_t>(count));
+        tell(own.data(), own.size(), of, within, &count);
+    }
+
+    /// The same in an array of the caller. NDEF_NO_ROOM says how many elements it must have; NDEF_BAD_ARGUMENT: a limit is
+    /// out of range, or NDEF_OPAQUE or an unknown flag is set.
+    static result<fields> in(ndef_field *array, std::size_t size, bytes of, const ndef_limits &within = limits()) {
+        fields found;
+        ndef_size count = 0;
+        const std::uint32_t answer = found.tell(array, size, of, within, &count);
+        if (answer != NDEF_OK && answer != NDEF_REFUSED) return detail::failure(answer, {}, count);
+        found.told.first = array;
+        return found;
+    }
+
+    /// Iterators hold as long as these fields and the array are there.
+    iterator begin() const noexcept { return iterator(range()); }
+    iterator end() const noexcept { return {}; }
+    std::size_t size() const noexcept { return told.count; }
+
+    /// Why no field follows the last one: NDEF_END after a message, NDEF_REFUSED with the place and the reason, or
+    /// NDEF_BAD_ARGUMENT.
+    const error &after() const noexcept { return end_of; }
+
+    /// The field in which the byte at a place stands; where there is none, what `after` says.
+    result<field> at(ndef_size place) const noexcept {
+        const told_fields all = range();
+        const auto is_after = [](ndef_size wanted, const ndef_field &one) { return wanted < one.at; };
+        const ndef_field *next = std::upper_bound(all.first, all.first + all.count, place, is_after);
+        if (next == all.first || place - (next - 1)->at >= (next - 1)->length) return end_of;
+        return all.at(static_cast<std::size_t>(next - 1 - all.first));
+    }
+
+private:
+    std::uint32_t tell(ndef_field *array, std::size_t size, bytes of, const ndef_limits &within, ndef_size *count) noexcept {
+        ndef_checked why = {};
+        const std::uint32_t answer = ndef_fields(of.data(), of.size(), &within, array, size, count, &why);
+        const bool is_told = answer == NDEF_OK || answer == NDEF_REFUSED;
+        told = {of, nullptr, is_told ? static_cast<std::size_t>(*count) : 0};
+        end_of = detail::failure(answer == NDEF_OK ? static_cast<std::uint32_t>(NDEF_END) : answer, why);
+        return answer;
+    }
+
+    /// The fields where they lie now: those in memory of their own move with it.
+    told_fields range() const noexcept {
+        told_fields all = told;
+        if (!all.first) all.first = own.data();
+        return all;
+    }
+
+    told_fields told;
+    std::vector<ndef_field> own;
+    error end_of = detail::failure(NDEF_END);
+};
+
+} // namespace ndef
+
+#endif

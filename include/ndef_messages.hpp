@@ -1,0 +1,174 @@
+/// ndef_messages.hpp: messages, their records, and checks of bytes that arrive in parts. Include ndef.hpp.
+#ifndef NDEF_MESSAGES_HPP
+#define NDEF_MESSAGES_HPP
+
+#include "ndef_answers.hpp"
+
+namespace ndef {
+
+// ---- messages
+
+/// What becomes of the type name format 7 and of URI codes above 0x23, which are reserved: they are refused, though the
+/// standards bid a reader accept them, or read as the standards say (NDEF_STANDARD). docs/FORMAT.md has each difference.
+enum class profile : std::uint32_t { strict = 0, standard = NDEF_STANDARD };
+
+/// How large a message may be and how it is checked, as ndef_limits says; it begins with ndef_usual_limits.
+struct limits : ndef_limits {
+    limits() noexcept { ndef_usual_limits(this); }
+};
+
+/// A record of a message: a view of the message's bytes.
+class record {
+public:
+    record() noexcept = default;
+
+    /// The record that begins at a place of some bytes, as ndef_record_at tells it.
+    static result<record> at(bytes message, ndef_size place) noexcept {
+        return told_by(ndef_record_at, message, place);
+    }
+
+    ndef::tnf format() const noexcept { return static_cast<ndef::tnf>(told.tnf); }
+    std::string_view type() const noexcept { return whole.part(told.type_at, told.type_length).text(); }
+    std::string_view id() const noexcept { return whole.part(told.id_at, told.id_length).text(); }
+
+    /// Whether the record has a type of a format; without a format, one that the NFC Forum defines.
+    bool is(ndef::tnf wanted, std::string_view name) const noexcept { return format() == wanted && type() == name; }
+    bool is(std::string_view name) const noexcept { return is(NDEF_TNF_WELL_KNOWN, name); }
+
+    /// The payload: in place if the record has one chunk, otherwise joined in the room.
+    result<bytes> payload(room &joined) const noexcept {
+        if (told.pieces == 1) return whole.part(told.payload_at, told.payload_length);
+        return detail::written(joined, [this](auto... words) { return join(words...); });
+    }
+
+    /// The payload in place. A record of several chunks has NDEF_NO_ROOM, and the size of the room that joins them.
+    result<bytes> payload() const noexcept {
+        room none;
+        return payload(none);
+    }
+
+    /// The payload as a string.
+    std::string payload_string() const {
+        return detail::as_string([this](auto... words) { return join(words...); });
+    }
+
+    /// The payload read as a text, uri, poster, request, select or another view. NDEF_BAD_ARGUMENT if the record has
+    /// another type. A record of several chunks needs a room for its joined payload.
+    template <class View> result<View> as(room &joined, profile how = profile::strict) const noexcept {
+        if (!is(View::type_name)) return error{};
+        return payload(joined).and_then([how](bytes whole_payload) { return View::read(whole_payload, how); });
+    }
+    template <class View> result<View> as(profile how = profile::strict) const noexcept {
+        room none;
+        return as<View>(none, how);
+    }
+
+    ndef_size payload_size() const noexcept { return told.payload_length; }
+    ndef_size chunks() const noexcept { return told.pieces; }
+    bool is_last() const noexcept { return told.last != 0; }
+
+    /// Where the record begins in the message, and where its parts lie.
+    ndef_size place() const noexcept { return told.at; }
+    const ndef_record &parts() const noexcept { return told; }
+
+private:
+    friend class message;
+    /// The record that a call of ndef.h tells: call(message, length, words.., record).
+    template <class Call, class... Words>
+    static result<record> told_by(Call call, bytes message, Words... words) noexcept {
+        record found;
+        const std::uint32_t answer = call(message.data(), message.size(), words..., &found.told);
+        if (answer != NDEF_OK) return detail::failure(answer);
+        found.whole = message;
+        return found;
+    }
+
+    std::uint32_t join(std::uint8_t *memory, ndef_size size, ndef_size *count, ndef_checked *) const noexcept {
+        return ndef_payload(whole.data(), whole.size(), told.at, memory, size, count);
+    }
+
+    bytes whole;
+    ndef_record told = {};
+};
+
+/// Bytes that are a message: a range of its records.
+class message {
+public:
+    using iterator = detail::iterator_of<message, record>;
+
+    /// A message of no bytes and no records.
+    message() noexcept = default;
+
+    /// The message with which the bytes begin. Other bytes may follow: `octets().size()` says where it ends.
+    static result<message> check(bytes input, const ndef_limits &within = limits()) noexcept {
+        ndef_checked checked = {};
+        const std::uint32_t answer = ndef_check(input.data(), input.size(), &within, &checked);
+        if (answer != NDEF_OK) return detail::failure(answer, checked);
+        return message(input.part(0, checked.place));
+    }
+
+    /// The records with which the bytes begin, unchecked: they go on until one is the last, or no whole record follows.
+    /// Use it for bytes that a checker has taken. It is safe for any bytes.
+    static message unchecked(bytes input) noexcept { return message(input); }
+
+    bytes octets() const noexcept { return whole; }
+    iterator begin() const noexcept { return iterator(*this); }
+    iterator end() const noexcept { return {}; }
+
+    /// The number of records. It walks them.
+    std::size_t record_count() const noexcept { return static_cast<std::size_t>(std::distance(begin(), end())); }
+
+    /// The first record with a type; without a format, one that the NFC Forum defines. NDEF_END if there is none.
+    result<record> find(ndef::tnf format, std::string_view type) const noexcept {
+        return record::told_by(ndef_find_type, whole, ndef_size{0}, static_cast<std::uint32_t>(format),
+                               detail::octets(type.data()), type.size());
+    }
+    result<record> find(std::string_view type) const noexcept { return find(NDEF_TNF_WELL_KNOWN, type); }
+
+    /// The first record with an id. No record has the empty id. NDEF_END if there is none.
+    result<record> find_id(std::string_view id) const noexcept {
+        return record::told_by(ndef_find_id, whole, ndef_size{0}, detail::octets(id.data()), id.size());
+    }
+
+private:
+    friend iterator;
+    template <class View> friend class views;
+    friend class icons;
+    explicit message(bytes input) noexcept : whole(input) {}
+    std::optional<detail::found_at<record>> look(ndef_size place) const noexcept {
+        const auto found = record::at(whole, place);
+        if (!found) return std::nullopt;
+        return detail::found_at<record>{*found, found->is_last() ? detail::no_place : found->parts().end};
+    }
+
+    bytes whole;
+};
+
+/// Checks a message that arrives in parts. It holds none of its bytes.
+class checker {
+public:
+    /// What is known once the message has ended.
+    struct checked {
+        std::uint64_t size;    ///< its bytes
+        std::uint32_t records; ///< its records
+    };
+
+    explicit checker(const ndef_limits &within = limits()) noexcept { ndef_begin(&within, &state); }
+
+    /// Checks the next bytes: nothing while the message goes on. The answer is what message::check answers for all
+    /// bytes so far; after the message's end or a refusal it stays the same.
+    result<std::optional<checked>> feed(bytes next) noexcept {
+        ndef_checked out = {};
+        const std::uint32_t answer = ndef_feed(&state, next.data(), next.size(), &out);
+        if (answer == NDEF_OK) return std::optional<checked>(checked{out.place, out.records});
+        if (answer == NDEF_MORE) return std::optional<checked>();
+        return detail::failure(answer, out);
+    }
+
+private:
+    ndef_checker state;
+};
+
+} // namespace ndef
+
+#endif

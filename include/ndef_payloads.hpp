@@ -1,0 +1,363 @@
+/// ndef_payloads.hpp: texts, URIs, smart posters and handovers, read. Include ndef.hpp.
+#ifndef NDEF_PAYLOADS_HPP
+#define NDEF_PAYLOADS_HPP
+
+#include "ndef_messages.hpp"
+
+namespace ndef {
+
+// ---- payloads
+//
+// Each class reads a payload, its chunks joined: Class::read(payload), or record.as<Class>(). The profile says what
+// becomes of reserved values; where there are none it makes no difference.
+
+/// The payload of a Text record.
+class text : public detail::payload_view<ndef_text_parts> {
+public:
+    static constexpr std::string_view type_name = "T";
+    static result<text> read(bytes payload, profile = profile::strict) noexcept {
+        return read_by<text>(payload, ndef_text);
+    }
+
+    std::string_view language() const noexcept { return part(told.language_at, told.language_length).text(); }
+    bool is_utf16() const noexcept { return told.utf16 != 0; }
+
+    /// The text as it is encoded in the payload.
+    bytes encoded() const noexcept { return part(told.text_at, told.text_length); }
+
+    /// The text in UTF-8: in place if it is encoded so, otherwise converted in the room.
+    result<std::string_view> utf8(room &converted) const noexcept {
+        if (!is_utf16()) return encoded().text();
+        const auto made = detail::written(converted, [this](auto... words) { return convert(words...); });
+        return made.transform([](bytes found) { return found.text(); });
+    }
+
+    /// The text in UTF-8 as a string.
+    std::string str() const {
+        if (!is_utf16()) return std::string(encoded().text());
+        return detail::as_string([this](auto... words) { return convert(words...); });
+    }
+
+private:
+    std::uint32_t convert(std::uint8_t *memory, ndef_size size, ndef_size *count, ndef_checked *why) const noexcept {
+        return ndef_text_in_utf8(whole.data(), whole.size(), memory, size, count, why);
+    }
+};
+
+/// The payload of a URI record: a code, which stands for a prefix, and the rest.
+class uri : public detail::payload_view<ndef_uri_parts> {
+public:
+    static constexpr std::string_view type_name = "U";
+    static result<uri> read(bytes payload, profile how = profile::strict) noexcept {
+        auto found = read_by<uri>(payload, ndef_uri_view, static_cast<std::uint32_t>(how));
+        if (found) found->reading = how;
+        return found;
+    }
+
+    std::uint32_t code() const noexcept { return told.code; }
+    std::string_view rest() const noexcept { return part(told.rest_at, told.rest_length).text(); }
+
+    /// The URI in UTF-8, its prefix spelled out, in the room.
+    result<std::string_view> utf8(room &spelled) const noexcept {
+        const auto made = detail::written(spelled, [this](auto... words) { return spell(words...); });
+        return made.transform([](bytes found) { return found.text(); });
+    }
+
+    /// The URI as a string.
+    std::string str() const {
+        return detail::as_string([this](auto... words) { return spell(words...); });
+    }
+
+private:
+    std::uint32_t spell(std::uint8_t *memory, ndef_size size, ndef_size *count, ndef_checked *why) const noexcept {
+        return ndef_uri(whole.data(), whole.size(), static_cast<std::uint32_t>(reading), memory, size, count, why);
+    }
+
+    profile reading = profile::strict;
+};
+
+/// Those records of a message that can be read as a View. Others are left out, and records of several chunks.
+template <class View> class views {
+public:
+    using iterator = detail::iterator_of<views, View>;
+    views() noexcept = default;
+    explicit views(message of, profile how = profile::strict) noexcept : records(of), reading(how) {}
+    iterator begin() const noexcept { return iterator(*this); }
+    iterator end() const noexcept { return {}; }
+
+private:
+    friend iterator;
+    std::optional<detail::found_at<View>> look(ndef_size place) const noexcept {
+        for (auto found = records.look(place); found; found = records.look(found->next))
+            if (const auto view = found->value.template as<View>(reading))
+                return detail::found_at<View>{*view, found->next};
+        return std::nullopt;
+    }
+
+    message records;
+    profile reading = profile::strict;
+};
+
+/// An icon of a smart poster.
+struct icon {
+    std::string_view media_type; ///< such as "image/png"
+    bytes data;                  ///< the bytes of the image
+};
+
+/// The icons among the records of a smart poster: all records of a media type. The standard asks for types that begin with
+/// "image/" or "video/", and the library does not look at that: look at the type before you use the data.
+class icons {
+public:
+    using iterator = detail::iterator_of<icons, icon>;
+    icons() noexcept = default;
+    explicit icons(message of) noexcept : records(of) {}
+    iterator begin() const noexcept { return iterator(*this); }
+    iterator end() const noexcept { return {}; }
+
+private:
+    friend iterator;
+    std::optional<detail::found_at<icon>> look(ndef_size place) const noexcept {
+        for (auto found = records.look(place); found; found = records.look(found->next))
+            if (const auto data = found->value.payload(); data && found->value.format() == NDEF_TNF_MEDIA)
+                return detail::found_at<icon>{{found->value.type(), *data}, found->next};
+        return std::nullopt;
+    }
+
+    message records;
+};
+
+/// What a smart poster recommends to do with its URI. Other numbers are reserved.
+enum class action : std::uint32_t { do_it = 0, save = 1, open = 2 };
+
+/// The payload of a Smart Poster record.
+class poster : public detail::payload_view<ndef_poster_parts> {
+public:
+    static constexpr std::string_view type_name = "Sp";
+    static result<poster> read(bytes payload, profile how = profile::strict) noexcept {
+        auto found = read_by<poster>(payload, ndef_poster, static_cast<std::uint32_t>(how));
+        if (found) found->reading = how;
+        return found;
+    }
+
+    ndef::uri uri() const noexcept {
+        return ndef::uri::read(part(told.uri_at, told.uri_length), reading).value_or(ndef::uri());
+    }
+    std::optional<ndef::action> action() const noexcept {
+        return told.has_action ? std::optional(static_cast<ndef::action>(told.action)) : std::nullopt;
+    }
+    /// The size in bytes of what the URI leads to.
+    std::optional<std::uint32_t> size() const noexcept {
+        return told.has_size ? std::optional(told.size) : std::nullopt;
+    }
+
+    /// The media type of what the URI leads to, such as "text/html".
+    std::optional<std::string_view> media_type() const noexcept {
+        ndef_part found;
+        const std::uint32_t answer = ndef_poster_media_type(whole.data(), whole.size(), &found);
+        return answer == NDEF_OK ? std::optional(part(found.at, found.length).text()) : std::nullopt;
+    }
+
+    /// Its titles, each in a language.
+    views<text> titles() const noexcept { return views<text>(records()); }
+
+    /// The first title in a language, such as "en". Upper and lower case are the same in the language code. NDEF_END if
+    /// there is none.
+    result<text> title(std::string_view language) const noexcept {
+        ndef_text_parts found;
+        const std::uint32_t answer =
+            ndef_title(whole.data(), whole.size(), detail::octets(language.data()), language.size(), &found);
+        if (answer != NDEF_OK) return detail::failure(answer);
+        const bytes code = part(found.language_at, found.language_length);
+        for (text one : titles())
+            if (bytes(one.language()).data() == code.data()) return one;
+        return error{};
+    }
+
+    /// Its icons, each with its media type.
+    ndef::icons icons() const noexcept { return ndef::icons(records()); }
+
+    /// All its records.
+    message records() const noexcept { return message::unchecked(whole); }
+
+private:
+    profile reading = profile::strict;
+};
+
+/// The payload of a Handover Carrier record.
+class carrier : public detail::payload_view<ndef_carrier_parts> {
+public:
+    static constexpr std::string_view type_name = "Hc";
+    static result<carrier> read(bytes payload, profile = profile::strict) noexcept {
+        return read_by<carrier>(payload, ndef_carrier);
+    }
+
+    /// What kind of name the carrier type is, 0 to 7.
+    std::uint32_t format() const noexcept { return told.format; }
+    std::string_view type() const noexcept { return part(told.type_at, told.type_length).text(); }
+    bytes data() const noexcept { return part(told.data_at, told.data_length); }
+};
+
+/// The power state of a carrier.
+enum class power : std::uint32_t { inactive = 0, active = 1, activating = 2, unknown = 3 };
+
+/// The payload of an Alternative Carrier record, of the message within a handover.
+class alternative : public detail::payload_view<ndef_alternative_parts> {
+public:
+    static constexpr std::string_view type_name = "ac";
+    static result<alternative> read(bytes payload, profile = profile::strict) noexcept {
+        return read_by<alternative>(payload, ndef_alternative);
+    }
+
+    ndef::power power() const noexcept { return static_cast<ndef::power>(told.power); }
+
+    /// The number of references, and one of them: 0 is the carrier data reference, which is the id of the record that
+    /// describes the carrier, and the others are the auxiliary ones. NDEF_END if there are fewer. Each call looks at the
+    /// payload from its start; `references` looks at it once.
+    std::uint32_t reference_count() const noexcept { return told.references; }
+    result<std::string_view> reference(std::uint32_t index) const noexcept {
+        ndef_part found;
+        const std::uint32_t answer = ndef_reference(whole.data(), whole.size(), index, &found);
+        if (answer != NDEF_OK) return detail::failure(answer);
+        return part(found.at, found.length).text();
+    }
+
+    /// All references, the carrier data reference first.
+    std::vector<std::string_view> references() const {
+        std::vector<std::string_view> all;
+        for (const ndef_part &one : detail::all_of<ndef_part>(ndef_references, whole.data(), ndef_size{whole.size()}))
+            all.push_back(part(one.at, one.length).text());
+        return all;
+    }
+};
+
+/// The payload of an Error record, of the message within a handover select.
+class handover_error : public detail::payload_view<ndef_error_parts> {
+public:
+    static constexpr std::string_view type_name = "err";
+    static result<handover_error> read(bytes payload, profile = profile::strict) noexcept {
+        return read_by<handover_error>(payload, ndef_error);
+    }
+
+    /// 0 to 255; the standard defines 1 to 3.
+    std::uint32_t error_reason() const noexcept { return told.reason; }
+    bytes data() const noexcept { return part(told.data_at, told.data_length); }
+
+    /// With the reasons 1 to 3, the number that the data tell.
+    std::optional<std::uint32_t> number() const noexcept {
+        return told.has_number ? std::optional(told.number) : std::nullopt;
+    }
+};
+
+/// A link of a handover: an alternative carrier, and the record of the message to which it refers, if there is one.
+struct link {
+    ndef::alternative alternative;
+    std::optional<ndef::record> record;
+    std::size_t record_index = 0; ///< the index of that record in the message, from 0
+};
+
+/// The links of a handover, in order, as one call of ndef_links tells them.
+class links {
+    /// The links that lie in an array.
+    struct told_links {
+        std::optional<detail::found_at<link>> look(ndef_size index) const noexcept {
+            if (index >= count) return std::nullopt;
+            const ndef_link &told = first[index];
+            const auto carrier = alternative::read(payload.part(told.carrier_at, told.carrier_length));
+            if (!carrier) return std::nullopt;
+            link found = {*carrier, std::nullopt, static_cast<std::size_t>(told.record_index)};
+            if (told.has_record)
+                if (const auto record = record::at(whole, told.record_at)) found.record = *record;
+            return detail::found_at<link>{found, index + 1};
+        }
+
+        bytes whole, payload;
+        const ndef_link *first = nullptr;
+        std::size_t count = 0;
+    };
+
+public:
+    using iterator = detail::iterator_of<told_links, link>;
+    links() noexcept = default;
+
+    /// The links of a message by the payload of its handover, in memory of their own. None where it is no handover.
+    links(const message &of, bytes handover)
+        : told{of.octets(), handover, nullptr, 0},
+          own(detail::all_of<ndef_link>(ndef_links, told.whole.data(), ndef_size{told.whole.size()}, handover.data(),
+                                        ndef_size{handover.size()})) {
+        told.count = own.size();
+    }
+
+    /// The same in an array of the caller. NDEF_NO_ROOM says how many elements it must have; NDEF_BAD_ARGUMENT: it is no
+    /// handover.
+    static result<links> in(ndef_link *array, std::size_t size, const message &of, bytes handover) {
+        const bytes whole = of.octets();
+        const auto count = detail::filled(array, size, ndef_links, whole.data(), ndef_size{whole.size()},
+                                          handover.data(), ndef_size{handover.size()});
+        if (!count) return count.error();
+        links found;
+        found.told = {whole, handover, array, *count};
+        return found;
+    }
+
+    /// Iterators hold as long as these links and the array are there.
+    iterator begin() const noexcept {
+        told_links range = told;
+        if (!range.first) range.first = own.data();
+        return iterator(range);
+    }
+    iterator end() const noexcept { return {}; }
+    std::size_t size() const noexcept { return told.count; }
+
+private:
+    told_links told;
+    std::vector<ndef_link> own;
+};
+
+/// What the payloads of the two handover records have.
+template <class Parts> class handover_view : public detail::payload_view<Parts> {
+public:
+    std::uint32_t major_version() const noexcept { return this->told.major; }
+    std::uint32_t minor_version() const noexcept { return this->told.minor; }
+
+    /// The number of alternative carriers; and each of them, with its record in the message whose handover this is, in
+    /// memory of their own or in an array of the caller.
+    std::size_t carrier_count() const noexcept { return static_cast<std::size_t>(this->told.carriers); }
+    ndef::links links(const message &of) const { return {of, this->whole}; }
+    result<ndef::links> links(ndef_link *array, std::size_t size, const message &of) const {
+        return ndef::links::in(array, size, of, this->whole);
+    }
+
+    /// All its records; none if the version stands alone.
+    message records() const noexcept { return message::unchecked(this->whole.from(1)); }
+};
+
+/// The payload of a Handover Request record.
+class request : public handover_view<ndef_request_parts> {
+public:
+    static constexpr std::string_view type_name = "Hr";
+    static result<request> read(bytes payload, profile how = profile::strict) noexcept {
+        return read_by<request>(payload, ndef_request, static_cast<std::uint32_t>(how));
+    }
+
+    /// The random number by which two devices that ask at once agree.
+    std::uint32_t collision() const noexcept { return told.collision; }
+};
+
+/// The payload of a Handover Select record.
+class select : public handover_view<ndef_select_parts> {
+public:
+    static constexpr std::string_view type_name = "Hs";
+    static result<select> read(bytes payload, profile how = profile::strict) noexcept {
+        return read_by<select>(payload, ndef_select, static_cast<std::uint32_t>(how));
+    }
+
+    /// The reason of its error, if it has one, and the error's data.
+    std::optional<std::uint32_t> error_reason() const noexcept {
+        return told.has_error ? std::optional(told.error) : std::nullopt;
+    }
+    bytes error_data() const noexcept { return part(told.detail_at, told.detail_length); }
+};
+
+} // namespace ndef
+
+#endif

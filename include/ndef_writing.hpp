@@ -1,0 +1,219 @@
+/// ndef_writing.hpp: payloads, records and messages, written. Include ndef.hpp.
+#ifndef NDEF_WRITING_HPP
+#define NDEF_WRITING_HPP
+
+#include "ndef_messages.hpp"
+#include "ndef_payloads.hpp"
+
+#include <initializer_list>
+
+namespace ndef {
+
+// ---- writing
+//
+// Each function writes to the front of a room and returns what it wrote. NDEF_NO_ROOM tells the size that is needed.
+
+/// How a text is encoded: in UTF-8, or in UTF-16, big-endian with a byte order mark.
+enum class encoding : std::uint32_t { utf8 = 0, utf16 = NDEF_AS_UTF16 };
+
+/// Of which of the two handover records a payload is.
+enum class handover : std::uint32_t { request = NDEF_REQUEST, select = NDEF_SELECT };
+
+/// The payload of a Text record, as ndef_write_text writes it. The text is given in UTF-8.
+inline result<bytes> write_text(room &to, std::string_view language, std::string_view text,
+                                encoding how = encoding::utf8) noexcept {
+    return detail::put(to, ndef_write_text, detail::octets(language.data()), language.size(),
+                       detail::octets(text.data()), text.size(), static_cast<std::uint32_t>(how));
+}
+
+/// The payload of a URI record, as ndef_write_uri writes it.
+inline result<bytes> write_uri(room &to, std::string_view uri) noexcept {
+    return detail::put(to, ndef_write_uri, detail::octets(uri.data()), uri.size());
+}
+
+/// The payload of an Action record of a smart poster.
+inline result<bytes> write_action(room &to, action what) noexcept {
+    return detail::put(to, ndef_write_action, static_cast<std::uint32_t>(what));
+}
+
+/// The payload of a Size record of a smart poster: the size in bytes of what the URI leads to.
+inline result<bytes> write_size(room &to, std::uint32_t size_in_bytes) noexcept {
+    return detail::put(to, ndef_write_size, size_in_bytes);
+}
+
+/// The payload of a Handover Carrier record, as ndef_write_carrier writes it.
+inline result<bytes> write_carrier(room &to, std::uint32_t format, std::string_view type, bytes data) noexcept {
+    return detail::put(to, ndef_write_carrier, format, detail::octets(type.data()), type.size(), data.data(),
+                       data.size());
+}
+
+/// The payload of an Alternative Carrier record whose references are parts of some bytes, as ndef_write_alternative
+/// writes it: the carrier data reference first, then the auxiliary ones.
+inline result<bytes> write_alternative(room &to, power state, bytes references, const ndef_part *parts,
+                                       std::size_t parts_count) noexcept {
+    return detail::put(to, ndef_write_alternative, static_cast<std::uint32_t>(state), references.data(),
+                       references.size(), parts, parts_count);
+}
+
+/// The same with a carrier data reference alone.
+inline result<bytes> write_alternative(room &to, power state, std::string_view data_reference) noexcept {
+    const ndef_part part = {0, data_reference.size()};
+    return write_alternative(to, state, bytes(data_reference), &part, 1);
+}
+
+/// The payload of a Collision Resolution record, the first of a request: its random number, at most 65535.
+inline result<bytes> write_collision(room &to, std::uint32_t number) noexcept {
+    return detail::put(to, ndef_write_collision, number);
+}
+
+/// The payload of an Error record of a select, as ndef_write_error writes it.
+inline result<bytes> write_error(room &to, std::uint32_t error_reason, bytes data) noexcept {
+    return detail::put(to, ndef_write_error, error_reason, data.data(), data.size());
+}
+
+/// The same for the reasons 1 to 3, whose data are a number, as ndef_write_error_number writes it.
+inline result<bytes> write_error_number(room &to, std::uint32_t error_reason, std::uint32_t number) noexcept {
+    return detail::put(to, ndef_write_error_number, error_reason, number);
+}
+
+/// The payload of a Handover Request or Select record, as ndef_write_handover writes it: a version and a message.
+inline result<bytes> write_handover(room &to, handover which, std::uint32_t major_version, std::uint32_t minor_version,
+                                    bytes records) noexcept {
+    return detail::put(to, ndef_write_handover, static_cast<std::uint32_t>(which), major_version, minor_version,
+                       records.data(), records.size());
+}
+
+/// The payload of a Smart Poster record whose parts lie in some bytes, as ndef_write_poster writes it.
+inline result<bytes> write_poster(room &to, bytes from, const ndef_poster_writing &how,
+                                  const ndef_title_writing *titles = nullptr, std::size_t titles_count = 0,
+                                  const ndef_icon_writing *icons = nullptr, std::size_t icons_count = 0) noexcept {
+    return detail::put(to, ndef_write_poster, from.data(), from.size(), &how, titles, titles_count, icons, icons_count);
+}
+
+/// The payload of a Handover Request record whose references are parts of some bytes, as ndef_write_request writes it.
+inline result<bytes> write_request(room &to, std::uint32_t minor_version, std::uint32_t collision, bytes from,
+                                   const ndef_part *references, std::size_t references_count,
+                                   const ndef_alternative_writing *alternatives,
+                                   std::size_t alternatives_count) noexcept {
+    return detail::put(to, ndef_write_request, minor_version, collision, from.data(), from.size(), references,
+                       references_count, alternatives, alternatives_count);
+}
+
+/// The payload of a Handover Select record whose parts lie in some bytes, as ndef_write_select writes it.
+inline result<bytes> write_select(room &to, const ndef_select_writing &how, bytes from, const ndef_part *references,
+                                  std::size_t references_count, const ndef_alternative_writing *alternatives,
+                                  std::size_t alternatives_count) noexcept {
+    return detail::put(to, ndef_write_select, &how, from.data(), from.size(), references, references_count,
+                       alternatives, alternatives_count);
+}
+
+/// A record to be written.
+struct new_record {
+    ndef::tnf format = NDEF_TNF_EMPTY;
+    std::string_view type = {};
+    bytes payload = {};
+    std::string_view id = {}; ///< empty: the record gets none
+    std::uint32_t chunk = 0;  ///< the payload bytes of each chunk but the last; 0: one chunk
+    bool is_long = false;     ///< write the payload length in four bytes even where one would do
+};
+
+/// Records of the usual type name formats.
+inline new_record well_known(std::string_view type, bytes payload, std::string_view id = {}) noexcept {
+    return {NDEF_TNF_WELL_KNOWN, type, payload, id};
+}
+inline new_record media(std::string_view type, bytes payload, std::string_view id = {}) noexcept {
+    return {NDEF_TNF_MEDIA, type, payload, id};
+}
+inline new_record external(std::string_view type, bytes payload, std::string_view id = {}) noexcept {
+    return {NDEF_TNF_EXTERNAL, type, payload, id};
+}
+
+/// A message of records, one or more, as ndef_write_record writes each. NDEF_BAD_ARGUMENT if there is no record, or one
+/// of them can't be written. NDEF_NO_ROOM tells the size of the whole message; the room holds a part of it then.
+template <class Records> result<message> write_message(room &to, const Records &records) noexcept {
+    room rest = to;
+    ndef_size whole = 0;
+    std::uint32_t place = NDEF_WRITE_FIRST;
+    for (auto at = std::begin(records); at != std::end(records); place = 0) {
+        const new_record one = *at;
+        if (++at == std::end(records)) place |= NDEF_WRITE_LAST;
+        const std::uint32_t form = one.is_long ? NDEF_WRITE_LONG : 0;
+        const ndef_writing how = {static_cast<std::uint32_t>(one.format), place | form, one.chunk};
+        const auto made =
+            detail::put(rest, ndef_write_record, detail::octets(one.type.data()), one.type.size(),
+                        detail::octets(one.id.data()), one.id.size(), one.payload.data(), one.payload.size(), &how);
+        if (!made && made.error().what != NDEF_NO_ROOM) return made.error();
+        whole += made ? made->size() : made.error().needed;
+    }
+    if (whole == 0) return error{};
+    if (whole > to.size()) return detail::failure(NDEF_NO_ROOM, {}, whole);
+    return message::unchecked(to.take(whole));
+}
+inline result<message> write_message(room &to, std::initializer_list<new_record> records) noexcept {
+    return write_message<std::initializer_list<new_record>>(to, records);
+}
+
+/// The message again, each record in one chunk, as ndef_rewrite writes it.
+inline result<message> rewrite(room &to, const message &from, bool is_long = false) noexcept {
+    const bytes whole = from.octets();
+    const std::uint32_t flags = is_long ? NDEF_WRITE_LONG : 0;
+    return detail::put(to, ndef_rewrite, whole.data(), whole.size(), flags).transform([](bytes made) {
+        return message::unchecked(made);
+    });
+}
+
+/// A message that is built in memory of the caller, and is whole after each record, as ndef_append leaves it.
+class builder {
+public:
+    explicit builder(room to) noexcept : memory(to) {}
+
+    /// Appends a record, and returns the message. A record that can't be appended leaves the message as it was.
+    result<message> add(const new_record &one) noexcept {
+        const std::uint32_t form = one.is_long ? NDEF_WRITE_LONG : 0;
+        const ndef_writing how = {static_cast<std::uint32_t>(one.format), form, one.chunk};
+        ndef_size count = 0;
+        const std::uint32_t answer =
+            ndef_append(&built, detail::octets(one.type.data()), one.type.size(), detail::octets(one.id.data()),
+                        one.id.size(), one.payload.data(), one.payload.size(), &how, memory.data(), memory.size(),
+                        &count);
+        return after(answer, count);
+    }
+
+    /// Appends the record of a text, given in UTF-8, whose payload is written where it belongs.
+    result<message> add_text(std::string_view language, std::string_view text, encoding how = encoding::utf8,
+                             std::string_view id = {}) noexcept {
+        ndef_size count = 0;
+        const std::uint32_t answer =
+            ndef_append_text(&built, detail::octets(id.data()), id.size(), detail::octets(language.data()),
+                             language.size(), detail::octets(text.data()), text.size(), static_cast<std::uint32_t>(how),
+                             memory.data(), memory.size(), &count);
+        return after(answer, count);
+    }
+
+    /// Appends the record of a URI in the same way.
+    result<message> add_uri(std::string_view uri, std::string_view id = {}) noexcept {
+        ndef_size count = 0;
+        const std::uint32_t answer =
+            ndef_append_uri(&built, detail::octets(id.data()), id.size(), detail::octets(uri.data()), uri.size(),
+                            memory.data(), memory.size(), &count);
+        return after(answer, count);
+    }
+
+    /// The message so far.
+    message made() const noexcept {
+        return message::unchecked(bytes(memory.data(), memory.size()).part(0, built.length));
+    }
+
+private:
+    result<message> after(std::uint32_t answer, ndef_size needed) const noexcept {
+        if (answer != NDEF_OK) return detail::failure(answer, {}, needed);
+        return made();
+    }
+
+    room memory;
+    ndef_built built = {};
+};
+
+} // namespace ndef
+
+#endif
