@@ -2,7 +2,7 @@
 #![tactic(auto)]
 
 use ndef_message::{StdSink, StdSource};
-use ndef_program::{Status, exit_code, exit_code_after};
+use ndef_program::{Status, exit_code, exit_code_after, read_words, tell_words, texts};
 use ndef_tool::run;
 use std::io::{BufReader, BufWriter, Write};
 use std::process::ExitCode;
@@ -12,10 +12,7 @@ use std::process::ExitCode;
 /// prints nothing more.
 fn main(rt: HostRuntime) -> ExitCode {
     let alloc = rt.alloc();
-    let Ok(words) = std::env::args(&rt) else {
-        return exit_code(Status::Fault);
-    };
-    let Ok(words) = words.collect::<Vec<String>>(alloc) else {
+    let Ok(words) = read_words(alloc, &rt) else {
         return exit_code(Status::Fault);
     };
     let Ok(reader) = BufReader::new(alloc, rt.reader()) else {
@@ -26,7 +23,10 @@ fn main(rt: HostRuntime) -> ExitCode {
     };
     let mut source = StdSource::new(reader);
     let mut sink = StdSink::new(&mut writer);
-    let status = run(alloc, words.as_slice(), &mut source, &mut sink);
+    let status = match texts(alloc, words.as_slice()) {
+        Ok(words) => run(alloc, words.as_slice(), &mut source, &mut sink),
+        Err(fault) => tell_words(alloc, fault, &mut sink),
+    };
     drop(sink);
     exit_code_after(status, writer.flush())
 }

@@ -3,9 +3,9 @@
 
 ghost use Rattle.std.specs.Prelude.{⊤};
 
-use ndef_explain_tool::{Inputs, MOST, run};
-use ndef_message::{InputError, StdSink, StdSource, read_all};
-use ndef_program::{Status, exit_code, exit_code_after};
+use ndef_explain_tool::{Inputs, read_input, run};
+use ndef_message::{InputError, StdSink, StdSource};
+use ndef_program::{Status, exit_code, exit_code_after, read_words, tell_words, texts};
 use std::alloc::Global;
 use std::env::VarError;
 use std::fs::File;
@@ -17,7 +17,7 @@ fn read_from<R: Read + Drop>(alloc: Global, reader: R) -> Result<Vec<u8>, InputE
     let Ok(reader) = BufReader::new(alloc, reader) else {
         return Err(InputError::NoMemory);
     };
-    read_all(alloc, &mut StdSource::new(reader), MOST)
+    read_input(alloc, &mut StdSource::new(reader))
 }
 
 /// The files of the system, and standard input.
@@ -55,10 +55,7 @@ fn takes_color(rt: &HostRuntime) -> bool {
 /// prints nothing more.
 fn main(rt: HostRuntime) -> ExitCode {
     let alloc = rt.alloc();
-    let Ok(words) = std::env::args(&rt) else {
-        return exit_code(Status::Fault);
-    };
-    let Ok(words) = words.collect::<Vec<String>>(alloc) else {
+    let Ok(words) = read_words(alloc, &rt) else {
         return exit_code(Status::Fault);
     };
     let Ok(mut writer) = BufWriter::new(alloc, rt.stdout()) else {
@@ -66,13 +63,16 @@ fn main(rt: HostRuntime) -> ExitCode {
     };
     let mut inputs = Files { rt: &rt };
     let mut sink = StdSink::new(&mut writer);
-    let status = run(
-        alloc,
-        words.as_slice(),
-        takes_color(&rt),
-        &mut inputs,
-        &mut sink,
-    );
+    let status = match texts(alloc, words.as_slice()) {
+        Ok(words) => run(
+            alloc,
+            words.as_slice(),
+            takes_color(&rt),
+            &mut inputs,
+            &mut sink,
+        ),
+        Err(fault) => tell_words(alloc, fault, &mut sink),
+    };
     drop(sink);
     exit_code_after(status, writer.flush())
 }

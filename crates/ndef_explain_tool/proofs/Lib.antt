@@ -1,5 +1,5 @@
 pub mod Asking
-pub mod Cuts
+pub mod Dumps
 pub mod Escapes
 pub mod MessageObjects
 pub mod Messages
@@ -10,4 +10,3 @@ pub mod Pieces
 pub mod Places
 pub mod Stops
 pub mod Tellings
-pub mod Words

@@ -11,7 +11,7 @@ use Rattle.serde_json.specs.Data.{Data, string}
 use Rattle.serde_json.specs.Written.{comma_if, compact_text, items_text, members_text}
 use Rattle.ndef_explain_tool.specs.JsonText.{Pair, counted, items_of, later_members, member_text, members_of, object_of}
 use Rattle.ndef_explain_tool.specs.Meanings.{meaning_of, reading_of}
-use Rattle.ndef_explain_tool.specs.Objects.{digit_fault, end_text, field_pairs, file_pairs, line_of, meaning_pairs, named_fault, octet_pairs, place_pairs, refusal_object}
+use Rattle.ndef_explain_tool.specs.Objects.{digit_fault, end_text, field_pairs, file_pairs, line_fault, line_of, meaning_pairs, named_fault, octet_pairs, place_fault, place_pairs, refusal_object}
 use Rattle.ndef_explain_tool.specs.Sentences.{sentence_of}
 use Rattle.ndef_explain_tool.specs.declared.message_objects.RefusedByte.{RefusedByte}
 
@@ -70,14 +70,14 @@ item_more value values later old new e =
 field_grouped : (d l m n o e : Text) → (d ++ (l ++ (m ++ (n ++ (o ++ []))))) ++ e ≡ d ++ (l ++ (m ++ (n ++ (o ++ e))))
 field_grouped d l m n o e = simp (append_assoc, append-nil)
 
-pub field_text : (at : ℕ) (field : Field) (octets : List ℕ) → compact_text (object_of (field_pairs at field octets))
+pub field_text : (at : ℕ) (field : Field) (whole : ℕ) (octets : List ℕ) → compact_text (object_of (field_pairs at field whole octets))
     ≡ codes "{" ++ (member_text false (codes "at") (counted (at + field.at)) ++ (member_text true (codes "depth") (counted field.depth) ++ (member_text true (codes "length") (counted field.length)
-    ++ (later_members (meaning_pairs (meaning_of (reading_of field.name) octets)) ++ (member_text true (codes "name") (string (name_text field.name))
+    ++ (later_members (meaning_pairs (meaning_of (reading_of field.name) whole octets)) ++ (member_text true (codes "name") (string (name_text field.name))
     ++ (member_text true (codes "octets") (string (encode_lower octets)) ++ codes "}"))))))
-field_text at field octets =
+field_text at field whole octets =
     let depth = member_text true (codes "depth") (counted field.depth) in
     let length = member_text true (codes "length") (counted field.length) in
-    let meaning = meaning_pairs (meaning_of (reading_of field.name) octets) in
+    let meaning = meaning_pairs (meaning_of (reading_of field.name) whole octets) in
     let name = member_text true (codes "name") (string (name_text field.name)) in
     let digits = member_text true (codes "octets") (string (encode_lower octets)) in
     let last = (codes "name", string (name_text field.name)) ∷ (codes "octets", string (encode_lower octets)) ∷ [] in
@@ -131,16 +131,16 @@ eight o a b c d e f g h p q r s t u v w i j k l m n x y =
     five c d e f g h s t u v w l m n x y ∙ ap (λ z. z ++ (s ++ x5)) (three o a b c p q r i j k) ∙ append_assoc o (p ++ (q ++ r)) (s ++ x5)
     ∙ ap (λ z. o ++ z) (append_assoc p (q ++ r) (s ++ x5) ∙ ap (λ z. p ++ z) (append_assoc q r (s ++ x5)))
 
-pub field_done : (at : ℕ) (field : Field) (octets : List ℕ) (depth : ℕ) (name : Text) (o a b c d e f g h : Text) → depth ≡ field.depth → name ≡ name_text field.name → a ≡ o ++ codes "{"
+pub field_done : (at : ℕ) (field : Field) (whole : ℕ) (octets : List ℕ) (depth : ℕ) (name : Text) (o a b c d e f g h : Text) → depth ≡ field.depth → name ≡ name_text field.name → a ≡ o ++ codes "{"
     → b ≡ a ++ member_text false (codes "at") (counted (at + field.at)) → c ≡ b ++ member_text true (codes "depth") (counted depth) → d ≡ c ++ member_text true (codes "length") (counted field.length)
-    → e ≡ d ++ later_members (meaning_pairs (meaning_of (reading_of field.name) octets)) → f ≡ e ++ member_text true (codes "name") (string name)
-    → g ≡ f ++ member_text true (codes "octets") (string (encode_lower octets)) → h ≡ g ++ codes "}" → h ≡ o ++ compact_text (object_of (field_pairs at field octets))
-field_done at field octets depth name o a b c d e f g h deep named i j k l m n p q =
+    → e ≡ d ++ later_members (meaning_pairs (meaning_of (reading_of field.name) whole octets)) → f ≡ e ++ member_text true (codes "name") (string name)
+    → g ≡ f ++ member_text true (codes "octets") (string (encode_lower octets)) → h ≡ g ++ codes "}" → h ≡ o ++ compact_text (object_of (field_pairs at field whole octets))
+field_done at field whole octets depth name o a b c d e f g h deep named i j k l m n p q =
     eight o a b c d e f g h (codes "{") (member_text false (codes "at") (counted (at + field.at))) (member_text true (codes "depth") (counted field.depth))
-    (member_text true (codes "length") (counted field.length)) (later_members (meaning_pairs (meaning_of (reading_of field.name) octets))) (member_text true (codes "name") (string (name_text field.name)))
+    (member_text true (codes "length") (counted field.length)) (later_members (meaning_pairs (meaning_of (reading_of field.name) whole octets))) (member_text true (codes "name") (string (name_text field.name)))
     (member_text true (codes "octets") (string (encode_lower octets))) (codes "}") i j (k ∙ ap (λ x. b ++ member_text true (codes "depth") (counted x)) deep) l m
     (n ∙ ap (λ x. e ++ member_text true (codes "name") (string x)) named) p q
-    ∙ sym (ap (λ t. o ++ t) (field_text at field octets))
+    ∙ sym (ap (λ t. o ++ t) (field_text at field whole octets))
 
 pub refusal_done : (at : ℕ) (refusal : Refusal) (byte : Option RefusedByte) (name sentence : Text) (number : ℕ) (o a b c d e f g h : Text) → name ≡ reason_name refusal.reason
     → number ≡ reason_number refusal.reason → sentence ≡ sentence_of refusal.reason → a ≡ o ++ codes "{" → b ≡ a ++ member_text false (codes "at") (counted (at + refusal.at))
@@ -167,3 +167,14 @@ digit_done file digit o a b c d e f g h i j =
     let files = later_members (file_pairs file) in
     four o a b d e (codes "{") (member_text false (codes "digit") (counted digit)) (fault ++ files) (codes "}\n") f g (i ∙ ap (λ t. t ++ files) h ∙ append_assoc b fault files) j
     ∙ sym (ap (λ t. o ++ t) (object_line_text (codes "digit") (counted digit) ((codes "fault", string (codes "bad digit")) ∷ file_pairs file)))
+
+pub place_done : (file : Option Text) (line : ℕ) (o a b c d e : Text) → a ≡ o ++ codes "{" → b ≡ a ++ member_text false (codes "fault") (string place_fault)
+    → c ≡ b ++ later_members (file_pairs file) → d ≡ c ++ member_text true (codes "line") (counted line) → e ≡ d ++ codes "}\n" → e ≡ o ++ line_of (line_fault file line)
+place_done file line o a b c d e f g h i j =
+    let number = member_text true (codes "line") (counted line) in
+    let files = later_members (file_pairs file) in
+    let pairs = (codes "line", counted line) ∷ [] in
+    four o a b d e (codes "{") (member_text false (codes "fault") (string place_fault)) (files ++ (number ++ [])) (codes "}\n") f g
+    (i ∙ ap (λ t. t ++ number) h ∙ append_assoc b files number ∙ ap (λ t. b ++ (files ++ t)) (sym (append-nil number))) j
+    ∙ sym (ap (λ t. o ++ t) (object_line_text (codes "fault") (string place_fault) (file_pairs file ++ pairs)
+    ∙ ap (λ t. codes "{" ++ (member_text false (codes "fault") (string place_fault) ++ (t ++ codes "}\n"))) (later_append (file_pairs file) pairs)))

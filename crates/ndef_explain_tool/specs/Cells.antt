@@ -25,8 +25,12 @@ cell octet = codes " " ++ encode_lower (octet ∷ [])
 abbrev pub cells : List ℕ → Text
 cells octets = flat_map cell octets ++ take (24 - 3 * length octets) (codes "                        ")
 
--- the octets behind the first line, eight in a line, from this column on
-abbrev pub later_cells : (column : ℕ) → List ℕ → Text
-later_cells column [] = []
-later_cells column (octet ∷ octets) =
-    (if column == 0 then codes "\n         " else []) ++ cell octet ++ later_cells ((column + 1) % 8) octets
+-- the beginning of a further line of a field: blanks in place of its place, and the indentation of a depth
+abbrev pub later_start : (depth : ℕ) → Text
+later_start depth = codes "\n        " ++ indentation depth
+
+-- the octets after the first line, eight in a line, from this column on
+abbrev pub later_cells : (depth column : ℕ) → List ℕ → Text
+later_cells depth column [] = []
+later_cells depth column (octet ∷ octets) =
+    (if column == 0 then later_start depth else []) ++ cell octet ++ later_cells depth ((column + 1) % 8) octets

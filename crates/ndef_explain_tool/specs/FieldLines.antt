@@ -2,10 +2,9 @@
 use Rattle.std.specs.Prelude.{ℕ, ◌+◌, List, ◌++◌, codes, drop, take}
 use Rattle.ndef_fields.specs.Names.{name_text}
 use Rattle.ndef_fields.specs.declared.field.Field.{Field}
-use Rattle.ndef_fields.specs.declared.name.FieldName.{FieldName}
 use Rattle.ndef_tool.specs.Quoting.{Text}
 use Rattle.ndef_explain_tool.specs.Cells.{cells, later_cells, start_of}
-use Rattle.ndef_explain_tool.specs.Meanings.{meaning_of, reading_of}
+use Rattle.ndef_explain_tool.specs.Meanings.{meaning_of, reading_of, whole_of}
 
 -- the octets of a field of these bytes
 abbrev pub octets_of : List ℕ → Field → List ℕ
@@ -16,10 +15,12 @@ abbrev pub front_text : (at : ℕ) → Field → (octets : List ℕ) → Text
 front_text at field octets =
     start_of (at + field.at) field.depth ++ cells (take 8 octets) ++ codes "  " ++ name_text field.name
 
--- what the octets of a field of this name say, and the octets behind the first eight
-abbrev pub back_text : FieldName → (octets : List ℕ) → Text
-back_text name octets = meaning_of (reading_of name) octets ++ later_cells 0 (drop 8 octets) ++ codes "\n"
+-- what the octets of a field say, of which a number has so many, and the octets after the first eight
+abbrev pub back_text : (whole : ℕ) → Field → (octets : List ℕ) → Text
+back_text whole field octets =
+    meaning_of (reading_of field.name) whole octets ++ later_cells field.depth 0 (drop 8 octets) ++ codes "\n"
 
 -- the lines of a field
 abbrev pub field_text : (at : ℕ) (bytes : List ℕ) → Field → Text
-field_text at bytes field = front_text at field (octets_of bytes field) ++ back_text field.name (octets_of bytes field)
+field_text at bytes field =
+    front_text at field (octets_of bytes field) ++ back_text (whole_of bytes field) field (octets_of bytes field)

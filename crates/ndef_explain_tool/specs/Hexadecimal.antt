@@ -1,13 +1,14 @@
 -- Hexadecimal text, and the bytes for which it stands.
-use Rattle.std.specs.Prelude.{◌≡◌, ◌==◌, ◌&&◌, ◌||◌, not, ℕ, Bool, List, Result, Ok, Err, ⊤, codes, drop, length, nat_eq, nat_le, take_while, if◌then◌else◌}
-use Rattle.std.specs.List.{before_first, flat_map, list_any, prefix_len, slice_split, starts_with}
+use Rattle.std.specs.Prelude.{◌≡◌, ◌+◌, ◌==◌, ◌&&◌, ◌||◌, not, ℕ, Bool, List, [], ◌∷◌, Option, Some, None, Result, Ok, Err, ⊤, codes, drop, nat_eq, nat_le, if◌then◌else◌}
+use Rattle.std.specs.List.{before_first, flat_map, list_all, list_any, prefix_len, slice_split, starts_with}
 use Rattle.hex.specs.Hex.{decode_of}
 use Rattle.hex.specs.declared.error.FromHexError.{FromHexError}
 use Rattle.ndef_tool.specs.Hexadecimal.{fault_of}
 use Rattle.ndef_tool.specs.Quoting.{Text}
-use Rattle.ndef_tool.specs.declared.ending.Ending.{Ending}
 use Rattle.ndef_tool.specs.declared.ending.Ending.TheVariants.{Hex, Memory}
 use Rattle.ndef_explain_tool.specs.Lines.{lines_of}
+use Rattle.ndef_explain_tool.specs.declared.inputs.Unread.{Unread}
+use Rattle.ndef_explain_tool.specs.declared.inputs.Unread.TheVariants as unread
 use Rattle.ndef_explain_tool.specs.declared.hexadecimal.Layout.{Layout}
 use Rattle.ndef_explain_tool.specs.declared.hexadecimal.Layout.TheVariants as layout
 
@@ -52,13 +53,14 @@ layout_by line = if not (nat_le 8 (place_length line)) then layout.Words
     else (if starts_with nat_eq (behind_place line) (codes "  ") && list_any (λ byte. byte == 124) line
     then layout.Hexdump else layout.Words))
 
--- a word that has some bytes
-abbrev pub is_word : Text → Bool
-is_word word = nat_le 1 (length word)
+-- what stands before the first two spaces in a row
+abbrev pub before_gap : Text → Text
+before_gap [] = []
+before_gap (byte ∷ text) = if starts_with nat_eq (byte ∷ text) (codes "  ") then [] else byte ∷ before_gap text
 
--- the digits of a line of `xxd`: those of the words up to the first two spaces
+-- the digits of a line of `xxd`: those of the words up to the first two spaces in a row
 abbrev pub xxd_digits : Text → List ℕ
-xxd_digits line = flat_map without_prefix (take_while is_word (words_of (drop 2 (behind_place line))))
+xxd_digits line = word_digits (before_gap (drop 2 (behind_place line)))
 
 -- the digits of a line of `hexdump -C`: those of the words before the first bar
 abbrev pub hexdump_digits : Text → List ℕ
@@ -80,10 +82,43 @@ line_digits layout.Hexdump line = hexdump_digits line
 abbrev pub digits_of : Text → List ℕ
 digits_of text = flat_map (line_digits (layout_by (first_line text))) (lines_of text)
 
+-- ---- lines of `xxd` without a place
+
+-- a line of a dump by `xxd`: a place, a colon and a space; or a line of separators alone
+abbrev pub is_placed : Text → Bool
+is_placed line = (nat_le 8 (place_length line) && starts_with nat_eq (behind_place line) (codes ": "))
+    || list_all is_separator line
+
+-- the number of the first line of a dump by `xxd` that isn't one, of lines of which the first has this number
+abbrev pub unplaced : (number : ℕ) → List Text → Option ℕ
+unplaced number [] = None
+unplaced number (line ∷ lines) = if is_placed line then unplaced (number + 1) lines else Some number
+
+-- the same of a text; no other layout asks for places
+abbrev pub unplaced_in : Layout → Text → Option ℕ
+unplaced_in layout.Words text = None
+unplaced_in layout.Xxd text = unplaced 1 (lines_of text)
+unplaced_in layout.Hexdump text = None
+
+-- the number of the first line without a place and a colon, in the layout of the text
+abbrev pub unplaced_line : Text → Option ℕ
+unplaced_line text = unplaced_in (layout_by (first_line text)) text
+
+-- ---- the bytes for which a text stands
+
 -- the bytes for which the digits of a text stand, or what is wrong with the digits, of which places count
-abbrev pub StandsFor : (text : Text) → Result (List ℕ) Ending → Type 0
-StandsFor text (Ok bytes) = decode_of (digits_of text) ≡ Ok bytes
-StandsFor text (Err (Hex fault)) = (error : FromHexError) × (decode_of (digits_of text) ≡ Err error)
+abbrev pub StandsByDigits : (digits : List ℕ) → Result (List ℕ) Unread → Type 0
+StandsByDigits digits (Ok bytes) = decode_of digits ≡ Ok bytes
+StandsByDigits digits (Err (unread.Ends (Hex fault))) = (error : FromHexError) × (decode_of digits ≡ Err error)
     × (fault ≡ fault_of error)
-StandsFor text (Err Memory) = ⊤
-StandsFor text (Err _) = ⊥
+StandsByDigits digits (Err (unread.Ends Memory)) = ⊤
+StandsByDigits digits (Err _) = ⊥
+
+-- the same of a text; or the first line without a place and a colon, where there is one
+abbrev pub StandsIn : Option ℕ → (text : Text) → Result (List ℕ) Unread → Type 0
+StandsIn (Some line) text octets = octets ≡ Err (unread.NoPlace line)
+StandsIn None text octets = StandsByDigits (digits_of text) octets
+
+-- the bytes for which a text stands, or why there are none
+abbrev pub StandsFor : (text : Text) → Result (List ℕ) Unread → Type 0
+StandsFor text octets = StandsIn (unplaced_line text) text octets

@@ -1,7 +1,9 @@
 -- What the octets of a field say.
-use Rattle.std.specs.Prelude.{ℕ, ◌%◌, nat_le, Bool, true, false, List, [], ◌∷◌, ◌++◌, codes, decimal, slice_index, slice_index_or, if◌then◌else◌}
-use Rattle.std.specs.Int.{w32, from_be_bytes}
+use Rattle.std.specs.Prelude.{ℕ, ◌==◌, ◌-◌, ◌/◌, ◌%◌, nat_le, nat_lt, length, Bool, true, false, List, [], ◌∷◌, ◌++◌, codes, decimal, slice_index, slice_index_or, if◌then◌else◌}
+use Rattle.std.specs.Int.{w16, w32, from_be_bytes}
+use Rattle.hex.specs.Hex.{encode_lower}
 use Rattle.ndef_format.specs.HeadReasons.{is_set, tnf_number}
+use Rattle.ndef_fields.specs.declared.field.Field.{Field}
 use Rattle.ndef_fields.specs.declared.name.FieldName.{FieldName}
 use Rattle.ndef_fields.specs.declared.name.FieldName.TheVariants as names
 use Rattle.ndef_explain_tool.specs.declared.meaning.Reading.{Reading}
@@ -18,12 +20,14 @@ reading_of names.IdLength = readings.Number
 reading_of names.UriCode = readings.Number
 reading_of names.Action = readings.Number
 reading_of names.Size = readings.Number
-reading_of names.Power = readings.Number
+reading_of names.Power = readings.PowerState
 reading_of names.ReferenceLength = readings.Number
 reading_of names.AuxiliaryCount = readings.Number
 reading_of names.AuxiliaryLength = readings.Number
 reading_of names.ErrorReason = readings.Number
-reading_of names.CarrierFormat = readings.Number
+reading_of names.CarrierFormat = readings.Format
+reading_of names.Version = readings.Version
+reading_of names.Collision = readings.Number
 reading_of names.CarrierKindLength = readings.Number
 reading_of names.Kind = readings.Quoted
 reading_of names.Id = readings.Quoted
@@ -61,10 +65,48 @@ tnf_word number = slice_index_or tnf_words number []
 abbrev pub tnf_meaning : ℕ → Text
 tnf_meaning header = codes " TNF " ++ decimal (tnf_number header) ++ codes " " ++ tnf_word (tnf_number header)
 
--- NDEF 1.0, PAYLOAD_LENGTH, and RTD Smart Poster 1.0, size: four octets, most significant first; else one octet
+-- NDEF 1.0, PAYLOAD_LENGTH, and RTD Smart Poster 1.0, size: four octets, most significant first; Connection Handover
+-- 1.2, random number: two; else one octet
 abbrev pub octets_number : List ℕ → ℕ
 octets_number (a ∷ b ∷ c ∷ d ∷ []) = from_be_bytes w32 (a ∷ b ∷ c ∷ d ∷ [])
+octets_number (a ∷ b ∷ []) = from_be_bytes w16 (a ∷ b ∷ [])
 octets_number octets = slice_index octets 0
+
+-- NDEF 1.0, SR: how many octets PAYLOAD_LENGTH has in a record with this header octet
+abbrev pub length_octets : (header : ℕ) → ℕ
+length_octets header = if is_set 4 header then 1 else 4
+
+-- how many octets a number of this name has, in a record with this header octet
+abbrev pub whole_length : FieldName → (header : ℕ) → ℕ
+whole_length names.PayloadLength header = length_octets header
+whole_length names.Size header = 4
+whole_length names.Collision header = 2
+whole_length _ header = 1
+
+-- NDEF 1.0, record layout: the same of a field of these bytes; PAYLOAD_LENGTH stands two octets after the header octet
+abbrev pub whole_of : (bytes : List ℕ) → Field → ℕ
+whole_of bytes field = whole_length field.name (slice_index bytes (field.at - 2))
+
+-- a number is cut: how many of its octets there are
+abbrev pub cut_text : (count whole : ℕ) → Text
+cut_text count whole = codes " cut after " ++ decimal count ++ codes " of " ++ decimal whole ++ codes " octets"
+
+-- a number of so many octets, or how many of them there are
+abbrev pub number_text : (whole : ℕ) → List ℕ → Text
+number_text whole octets = if nat_lt (length octets) whole then cut_text (length octets) whole
+    else codes " " ++ decimal (octets_number octets)
+
+-- the bits that are reserved and set, where some are
+abbrev pub reserved_text : ℕ → Text
+reserved_text bits = if bits == 0 then [] else codes ", reserved bits set: " ++ encode_lower (bits ∷ [])
+
+-- an octet whose lower bits are one of so many values, and whose other bits are reserved
+abbrev pub bits_text : (values octet : ℕ) → Text
+bits_text values octet = codes " " ++ decimal (octet % values) ++ reserved_text (octet - octet % values)
+
+-- Connection Handover 1.2, version octet: the major and the minor version
+abbrev pub version_text : ℕ → Text
+version_text octet = codes " " ++ decimal (octet / 16) ++ codes "." ++ decimal (octet % 16)
 
 -- RTD Text 1.0, status octet: the encoding, and the length of the language code
 abbrev pub status_text : ℕ → Text
@@ -72,10 +114,14 @@ status_text status =
     (if nat_le 128 status then codes " UTF-16" else codes " UTF-8") ++ codes ", language code of "
     ++ decimal (status % 64)
 
--- what octets say that are read so
-abbrev pub meaning_of : Reading → List ℕ → Text
-meaning_of readings.Header octets = flags_text (slice_index octets 0) ++ tnf_meaning (slice_index octets 0)
-meaning_of readings.Number octets = codes " " ++ decimal (octets_number octets)
-meaning_of readings.Quoted octets = codes " " ++ quoted octets
-meaning_of readings.Status octets = status_text (slice_index octets 0)
-meaning_of readings.Octets octets = []
+-- what octets say that are read so, of a field of the whole length. Connection Handover 1.2: a carrier power state has
+-- two bits, a carrier type format three
+abbrev pub meaning_of : Reading → (whole : ℕ) → List ℕ → Text
+meaning_of readings.Header whole octets = flags_text (slice_index octets 0) ++ tnf_meaning (slice_index octets 0)
+meaning_of readings.Number whole octets = number_text whole octets
+meaning_of readings.PowerState whole octets = bits_text 4 (slice_index octets 0)
+meaning_of readings.Format whole octets = bits_text 8 (slice_index octets 0)
+meaning_of readings.Version whole octets = version_text (slice_index octets 0)
+meaning_of readings.Quoted whole octets = codes " " ++ quoted octets
+meaning_of readings.Status whole octets = status_text (slice_index octets 0)
+meaning_of readings.Octets whole octets = []

@@ -21,8 +21,10 @@ use Rattle.serde_json.specs.Data.{Data, array, string}
 use Rattle.serde_json.specs.Written.{comma_if, compact_text, items_text}
 use Rattle.ndef_explain_tool.specs.FieldLines.{octets_of}
 use Rattle.ndef_explain_tool.specs.JsonText.{Pair, counted, items_of, later_members, member_text, object_of}
-use Rattle.ndef_explain_tool.specs.Meanings.{meaning_of, reading_of}
+use Rattle.ndef_explain_tool.specs.Meanings.{meaning_of, reading_of, whole_of}
 use Rattle.ndef_explain_tool.specs.Sentences.{sentence_of}
+use Rattle.ndef_explain_tool.specs.declared.inputs.Unread.{Unread}
+use Rattle.ndef_explain_tool.specs.declared.inputs.Unread.TheVariants.{Ends, NoPlace}
 use Rattle.ndef_explain_tool.specs.declared.message_objects.RefusedByte.{RefusedByte}
 
 -- an object in a line
@@ -41,16 +43,17 @@ abbrev pub meaning_pairs : Text → List Pair
 meaning_pairs [] = []
 meaning_pairs (blank ∷ meaning) = (codes "meaning", string meaning) ∷ []
 
--- a field of an input: its place there, how deep it lies, what it says, its name, and its octets in hexadecimal digits
-abbrev pub field_pairs : (at : ℕ) → Field → (octets : List ℕ) → List Pair
-field_pairs at field octets =
+-- a field of an input: its place there, how deep it lies, what it says, its name, and its octets in hexadecimal digits;
+-- a number has so many
+abbrev pub field_pairs : (at : ℕ) → Field → (whole : ℕ) → (octets : List ℕ) → List Pair
+field_pairs at field whole octets =
     (codes "at", counted (at + field.at)) ∷ (codes "depth", counted field.depth)
-    ∷ (codes "length", counted field.length) ∷ (meaning_pairs (meaning_of (reading_of field.name) octets)
+    ∷ (codes "length", counted field.length) ∷ (meaning_pairs (meaning_of (reading_of field.name) whole octets)
     ++ (codes "name", string (name_text field.name)) ∷ (codes "octets", string (encode_lower octets)) ∷ [])
 
 -- the same of a field of these bytes
 abbrev pub field_object : (at : ℕ) (bytes : List ℕ) → Field → Data
-field_object at bytes field = object_of (field_pairs at field (octets_of bytes field))
+field_object at bytes field = object_of (field_pairs at field (whole_of bytes field) (octets_of bytes field))
 
 -- the fields of these bytes
 abbrev pub fields_array : (at : ℕ) (bytes : List ℕ) → List Field → Data
@@ -211,6 +214,15 @@ abbrev pub hex_object : Option Text → HexFault → Data
 hex_object file (BadDigit digit) = digit_fault file digit
 hex_object file Odd = named_fault file (codes "odd number of digits")
 
+-- what is told of a line without a place and a colon
+abbrev pub place_fault : Text
+place_fault = codes "no place and colon"
+
+-- the same where this line of a dump has no place and colon
+abbrev pub line_fault : Option Text → (line : ℕ) → Data
+line_fault file line =
+    object_of ((codes "fault", string place_fault) ∷ (file_pairs file ++ (codes "line", counted line) ∷ []))
+
 -- the object for an ending; reading ends neither cleanly nor by a refusal, nor with too many messages, nor by writing
 abbrev pub fault_object : Option Text → Ending → Data
 fault_object file (endings.Hex fault) = hex_object file fault
@@ -221,3 +233,8 @@ fault_object file endings.Clean = named_fault file (codes "none")
 fault_object file (endings.Refused refusal) = named_fault file (codes "refused")
 fault_object file endings.Writing = named_fault file (codes "writing")
 fault_object file endings.TooMany = named_fault file (codes "more than 10000 messages")
+
+-- the object for an input of which there are no bytes
+abbrev pub unread_object : Option Text → Unread → Data
+unread_object file (Ends ending) = fault_object file ending
+unread_object file (NoPlace line) = line_fault file line

@@ -1,5 +1,5 @@
 -- The program: a function of its words, of what the inputs hold and of whether its output takes colours.
-use Rattle.std.specs.Prelude.{◌≡◌, ◌⊎◌, ℕ, Bool, true, false, List, [], ◌∷◌, ◌++◌, codes, Option, Some, None, Result, Ok, Err}
+use Rattle.std.specs.Prelude.{◌≡◌, ◌⊎◌, ℕ, Bool, true, false, List, [], ◌∷◌, ◌++◌, codes, decimal, Option, Some, None, Result, Ok, Err}
 use Rattle.ndef_format.specs.Limits.{LimitValues}
 use Rattle.ndef_message.specs.States.{SinkState}
 use Rattle.ndef_message.specs.declared.input.InputError.{InputError}
@@ -11,7 +11,6 @@ use Rattle.ndef_program.specs.Outputs.{GoesOut}
 use Rattle.ndef_program.specs.Pages.{page_asked}
 use Rattle.ndef_tool.specs.declared.choice.WordsError.{WordsError}
 use Rattle.ndef_tool.specs.declared.choice.WordsError.TheVariants.{Usage, NoMemory}
-use Rattle.ndef_tool.specs.declared.ending.Ending.{Ending}
 use Rattle.ndef_program.specs.declared.pages.Page.{Page}
 use Rattle.ndef_program.specs.declared.status.Status.{Status}
 use Rattle.ndef_program.specs.declared.status.Status.TheVariants as status
@@ -19,7 +18,7 @@ use Rattle.ndef_explain_tool.specs.Chosen.{Asks, asked_parts}
 use Rattle.ndef_explain_tool.specs.Explaining.{IsExplained}
 use Rattle.ndef_explain_tool.specs.Forms.{Form, form_in, lines, objects}
 use Rattle.ndef_explain_tool.specs.Inputs.{AreOctets}
-use Rattle.ndef_explain_tool.specs.Objects.{fault_object, line_of}
+use Rattle.ndef_explain_tool.specs.Objects.{line_of, unread_object}
 use Rattle.ndef_explain_tool.specs.Pages.{page_text}
 use Rattle.ndef_explain_tool.specs.Painting.{shown_in}
 use Rattle.ndef_explain_tool.specs.declared.choice.Asked.{Asked}
@@ -28,6 +27,8 @@ use Rattle.ndef_explain_tool.specs.declared.choice.Color.{Color}
 use Rattle.ndef_explain_tool.specs.declared.choice.Color.TheVariants as color
 use Rattle.ndef_explain_tool.specs.declared.explaining.Stop.{Stop}
 use Rattle.ndef_explain_tool.specs.declared.explaining.Stop.TheVariants.{End, Refused}
+use Rattle.ndef_explain_tool.specs.declared.inputs.Unread.{Unread}
+use Rattle.ndef_explain_tool.specs.declared.inputs.Unread.TheVariants.{Ends, NoPlace}
 use Rattle.ndef_explain_tool.specs.declared.telling.Manner.{Manner}
 
 -- ---- the text of an input
@@ -42,16 +43,30 @@ abbrev pub heading : (named : Bool) → (name : Text) → Text
 heading true name = codes "file " ++ quoted name ++ codes "\n"
 heading false name = []
 
+-- the line for a line of a dump without a place and a colon
+abbrev pub place_line : (line : ℕ) → Text
+place_line line = codes "hex: no place and colon in line " ++ decimal line ++ codes "\n"
+
+-- the line of a fault
+abbrev pub fault_line : Unread → Text
+fault_line (Ends ending) = ending_text 0 ending
+fault_line (NoPlace line) = place_line line
+
 -- the line of a fault, or its object
-abbrev pub fault_text : Form → Ending → Text
-fault_text lines ending = ending_text 0 ending
-fault_text (objects file) ending = line_of (fault_object file ending)
+abbrev pub fault_text : Form → Unread → Text
+fault_text lines unread = fault_line unread
+fault_text (objects file) unread = line_of (unread_object file unread)
+
+-- the status of a fault
+abbrev pub fault_status : Unread → Status
+fault_status (Ends ending) = status_of ending
+fault_status (NoPlace line) = status.Refused
 
 -- what is printed of the bytes of an input, and the status; or of the fault, where there are none
-abbrev pub IsBody : Form → LimitValues → (octets : Result (List ℕ) Ending) → Text → Status → Type 0
+abbrev pub IsBody : Form → LimitValues → (octets : Result (List ℕ) Unread) → Text → Status → Type 0
 IsBody form limits (Ok octets) text st =
     (stop : Stop) × IsExplained form limits octets stop text × (st ≡ stop_status stop)
-IsBody form limits (Err ending) text st = (text ≡ fault_text form ending) × (st ≡ status_of ending)
+IsBody form limits (Err unread) text st = (text ≡ fault_text form unread) × (st ≡ fault_status unread)
 
 -- lines stand behind the name of the input, in colour or not; objects stand as they are
 abbrev pub sheet : Manner → (json : Bool) → (name : Text) → (body : Text) → Text
@@ -61,7 +76,7 @@ sheet manner true name body = body
 -- all that is printed of an input of this name, of which this was read, and its status
 abbrev pub IsTold : Manner → (name : Text) → (read : Result (List ℕ) InputError) → Text → Status → Type 0
 IsTold manner name read text st =
-    (octets : Result (List ℕ) Ending) × (body : Text) × AreOctets manner.hex read octets
+    (octets : Result (List ℕ) Unread) × (body : Text) × AreOctets manner.hex read octets
     × IsBody (form_in manner.json manner.named name) manner.limits octets body st
     × (text ≡ sheet manner manner.json name body)
 

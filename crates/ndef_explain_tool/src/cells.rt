@@ -2,7 +2,7 @@
 ghost use Rattle.std.specs.Prelude.{◌≡◌, ◌++◌, ◌+◌, ◌%◌, ◌^◌, ◌≤◌, ◌∷◌, [], OnOk, length};
 ghost use Rattle.std.specs.Int.{w32, to_be_bytes};
 ghost use Rattle.hex.specs.Hex.{encode_lower};
-ghost use Rattle.ndef_explain_tool.specs.Cells.{cell, cells, later_cells, start_of};
+ghost use Rattle.ndef_explain_tool.specs.Cells.{cell, cells, indentation, later_cells, later_start, start_of};
 
 use ndef_value::{Bytes, NoMemory};
 
@@ -13,7 +13,7 @@ pub(crate) const COLUMNS: usize = 8;
 const BLANKS: &[u8] = b"                        ";
 
 /// An octet in two lower-case digits.
-fn digits_of(octet: u8) -> [u8; 2]
+pub(crate) fn digits_of(octet: u8) -> [u8; 2]
     ensures { result ≡ encode_lower (octet ∷ []) }
 {
     let mut digits = [0; 2];
@@ -42,16 +42,23 @@ fn place_at(at: u64, offset: u64) -> u32
     place as u32
 }
 
-/// Appends a place in eight digits, and the indentation of a depth; the place is `offset` bytes behind `at`.
-pub(crate) fn push_start(line: &mut Bytes, at: u64, offset: u64, depth: u8) -> Result<(), NoMemory>
-    ensures { OnOk result (line.new ≡ line.old ++ start_of (at + offset) depth) }
+/// Appends the indentation of a depth.
+fn push_indentation(line: &mut Bytes, depth: u8) -> Result<(), NoMemory>
+    ensures { OnOk result (line.new ≡ line.old ++ indentation depth) }
 {
-    line.extend(&wide_digits_of(place_at(at, offset)))?;
     if depth == 0 {
         line.extend(b" ")
     } else {
         line.extend(b"   ")
     }
+}
+
+/// Appends a place in eight digits, and the indentation of a depth; the place is `offset` bytes after `at`.
+pub(crate) fn push_start(line: &mut Bytes, at: u64, offset: u64, depth: u8) -> Result<(), NoMemory>
+    ensures { OnOk result (line.new ≡ line.old ++ start_of (at + offset) depth) }
+{
+    line.extend(&wide_digits_of(place_at(at, offset)))?;
+    push_indentation(line, depth)
 }
 
 /// Appends an octet with a blank before it.
@@ -73,15 +80,23 @@ pub(crate) fn push_cells(line: &mut Bytes, octets: &[u8]) -> Result<(), NoMemory
     line.extend(BLANKS.split_at(24 - 3 * octets.len()).0)
 }
 
-/// Appends the octets behind the first line of a field, eight in a line.
-pub(crate) fn push_later_cells(line: &mut Bytes, octets: &[u8]) -> Result<(), NoMemory>
-    ensures { OnOk result (line.new ≡ line.old ++ later_cells 0 octets.now) }
+/// Appends the beginning of a further line of a field.
+fn push_later_start(line: &mut Bytes, depth: u8) -> Result<(), NoMemory>
+    ensures { OnOk result (line.new ≡ line.old ++ later_start depth) }
+{
+    line.extend(b"\n        ")?;
+    push_indentation(line, depth)
+}
+
+/// Appends the octets after the first line of a field, eight in a line.
+pub(crate) fn push_later_cells(line: &mut Bytes, depth: u8, octets: &[u8]) -> Result<(), NoMemory>
+    ensures { OnOk result (line.new ≡ line.old ++ later_cells depth 0 octets.now) }
 {
     let mut rest = octets;
     let mut column = 0;
     while let [octet, later @ ..] = rest {
         if column == 0 {
-            line.extend(b"\n         ")?;
+            push_later_start(line, depth)?;
         }
         push_cell(line, *octet)?;
         rest = later;

@@ -1,7 +1,8 @@
 //! What the words ask for.
 ghost use Rattle.std.specs.Prelude.{◌≡◌, map, string_bytes, IfOk};
 ghost use Rattle.clap.specs.Words.{found_of, rows_of};
-ghost use Rattle.ndef_explain_tool.specs.Chosen.{Answers, Asks, asked_in, choice_in, chosen_color, color_named, files_in};
+ghost use Rattle.ndef_explain_tool.specs.Chosen.{Answers, Asks, asked_in, choice_in, chosen_color, color_named};
+ghost use Rattle.ndef_explain_tool.specs.Chosen.{files_in};
 
 use crate::command::explain_command;
 use clap::ArgMatches;

@@ -1,7 +1,9 @@
 //! The objects of faults, in JSON.
 ghost use Rattle.std.specs.Prelude.{◌≡◌, ◌++◌, OnOk, option_map};
-ghost use Rattle.ndef_explain_tool.specs.Objects.{digit_fault, fault_object, hex_object, line_of, named_fault};
+ghost use Rattle.ndef_explain_tool.specs.Objects.{digit_fault, fault_object, hex_object, line_fault, line_of};
+ghost use Rattle.ndef_explain_tool.specs.Objects.{named_fault, unread_object};
 
+use crate::inputs::Unread;
 use crate::json_text::{push_counted_member, push_string_member};
 use crate::message_objects::push_file;
 use ndef_tool::{Ending, HexFault};
@@ -59,8 +61,8 @@ fn push_hex_fault(
     }
 }
 
-/// Appends the object for an input of which there are no bytes in a line.
-pub(crate) fn push_fault_object(
+/// Appends the object for an ending in a line.
+fn push_fault_object(
     alloc: Global,
     line: &mut Bytes,
     file: Option<&str>,
@@ -78,5 +80,39 @@ pub(crate) fn push_fault_object(
         Ending::Refused(_) => push_named_fault(alloc, line, file, b"refused"),
         Ending::Writing => push_named_fault(alloc, line, file, b"writing"),
         Ending::TooMany => push_named_fault(alloc, line, file, b"more than 10000 messages"),
+    }
+}
+
+/// Appends the object of a line without a place and a colon in a line.
+fn push_line_fault(
+    alloc: Global,
+    line: &mut Bytes,
+    file: Option<&str>,
+    number: u64,
+) -> Result<(), NoMemory>
+    ensures { OnOk result (line.new
+        ≡ line.old ++ line_of (line_fault (option_map (λ name. name.now) file.entry) number)) }
+{
+    line.extend(b"{")?;
+    push_string_member(line, false, b"fault", b"no place and colon")?;
+    push_file(alloc, line, file)?;
+    push_counted_member(line, true, b"line", number)?;
+    line.extend(b"}\n")?;
+    Ok(())
+}
+
+/// Appends the object for an input of which there are no bytes in a line.
+pub(crate) fn push_unread_object(
+    alloc: Global,
+    line: &mut Bytes,
+    file: Option<&str>,
+    unread: Unread,
+) -> Result<(), NoMemory>
+    ensures { OnOk result (line.new
+        ≡ line.old ++ line_of (unread_object (option_map (λ name. name.now) file.entry) unread)) }
+{
+    match unread {
+        Unread::Ends(ending) => push_fault_object(alloc, line, file, ending),
+        Unread::NoPlace(number) => push_line_fault(alloc, line, file, number),
     }
 }

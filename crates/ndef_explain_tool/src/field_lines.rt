@@ -4,8 +4,8 @@ ghost use Rattle.std.specs.List.{flat_map};
 ghost use Rattle.ndef_explain_tool.specs.FieldLines.{back_text, field_text, front_text, octets_of};
 
 use crate::cells::{COLUMNS, push_cells, push_later_cells, push_start};
-use crate::meaning::push_meaning;
-use ndef_fields::{Field, FieldName, Fields};
+use crate::meaning::{push_meaning, whole_of};
+use ndef_fields::{Field, Fields};
 use ndef_value::{Bytes, NoMemory};
 
 /// At most `count` octets at the front, and those behind them.
@@ -33,12 +33,12 @@ fn push_front(line: &mut Bytes, at: u64, field: &Field, octets: &[u8]) -> Result
     line.extend(field.name.text())
 }
 
-/// Appends what the octets of a field say, and the octets behind the first eight.
-fn push_back(line: &mut Bytes, name: FieldName, octets: &[u8]) -> Result<(), NoMemory>
-    ensures { OnOk result (line.new ≡ line.old ++ back_text name octets.now) }
+/// Appends what the octets of a field say, of which a number has so many, and the octets after the first eight.
+fn push_back(line: &mut Bytes, whole: usize, field: &Field, octets: &[u8]) -> Result<(), NoMemory>
+    ensures { OnOk result (line.new ≡ line.old ++ back_text whole field.now octets.now) }
 {
-    push_meaning(line, name, octets)?;
-    push_later_cells(line, cut(octets, COLUMNS).1)?;
+    push_meaning(line, field.name, whole, octets)?;
+    push_later_cells(line, field.depth, cut(octets, COLUMNS).1)?;
     line.extend(b"\n")
 }
 
@@ -48,7 +48,7 @@ fn push_field(line: &mut Bytes, at: u64, bytes: &[u8], field: &Field) -> Result<
 {
     let octets = octets_of(bytes, field);
     push_front(line, at, field, octets)?;
-    push_back(line, field.name, octets)
+    push_back(line, whole_of(bytes, field), field, octets)
 }
 
 /// Appends the lines of the fields of these bytes, before which so many bytes of the input come.

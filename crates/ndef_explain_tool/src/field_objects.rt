@@ -7,7 +7,7 @@ ghost use Rattle.ndef_explain_tool.specs.Objects.{PlacesFit, field_object, field
 
 use crate::field_lines::octets_of;
 use crate::json_text::{push_comma, push_counted_member, push_octets_member, push_string_member};
-use crate::meaning::push_meaning;
+use crate::meaning::{push_meaning, whole_of};
 use ndef_fields::{Field, FieldName, Fields};
 use ndef_value::{Bytes, NoMemory};
 use std::alloc::Global;
@@ -27,33 +27,36 @@ fn push_meaning_member(
     alloc: Global,
     line: &mut Bytes,
     name: FieldName,
+    whole: usize,
     octets: &[u8],
 ) -> Result<(), NoMemory>
     ensures { OnOk result (line.new
-        ≡ line.old ++ later_members (meaning_pairs (meaning_of (reading_of name) octets.now))) }
+        ≡ line.old ++ later_members (meaning_pairs (meaning_of (reading_of name) whole octets.now))) }
 {
     let mut text = Bytes::new(alloc);
-    push_meaning(&mut text, name, octets)?;
+    push_meaning(&mut text, name, whole, octets)?;
     push_said(line, text.as_slice())
 }
 
-/// Appends the object of a field with these octets, before which so many bytes of the input come.
+/// Appends the object of a field with these octets, of which a number has `whole`, before which so many bytes of the
+/// input come.
 fn push_field_members(
     alloc: Global,
     line: &mut Bytes,
     at: u64,
     field: &Field,
+    whole: usize,
     octets: &[u8],
 ) -> Result<(), NoMemory>
     requires { at + field.now.at < 2 ^ 64 }
     ensures { OnOk result (line.new
-        ≡ line.old ++ compact_text (object_of (field_pairs at field.now octets.now))) }
+        ≡ line.old ++ compact_text (object_of (field_pairs at field.now whole octets.now))) }
 {
     line.extend(b"{")?;
     push_counted_member(line, false, b"at", at + field.at as u64)?;
     push_counted_member(line, true, b"depth", u64::from(field.depth))?;
     push_counted_member(line, true, b"length", field.length as u64)?;
-    push_meaning_member(alloc, line, field.name, octets)?;
+    push_meaning_member(alloc, line, field.name, whole, octets)?;
     push_string_member(line, true, b"name", field.name.text())?;
     push_octets_member(alloc, line, b"octets", octets)?;
     line.extend(b"}")?;
@@ -74,7 +77,14 @@ fn push_field_object(
         ≡ line.old ++ (comma_if later ++ compact_text (field_object at bytes.now field.now))) }
 {
     push_comma(line, later)?;
-    push_field_members(alloc, line, at, field, octets_of(bytes, field))
+    push_field_members(
+        alloc,
+        line,
+        at,
+        field,
+        whole_of(bytes, field),
+        octets_of(bytes, field),
+    )
 }
 
 /// Appends the array of the fields of these bytes, before which so many bytes of the input come.

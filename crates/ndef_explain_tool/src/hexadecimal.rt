@@ -1,14 +1,20 @@
 //! Hexadecimal text as people have it, and the bytes for which it stands.
 ghost use Rattle.std.specs.Prelude.{◌≡◌, ◌∷◌, ◌++◌, ◌<◌, [], length, IfErr, IfOk, IfSome, OnOk, position};
+ghost use Rattle.std.specs.List.{list_all};
 ghost use Rattle.std.specs.Option.{option_map_or};
 ghost use Rattle.ndef_message.specs.Inputs.{bytes_of};
 ghost use Rattle.ndef_tool.specs.Hexadecimal.{fault_of};
-ghost use Rattle.ndef_tool.specs.Output.{FitsPlace};
-ghost use Rattle.ndef_explain_tool.specs.Hexadecimal.{StandsFor, behind_place, digits_of, hexdump_digits, is_digit, is_separator, is_word, layout_by, line_digits, place_length, without_prefix, word_digits, words_of, xxd_digits};
+ghost use Rattle.ndef_explain_tool.specs.Hexadecimal.{StandsByDigits, StandsFor, before_gap, behind_place, digits_of};
+ghost use Rattle.ndef_explain_tool.specs.Hexadecimal.{hexdump_digits, is_digit, is_placed, is_separator, layout_by};
+ghost use Rattle.ndef_explain_tool.specs.Hexadecimal.{line_digits, place_length, unplaced, unplaced_line};
+ghost use Rattle.ndef_explain_tool.specs.Hexadecimal.{without_prefix, word_digits, words_of, xxd_digits};
+ghost use Rattle.ndef_explain_tool.specs.Inputs.{FitsUnread};
+ghost use Rattle.ndef_explain_tool.specs.Lines.{lines_of};
 
-use crate::cutting::cut_at;
 use crate::field_lines::cut;
+use crate::inputs::Unread;
 use hex::FromHexError;
+use ndef_program::cut_at;
 use ndef_tool::{Ending, HexFault};
 use ndef_value::{Bytes, NoMemory};
 use std::alloc::Global;
@@ -118,26 +124,23 @@ fn layout_by(line: &[u8]) -> Layout
     }
 }
 
-/// Whether a word has some bytes.
-fn is_word(word: &[u8]) -> bool
-    ensures { result ≡ is_word word.now }
+/// What stands before the first two spaces in a row.
+#[tactic(auto, using(crate::proofs::Dumps::gap_more, crate::proofs::Dumps::gap_found))]
+fn before_gap(text: &[u8]) -> &[u8]
+    ensures { result.now ≡ before_gap text.now }
 {
-    !word.is_empty()
+    let mut count = 0;
+    while count < text.len() && !cut(text, count).1.starts_with(b"  ") {
+        count += 1;
+    }
+    cut(text, count).0
 }
 
 /// Appends the digits of a line of `xxd`.
 fn push_xxd_line(digits: &mut Bytes, line: &[u8]) -> Result<(), NoMemory>
     ensures { OnOk result (digits.new ≡ digits.old ++ xxd_digits line.now) }
 {
-    let (mut word, mut rest) = cut_word(cut(behind_place(line), 2).1);
-    while is_word(word) {
-        digits.extend(without_prefix(word))?;
-        let Some(more) = rest else {
-            return Ok(());
-        };
-        (word, rest) = cut_word(more);
-    }
-    Ok(())
+    push_words(digits, before_gap(cut(behind_place(line), 2).1))
 }
 
 /// Appends the digits of a line of `hexdump -C`.
@@ -173,6 +176,52 @@ fn digits_of(alloc: Global, text: &[u8]) -> Result<Bytes, NoMemory>
     Ok(digits)
 }
 
+/// Whether a line has only separators.
+fn is_blank(line: &[u8]) -> bool
+    ensures { result ≡ list_all is_separator line.now }
+{
+    for byte in line {
+        if !is_separator(*byte) {
+            return false;
+        }
+    }
+    true
+}
+
+/// Whether a line is one of a dump by `xxd`: it begins with a place, a colon and a space, or has only separators.
+fn is_placed(line: &[u8]) -> bool
+    ensures { result ≡ is_placed line.now }
+{
+    (place_length(line) >= 8 && behind_place(line).starts_with(b": ")) || is_blank(line)
+}
+
+/// The number of the first line that isn't one of a dump by `xxd`.
+#[tactic(auto, using(crate::proofs::Dumps::placed_more, crate::proofs::Dumps::unplaced_here))]
+fn unplaced(text: &[u8]) -> Option<u64>
+    ensures { result ≡ unplaced 1 (lines_of text.now) }
+{
+    let (mut line, mut rest) = cut_at(text, b'\n');
+    let mut number = 1;
+    while is_placed(line) {
+        let Some(more) = rest else {
+            return None;
+        };
+        (line, rest) = cut_at(more, b'\n');
+        number += 1;
+    }
+    Some(number)
+}
+
+/// The number of the first line without a place and a colon, where the layout is that of `xxd`.
+fn unplaced_line(text: &[u8]) -> Option<u64>
+    ensures { result ≡ unplaced_line text.now }
+{
+    match layout_by(cut_at(text, b'\n').0) {
+        Layout::Xxd => unplaced(text),
+        Layout::Words | Layout::Hexdump => None,
+    }
+}
+
 /// What is wrong with the digits.
 fn fault_of(error: FromHexError) -> HexFault
     ensures { result ≡ fault_of error }
@@ -183,15 +232,26 @@ fn fault_of(error: FromHexError) -> HexFault
     }
 }
 
-/// The bytes for which a text stands.
-pub(crate) fn decode(alloc: Global, text: &[u8]) -> Result<Vec<u8>, Ending>
-    ensures octets { StandsFor text.now (bytes_of result) }
-    ensures room { IfErr result (λ ending. FitsPlace 0 ending) }
+/// The bytes for which the digits of a text stand.
+fn decode_digits(alloc: Global, text: &[u8]) -> Result<Vec<u8>, Unread>
+    ensures octets { StandsByDigits (digits_of text.now) (bytes_of result) }
+    ensures room { IfErr result FitsUnread }
 {
     let digits = digits_of(alloc, text)?;
     match hex::decode(alloc, digits.as_slice()) {
         Ok(bytes) => Ok(bytes),
-        Err(FromHexError::OutOfMemory) => Err(Ending::Memory),
-        Err(error) => Err(Ending::Hex(fault_of(error))),
+        Err(FromHexError::OutOfMemory) => Err(Unread::Ends(Ending::Memory)),
+        Err(error) => Err(Unread::Ends(Ending::Hex(fault_of(error)))),
+    }
+}
+
+/// The bytes for which a text stands. A line without a place and a colon is told before anything else.
+pub(crate) fn decode(alloc: Global, text: &[u8]) -> Result<Vec<u8>, Unread>
+    ensures octets { StandsFor text.now (bytes_of result) }
+    ensures room { IfErr result FitsUnread }
+{
+    match unplaced_line(text) {
+        Some(line) => Err(Unread::NoPlace(line)),
+        None => decode_digits(alloc, text),
     }
 }

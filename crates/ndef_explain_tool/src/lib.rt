@@ -5,7 +5,6 @@
 mod cells;
 mod choice;
 mod command;
-mod cutting;
 mod explaining;
 mod fault_objects;
 mod field_lines;
@@ -24,5 +23,5 @@ mod refusal_lines;
 mod running;
 mod telling;
 
-pub use inputs::{Inputs, MOST};
+pub use inputs::{Inputs, MOST, read_input};
 pub use running::run;

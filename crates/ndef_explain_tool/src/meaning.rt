@@ -1,9 +1,12 @@
 //! What the octets of a field say.
 ghost use Rattle.std.specs.Prelude.{◌≡◌, ◌++◌, ◌≤◌, ◌<◌, ◌%◌, OnOk, decimal, length, nat_le, slice_index};
 ghost use Rattle.ndef_format.specs.HeadReasons.{is_set, tnf_number};
-ghost use Rattle.ndef_explain_tool.specs.Meanings.{flags_text, meaning_of, octets_number, reading_of, said, status_text, tnf_meaning, tnf_word};
+ghost use Rattle.ndef_explain_tool.specs.Meanings.{bits_text, cut_text, flags_text, meaning_of, number_text};
+ghost use Rattle.ndef_explain_tool.specs.Meanings.{octets_number, reading_of, reserved_text, said, status_text};
+ghost use Rattle.ndef_explain_tool.specs.Meanings.{tnf_meaning, tnf_word, version_text, whole_length, whole_of};
 
-use ndef_fields::FieldName;
+use crate::cells::digits_of;
+use ndef_fields::{Field, FieldName};
 use ndef_tool::{push_number, push_quoted};
 use ndef_value::{Bytes, NoMemory};
 
@@ -14,6 +17,12 @@ pub(crate) enum Reading {
     Header,
     /// A number.
     Number,
+    /// A carrier power state in two bits.
+    PowerState,
+    /// A carrier type format in three bits.
+    Format,
+    /// The major and the minor version of a handover.
+    Version,
     /// Text, or bytes that mostly are.
     Quoted,
     /// The status octet of a text.
@@ -35,13 +44,15 @@ fn reading_of(name: FieldName) -> Reading
         | FieldName::UriCode
         | FieldName::Action
         | FieldName::Size
-        | FieldName::Power
         | FieldName::ReferenceLength
         | FieldName::AuxiliaryCount
         | FieldName::AuxiliaryLength
         | FieldName::ErrorReason
-        | FieldName::CarrierFormat
-        | FieldName::CarrierKindLength => Reading::Number,
+        | FieldName::CarrierKindLength
+        | FieldName::Collision => Reading::Number,
+        FieldName::Power => Reading::PowerState,
+        FieldName::CarrierFormat => Reading::Format,
+        FieldName::Version => Reading::Version,
         FieldName::Kind
         | FieldName::Id
         | FieldName::Language
@@ -65,14 +76,44 @@ fn first(octets: &[u8]) -> u8
     }
 }
 
-/// The number that four octets are, most significant first; of others that of the first.
+/// The number that two or four octets are, most significant first; of others that of the first.
 fn number_of(octets: &[u8]) -> u32
     ensures { result ≡ octets_number octets.now }
 {
     match octets {
         [a, b, c, d] => u32::from_be_bytes([*a, *b, *c, *d]),
+        [a, b] => u32::from(u16::from_be_bytes([*a, *b])),
         _ => u32::from(first(octets)),
     }
+}
+
+/// How many octets a number of this name has, in a record with this header octet (NDEF 1.0, SR).
+fn whole_length(name: FieldName, header: u8) -> usize
+    ensures { result ≡ whole_length name header }
+{
+    match name {
+        FieldName::PayloadLength => { if header >> 4 & 1 == 1 { 1 } else { 4 } }
+        FieldName::Size => 4,
+        FieldName::Collision => 2,
+        _ => 1,
+    }
+}
+
+/// The octet of these bytes at a place; 0 where there is none.
+fn octet_at(bytes: &[u8], at: usize) -> u8
+    ensures { result ≡ slice_index bytes.now at }
+{
+    match bytes.get(at) {
+        Some(octet) => *octet,
+        None => 0,
+    }
+}
+
+/// How many octets a number has that is this field of these bytes.
+pub(crate) fn whole_of(bytes: &[u8], field: &Field) -> usize
+    ensures { result ≡ whole_of bytes.now field.now }
+{
+    whole_length(field.name, octet_at(bytes, field.at.saturating_sub(2)))
 }
 
 /// The word for the number of a type name format (NDEF 1.0, TNF).
@@ -134,19 +175,78 @@ fn push_status(line: &mut Bytes, status: u8) -> Result<(), NoMemory>
     push_number(line, u64::from(status % 64))
 }
 
-/// Appends what the octets of a field of this name say, behind a blank, or nothing.
-pub(crate) fn push_meaning(line: &mut Bytes, name: FieldName, octets: &[u8]) -> Result<(), NoMemory>
-    ensures { OnOk result (line.new ≡ line.old ++ meaning_of (reading_of name) octets.now) }
+/// Appends how many octets of a number there are, where some are missing.
+fn push_cut(line: &mut Bytes, count: usize, whole: usize) -> Result<(), NoMemory>
+    ensures { OnOk result (line.new ≡ line.old ++ cut_text count whole) }
+{
+    line.extend(b" cut after ")?;
+    push_number(line, count as u64)?;
+    line.extend(b" of ")?;
+    push_number(line, whole as u64)?;
+    line.extend(b" octets")
+}
+
+/// Appends a number of so many octets, or how many of them there are.
+fn push_number_text(line: &mut Bytes, whole: usize, octets: &[u8]) -> Result<(), NoMemory>
+    ensures { OnOk result (line.new ≡ line.old ++ number_text whole octets.now) }
+{
+    if octets.len() < whole {
+        return push_cut(line, octets.len(), whole);
+    }
+    line.extend(b" ")?;
+    push_number(line, u64::from(number_of(octets)))
+}
+
+/// Appends the reserved bits that are set, if some are.
+fn push_reserved(line: &mut Bytes, bits: u8) -> Result<(), NoMemory>
+    ensures { OnOk result (line.new ≡ line.old ++ reserved_text bits) }
+{
+    if bits == 0 {
+        return Ok(());
+    }
+    line.extend(b", reserved bits set: ")?;
+    line.extend(&digits_of(bits))
+}
+
+/// Appends the value of the lower bits of an octet, one of so many, and the others that are set.
+fn push_bits(line: &mut Bytes, values: u8, octet: u8) -> Result<(), NoMemory>
+    requires { 0 < values }
+    ensures { OnOk result (line.new ≡ line.old ++ bits_text values octet) }
+{
+    let value = octet % values;
+    line.extend(b" ")?;
+    push_number(line, u64::from(value))?;
+    push_reserved(line, octet - value)
+}
+
+/// Appends the major and the minor version.
+fn push_version(line: &mut Bytes, octet: u8) -> Result<(), NoMemory>
+    ensures { OnOk result (line.new ≡ line.old ++ version_text octet) }
+{
+    line.extend(b" ")?;
+    push_number(line, u64::from(octet / 16))?;
+    line.extend(b".")?;
+    push_number(line, u64::from(octet % 16))
+}
+
+/// Appends what the octets of a field of this name say, after a blank, or nothing. A number has `whole` octets.
+pub(crate) fn push_meaning(
+    line: &mut Bytes,
+    name: FieldName,
+    whole: usize,
+    octets: &[u8],
+) -> Result<(), NoMemory>
+    ensures { OnOk result (line.new ≡ line.old ++ meaning_of (reading_of name) whole octets.now) }
 {
     match reading_of(name) {
         Reading::Header => {
             push_flags(line, first(octets))?;
             push_tnf(line, first(octets))
         }
-        Reading::Number => {
-            line.extend(b" ")?;
-            push_number(line, u64::from(number_of(octets)))
-        }
+        Reading::Number => push_number_text(line, whole, octets),
+        Reading::PowerState => push_bits(line, 4, first(octets)),
+        Reading::Format => push_bits(line, 8, first(octets)),
+        Reading::Version => push_version(line, first(octets)),
         Reading::Quoted => {
             line.extend(b" ")?;
             push_quoted(line, octets)

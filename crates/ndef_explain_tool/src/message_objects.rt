@@ -6,7 +6,9 @@ ghost use Rattle.ndef_explain_tool.specs.Explaining.{AddsMessage, FitsStop};
 ghost use Rattle.ndef_explain_tool.specs.Forms.{objects};
 ghost use Rattle.ndef_explain_tool.specs.declared.explaining.Stop.TheVariants.{Refused};
 ghost use Rattle.ndef_explain_tool.specs.JsonText.{later_members};
-ghost use Rattle.ndef_explain_tool.specs.Objects.{AddsMessageBack, AddsRefusedObject, IsRefusedByte, PlacesFit, end_text, file_pairs, message_front, octet_pairs, place_pairs, refusal_object, refused_rest};
+ghost use Rattle.ndef_explain_tool.specs.Objects.{AddsMessageBack, AddsRefusedObject, IsRefusedByte, PlacesFit};
+ghost use Rattle.ndef_explain_tool.specs.Objects.{end_text, file_pairs, message_front, octet_pairs, place_pairs};
+ghost use Rattle.ndef_explain_tool.specs.Objects.{refusal_object, refused_rest};
 
 use crate::field_lines::cut;
 use crate::field_objects::push_fields_array;

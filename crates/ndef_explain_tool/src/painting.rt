@@ -1,9 +1,10 @@
 //! Output in colour.
 ghost use Rattle.std.specs.Prelude.{◌≡◌, ◌++◌, OnOk};
-ghost use Rattle.ndef_explain_tool.specs.Painting.{ink_of, is_fault, is_heading, is_refused_byte, painted, painted_in, painted_line, rendered, shown_in};
+ghost use Rattle.ndef_explain_tool.specs.Painting.{ink_of, is_fault, is_heading, is_refused_byte, painted};
+ghost use Rattle.ndef_explain_tool.specs.Painting.{painted_in, painted_line, rendered, shown_in};
 
-use crate::cutting::cut_at;
 use crate::field_lines::cut;
+use ndef_program::cut_at;
 use ndef_value::{Bytes, NoMemory};
 
 /// How a line is painted.

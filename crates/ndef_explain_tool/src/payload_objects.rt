@@ -2,7 +2,8 @@
 ghost use Rattle.std.specs.Prelude.{◌≡◌, ◌++◌, ◌+◌, ◌<◌, ◌≤◌, ◌^◌, IfOk, OnOk, length};
 ghost use Rattle.ndef_fields.specs.Tellings.{ArePayloadFields};
 ghost use Rattle.serde_json.specs.Written.{comma_if, compact_text};
-ghost use Rattle.ndef_explain_tool.specs.Objects.{AddsJoined, AddsPayloadObjects, AddsPayloadsArray, PlacesFit, payload_object};
+ghost use Rattle.ndef_explain_tool.specs.Objects.{AddsJoined, AddsPayloadObjects, AddsPayloadsArray, PlacesFit};
+ghost use Rattle.ndef_explain_tool.specs.Objects.{payload_object};
 
 use crate::field_objects::push_fields_array;
 use crate::json_text::{push_comma, push_counted_member, push_member_start};

@@ -1,6 +1,7 @@
 //! What is printed of a refusal.
 ghost use Rattle.std.specs.Prelude.{◌≡◌, ◌++◌, ◌+◌, ◌<◌, ◌^◌, ◌≤◌, OnOk, length};
-ghost use Rattle.ndef_explain_tool.specs.Explaining.{AddsBefore, AddsByte, AddsRefusedLines, FitsStop, byte_line, reason_lines};
+ghost use Rattle.ndef_explain_tool.specs.Explaining.{AddsBefore, AddsByte, AddsRefusedLines, FitsStop, byte_line};
+ghost use Rattle.ndef_explain_tool.specs.Explaining.{reason_lines};
 ghost use Rattle.ndef_fields.specs.Tellings.{IsMessageFront};
 ghost use Rattle.ndef_explain_tool.specs.Sentences.{sentence_of};
 ghost use Rattle.ndef_explain_tool.specs.declared.explaining.Stop.TheVariants.{Refused};

@@ -5,7 +5,8 @@ ghost use Rattle.ndef_message.specs.States.{sink_state};
 ghost use Rattle.ndef_tool.specs.Runs.{EndsCommand};
 ghost use Rattle.ndef_program.specs.declared.status.Status.TheVariants.{Clean};
 ghost use Rattle.ndef_explain_tool.specs.Chosen.{asked_parts};
-ghost use Rattle.ndef_explain_tool.specs.Running.{PrintsText, Runs, SendsOut, TellsAll, TellsAsked, TellsNext, is_in_color, manner_of, memory_text, usage_line, world, worse};
+ghost use Rattle.ndef_explain_tool.specs.Running.{PrintsText, Runs, SendsOut, TellsAll, TellsAsked, TellsNext};
+ghost use Rattle.ndef_explain_tool.specs.Running.{is_in_color, manner_of, memory_text, usage_line, world, worse};
 
 use crate::choice::{Asked, Choice, Color, ask};
 use crate::inputs::Inputs;

@@ -1,17 +1,19 @@
 //! What is printed of an input.
 ghost use Rattle.std.specs.Prelude.{◌≡◌, ◌++◌, false, IfErr, IfOk, OnOk};
 ghost use Rattle.ndef_message.specs.Inputs.{bytes_of};
-ghost use Rattle.ndef_tool.specs.Output.{FitsPlace, status_of};
+ghost use Rattle.ndef_tool.specs.Output.{status_of};
 ghost use Rattle.ndef_explain_tool.specs.Forms.{form_in, form_of};
-ghost use Rattle.ndef_explain_tool.specs.Running.{IsBody, IsTold, fault_text, heading, sheet, stop_status};
+ghost use Rattle.ndef_explain_tool.specs.Inputs.{FitsUnread};
+ghost use Rattle.ndef_explain_tool.specs.Running.{IsBody, IsTold, fault_line, fault_status, fault_text, heading};
+ghost use Rattle.ndef_explain_tool.specs.Running.{place_line, sheet, stop_status};
 
 use crate::explaining::{Stop, Style, explain};
-use crate::fault_objects::push_fault_object;
-use crate::inputs::octets_of;
+use crate::fault_objects::push_unread_object;
+use crate::inputs::{Unread, octets_of};
 use crate::painting::push_shown;
 use ndef_message::InputError;
 use ndef_program::Status;
-use ndef_tool::{Action, Ending, ending_line, push_quoted};
+use ndef_tool::{Action, Ending, ending_line, push_number, push_quoted};
 use ndef_value::{Bytes, Limits, NoMemory};
 use std::alloc::Global;
 
@@ -36,7 +38,7 @@ pub(crate) struct Told {
     pub(crate) status: Status,
 }
 
-/// The status of a fault.
+/// The status of an ending.
 fn status_of(ending: Ending) -> Status
     ensures { result ≡ status_of ending }
 {
@@ -45,6 +47,37 @@ fn status_of(ending: Ending) -> Status
         Ending::Refused(_) | Ending::Hex(_) => Status::Refused,
         Ending::Reading | Ending::Writing | Ending::Memory | Ending::TooMany | Ending::TooLong =>
             Status::Fault,
+    }
+}
+
+/// The status of an input of which there are no bytes.
+fn fault_status(unread: Unread) -> Status
+    ensures { result ≡ fault_status unread }
+{
+    match unread {
+        Unread::Ends(ending) => status_of(ending),
+        Unread::NoPlace(_) => Status::Refused,
+    }
+}
+
+/// Appends the line for a line without a place and a colon.
+fn push_place_fault(text: &mut Bytes, line: u64) -> Result<(), NoMemory>
+    ensures { OnOk result (text.new ≡ text.old ++ place_line line) }
+{
+    text.extend(b"hex: no place and colon in line ")?;
+    push_number(text, line)?;
+    text.extend(b"\n")?;
+    Ok(())
+}
+
+/// Appends the line of a fault.
+fn push_fault_line(text: &mut Bytes, unread: Unread) -> Result<(), NoMemory>
+    requires { FitsUnread unread }
+    ensures { OnOk result (text.new ≡ text.old ++ fault_line unread) }
+{
+    match unread {
+        Unread::Ends(ending) => text.extend(ending_line(Action::Check, 0, ending).as_slice()),
+        Unread::NoPlace(line) => push_place_fault(text, line),
     }
 }
 
@@ -85,28 +118,28 @@ fn push_fault(
     alloc: Global,
     text: &mut Bytes,
     style: Style<'_>,
-    ending: Ending,
+    unread: Unread,
 ) -> Result<(), NoMemory>
-    requires { FitsPlace 0 ending }
-    ensures { OnOk result (text.new ≡ text.old ++ fault_text (form_of style.entry) ending) }
+    requires { FitsUnread unread }
+    ensures { OnOk result (text.new ≡ text.old ++ fault_text (form_of style.entry) unread) }
 {
     match style {
-        Style::Lines => text.extend(ending_line(Action::Check, 0, ending).as_slice()),
-        Style::Objects(file) => push_fault_object(alloc, text, file, ending),
+        Style::Lines => push_fault_line(text, unread),
+        Style::Objects(file) => push_unread_object(alloc, text, file, unread),
     }
 }
 
 /// What is printed of a fault.
-fn tell_fault(alloc: Global, style: Style<'_>, ending: Ending) -> Result<Told, NoMemory>
-    requires { FitsPlace 0 ending }
+fn tell_fault(alloc: Global, style: Style<'_>, unread: Unread) -> Result<Told, NoMemory>
+    requires { FitsUnread unread }
     ensures { IfOk result (λ told.
-        (told.text ≡ fault_text (form_of style.entry) ending) × (told.status ≡ status_of ending)) }
+        (told.text ≡ fault_text (form_of style.entry) unread) × (told.status ≡ fault_status unread)) }
 {
     let mut text = Bytes::new(alloc);
-    push_fault(alloc, &mut text, style, ending)?;
+    push_fault(alloc, &mut text, style, unread)?;
     Ok(Told {
         text,
-        status: status_of(ending),
+        status: fault_status(unread),
     })
 }
 
@@ -115,9 +148,9 @@ fn tell_octets(
     alloc: Global,
     style: Style<'_>,
     limits: Limits,
-    octets: Result<Vec<u8>, Ending>,
+    octets: Result<Vec<u8>, Unread>,
 ) -> Result<Told, NoMemory>
-    requires { IfErr octets (λ ending. FitsPlace 0 ending) }
+    requires { IfErr octets FitsUnread }
     ensures { IfOk result (λ told. IsBody (form_of style.entry) limits (bytes_of octets) told.text told.status) }
 {
     match octets {
@@ -128,7 +161,7 @@ fn tell_octets(
                 status: stop_status(explained.stop),
             })
         }
-        Err(ending) => tell_fault(alloc, style, ending),
+        Err(unread) => tell_fault(alloc, style, unread),
     }
 }
 

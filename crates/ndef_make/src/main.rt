@@ -3,7 +3,7 @@
 
 use ndef_make_tool::run;
 use ndef_message::{StdSink, StdSource};
-use ndef_program::{Status, exit_code, exit_code_after};
+use ndef_program::{Status, exit_code, exit_code_after, read_words, tell_words, texts};
 use std::io::{BufReader, BufWriter, IsTerminal, Write};
 use std::process::ExitCode;
 
@@ -12,10 +12,7 @@ use std::process::ExitCode;
 /// and prints nothing more.
 fn main(rt: HostRuntime) -> ExitCode {
     let alloc = rt.alloc();
-    let Ok(words) = std::env::args(&rt) else {
-        return exit_code(Status::Fault);
-    };
-    let Ok(words) = words.collect::<Vec<String>>(alloc) else {
+    let Ok(words) = read_words(alloc, &rt) else {
         return exit_code(Status::Fault);
     };
     let Ok(reader) = BufReader::new(alloc, rt.reader()) else {
@@ -28,14 +25,17 @@ fn main(rt: HostRuntime) -> ExitCode {
     let mut source = StdSource::new(reader);
     let mut sink = StdSink::new(&mut writer);
     let mut lines = StdSink::new(rt.stderr());
-    let status = run(
-        alloc,
-        words.as_slice(),
-        terminal,
-        &mut source,
-        &mut sink,
-        &mut lines,
-    );
+    let status = match texts(alloc, words.as_slice()) {
+        Ok(words) => run(
+            alloc,
+            words.as_slice(),
+            terminal,
+            &mut source,
+            &mut sink,
+            &mut lines,
+        ),
+        Err(fault) => tell_words(alloc, fault, &mut lines),
+    };
     drop(sink);
     exit_code_after(status, writer.flush())
 }

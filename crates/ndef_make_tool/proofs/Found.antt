@@ -1,18 +1,17 @@
 -- The references of handovers, one after another.
-use Rattle.std.proofs.Common.{◌≡◌, ◌∙◌, ◌+◌, ◌<◌, ◌≤◌, ℕ, Bool, true, false, List, [], ◌∷◌, ◌++◌, append-nil, length, take, get_or, map, Option, None, Some, Err, refl, sym, ap, arith, cond}
+use Rattle.std.proofs.Common.{◌≡◌, ◌∙◌, ◌+◌, ◌<◌, ◌≤◌, ℕ, Bool, true, false, List, [], ◌∷◌, ◌++◌, append-nil, length, take, get_or, map, Option, None, Some, Err, refl, sym, ap, arith, cond, rules, subst}
 use Rattle.std.specs.Option.{option_or}
 use Rattle.std.specs.List.{find, flat_map}
 use Rattle.std.proofs.lemmas.List.{take_all}
 use Rattle.std.proofs.lemmas.List.Concat.{flat_map-append}
 use Rattle.std.proofs.lemmas.List.Folds.{find-append}
-use Rattle.std.specs.Prelude.{IsErrOf}
-use Rattle.std.specs.Borrow.{Bor}
+use Rattle.std.specs.Prelude.{IsErrOf, IsOk, Result}
 use Rattle.clap.specs.Words.{Text}
 use Rattle.ndef_value.specs.declared.name.NameError.{NameError}
 use Rattle.ndef_value.specs.declared.name.NameError.TheVariants as names
 use Rattle.ndef_format.specs.Messages.{Item}
 use Rattle.ndef_make_tool.specs.Faults.{name_fault}
-use Rattle.ndef_make_tool.specs.References.{AreFound, is_missing}
+use Rattle.ndef_make_tool.specs.References.{AreFound, IsFound, is_missing}
 use Rattle.ndef_make_tool.specs.declared.fault.Fault.{Fault}
 use Rattle.ndef_make_tool.specs.declared.fault.Fault.TheVariants.{Usage, Refused, Reading, TooLong, Memory}
 use Rattle.ndef_make_tool.specs.declared.fault.Refused.TheVariants as refused
@@ -53,52 +52,67 @@ pub found_whole : {A B : Type 0} (items : List Item) (f : B → List Text) (g : 
     → find (is_missing items) (flat_map f (map g (take n ps))) ≡ None → find (is_missing items) (flat_map f (map g ps)) ≡ None
 found_whole items f g ps n l none = ap (λ qs. find (is_missing items) (flat_map f (map g qs))) (sym (take_all n ps l)) ∙ none
 
--- where a reference of an element isn't found
+-- ---- where a reference isn't found
+
+-- a fault tells of a reference that is missing
+found_some : (o : Option Text) (fault : Fault) → IsFound o (Err fault) → (r : Text) × (o ≡ Some r)
+found_some o (Refused (refused.NoRecord r)) h = (r, h)
+found_some o (Refused refused.PartTooLong) h = (h.0, h.1)
+found_some o Memory h = (h.0, h.1)
+found_some o Usage h = absurd h
+found_some o Reading h = absurd h
+found_some o TooLong h = absurd h
+found_some o (Refused refused.LanguageTooLong) h = absurd h
+found_some o (Refused refused.LanguageNotAscii) h = absurd h
+found_some o (Refused refused.PayloadTooLong) h = absurd h
+found_some o (Refused refused.BadShape) h = absurd h
+found_some o (Refused (refused.BadPayload refusal)) h = absurd h
+found_some o (Refused refused.NoPoster) h = absurd h
+found_some o (Refused refused.NoHandover) h = absurd h
+found_some o (Refused refused.BadError) h = absurd h
+found_some o (Refused refused.TooManyReferences) h = absurd h
+found_some o (Refused refused.TooManyRecords) h = absurd h
+
+-- the same of a fault that is told of another list, where that has the same first reference that is missing
+found_as : (o p : Option Text) (fault : Fault) → ((r : Text) → o ≡ Some r → p ≡ Some r) → IsFound o (Err fault) → IsFound p (Err fault)
+found_as o p fault agree h =
+    let some = found_some o fault h in subst (λ (x : Option Text). IsFound x (Err fault)) (some.1 ∙ sym (agree some.0 some.1)) h
+
+-- a reference of an element isn't found
 pub unfound_at : {A B : Type 0} (items : List Item) (f : B → List Text) (g : A → B) (ps : List A) (n : ℕ) (p : A) (fault : Fault) → n < length ps → p ≡ get_or ps n p
     → find (is_missing items) (flat_map f (map g (take n ps))) ≡ None → AreFound items (f (g p)) (Err fault) → AreFound items (flat_map f (map g ps)) (Err fault)
-unfound_at items f g ps n p (Refused (refused.NoRecord r)) l e before h = some_at items f g ps n p r l e before h
-unfound_at items f g ps n p (Refused refused.PartTooLong) l e before h = (h.0, some_at items f g ps n p h.0 l e before h.1, h.2)
-unfound_at items f g ps n p Memory l e before h = tt
-unfound_at items f g ps n p Usage l e before h = absurd h
-unfound_at items f g ps n p Reading l e before h = absurd h
-unfound_at items f g ps n p TooLong l e before h = absurd h
-unfound_at items f g ps n p (Refused refused.LanguageTooLong) l e before h = absurd h
-unfound_at items f g ps n p (Refused refused.LanguageNotAscii) l e before h = absurd h
-unfound_at items f g ps n p (Refused refused.PayloadTooLong) l e before h = absurd h
-unfound_at items f g ps n p (Refused refused.BadShape) l e before h = absurd h
-unfound_at items f g ps n p (Refused (refused.BadPayload refusal)) l e before h = absurd h
-unfound_at items f g ps n p (Refused refused.NoPoster) l e before h = absurd h
-unfound_at items f g ps n p (Refused refused.NoHandover) l e before h = absurd h
-unfound_at items f g ps n p (Refused refused.BadError) l e before h = absurd h
-unfound_at items f g ps n p (Refused refused.TooManyReferences) l e before h = absurd h
-unfound_at items f g ps n p (Refused refused.TooManyRecords) l e before h = absurd h
+unfound_at items f g ps n p fault l e before h =
+    found_as (find (is_missing items) (f (g p))) (find (is_missing items) (flat_map f (map g ps))) fault (λ r is. some_at items f g ps n p r l e before is) h
 
 -- ---- references one after another
 
--- one reference more, which has a record
-pub has_more : (items : List Item) (references : List (Bor Text)) (n : ℕ) (p : Bor Text) → n < length references → p ≡ get_or references n p
-    → find (is_missing items) (map (λ r. r.now) (take n references)) ≡ None → is_missing items p.now ≡ false
-    → find (is_missing items) (map (λ r. r.now) (take (n + 1) references)) ≡ None
-has_more items references n p l e before has =
-    ap (find (is_missing items)) (mapped_more (λ r. r.now) references n p l e)
-    ∙ found_behind (is_missing items) (map (λ r. r.now) (take n references)) (p.now ∷ []) before
-    ∙ ap (λ b. cond b (Some p.now) None) has
+-- where the first isn't found, and the others are those that are left of all
+pub first_unfound : (items : List Item) (reference : Text) (rest all : List Text) (fault : Fault) → find (is_missing items) (reference ∷ rest) ≡ find (is_missing items) all
+    → AreFound items (reference ∷ []) (Err fault) → AreFound items all (Err fault)
+first_unfound items reference rest all fault same h =
+    found_as (find (is_missing items) (reference ∷ [])) (find (is_missing items) all) fault (λ r is. sym same ∙ found_before (is_missing items) (reference ∷ []) rest r is) h
 
--- the first that has none
-pub lacks_at : (items : List Item) (references : List (Bor Text)) (n : ℕ) (p : Bor Text) → n < length references → p ≡ get_or references n p
-    → find (is_missing items) (map (λ r. r.now) (take n references)) ≡ None → is_missing items p.now ≡ true
-    → find (is_missing items) (map (λ r. r.now) references) ≡ Some p.now
-lacks_at items references n p l e before lacks =
-    let split = mapped_at (λ r. r.now) references n p l e in
-    ap (find (is_missing items)) split.1
-    ∙ found_behind (is_missing items) (map (λ r. r.now) (take n references)) (p.now ∷ split.0) before
-    ∙ ap (λ b. cond b (Some p.now) (find (is_missing items) split.0)) lacks
+-- one reference, which has no record
+pub lacks : (items : List Item) (reference : Text) → is_missing items reference ≡ true → find (is_missing items) (reference ∷ []) ≡ Some reference
+lacks items reference is = ap (λ b. cond b (Some reference) None) is
 
--- the same where its name isn't made
-pub unnamed_at : (items : List Item) (references : List (Bor Text)) (n : ℕ) (p : Bor Text) (error : NameError) → n < length references → p ≡ get_or references n p
-    → find (is_missing items) (map (λ r. r.now) (take n references)) ≡ None → is_missing items p.now ≡ true
-    → (IsErrOf (unmade error) names.TooLong → 255 < length p.now) → AreFound items (map (λ r. r.now) references) (Err (name_fault error))
-unnamed_at items references n p names.TooLong l e before lacks long =
-    let more : 256 ≤ length p.now = omega (arith, long refl) in
-    (p.now, lacks_at items references n p l e before lacks, more)
-unnamed_at items references n p names.NoMemory l e before lacks long = tt
+-- one reference that is found
+pub found_one : (items : List Item) (reference : Text) (rest : List Text) → find (is_missing items) (reference ∷ []) ≡ None
+    → find (is_missing items) (reference ∷ rest) ≡ find (is_missing items) rest
+found_one items reference rest none = found_behind (is_missing items) (reference ∷ []) rest none
+
+endless : IsErrOf (unmade names.NoMemory) names.TooLong → ⊥
+endless h = absurd (search rules)
+
+nameless : IsOk (unmade names.NoMemory) → ⊥
+nameless h = absurd (search rules)
+
+-- one reference, whose name isn't made
+pub unnamed : (items : List Item) (reference : Text) (error : NameError) → is_missing items reference ≡ true
+    → (IsErrOf (unmade error) names.TooLong → 255 < length reference) → (255 < length reference → IsErrOf (unmade error) names.TooLong)
+    → (length reference ≤ 32 → IsOk (unmade error)) → AreFound items (reference ∷ []) (Err (name_fault error))
+unnamed items reference names.TooLong is long short inline = (reference, lacks items reference is, omega (arith, long refl))
+unnamed items reference names.NoMemory is long short inline =
+    let no : 255 < length reference → ⊥ = λ l. endless (short l) in
+    let some : length reference ≤ 32 → ⊥ = λ l. nameless (inline l) in
+    (reference, lacks items reference is, (omega (arith, some), omega (arith, no)))

@@ -1,4 +1,6 @@
+pub mod Appended
 pub mod BadPayloads
+pub mod Digits
 pub mod Found
 pub mod Linked
 pub mod Lists

@@ -54,7 +54,8 @@ written words terminal parts before after input (Err Reading) e reads is =
     subst (λ (o : Option (List AskedPart)). IsMadeFor o terminal before after (Err Reading)) (sym e) (Ok input, reads, is)
 written words terminal parts before after input (Err TooLong) e reads is =
     subst (λ (o : Option (List AskedPart)). IsMadeFor o terminal before after (Err TooLong)) (sym e) (Ok input, reads, is)
-written words terminal parts before after input (Err Memory) e reads is = tt
+written words terminal parts before after input (Err Memory) e reads is =
+    inr (subst (λ (o : Option (List AskedPart)). IsMadeFor o terminal before after (Err Memory)) (sym e) (Ok input, reads, is))
 
 -- where each reference has a record
 linked : (o : Option Text) (shown : Shown) (items : List Item) (made : Result Written Fault) → o ≡ None → MakesMessage shown items made → MakesLinked o shown items made
@@ -64,11 +65,7 @@ linked o shown items made none is = subst (λ (x : Option Text). MakesLinked x s
 pub answers : (parts : List AskedPart) (terminal : Bool) (input : List ℕ) (items : List Item) (made : Result Written Fault) → AreMade parts input items
     → missing_reference parts items ≡ None → MakesMessage (shown_by terminal parts) items made → IsWritten parts terminal input made
 answers parts terminal input items (Ok made) are none is = (items, are, linked _ _ items (Ok made) none is)
-answers parts terminal input items (Err Usage) are none is = inr (items, are, linked _ _ items (Err Usage) none is)
-answers parts terminal input items (Err (Refused why)) are none is = inr (items, are, linked _ _ items (Err (Refused why)) none is)
-answers parts terminal input items (Err Reading) are none is = inr (items, are, linked _ _ items (Err Reading) none is)
-answers parts terminal input items (Err TooLong) are none is = inr (items, are, linked _ _ items (Err TooLong) none is)
-answers parts terminal input items (Err Memory) are none is = tt
+answers parts terminal input items (Err fault) are none is = inr (items, are, linked _ _ items (Err fault) none is)
 
 -- where a reference has none
 pub not_found : (parts : List AskedPart) (terminal : Bool) (input : List ℕ) (items : List Item) (fault : Fault) → AreMade parts input items
@@ -76,7 +73,8 @@ pub not_found : (parts : List AskedPart) (terminal : Bool) (input : List ℕ) (i
 not_found parts terminal input items Usage are h = absurd h
 not_found parts terminal input items Reading are h = absurd h
 not_found parts terminal input items TooLong are h = absurd h
-not_found parts terminal input items Memory are h = tt
+not_found parts terminal input items Memory are h =
+    inr (items, are, subst (λ (o : Option Text). MakesLinked o (shown_by terminal parts) items (Err Memory)) (sym h.1) h.2)
 not_found parts terminal input items (Refused (refused.NoRecord told)) are h =
     inr (items, are, subst (λ (o : Option Text). MakesLinked o (shown_by terminal parts) items (Err (Refused (refused.NoRecord told)))) (sym h) refl)
 not_found parts terminal input items (Refused refused.PartTooLong) are h =

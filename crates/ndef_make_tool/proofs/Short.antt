@@ -1,11 +1,11 @@
 -- References that aren't too long.
-use Rattle.std.proofs.Common.{◌≡◌, ◌<◌, ◌≤◌, ◌+◌, ℕ, List, [], ◌∷◌, ◌++◌, length, take, get_or, map, refl, sym, subst, arith, Result, Err, Ok}
-use Rattle.std.specs.Prelude.{IsErrOf}
-use Rattle.std.specs.Borrow.{Bor}
+use Rattle.std.proofs.Common.{◌≡◌, ◌<◌, ◌≤◌, ◌+◌, ◌∙◌, ℕ, Bool, List, [], ◌∷◌, ◌++◌, length, take, get_or, map, refl, sym, ap, subst, arith, rules, true, false, Err, Ok}
+use Rattle.std.specs.Prelude.{◌&&◌, IsErrOf, Result, nat_lt}
 use Rattle.ndef_value.specs.declared.name.NameError.{NameError}
 use Rattle.ndef_value.specs.declared.name.NameError.TheVariants as names
+use Rattle.std.proofs.lemmas.Bool.{lt-ltb, ltb-true}
 use Rattle.ndef_make_tool.specs.Faults.{name_fault}
-use Rattle.ndef_make_tool.specs.Handovers.{AreNames, AreShort, MakesAc, MakesAlternative}
+use Rattle.ndef_make_tool.specs.Handovers.{AreNames, AreShort, MakesAc, MakesAlternative, are_short}
 use Rattle.ndef_make_tool.specs.Records.{Answer}
 use Rattle.ndef_make_tool.specs.declared.fault.Fault.TheVariants.{Usage, Refused, Reading, TooLong, Memory}
 use Rattle.ndef_make_tool.specs.declared.fault.Refused.TheVariants as refused
@@ -26,27 +26,42 @@ pub short_more : {A : Type 0} (f : A → Text) (ps : List A) (n : ℕ) (p : A) �
     → AreShort (map f (take (n + 1) ps))
 short_more f ps n p l e are is = subst AreShort (sym (mapped_more f ps n p l e)) (short_behind (map f (take n ps)) (f p) are is)
 
--- one that is too long
-pub long_at : {A : Type 0} (f : A → Text) (ps : List A) (n : ℕ) (p : A) → n < length ps → p ≡ get_or ps n p → 255 < length (f p) → AreShort (map f ps) → ⊥
-long_at f ps n p l e long are =
-    let split = mapped_at f ps n p l e in
-    let short = short_within (map f (take n ps)) (f p) split.0 (subst AreShort split.1 are) in
-    omega (arith, long, short)
+-- one of them
+pub short_at : {A : Type 0} (f : A → Text) (ps : List A) (n : ℕ) (p : A) → n < length ps → p ≡ get_or ps n p → AreShort (map f ps) → length (f p) < 256
+short_at f ps n p l e are = let split = mapped_at f ps n p l e in short_within (map f (take n ps)) (f p) split.0 (subst AreShort split.1 are)
 
 -- what comes of a name that isn't made
 abbrev pub unmade : NameError → Result (List ℕ) NameError
 unmade error = Err error
 
--- references of which one's name isn't made
-pub names_fail : (references : List (Bor Text)) (n : ℕ) (p : Bor Text) (error : NameError) → n < length references → p ≡ get_or references n p
-    → (IsErrOf (unmade error) names.TooLong → 255 < length p.now) → AreNames (map (λ r. r.now) references) (Err (name_fault error))
-names_fail references n p names.TooLong l e long = long_at (λ r. r.now) references n p l e (long refl)
-names_fail references n p names.NoMemory l e long = tt
+-- the name of a short reference that isn't made
+pub names_fail : {A : Type 0} (f : A → Text) (ps : List A) (error : NameError) (reference : Text) → length reference < 256 → (IsErrOf (unmade error) names.TooLong → 255 < length reference)
+    → AreNames (map f ps) (Err (name_fault error))
+names_fail f ps names.TooLong reference short long = absurd (omega (arith, short, long refl))
+names_fail f ps names.NoMemory reference short long = tt
+
+-- ---- the test
+
+both : (a b : Bool) → (a && b) ≡ true → (a ≡ true) × (b ≡ true)
+both true b is = (refl, is)
+both false b is = absurd (search rules)
+
+-- what passes is short
+pub short_if : (references : List Text) → are_short references ≡ true → AreShort references
+short_if [] is = tt
+short_if (r ∷ references) is =
+    let h = both (nat_lt (length r) 256) (are_short references) is in
+    (ltb-true (length r) 256 h.0, short_if references h.1)
+
+-- what doesn't pass isn't
+pub long_if : (references : List Text) → are_short references ≡ false → AreShort references → ⊥
+long_if [] is are = absurd (search rules)
+long_if (r ∷ references) is are = long_if references (sym (ap (λ b. b && are_short references) (lt-ltb (length r) 256 are.0)) ∙ is) are.1
 
 -- the record of a carrier whose references are short
 pub made_short : (v : AcValue) (answer : Answer) → AreShort (v.reference ∷ v.auxiliary) → MakesAc v answer → MakesAlternative v answer
 made_short v (Ok i) short is = (short, is.0, is.1, is.2, is.3)
-made_short v (Err Memory) short is = tt
+made_short v (Err Memory) short is = (short, is)
 made_short v (Err Usage) short is = absurd is
 made_short v (Err Reading) short is = absurd is
 made_short v (Err TooLong) short is = absurd is

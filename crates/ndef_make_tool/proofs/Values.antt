@@ -1,12 +1,20 @@
 -- The records of texts and URIs.
-use Rattle.std.proofs.Common.{◌≡◌, ◌∙◌, ◌<◌, ◌≤◌, ◌^◌, ℕ, List, length, Ok, sym, ap, subst, arith, rules}
-use Rattle.std.specs.Prelude.{codes, IsAscii, IsErrOf}
+use Rattle.std.proofs.Common.{◌≡◌, ◌∙◌, ◌<◌, ◌≤◌, ◌^◌, ℕ, List, length, Err, Ok, refl, sym, ap, subst, arith, rules}
+use Rattle.std.specs.Prelude.{codes, IsAscii, IsErrOf, Result}
 use Rattle.clap.specs.Words.{Text}
-use Rattle.ndef_format.specs.Messages.{Item}
+use Rattle.ndef_format.specs.Canonical.{HasLengths}
+use Rattle.ndef_format.specs.Messages.{IsShaped, Item}
+use Rattle.ndef_value.specs.declared.record.RecordError.{RecordError}
+use Rattle.ndef_value.specs.declared.record.RecordError.TheVariants as records
+use Rattle.ndef_make_tool.specs.Faults.{record_fault}
 use Rattle.ndef_types.specs.Decoding.{IsTooLong}
 use Rattle.ndef_types.specs.declared.error.EncodeError.TheVariants.{TooLong}
 use Rattle.ndef_types.specs.Values.{IsTextValue, TextValue, WritesUri, text_payload}
-use Rattle.ndef_make_tool.specs.Records.{MakesText, MakesUri, well_known}
+use Rattle.ndef_make_tool.specs.Records.{MakesItem, MakesText, MakesUri, well_known}
+
+-- what comes of a record that isn't made
+abbrev pub unmade_item : RecordError → Result Item RecordError
+unmade_item error = Err error
 
 never : (p : List ℕ) → IsErrOf (Ok p) TooLong → ⊥
 never p h = absurd (search rules)
@@ -35,3 +43,21 @@ made_uri uri u p i same written short made =
       room,
       made ∙ ap (well_known (codes "U")) (sym payload),
     )
+
+-- ---- records of given parts
+
+shapeless : IsErrOf (unmade_item records.NoMemory) records.BadShape → ⊥
+shapeless h = absurd (search rules)
+
+endless : IsErrOf (unmade_item records.NoMemory) records.TooLong → ⊥
+endless h = absurd (search rules)
+
+-- a record that isn't made
+pub item_unmade : (i : Item) (error : RecordError) → (IsErrOf (unmade_item error) records.BadShape → IsShaped i → ⊥) → ((IsShaped i → ⊥) → IsErrOf (unmade_item error) records.BadShape)
+    → (IsErrOf (unmade_item error) records.TooLong → IsShaped i × (HasLengths i → ⊥)) → (IsShaped i × (HasLengths i → ⊥) → IsErrOf (unmade_item error) records.TooLong)
+    → MakesItem i (Err (record_fault error))
+item_unmade i records.BadShape bad shaped long short = bad refl
+item_unmade i records.TooLong bad shaped long short = long refl
+item_unmade i records.NoMemory bad shaped long short =
+    let shape : (IsShaped i → ⊥) → ⊥ = λ no. shapeless (shaped no) in
+    (shape, λ no. shape (λ s. endless (short (s, no))))

@@ -1,5 +1,5 @@
 -- What single words say.
-use Rattle.std.proofs.Common.{◌≡◌, ◌∙◌, ◌<◌, ◌≤◌, ◌+◌, ◌++◌, ◌∷◌, get_or, take, append-nil, append_assoc, ℕ, true, false, List, [], map, length, Option, Some, None, sym, ap, ap₂, arith, cond}
+use Rattle.std.proofs.Common.{◌≡◌, ◌∙◌, ◌<◌, ℕ, true, false, List, [], map, length, Option, Some, None, sym, ap, ap₂, arith, cond}
 use Rattle.std.specs.Prelude.{◌==◌, option_map, nat_lt, unwrap_or}
 use Rattle.std.specs.Borrow.{Bor}
 use Rattle.std.specs.List.{after_first, before_first, position_or_len}
@@ -8,12 +8,7 @@ use Rattle.std.proofs.lemmas.Str.Pattern.{IsSplitOnceResult, split_once_first}
 use Rattle.clap.specs.Words.{Text, matched_of, raw_values, rows_of}
 use Rattle.clap.specs.declared.parser.matches.Found.{Found}
 use Rattle.clap.proofs.WalkLemmas.{raw_values-rows}
-use Rattle.ndef_make_tool.specs.Contents.{Content, content_of}
 use Rattle.ndef_make_tool.specs.Options.{cut_at, option_words}
-use Rattle.ndef_make_tool.specs.declared.contents.Property.{Property}
-use Rattle.ndef_make_tool.specs.declared.contents.Word.{Word}
-use Rattle.ndef_make_tool.proofs.Lists.{map_twice, mapped_more}
-use Rattle.std.proofs.lemmas.List.{map-append, take_all}
 
 -- ---- words that are cut
 
@@ -36,24 +31,3 @@ word_cut byte small word (Some x) h =
 pub words_given : (f : Found) (id : Text) (r : Option (Bor (List (Bor Text)))) → option_map (λ s. map (λ v. v.now) s.now) r ≡ option_map raw_values (matched_of f id)
     → unwrap_or (option_map (λ s. map (λ v. v.now) s.now) r) [] ≡ option_words id (rows_of f)
 words_given f id r e = ap (λ o. unwrap_or o []) (e ∙ raw_values-rows f id)
-
--- one word more
-pub words_more : (property : Property) (texts : List (Bor Text)) (n : ℕ) (text : Bor Text) (before after : List Word) (front : List Content) (word : Word) → n < length texts
-    → text ≡ get_or texts n text → map content_of before ≡ front ++ map (λ t. (property, t.now)) (take n texts) → content_of word ≡ (property, text.now)
-    → after ≡ before ++ word ∷ [] → map content_of after ≡ front ++ map (λ t. (property, t.now)) (take (n + 1) texts)
-words_more property texts n text before after front word l e all is grown =
-    ap (map content_of) grown ∙ map-append content_of before (word ∷ []) ∙ ap₂ (λ (a : List Content) (b : Content). a ++ b ∷ []) all is
-    ∙ append_assoc front (map (λ t. (property, t.now)) (take n texts)) ((property, text.now) ∷ [])
-    ∙ ap (λ t. front ++ t) (sym (mapped_more (λ t. (property, t.now)) texts n text l e))
-
--- all words
-pub words_whole : (property : Property) (texts : List (Bor Text)) (n : ℕ) (words : List Text) (after : List Word) (front : List Content) → length texts ≤ n
-    → map content_of after ≡ front ++ map (λ t. (property, t.now)) (take n texts) → map (λ t. t.now) texts ≡ words
-    → map content_of after ≡ front ++ map (λ w. (property, w)) words
-words_whole property texts n words after front l all given =
-    all ∙ ap (λ (ts : List (Bor Text)). front ++ map (λ t. (property, t.now)) ts) (take_all n texts l)
-    ∙ ap (λ t. front ++ t) (sym (map_twice (λ w. (property, w)) (λ t. t.now) texts) ∙ ap (map (λ w. (property, w))) given)
-
--- no words
-pub words_none : (property : Property) (words : List Text) (front : List Content) → [] ≡ words → front ≡ front ++ map (λ w. (property, w)) words
-words_none property words front given = sym (ap (λ (ws : List Text). front ++ map (λ w. (property, w)) ws) (sym given) ∙ append-nil front)

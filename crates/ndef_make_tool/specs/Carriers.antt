@@ -1,5 +1,5 @@
 -- The record of a handover carrier (NFC Forum, Connection Handover 1.2).
-use Rattle.std.specs.Prelude.{◌≡◌, ◌<◌, ◌≤◌, ◌^◌, ◌⊎◌, ℕ, List, [], length, Option, Some, None, Result, Ok, Err, ⊤, codes, if◌then◌else◌, option_and_then, option_map}
+use Rattle.std.specs.Prelude.{◌≡◌, ◌<◌, ◌≤◌, ◌^◌, ◌⊎◌, ℕ, List, [], length, Option, Some, None, Result, Ok, Err, codes, if◌then◌else◌, option_and_then, option_map}
 use Rattle.std.specs.Str.{bytes_eq}
 use Rattle.clap.specs.Words.{Row, Text, first_of}
 use Rattle.ndef_format.specs.Messages.{Item}
@@ -39,7 +39,7 @@ abbrev pub WritesData : CarrierValue → Result (List ℕ) Fault → Type 0
 WritesData v (Ok payload) = (length v.kind < 256) × (length payload < 2 ^ 32) × (payload ≡ carrier_payload v)
 WritesData v (Err (Refused PartTooLong)) = 256 ≤ length v.kind
 WritesData v (Err (Refused PayloadTooLong)) = (length v.kind < 256) × (2 ^ 32 ≤ length (carrier_payload v))
-WritesData v (Err Memory) = ⊤
+WritesData v (Err Memory) = length v.kind < 256
 WritesData v (Err _) = ⊥
 
 -- Connection Handover 1.2, Handover Carrier record: the record with this id and this payload
@@ -49,7 +49,6 @@ carrier_item id payload = record { tnf = WellKnown; kind = codes "Hc"; id = id; 
 -- Connection Handover 1.2, Handover Carrier record: the record of a carrier, with this id
 abbrev pub MakesCarrier : Text → CarrierValue → Answer → Type 0
 MakesCarrier id v (Ok i) = (payload : List ℕ) × WritesData v (Ok payload) × MakesItem (carrier_item id payload) (Ok i)
-MakesCarrier id v (Err Memory) = ⊤
 MakesCarrier id v (Err fault) =
     WritesData v (Err fault)
     ⊎ ((payload : List ℕ) × WritesData v (Ok payload) × MakesItem (carrier_item id payload) (Err fault))

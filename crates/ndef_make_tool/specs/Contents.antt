@@ -1,6 +1,6 @@
 -- What stands in a poster or a handover: records, one for each word (RTD Smart Poster 1.0, Connection Handover 1.2).
-use Rattle.std.specs.Prelude.{◌≡◌, ◌⊎◌, List, [], ◌++◌, map, Result, Ok, Err, ⊤, codes, Vec}
-use Rattle.std.specs.declared.alloc.Global.{Global}
+use Rattle.std.specs.Prelude.{◌≡◌, ◌⊎◌, List, [], ◌∷◌, ◌++◌, map, Result, Ok, Err, codes}
+use Rattle.std.specs.List.{flat_map}
 use Rattle.clap.specs.Words.{Row, Text}
 use Rattle.ndef_format.specs.Messages.{Item}
 use Rattle.ndef_make_tool.specs.Handovers.{AsksError, MakesAlternative, MakesHandoverOf, ac_said, collision_said, handover_said}
@@ -9,9 +9,8 @@ use Rattle.ndef_make_tool.specs.Posters.{MakesNested, action_said, size_said, ti
 use Rattle.ndef_make_tool.specs.Records.{Answer, AreMadeBy, MakesSaid, FailsBy, MakesItem, MakesText, MakesUri, well_known}
 use Rattle.ndef_make_tool.specs.declared.contents.Property.{Property}
 use Rattle.ndef_make_tool.specs.declared.contents.Property.TheVariants as property
-use Rattle.ndef_make_tool.specs.declared.contents.Word.{Word}
+use Rattle.ndef_make_tool.specs.declared.contents.Wanted.{Wanted}
 use Rattle.ndef_make_tool.specs.declared.fault.Fault.{Fault}
-use Rattle.ndef_make_tool.specs.declared.fault.Fault.TheVariants.{Memory}
 use Rattle.ndef_make_tool.specs.declared.handover.Handover.{Handover}
 
 -- ---- one record
@@ -35,10 +34,13 @@ MakesContent (property.Error, word) answer = AsksError word answer
 abbrev pub words_as : Property → Text → List Row → List Content
 words_as property id rows = map (λ word. (property, word)) (option_words id rows)
 
+-- the words of these options, one option after another
+abbrev pub contents_by : List (Property × Text) → List Row → List Content
+contents_by options rows = flat_map (λ option. words_as option.0 option.1 rows) options
+
 -- the record of a message of these records, or why there is none
 abbrev pub MakesOf : (List Item → Answer → Type 0) → List Content → Answer → Type 0
 MakesOf makes contents (Ok i) = (items : List Item) × AreMadeBy MakesContent contents items × makes items (Ok i)
-MakesOf makes contents (Err Memory) = ⊤
 MakesOf makes contents (Err fault) = FailsBy MakesContent contents fault
     ⊎ ((items : List Item) × AreMadeBy MakesContent contents items × makes items (Err fault))
 
@@ -47,10 +49,8 @@ MakesOf makes contents (Err fault) = FailsBy MakesContent contents fault
 -- RTD Smart Poster 1.0: what a part says of a poster: its URI, its titles as they are given, its action, its size and
 -- its media type
 abbrev pub poster_contents : List Row → List Content
-poster_contents rows =
-    words_as property.Uri (codes "uri") rows ++ words_as property.Title (codes "title") rows
-    ++ words_as property.Action (codes "action") rows
-    ++ words_as property.Size (codes "size") rows ++ words_as property.Media (codes "media") rows
+poster_contents rows = contents_by ((property.Uri, codes "uri") ∷ (property.Title, codes "title")
+    ∷ (property.Action, codes "action") ∷ (property.Size, codes "size") ∷ (property.Media, codes "media") ∷ []) rows
 
 -- RTD Smart Poster 1.0: the record of the poster of a part
 abbrev pub MakesPoster : List Row → Answer → Type 0
@@ -61,9 +61,8 @@ MakesPoster rows answer = MakesOf MakesNested (poster_contents rows) answer
 -- Connection Handover 1.2: what a part says of a handover: its collision resolution, its carriers as they are given,
 -- and its error
 abbrev pub handover_contents : List Row → List Content
-handover_contents rows =
-    words_as property.Collision (codes "collision") rows ++ words_as property.Carrier (codes "carrier") rows
-    ++ words_as property.Error (codes "error") rows
+handover_contents rows = contents_by ((property.Collision, codes "collision")
+    ∷ (property.Carrier, codes "carrier") ∷ (property.Error, codes "error") ∷ []) rows
 
 -- Connection Handover 1.2: the record of the handover of a part, whose contents are these
 abbrev pub MakesHandover : List Content → Handover → Answer → Type 0
@@ -75,19 +74,12 @@ MakesHandoverSaid rows answer = MakesSaid (MakesHandover (handover_contents rows
 
 -- ---- step by step
 
--- a property, and its word
-abbrev pub content_of : Word → Content
-content_of word = (word.property, word.text.now)
+-- an option, and the property that its words say
+abbrev pub option_of : Wanted → Property × Text
+option_of wanted = (wanted.property, wanted.id.now)
 
--- words are appended, each as that property; or memory is wanting
-abbrev pub OnAppended : Property → List Text → (before after : List Word) → Result Unit Fault → Type 0
-OnAppended property words before after (Ok done) =
-    map content_of after ≡ map content_of before ++ map (λ word. (property, word)) words
-OnAppended property words before after (Err Memory) = ⊤
-OnAppended property words before after (Err _) = ⊥
-
--- all that is said; or memory is wanting
-abbrev pub AreContents : List Content → Result (Vec Word Global) Fault → Type 0
-AreContents contents (Ok words) = map content_of words.items ≡ contents
-AreContents contents (Err Memory) = ⊤
-AreContents contents (Err _) = ⊥
+-- the records of what is said are appended, or why not
+abbrev pub OnMade : List Content → (before after : List Item) → Result Unit Fault → Type 0
+OnMade contents before after (Ok done) =
+    (items : List Item) × AreMadeBy MakesContent contents items × (after ≡ before ++ items)
+OnMade contents before after (Err fault) = FailsBy MakesContent contents fault

@@ -18,6 +18,7 @@ use Rattle.ndef_format.specs.declared.refusal.Refusal.{Refusal}
 use Rattle.ndef_make_tool.specs.declared.fault.Fault.{Fault}
 use Rattle.ndef_make_tool.specs.declared.fault.Fault.TheVariants.{Usage, Refused, Reading, TooLong, Memory}
 use Rattle.ndef_make_tool.specs.declared.fault.Refused.TheVariants as refused
+use Rattle.ndef_program.specs.Quoting.{quoted}
 use Rattle.ndef_program.specs.declared.status.Status.{Status}
 use Rattle.ndef_make_tool.specs.declared.fault.Told.{Told}
 use Rattle.ndef_make_tool.specs.declared.fault.Told.TheVariants as told
@@ -79,7 +80,7 @@ payload_line r =
 
 -- Connection Handover 1.2, Carrier Data Reference: for a reference without a record
 abbrev pub record_line : Text → Text
-record_line reference = codes "refused: no record has the id \"" ++ reference ++ codes "\"\n"
+record_line reference = codes "refused: no record has the id " ++ quoted reference ++ codes "\n"
 
 -- the line of a fault
 abbrev pub line_of : Fault → Text

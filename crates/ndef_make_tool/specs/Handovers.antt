@@ -1,12 +1,13 @@
 -- Handover requests and selects (NFC Forum, Connection Handover 1.2).
-use Rattle.std.specs.Prelude.{◌≡◌, ◌<◌, ◌≤◌, ◌^◌, ◌⊎◌, ◌&&◌, not, ℕ, Bool, List, [], ◌∷◌, length, Option, Some, None, IfSome, Result, Ok, Err, ⊤, codes, if◌then◌else◌, option_and_then, option_map, Vec}
+use Rattle.std.specs.Prelude.{◌≡◌, ◌<◌, ◌≤◌, ◌+◌, ◌^◌, ◌⊎◌, ◌&&◌, not, ℕ, Bool, List, [], ◌∷◌, length, nat_lt, Option, Some, None, IfSome, Result, Ok, Err, ⊤, codes, if◌then◌else◌, option_and_then, option_map, Vec}
 use Rattle.std.specs.declared.alloc.Global.{Global}
 use Rattle.std.specs.Int.{w16, to_be_bytes}
-use Rattle.std.specs.List.{AllByRecursion, slice_split}
+use Rattle.std.specs.List.{AllByRecursion, list_all, slice_split}
 use Rattle.std.specs.Result.{result_ok}
 use Rattle.std.specs.Str.{bytes_eq}
 use Rattle.hex.specs.Hex.{decode_of}
 use Rattle.clap.specs.Words.{Row, Text, first_of}
+use Rattle.ndef_format.specs.Canonical.{canonical}
 use Rattle.ndef_format.specs.Handovers.{IsErrorData}
 use Rattle.ndef_format.specs.Messages.{Item}
 use Rattle.ndef_format.specs.Nested.{HasContents}
@@ -14,7 +15,7 @@ use Rattle.ndef_format.specs.declared.profile.Profile.TheVariants.{Strict}
 use Rattle.ndef_format.specs.declared.table.Table.{Table}
 use Rattle.ndef_format.specs.declared.table.Table.TheVariants as tables
 use Rattle.ndef_types.specs.Contents.{IsFirstWrong}
-use Rattle.ndef_types.specs.Handovers.{RequestValue, SelectValue, WritesRequest, WritesSelect}
+use Rattle.ndef_types.specs.Handovers.{RequestValue, SelectValue, WritesRequest, WritesSelect, canonical_or_none}
 use Rattle.ndef_types.specs.Values.{AcValue, ErrorValue, WritesAc, WritesError, ac_payload, error_payload}
 use Rattle.ndef_types.specs.declared.power.Power.{Power}
 use Rattle.ndef_types.specs.declared.power.Power.TheVariants as power
@@ -51,6 +52,10 @@ ac_said word = option_and_then (λ cut. option_and_then (λ power. ac_of power (
 abbrev pub AreShort : List Text → Type 0
 AreShort references = AllByRecursion (λ reference. length reference < 256) references
 
+-- the same as a test
+abbrev pub are_short : List Text → Bool
+are_short references = list_all (λ reference. nat_lt (length reference) 256) references
+
 -- Connection Handover 1.2, Alternative Carrier record: the record of a carrier; none where a reference is too long or
 -- there are too many
 abbrev pub MakesAlternative : AcValue → Answer → Type 0
@@ -60,7 +65,7 @@ MakesAlternative v (Err (Refused PartTooLong)) = AreShort (v.reference ∷ v.aux
 MakesAlternative v (Err (Refused TooManyReferences)) = AreShort (v.reference ∷ v.auxiliary)
     × (256 ≤ length v.auxiliary)
 MakesAlternative v (Err (Refused PayloadTooLong)) = 2 ^ 32 ≤ length (ac_payload v)
-MakesAlternative v (Err Memory) = ⊤
+MakesAlternative v (Err Memory) = AreShort (v.reference ∷ v.auxiliary) × (length v.auxiliary < 256)
 MakesAlternative v (Err _) = ⊥
 
 -- ---- errors
@@ -84,13 +89,13 @@ MakesError v (Ok i) = IsErrorData v.reason v.detail × WritesError v i.payload �
     × (i ≡ well_known (codes "err") i.payload)
 MakesError v (Err (Refused BadError)) = IsErrorData v.reason v.detail → ⊥
 MakesError v (Err (Refused PayloadTooLong)) = IsErrorData v.reason v.detail × (2 ^ 32 ≤ length (error_payload v))
-MakesError v (Err Memory) = ⊤
+MakesError v (Err Memory) = IsErrorData v.reason v.detail
 MakesError v (Err _) = ⊥
 
--- Connection Handover 1.2, Error record: the record of the error of a word, unless memory is wanting; the usage line
--- where it says none
+-- Connection Handover 1.2, Error record: the record of the error of a word; the usage line where it says none. Memory
+-- may be wanting for the octets of its digits
 abbrev pub AsksError : Text → Answer → Type 0
-AsksError word (Err Memory) = ⊤
+AsksError word (Err Memory) = (v : ErrorValue) × (error_said word ≡ Some v)
 AsksError word answer = MakesSaid MakesError (error_said word) answer
 
 -- ---- collisions
@@ -151,7 +156,8 @@ MakesRequest minor items (Err (Refused NoHandover)) =
 MakesRequest minor items (Err (Refused TooManyRecords)) = 65535 < length items
 MakesRequest minor items (Err (Refused PayloadTooLong)) =
     (payload : List ℕ) × WritesRequest (record { minor = minor; items = items }) payload × (2 ^ 32 ≤ length payload)
-MakesRequest minor items (Err Memory) = ⊤
+MakesRequest minor items (Err Memory) =
+    HasContents tables.Request Strict items × (1 + length (canonical items) < 2 ^ 32)
 MakesRequest minor items (Err _) = ⊥
 
 -- Connection Handover 1.2, Handover Select record: the message of a select; none where there are no records
@@ -169,7 +175,8 @@ MakesSelect minor items (Err (Refused TooManyRecords)) = 65535 < length items
 MakesSelect minor items (Err (Refused PayloadTooLong)) =
     (payload : List ℕ) × WritesSelect (record { minor = minor; message = selected items }) payload
     × (2 ^ 32 ≤ length payload)
-MakesSelect minor items (Err Memory) = ⊤
+MakesSelect minor items (Err Memory) = IfSome (selected items) (HasContents tables.Select Strict)
+    × (1 + length (canonical_or_none (selected items)) < 2 ^ 32)
 MakesSelect minor items (Err _) = ⊥
 
 -- Connection Handover 1.2: the record of a request or a select of these records
@@ -183,10 +190,20 @@ MakesHandoverOf handover items answer = MakesSide handover.side handover.minor i
 
 -- ---- step by step
 
--- the names of references; none where one is too long
+-- references of a carrier and of its auxiliary records: none is too long, and there aren't too many
+abbrev pub AreReferences : List Text → Type 0
+AreReferences references = AreShort references × (length references ≤ 256)
+
+-- the same, or what is wrong with them
+abbrev pub AreChecked : List Text → Result Unit Fault → Type 0
+AreChecked references (Ok done) = AreReferences references
+AreChecked references (Err (Refused PartTooLong)) = AreShort references → ⊥
+AreChecked references (Err (Refused TooManyReferences)) = AreShort references × (256 < length references)
+AreChecked references (Err _) = ⊥
+
+-- the names of references
 abbrev pub AreNames : List Text → Result (Vec (List ℕ) Global) Fault → Type 0
 AreNames references (Ok names) = (names.items ≡ references) × AreShort references
-AreNames references (Err (Refused PartTooLong)) = AreShort references → ⊥
 AreNames references (Err Memory) = ⊤
 AreNames references (Err _) = ⊥
 
@@ -196,14 +213,14 @@ MakesAc v (Ok i) = (length v.auxiliary < 256) × WritesAc v i.payload × (length
     × (i ≡ well_known (codes "ac") i.payload)
 MakesAc v (Err (Refused TooManyReferences)) = 256 ≤ length v.auxiliary
 MakesAc v (Err (Refused PayloadTooLong)) = 2 ^ 32 ≤ length (ac_payload v)
-MakesAc v (Err Memory) = ⊤
+MakesAc v (Err Memory) = length v.auxiliary < 256
 MakesAc v (Err _) = ⊥
 
 -- the bytes of hexadecimal digits, or the usage line exactly where they are none
 abbrev pub SaysOctets : Text → Result (Vec ℕ Global) Fault → Type 0
 SaysOctets digits (Ok octets) = octets_in digits ≡ Some octets.items
 SaysOctets digits (Err Usage) = octets_in digits ≡ None
-SaysOctets digits (Err Memory) = ⊤
+SaysOctets digits (Err Memory) = (octets : List ℕ) × (octets_in digits ≡ Some octets)
 SaysOctets digits (Err _) = ⊥
 
 -- the message of a select, where it has records

@@ -1,5 +1,5 @@
 -- The message that the words ask for, and what is written of it.
-use Rattle.std.specs.Prelude.{◌≡◌, ◌<◌, ◌≤◌, ◌⊎◌, ◌&&◌, ℕ, zero, suc, Bool, not, if◌then◌else◌, List, [], length, count_by, Option, Some, None, Result, Ok, Err, ⊤, codes, Vec}
+use Rattle.std.specs.Prelude.{◌≡◌, ◌<◌, ◌≤◌, ◌⊎◌, ◌&&◌, ℕ, zero, suc, Bool, not, if◌then◌else◌, List, [], length, count_by, Option, Some, None, Result, Ok, Err, codes, Vec}
 use Rattle.std.specs.declared.alloc.Global.{Global}
 use Rattle.std.specs.List.{list_any}
 use Rattle.clap.specs.Words.{Row, Text}
@@ -14,7 +14,7 @@ use Rattle.ndef_make_tool.specs.Inputs.{IsPayloadInput}
 use Rattle.ndef_program.specs.Options.{flag_of}
 use Rattle.ndef_make_tool.specs.Options.{subject_named, takes_input}
 use Rattle.ndef_make_tool.specs.Contents.{MakesHandoverSaid, MakesPoster}
-use Rattle.ndef_make_tool.specs.References.{missing_reference}
+use Rattle.ndef_make_tool.specs.References.{IsLongName, missing_reference}
 use Rattle.ndef_make_tool.specs.Records.{Answer, AreAnsweredBy, AreMadeBy, MakesSaid, FailsBy, MakesItem, MakesText, MakesUri, item_said, text_said, uri_said}
 use Rattle.ndef_make_tool.specs.declared.fault.Fault.{Fault}
 use Rattle.ndef_make_tool.specs.declared.fault.Fault.TheVariants.{Usage, Refused, Memory}
@@ -92,7 +92,7 @@ abbrev pub MakesMessage : Shown → List Item → Result Written Fault → Type 
 MakesMessage shown items (Ok made) = AreItems items × (made.text ≡ written_as shown (canonical items))
     × (made.shown ≡ shown)
 MakesMessage shown items (Err (Refused TooManyRecords)) = 65535 < length items
-MakesMessage shown items (Err Memory) = ⊤
+MakesMessage shown items (Err Memory) = length items ≤ 65535
 MakesMessage shown items (Err _) = ⊥
 
 -- Connection Handover 1.2, Carrier Data Reference: the message of the records, where each reference has a record
@@ -100,7 +100,7 @@ abbrev pub MakesLinked : Option Text → Shown → List Item → Result Written 
 MakesLinked None shown items answer = MakesMessage shown items answer
 MakesLinked (Some reference) shown items (Err (Refused (NoRecord told))) = told ≡ reference
 MakesLinked (Some reference) shown items (Err (Refused PartTooLong)) = 256 ≤ length reference
-MakesLinked (Some reference) shown items (Err Memory) = ⊤
+MakesLinked (Some reference) shown items (Err Memory) = IsLongName reference
 MakesLinked (Some reference) shown items _ = ⊥
 
 -- what is written for the parts and their records
@@ -110,7 +110,6 @@ MakesAll parts terminal items answer =
 
 -- what is written for the parts: their message, or why there is none
 abbrev pub IsWritten : List AskedPart → (terminal : Bool) → (input : List ℕ) → Result Written Fault → Type 0
-IsWritten parts terminal input (Err Memory) = ⊤
 IsWritten parts terminal input (Ok made) =
     (items : List Item) × AreMade parts input items × MakesAll parts terminal items (Ok made)
 IsWritten parts terminal input (Err fault) = FailsAt parts input fault
@@ -129,8 +128,10 @@ IsMadeFor (Some parts) terminal before after made =
     (input : Result (List ℕ) Fault) × ReadsFor (readers_of parts) before after input
     × IsWrittenOf parts terminal input made
 
--- what comes of the words and the input: what is written of the message, or why there is none
+-- what comes of the words and the input: what is written of the message, or why there is none. Memory may be wanting
+-- for the words, before the input is read
 abbrev pub IsMade : List Text → (terminal : Bool) → (before after : SourceState) → Result Written Fault → Type 0
 IsMade words terminal before after (Ok made) = IsMadeFor (parts_asked words) terminal before after (Ok made)
-IsMade words terminal before after (Err Memory) = ⊤
+IsMade words terminal before after (Err Memory) =
+    (after ≡ before) ⊎ IsMadeFor (parts_asked words) terminal before after (Err Memory)
 IsMade words terminal before after (Err fault) = IsMadeFor (parts_asked words) terminal before after (Err fault)

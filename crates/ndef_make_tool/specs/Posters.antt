@@ -1,5 +1,5 @@
 -- Smart posters (NFC Forum, RTD Smart Poster 1.0).
-use Rattle.std.specs.Prelude.{◌≡◌, ◌<◌, ◌≤◌, ◌^◌, ◌⊎◌, ℕ, List, [], ◌∷◌, length, Option, Some, None, Ok, Err, ⊤, codes, chars, if◌then◌else◌, option_map}
+use Rattle.std.specs.Prelude.{◌≡◌, ◌<◌, ◌≤◌, ◌^◌, ◌⊎◌, ℕ, List, [], ◌∷◌, length, Option, Some, None, Ok, Err, codes, chars, if◌then◌else◌, option_map}
 use Rattle.std.specs.Int.{w32, to_be_bytes}
 use Rattle.std.specs.Str.{bytes_eq}
 use Rattle.clap.specs.Words.{Text}
@@ -49,5 +49,5 @@ MakesNested items (Err (Refused NoPoster)) = (items ≡ [])
     ⊎ ((index : ℕ) × (IsFirstWrong tables.SmartPoster items index ⊎ LacksUri items index))
 MakesNested items (Err (Refused TooManyRecords)) = 65535 < length items
 MakesNested items (Err (Refused PayloadTooLong)) = 2 ^ 32 ≤ length (canonical items)
-MakesNested items (Err Memory) = ⊤
+MakesNested items (Err Memory) = HasContents tables.SmartPoster Strict items × (length (canonical items) < 2 ^ 32)
 MakesNested items (Err _) = ⊥

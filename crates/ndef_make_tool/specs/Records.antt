@@ -1,5 +1,5 @@
 -- The records that parts ask for (NFC Forum, NDEF 1.0, RTD Text 1.0 and RTD URI 1.0).
-use Rattle.std.specs.Prelude.{◌++◌, ◌∷◌, ◌≡◌, ◌<◌, ◌≤◌, ◌^◌, ℕ, Bool, true, false, List, [], length, Option, Some, None, Result, Ok, Err, ⊤, option_and_then, option_map, codes, chars, IsAscii, Vec}
+use Rattle.std.specs.Prelude.{◌++◌, ◌∷◌, ◌≡◌, ◌<◌, ◌≤◌, ◌^◌, ◌⊎◌, ℕ, Bool, true, false, List, [], length, Option, Some, None, Result, Ok, Err, ⊤, option_and_then, option_map, codes, chars, IsAscii, Vec}
 use Rattle.std.specs.declared.alloc.Global.{Global}
 use Rattle.clap.specs.Words.{Row, Text, first_of}
 use Rattle.ndef_format.specs.Canonical.{HasLengths}
@@ -46,7 +46,7 @@ MakesText v (Ok i) = (length v.language ≤ 63) × IsAscii v.language × WritesT
 MakesText v (Err (Refused LanguageTooLong)) = 63 < length v.language
 MakesText v (Err (Refused LanguageNotAscii)) = (length v.language ≤ 63) × (IsAscii v.language → ⊥)
 MakesText v (Err (Refused PayloadTooLong)) = (length v.language ≤ 63) × IsAscii v.language × IsTooLong WritesText v
-MakesText v (Err Memory) = ⊤
+MakesText v (Err Memory) = (length v.language ≤ 63) × IsAscii v.language
 MakesText v (Err _) = ⊥
 
 -- ---- URIs
@@ -73,12 +73,13 @@ item_said rows payload = option_map (λ tnf. record {
   payload = payload;
 }) (option_and_then tnf_named (first_of (codes "tnf") rows))
 
--- NDEF 1.0, record layout: the record, where its parts go together and none is too long
+-- NDEF 1.0, record layout: the record, where its parts go together and none is too long. Memory is wanting only where
+-- neither of the two refusals holds
 abbrev pub MakesItem : Item → Answer → Type 0
 MakesItem i (Ok made) = (made ≡ i) × IsShaped i × HasLengths i
 MakesItem i (Err (Refused BadShape)) = IsShaped i → ⊥
 MakesItem i (Err (Refused PartTooLong)) = IsShaped i × (HasLengths i → ⊥)
-MakesItem i (Err Memory) = ⊤
+MakesItem i (Err Memory) = ((IsShaped i → ⊥) → ⊥) × ((HasLengths i → ⊥) → ⊥)
 MakesItem i (Err _) = ⊥
 
 -- ---- what is said
@@ -94,14 +95,18 @@ AreMadeBy makes [] [] = ⊤
 AreMadeBy makes (x ∷ xs) (i ∷ items) = makes x (Ok i) × AreMadeBy makes xs items
 AreMadeBy makes _ _ = ⊥
 
--- the first of which no record is made, and why
+-- no record is made, or memory is wanting to keep it
+abbrev pub IsUnmade : (Answer → Type 0) → Fault → Type 0
+IsUnmade makes Memory = makes (Err Memory) ⊎ ((i : Item) × makes (Ok i))
+IsUnmade makes fault = makes (Err fault)
+
+-- the first of which no record is made, and why; memory is wanting only for one that isn't refused
 abbrev pub FailsBy : {X : Type 0} → (X → Answer → Type 0) → List X → Fault → Type 0
 FailsBy {X} makes xs fault =
     (done : List X) × (items : List Item) × (x : X) × (rest : List X) × (xs ≡ done ++ x ∷ rest)
-    × AreMadeBy makes done items × makes x (Err fault)
+    × AreMadeBy makes done items × IsUnmade (makes x) fault
 
 -- the records of what is said, or why there are none
 abbrev pub AreAnsweredBy : {X : Type 0} → (X → Answer → Type 0) → List X → Result (Vec Item Global) Fault → Type 0
 AreAnsweredBy makes xs (Ok records) = AreMadeBy makes xs records.items
-AreAnsweredBy makes xs (Err Memory) = ⊤
 AreAnsweredBy makes xs (Err fault) = FailsBy makes xs fault

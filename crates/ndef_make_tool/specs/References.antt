@@ -1,5 +1,5 @@
 -- The references of a handover to the records of its message (NFC Forum, Connection Handover 1.2).
-use Rattle.std.specs.Prelude.{◌≡◌, ◌≤◌, ◌&&◌, not, Bool, List, [], length, Option, Some, None, Result, Ok, Err, ⊤, codes}
+use Rattle.std.specs.Prelude.{◌≡◌, ◌<◌, ◌≤◌, ◌&&◌, not, Bool, List, [], length, Option, Some, None, Result, Ok, Err, codes}
 use Rattle.std.specs.List.{find, flat_map, list_any, slice_split}
 use Rattle.std.specs.Option.{option_map_or}
 use Rattle.std.specs.Str.{bytes_eq}
@@ -41,11 +41,18 @@ missing_reference parts items = find (is_missing items) (flat_map references_of 
 
 -- ---- step by step
 
+-- NDEF 1.0, ID: as long as an id, and too long to be kept without memory
+abbrev pub IsLongName : Text → Type 0
+IsLongName name = (32 < length name) × (length name < 256)
+
+-- no reference is missing, or this one is
+abbrev pub IsFound : (missing : Option Text) → Result Unit Fault → Type 0
+IsFound missing (Ok done) = missing ≡ None
+IsFound missing (Err (Refused (NoRecord reference))) = missing ≡ Some reference
+IsFound missing (Err (Refused PartTooLong)) = (reference : Text) × (missing ≡ Some reference) × (256 ≤ length reference)
+IsFound missing (Err Memory) = (reference : Text) × (missing ≡ Some reference) × IsLongName reference
+IsFound missing (Err _) = ⊥
+
 -- each reference has a record, or this one is the first without
 abbrev pub AreFound : List Item → List Text → Result Unit Fault → Type 0
-AreFound items references (Ok done) = find (is_missing items) references ≡ None
-AreFound items references (Err (Refused (NoRecord reference))) = find (is_missing items) references ≡ Some reference
-AreFound items references (Err (Refused PartTooLong)) = (reference : Text)
-    × (find (is_missing items) references ≡ Some reference) × (256 ≤ length reference)
-AreFound items references (Err Memory) = ⊤
-AreFound items references (Err _) = ⊥
+AreFound items references result = IsFound (find (is_missing items) references) result

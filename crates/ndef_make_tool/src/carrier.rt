@@ -1,7 +1,8 @@
 //! The record of a handover carrier.
 ghost use Rattle.std.specs.Prelude.{◌≡◌, ◌<◌, IfSome};
 ghost use Rattle.clap.specs.Words.{found_of, rows_of};
-ghost use Rattle.ndef_make_tool.specs.Carriers.{MakesCarrier, WritesData, carrier_item, carrier_said, format_named, id_said};
+ghost use Rattle.ndef_make_tool.specs.Carriers.{MakesCarrier, WritesData, carrier_item, carrier_said, format_named};
+ghost use Rattle.ndef_make_tool.specs.Carriers.{id_said};
 ghost use Rattle.ndef_make_tool.specs.Records.{MakesSaid, MakesItem};
 
 use crate::Fault;

@@ -2,7 +2,9 @@
 ghost use Rattle.std.specs.Prelude.{◌≡◌, false};
 ghost use Rattle.clap.specs.Words.{app_of, rule_of};
 ghost use Rattle.clap.specs.declared.builder.command.Command.TheViews.{out-Command as fields_of};
-ghost use Rattle.ndef_make_tool.specs.CommandLine.{asked_rule, carrier_app, empty_make_app, given_rule, handover_app, linked_app, make_app, part_app, poster_app, record_app, repeated_rule, text_app, titled_app, uri_app};
+ghost use Rattle.ndef_make_tool.specs.CommandLine.{asked_rule, carrier_app, empty_make_app, given_rule, handover_app};
+ghost use Rattle.ndef_make_tool.specs.CommandLine.{linked_app, make_app, part_app, poster_app, record_app};
+ghost use Rattle.ndef_make_tool.specs.CommandLine.{repeated_rule, text_app, titled_app, uri_app};
 ghost use Rattle.ndef_program.specs.CommandLine.{IsCommand};
 
 use clap::{Arg, ArgAction, Command};

@@ -1,8 +1,7 @@
 //! The records within a poster or a handover, one for each word.
 ghost use Rattle.std.specs.Prelude.{◌≡◌, map};
 ghost use Rattle.clap.specs.Words.{found_of, rows_of};
-ghost use Rattle.ndef_make_tool.specs.Contents.{MakesContent, OnAppended, content_of};
-ghost use Rattle.ndef_make_tool.specs.Options.{option_words};
+ghost use Rattle.ndef_make_tool.specs.Contents.{MakesContent, OnMade, contents_by, option_of, words_as};
 ghost use Rattle.ndef_make_tool.specs.Records.{AreAnsweredBy};
 
 use crate::Fault;
@@ -34,69 +33,79 @@ pub(crate) enum Property {
     Error,
 }
 
-/// A property, and the word that says it.
-#[derive(Debug, Drop)]
-pub(crate) struct Word<'a> {
-    property: Property,
-    text: &'a str,
+/// An option whose words say a property.
+#[derive(Clone, Copy, Debug)]
+pub(crate) struct Wanted<'a> {
+    pub(crate) property: Property,
+    pub(crate) id: &'a str,
 }
 
-/// The record of a property.
-fn make_content(alloc: Global, word: &Word<'_>) -> Result<Record, Fault>
-    ensures { MakesContent (content_of word.now) result }
+/// The option of this name, whose words say this property.
+pub(crate) fn words_for(property: Property, id: &str) -> Wanted<'_>
+    ensures { option_of result ≡ (property, id.now) }
 {
-    match word.property {
-        Property::Uri => make_uri(alloc, word.text),
-        Property::Title => make_title(alloc, word.text),
-        Property::Action => make_action(alloc, word.text),
-        Property::Size => make_size(alloc, word.text),
-        Property::Media => make_known(alloc, b"t", word.text.as_bytes()),
-        Property::Collision => make_collision(alloc, word.text),
-        Property::Carrier => make_alternative(alloc, word.text),
-        Property::Error => make_error(alloc, word.text),
+    Wanted { property, id }
+}
+
+/// The record of a property that a word says.
+fn make_content(alloc: Global, property: Property, word: &str) -> Result<Record, Fault>
+    ensures { MakesContent (property, word.now) result }
+{
+    match property {
+        Property::Uri => make_uri(alloc, word),
+        Property::Title => make_title(alloc, word),
+        Property::Action => make_action(alloc, word),
+        Property::Size => make_size(alloc, word),
+        Property::Media => make_known(alloc, b"t", word.as_bytes()),
+        Property::Collision => make_collision(alloc, word),
+        Property::Carrier => make_alternative(alloc, word),
+        Property::Error => make_error(alloc, word),
     }
 }
 
-/// The records of the properties.
-pub(crate) fn make_contents(alloc: Global, words: &[Word<'_>]) -> Result<Vec<Record>, Fault>
-    ensures { AreAnsweredBy MakesContent (map content_of words.now) result }
-{
-    let mut records = Vec::new(alloc);
-    for said in words {
-        records.push(make_content(alloc, said)?)?;
-    }
-    Ok(records)
-}
-
-/// Appends words, each as this property.
-fn push_texts<'a>(
-    words: &mut Vec<Word<'a>>,
+/// Appends the records of words, each of which says this property.
+fn push_texts(
+    alloc: Global,
+    records: &mut Vec<Record>,
     property: Property,
-    texts: &[&'a str],
+    texts: &[&str],
 ) -> Result<(), Fault>
-    ensures { OnAppended property (map (λ text. text.now) texts.now) words.old.items words.new.items result }
+    ensures { OnMade (map (λ text. (property, text.now)) texts.now) records.old.items records.new.items result }
 {
     for text in texts {
-        words.push(Word {
-            property,
-            text: *text,
-        })?;
+        records.push(make_content(alloc, property, *text)?)?;
     }
     Ok(())
 }
 
-/// Appends the words of an option, each as this property.
-pub(crate) fn push_words<'a>(
-    words: &mut Vec<Word<'a>>,
-    matches: &ArgMatches<'a>,
-    property: Property,
-    id: &str,
+/// Appends the records of the words of an option.
+fn push_words(
+    alloc: Global,
+    records: &mut Vec<Record>,
+    matches: &ArgMatches<'_>,
+    wanted: Wanted<'_>,
 ) -> Result<(), Fault>
-    ensures { OnAppended property (option_words id.now (rows_of (found_of matches.now)))
-        words.old.items words.new.items result }
+    ensures { OnMade (words_as wanted.entry.property wanted.entry.id.now (rows_of (found_of matches.now)))
+        records.old.items records.new.items result }
 {
-    match matches.get_raw(id) {
-        Some(texts) => push_texts(words, property, texts),
+    match matches.get_raw(wanted.id) {
+        Some(texts) => push_texts(alloc, records, wanted.property, texts),
         None => Ok(()),
     }
+}
+
+/// The records of the words of these options, one option after another.
+pub(crate) fn make_contents(
+    alloc: Global,
+    matches: &ArgMatches<'_>,
+    options: &[Wanted<'_>],
+) -> Result<Vec<Record>, Fault>
+    ensures { AreAnsweredBy MakesContent
+        (contents_by (map option_of options.now) (rows_of (found_of matches.now))) result }
+{
+    let mut records = Vec::new(alloc);
+    for option in options {
+        push_words(alloc, &mut records, matches, *option)?;
+    }
+    Ok(records)
 }

@@ -1,6 +1,8 @@
 //! Why no message is made, and the status of a run.
 ghost use Rattle.std.specs.Prelude.{◌≡◌};
-ghost use Rattle.ndef_make_tool.specs.Faults.{detail_fault, encode_fault, input_fault, line_of, name_fault, payload_line, record_fault, record_line, fault_status, text_fault, fault_text};
+ghost use Rattle.ndef_make_tool.specs.Faults.{detail_fault, encode_fault, input_fault, line_of, name_fault};
+ghost use Rattle.ndef_make_tool.specs.Faults.{payload_line, record_fault, record_line, fault_status, text_fault};
+ghost use Rattle.ndef_make_tool.specs.Faults.{fault_text};
 ghost use Rattle.ndef_make_tool.specs.declared.fault.Fault.TheVariants.{Memory};
 
 use ndef_message::InputError;
@@ -207,9 +209,9 @@ fn record_line(reference: &Name) -> Line
     ensures { result ≡ record_line reference.now }
 {
     let mut line = Line::new();
-    line.push(b"refused: no record has the id \"");
-    line.push(reference.as_slice());
-    line.push(b"\"\n");
+    line.push(b"refused: no record has the id ");
+    line.push_quoted(reference.as_slice());
+    line.push(b"\n");
     line
 }
 

@@ -1,19 +1,23 @@
 //! The record of a handover request or select.
-ghost use Rattle.std.specs.Prelude.{◌≡◌, ◌<◌, [], map, IfOk, IfSome};
-ghost use Rattle.std.specs.List.{slice_split};
+ghost use Rattle.std.specs.Prelude.{◌≡◌, ◌<◌, [], length, map, IfOk, IfSome};
+ghost use Rattle.std.specs.List.{list_all, slice_split};
+ghost use Rattle.hex.specs.Hex.{is_hex_digit};
 ghost use Rattle.clap.specs.Words.{found_of, rows_of};
-ghost use Rattle.ndef_make_tool.specs.Contents.{AreContents, MakesHandoverSaid, handover_contents};
-ghost use Rattle.ndef_make_tool.specs.Handovers.{AreNames, AsksError, IsSelected, MakesAc, MakesAlternative, MakesError, MakesHandoverOf, MakesRequest, MakesSelect, SaysOctets, ac_of, ac_said, collision_said, goes_with, handover_said, minor_named, power_named, side_named};
+ghost use Rattle.ndef_make_tool.specs.Contents.{MakesContent, MakesHandoverSaid, handover_contents};
+ghost use Rattle.ndef_make_tool.specs.Handovers.{AreChecked, AreNames, AreReferences, AreShort, AsksError};
+ghost use Rattle.ndef_make_tool.specs.Handovers.{IsSelected, MakesAc, MakesAlternative, MakesError, MakesHandoverOf};
+ghost use Rattle.ndef_make_tool.specs.Handovers.{MakesRequest, MakesSelect, SaysOctets, ac_of, ac_said, are_short};
+ghost use Rattle.ndef_make_tool.specs.Handovers.{collision_said, goes_with, handover_said, minor_named, power_named};
+ghost use Rattle.ndef_make_tool.specs.Handovers.{side_named};
 ghost use Rattle.ndef_make_tool.specs.Options.{is_comma};
-ghost use Rattle.ndef_make_tool.specs.Records.{MakesSaid, MakesItem};
+ghost use Rattle.ndef_make_tool.specs.Records.{AreAnsweredBy, MakesSaid, MakesItem};
 
-use crate::contents::{Property, Word, make_contents, push_words};
+use crate::contents::{Property, make_contents, words_for};
 use crate::options::{cut_at_colon, cut_at_equals, is_said, number_below, word_or};
 use crate::records::{make_known, well_known};
 use crate::{Fault, Refused};
 use clap::ArgMatches;
-use hex::FromHexError;
-use ndef_program::option_text;
+use ndef_program::{cut_at, option_text};
 use ndef_types::{Ac, HandoverError, Power, Request, Select};
 use ndef_value::{Bytes, Message, MessageError, Name, Record};
 use std::alloc::{AllocError, Global};
@@ -48,15 +52,56 @@ fn power_named(name: &str) -> Option<Power>
 }
 
 /// The references of a word, which commas separate.
-pub(crate) fn references_of(alloc: Global, text: &str) -> Result<Vec<&[u8]>, AllocError>
+fn references_of(alloc: Global, text: &str) -> Result<Vec<&[u8]>, AllocError>
     ensures { IfOk result (λ references.
         map (λ reference. reference.now) references.items ≡ slice_split is_comma text.now) }
 {
     text.as_bytes().split(|byte| *byte == b',').collect(alloc)
 }
 
+/// Whether each reference has at most 255 bytes; commas separate them.
+fn are_short(text: &[u8]) -> bool
+    ensures { result ≡ are_short (slice_split is_comma text.now) }
+{
+    let (mut reference, mut rest) = cut_at(text, b',');
+    while reference.len() < 256 {
+        let Some(more) = rest else {
+            return true;
+        };
+        (reference, rest) = cut_at(more, b',');
+    }
+    false
+}
+
+/// How many references there are; commas separate them.
+fn count_of(text: &[u8]) -> usize
+    ensures { result ≡ length (slice_split is_comma text.now) }
+{
+    let (_, mut rest) = cut_at(text, b',');
+    let mut count = 1;
+    while let Some(more) = rest {
+        count += 1;
+        (_, rest) = cut_at(more, b',');
+    }
+    count
+}
+
+/// Checks the references of a carrier: none is too long, and at most 255 are auxiliary.
+fn check_references(text: &[u8]) -> Result<(), Fault>
+    ensures { AreChecked (slice_split is_comma text.now) result }
+{
+    if !are_short(text) {
+        return Err(Fault::Refused(Refused::PartTooLong));
+    }
+    if count_of(text) > 256 {
+        return Err(Fault::Refused(Refused::TooManyReferences));
+    }
+    Ok(())
+}
+
 /// The names of references.
 fn make_names(alloc: Global, references: &[&[u8]]) -> Result<Vec<Name>, Fault>
+    requires { AreShort (map (λ reference. reference.now) references.now) }
     ensures { AreNames (map (λ reference. reference.now) references.now) result }
 {
     let mut names = Vec::new(alloc);
@@ -87,6 +132,7 @@ fn make_ac(
 
 /// The record of an alternative carrier with these references, of which the first is the carrier's.
 fn make_linked(alloc: Global, power: Power, references: &[&[u8]]) -> Result<Record, Fault>
+    requires { AreReferences (map (λ reference. reference.now) references.now) }
     ensures { MakesSaid MakesAlternative (ac_of power (map (λ reference. reference.now) references.now)) result }
 {
     match references {
@@ -109,18 +155,34 @@ pub(crate) fn make_alternative(alloc: Global, word: &str) -> Result<Record, Faul
     let Some(power) = power_named(name) else {
         return Err(Fault::Usage);
     };
+    check_references(references.as_bytes())?;
     let references = references_of(alloc, references)?;
     make_linked(alloc, power, references.as_slice())
+}
+
+/// Whether all of these are hexadecimal digits.
+fn are_digits(digits: &[u8]) -> bool
+    ensures { result ≡ list_all is_hex_digit digits.now }
+{
+    for digit in digits {
+        if !digit.is_ascii_hexdigit() {
+            return false;
+        }
+    }
+    true
 }
 
 /// The bytes of hexadecimal digits.
 fn octets_in(alloc: Global, digits: &str) -> Result<Vec<u8>, Fault>
     ensures { SaysOctets digits.now result }
 {
-    match hex::decode(alloc, digits.as_bytes()) {
+    let digits = digits.as_bytes();
+    if digits.len() % 2 != 0 || !are_digits(digits) {
+        return Err(Fault::Usage);
+    }
+    match hex::decode(alloc, digits) {
         Ok(octets) => Ok(octets),
-        Err(FromHexError::OutOfMemory) => Err(Fault::Memory),
-        Err(_) => Err(Fault::Usage),
+        Err(_) => Err(Fault::Memory),
     }
 }
 
@@ -217,15 +279,16 @@ fn handover_said(matches: &ArgMatches<'_>) -> Option<Handover>
     Some(Handover { side, minor })
 }
 
-/// What a part says of the records within a handover.
-fn contents<'a>(alloc: Global, matches: &ArgMatches<'a>) -> Result<Vec<Word<'a>>, Fault>
-    ensures { AreContents (handover_contents (rows_of (found_of matches.now))) result }
+/// The records within the handover of a part.
+fn contents(alloc: Global, matches: &ArgMatches<'_>) -> Result<Vec<Record>, Fault>
+    ensures { AreAnsweredBy MakesContent (handover_contents (rows_of (found_of matches.now))) result }
 {
-    let mut words = Vec::new(alloc);
-    push_words(&mut words, matches, Property::Collision, "collision")?;
-    push_words(&mut words, matches, Property::Carrier, "carrier")?;
-    push_words(&mut words, matches, Property::Error, "error")?;
-    Ok(words)
+    let options = [
+        words_for(Property::Collision, "collision"),
+        words_for(Property::Carrier, "carrier"),
+        words_for(Property::Error, "error"),
+    ];
+    make_contents(alloc, matches, options.as_slice())
 }
 
 /// The record of a request of these records.
@@ -290,7 +353,6 @@ pub(crate) fn handover_record(alloc: Global, matches: &ArgMatches<'_>) -> Result
     let Some(handover) = handover_said(matches) else {
         return Err(Fault::Usage);
     };
-    let contents = contents(alloc, matches)?;
-    let records = make_contents(alloc, contents.as_slice())?;
+    let records = contents(alloc, matches)?;
     make_handover(alloc, handover, records)
 }

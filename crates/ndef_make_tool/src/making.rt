@@ -2,7 +2,8 @@
 ghost use Rattle.std.specs.Prelude.{◌≡◌, ◌≢◌, [], drop, map, string_bytes, IfOk};
 ghost use Rattle.ndef_message.specs.States.{source_state};
 ghost use Rattle.ndef_make_tool.specs.Asked.{asked_part};
-ghost use Rattle.ndef_make_tool.specs.Making.{AreAnswered, IsMade, MakesMessage, ReadsFor, has_flag, is_reader, readers_of, shown_by, written_as};
+ghost use Rattle.ndef_make_tool.specs.Making.{AreAnswered, IsMade, MakesMessage, ReadsFor, has_flag, is_reader};
+ghost use Rattle.ndef_make_tool.specs.Making.{readers_of, shown_by, written_as};
 
 use crate::input::read_payload;
 use crate::options::{Subject, subject_named};

@@ -2,7 +2,8 @@
 ghost use Rattle.std.specs.Prelude.{◌≡◌, ◌<◌, option_map, IfSome};
 ghost use Rattle.clap.specs.Words.{found_of, rows_of};
 ghost use Rattle.ndef_program.specs.Options.{number_in};
-ghost use Rattle.ndef_make_tool.specs.Options.{cut_at, is_colon, is_equals, is_said, number_below, subject_named, tnf_named, word_or};
+ghost use Rattle.ndef_make_tool.specs.Options.{cut_at, is_colon, is_equals, is_said, number_below, subject_named};
+ghost use Rattle.ndef_make_tool.specs.Options.{tnf_named, word_or};
 
 use clap::ArgMatches;
 use ndef_program::option_text;

@@ -1,11 +1,11 @@
 //! The record of a smart poster.
 ghost use Rattle.std.specs.Prelude.{◌≡◌};
 ghost use Rattle.clap.specs.Words.{found_of, rows_of};
-ghost use Rattle.ndef_make_tool.specs.Contents.{AreContents, MakesPoster, poster_contents};
+ghost use Rattle.ndef_make_tool.specs.Contents.{MakesContent, MakesPoster, poster_contents};
 ghost use Rattle.ndef_make_tool.specs.Posters.{MakesNested, action_octet, action_said, size_said, title_said};
-ghost use Rattle.ndef_make_tool.specs.Records.{MakesSaid, MakesItem, MakesText};
+ghost use Rattle.ndef_make_tool.specs.Records.{AreAnsweredBy, MakesSaid, MakesItem, MakesText};
 
-use crate::contents::{Property, Word, make_contents, push_words};
+use crate::contents::{Property, make_contents, words_for};
 use crate::options::{cut_at_equals, number_in};
 use crate::records::{make_known, make_text, well_known};
 use crate::{Fault, Refused};
@@ -56,17 +56,18 @@ pub(crate) fn make_size(alloc: Global, word: &str) -> Result<Record, Fault>
     }
 }
 
-/// What a part says of a poster.
-fn contents<'a>(alloc: Global, matches: &ArgMatches<'a>) -> Result<Vec<Word<'a>>, Fault>
-    ensures { AreContents (poster_contents (rows_of (found_of matches.now))) result }
+/// The records within the poster of a part.
+fn contents(alloc: Global, matches: &ArgMatches<'_>) -> Result<Vec<Record>, Fault>
+    ensures { AreAnsweredBy MakesContent (poster_contents (rows_of (found_of matches.now))) result }
 {
-    let mut words = Vec::new(alloc);
-    push_words(&mut words, matches, Property::Uri, "uri")?;
-    push_words(&mut words, matches, Property::Title, "title")?;
-    push_words(&mut words, matches, Property::Action, "action")?;
-    push_words(&mut words, matches, Property::Size, "size")?;
-    push_words(&mut words, matches, Property::Media, "media")?;
-    Ok(words)
+    let options = [
+        words_for(Property::Uri, "uri"),
+        words_for(Property::Title, "title"),
+        words_for(Property::Action, "action"),
+        words_for(Property::Size, "size"),
+        words_for(Property::Media, "media"),
+    ];
+    make_contents(alloc, matches, options.as_slice())
 }
 
 /// The record of the poster of this message.
@@ -97,7 +98,6 @@ fn make_nested(alloc: Global, records: Vec<Record>) -> Result<Record, Fault>
 pub(crate) fn poster_record(alloc: Global, matches: &ArgMatches<'_>) -> Result<Record, Fault>
     ensures { MakesPoster (rows_of (found_of matches.now)) result }
 {
-    let contents = contents(alloc, matches)?;
-    let records = make_contents(alloc, contents.as_slice())?;
+    let records = contents(alloc, matches)?;
     make_nested(alloc, records)
 }

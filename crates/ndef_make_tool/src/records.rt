@@ -5,7 +5,8 @@ ghost use Rattle.ndef_make_tool.specs.Asked.{asked_part};
 ghost use Rattle.ndef_make_tool.specs.Checking.{Checked, is_unchecked};
 ghost use Rattle.ndef_make_tool.specs.Making.{Makes, MakesBy};
 ghost use Rattle.ndef_make_tool.specs.Options.{subject_named};
-ghost use Rattle.ndef_make_tool.specs.Records.{MakesSaid, MakesItem, MakesText, MakesUri, item_said, text_said, uri_said, well_known};
+ghost use Rattle.ndef_make_tool.specs.Records.{MakesSaid, MakesItem, MakesText, MakesUri, item_said, text_said};
+ghost use Rattle.ndef_make_tool.specs.Records.{uri_said, well_known};
 
 use crate::carrier::carrier_record;
 use crate::handover::handover_record;

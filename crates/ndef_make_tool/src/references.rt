@@ -1,13 +1,14 @@
 //! The references of handovers to the records of the message.
-ghost use Rattle.std.specs.Prelude.{◌≡◌, map};
-ghost use Rattle.std.specs.List.{flat_map};
+ghost use Rattle.std.specs.Prelude.{◌≡◌, ◌∷◌, [], map};
+ghost use Rattle.std.specs.List.{flat_map, slice_split};
+ghost use Rattle.ndef_make_tool.specs.Options.{is_comma};
 ghost use Rattle.ndef_make_tool.specs.Asked.{asked_part};
 ghost use Rattle.ndef_make_tool.specs.References.{AreFound, is_id, references_in, references_of};
 
-use crate::handover::references_of;
 use crate::options::{Subject, cut_at_equals, subject_named};
 use crate::parts::Said;
 use crate::{Fault, Refused};
+use ndef_program::cut_at;
 use ndef_value::{Name, Record};
 use std::alloc::Global;
 
@@ -26,17 +27,27 @@ fn is_id(records: &[Record], id: &[u8]) -> bool
     false
 }
 
-/// Finds a record for each reference.
-fn find(alloc: Global, records: &[Record], references: &[&[u8]]) -> Result<(), Fault>
-    ensures { AreFound records.now (map (λ reference. reference.now) references.now) result }
+/// Finds a record for a reference.
+fn find(alloc: Global, records: &[Record], reference: &[u8]) -> Result<(), Fault>
+    ensures { AreFound records.now (reference.now ∷ []) result }
 {
-    for reference in references {
-        if !is_id(records, reference) {
-            let reference = Name::from_slice(alloc, reference)?;
-            return Err(Fault::Refused(Refused::NoRecord(reference)));
-        }
+    if is_id(records, reference) {
+        return Ok(());
     }
-    Ok(())
+    let reference = Name::from_slice(alloc, reference)?;
+    Err(Fault::Refused(Refused::NoRecord(reference)))
+}
+
+/// Finds a record for each of these references, which commas separate.
+fn find_each(alloc: Global, records: &[Record], references: &[u8]) -> Result<(), Fault>
+    ensures { AreFound records.now (slice_split is_comma references.now) result }
+{
+    let (mut reference, mut rest) = cut_at(references, b',');
+    while let Some(more) = rest {
+        find(alloc, records, reference)?;
+        (reference, rest) = cut_at(more, b',');
+    }
+    find(alloc, records, reference)
 }
 
 /// Finds a record for each reference in the word of a carrier.
@@ -44,10 +55,7 @@ fn find_in_word(alloc: Global, records: &[Record], word: &str) -> Result<(), Fau
     ensures { AreFound records.now (references_in word.now) result }
 {
     match cut_at_equals(word) {
-        Some((_, references)) => {
-            let references = references_of(alloc, references)?;
-            find(alloc, records, references.as_slice())
-        }
+        Some((_, references)) => find_each(alloc, records, references.as_bytes()),
         None => Ok(()),
     }
 }

@@ -1,6 +1,9 @@
 pub mod CommandLine
+pub mod CutLaws
 pub mod OptionLaws
 pub mod Options
 pub mod Outputs
 pub mod Pages
+pub mod Quoting
 pub mod Statuses
+pub mod Words

@@ -1,5 +1,5 @@
 -- How many bytes a message has, or a front of one.
-use Rattle.std.proofs.Common.{◌+◌, ◌*◌, ◌≤◌, ◌<◌, ◌^◌, ℕ, List, ◌++◌, map, take, length-append, length-take, length-take-le, Ok, arith, mul-le-mul_left}
+use Rattle.std.proofs.Common.{◌+◌, ◌*◌, ◌≤◌, ◌<◌, ◌^◌, ◌⊎◌, inl, inr, ℕ, List, ◌++◌, length, map, take, Option, length-append, length-take, length-take-le, Ok, arith, mul-le-mul_left}
 use Rattle.ndef_format.specs.Limits.{LimitValues, AreInRange, greatest_length}
 use Rattle.ndef_format.specs.Laws.{MessagesAreBounded}
 use Rattle.ndef_format.specs.Messages.{run_record}
@@ -7,6 +7,9 @@ use Rattle.ndef_format.specs.declared.refusal.Refusal.{Refusal}
 use Rattle.ndef_format.specs.Payloads.{Sets}
 use Rattle.ndef_format.specs.Reasons.{Conditions}
 use Rattle.ndef_format.specs.Refusals.{Refuses}
+use Rattle.ndef_format.specs.Accepted.{IsViable}
+use Rattle.ndef_message.specs.Decoding.{Wants}
+use Rattle.ndef_message.specs.Readings.{EndsRecord, NeedsMemory}
 use Rattle.ndef_message.specs.Views.{Viewed, Views}
 
 -- so few that those of 10000 messages can be added up
@@ -34,3 +37,17 @@ pub viewed_bounded : MessagesAreBounded → (set : Sets) (holds : Conditions) (l
 viewed_bounded bounded set holds limits input v h =
     let d = h.1.0 in
     omega (arith, bounded limits d.runs (map run_record v.runs) (take v.taken input) d.spelling d.within, length-take-le v.taken input h.0)
+
+-- what can be completed to a message is no longer than one
+pub viable_bounded : MessagesAreBounded → (set : Sets) (limits : LimitValues) (bytes : List ℕ) → IsViable set limits bytes → length bytes ≤ greatest_length limits
+viable_bounded bounded set limits bytes v =
+    let d = v.1.1 in
+    omega (arith, bounded limits d.runs v.1.0 (bytes ++ v.0) d.spelling d.within, length-append bytes v.0)
+
+-- nor are bytes after which memory is needed
+pub needs_bounded : MessagesAreBounded → (set : Sets) (limits : LimitValues) (coming : Option (List ℕ)) (bytes : List ℕ) → NeedsMemory set limits coming bytes → length bytes ≤ greatest_length limits
+needs_bounded bounded set limits coming bytes w = by_wants w.needs
+  where
+    by_wants : EndsRecord set limits bytes w.given ⊎ Wants set limits bytes w.given w.shown → length bytes ≤ greatest_length limits
+    by_wants (inl e) = viable_bounded bounded set limits bytes e.1
+    by_wants (inr g) = omega (arith, viable_bounded bounded set limits (bytes ++ take (g.count + 1) w.shown) g.viable, length-append bytes (take (g.count + 1) w.shown))

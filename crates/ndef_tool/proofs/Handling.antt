@@ -5,8 +5,7 @@ use Rattle.std.proofs.KnownBytes.{Appends-trans, Keeps-refl, Keeps-trans}
 use Rattle.std.proofs.lemmas.Bool.{false≢true}
 use Rattle.ndef_format.specs.NestedReasons.{TypedReason}
 use Rattle.ndef_format.specs.Payloads.{IsTypedPayload}
-use Rattle.std.specs.Prelude.{IsErrAnd}
-use Rattle.ndef_format.specs.Limits.{AreInRange, LimitValues, greatest_length}
+use Rattle.ndef_format.specs.Limits.{AreInRange, LimitValues}
 use Rattle.ndef_message.specs.Sending.{Sent, MarksOf}
 use Rattle.ndef_message.specs.Sources.{Counts}
 use Rattle.ndef_message.specs.States.{SinkState}
@@ -19,7 +18,7 @@ use Rattle.ndef_program.specs.Statuses.{status_after}
 use Rattle.ndef_tool.specs.Runs.{EndsCommand}
 use Rattle.ndef_tool.specs.Blocks.{block_text}
 use Rattle.ndef_program.specs.Outputs.{GoesOut}
-use Rattle.ndef_tool.specs.Sessions.{AreInTurn, Handles, SessionHasTaken, IsSession, MayEnd, PrintsNext, Silences, Stops, TakesNext}
+use Rattle.ndef_tool.specs.Sessions.{AreInTurn, Handles, IsSession, MayEnd, PrintsNext, Silences, Stops, TakesAfter}
 use Rattle.ndef_tool.specs.declared.choice.Action.{Action}
 use Rattle.ndef_tool.specs.declared.choice.Action.TheVariants.{Show, Check, Encode}
 use Rattle.ndef_tool.specs.declared.choice.Choice.{Choice}
@@ -44,13 +43,6 @@ counts_more a b c m n h k = λ small.
     let last : b + n < 2 ^ 64 = omega (arith, h middle) in
     omega (arith, h middle, k last)
 
--- of a message for whose block memory was wanting
-pub memory_taken : {X : Type 0} (taken_of : X → ℕ) (limits : LimitValues) (before after : ℕ) (r : Result X Ending) (taken : ℕ) → IsErrAnd r (λ ending. ending ≡ Memory)
-    → taken ≤ greatest_length limits → Counts before after taken → TakesNext taken_of limits before after r
-memory_taken taken_of limits before after (Ok x) taken h few counts = absurd h
-memory_taken taken_of limits before after (Err e) taken h few counts =
-    subst (λ x. SessionHasTaken limits 0 before after x) (sym h) (taken, few, λ small. omega (arith, counts (omega arith)))
-
 -- the line of a message that was checked
 pub check_printed : (choice : Choice) (number at : ℕ) (read : Read) (records taken : ℕ) (text : Text) → choice.action ≡ Check → text ≡ message_line number at records taken
     → records ≡ length read.message → read.taken ≡ taken → IsBlock choice number at read text
@@ -60,15 +52,16 @@ check_printed choice number at read records taken text is e n t =
     subst (λ action. IsBlockBy action choice.limits.profile choice.hex number at read text) (sym is) line
 
 -- the place of a refusal behind at most 10000 messages can be counted
-pub fits_behind : (limits : LimitValues) (count at a b : ℕ) (ending : Ending) → AreInRange limits → count ≤ 10000 → at ≤ count * 2 ^ 49 → SessionHasTaken limits 0 a b ending → FitsPlace at ending
-fits_behind limits count at a b (Refused r) range few room (n, (e, h), k) = omega (arith, e, h, greatest_small limits range)
-fits_behind limits count at a b Clean range few room t = tt
-fits_behind limits count at a b (Hex x) range few room t = tt
-fits_behind limits count at a b Reading range few room t = tt
-fits_behind limits count at a b Writing range few room t = tt
-fits_behind limits count at a b Memory range few room t = tt
-fits_behind limits count at a b TooMany range few room t = tt
-fits_behind limits count at a b TooLong range few room t = tt
+pub fits_behind : (limits : LimitValues) (coming : Option (List ℕ)) (count at a b : ℕ) (ending : Ending) → AreInRange limits → count ≤ 10000 → at ≤ count * 2 ^ 49
+    → (n : ℕ) × TakesAfter (typed_rules limits) coming ending n × Counts a b n → FitsPlace at ending
+fits_behind limits coming count at a b (Refused r) range few room (n, (e, h), k) = omega (arith, e, h, greatest_small limits range)
+fits_behind limits coming count at a b Clean range few room t = tt
+fits_behind limits coming count at a b (Hex x) range few room t = tt
+fits_behind limits coming count at a b Reading range few room t = tt
+fits_behind limits coming count at a b Writing range few room t = tt
+fits_behind limits coming count at a b Memory range few room t = tt
+fits_behind limits coming count at a b TooMany range few room t = tt
+fits_behind limits coming count at a b TooLong range few room t = tt
 
 -- these were read, and their blocks are written
 pub record HandledSoFar (choice : Choice) (a b : Option (List ℕ)) (v w : Option (List ℕ)) (marked : Bool) (count at : ℕ) : Type 0 where

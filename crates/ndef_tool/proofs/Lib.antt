@@ -1,6 +1,7 @@
 pub mod Bounded
 pub mod Carriers
 pub mod Chooses
+pub mod Digits
 pub mod Handling
 pub mod Lines
 pub mod Members

@@ -1,5 +1,5 @@
 -- Hexadecimal text, and the bytes that it stands for.
-use Rattle.std.specs.Prelude.{◌≡◌, ◌==◌, ◌||◌, not, ℕ, Bool, List, Result, Ok, Err, ⊤}
+use Rattle.std.specs.Prelude.{◌≡◌, ◌<◌, ◌⊎◌, ◌==◌, ◌||◌, not, ℕ, Bool, List, length, Result, Ok, Err}
 use Rattle.std.specs.List.{filter}
 use Rattle.hex.specs.Hex.{decode_of}
 use Rattle.hex.specs.declared.error.FromHexError.{FromHexError}
@@ -36,19 +36,24 @@ input_ending errors.NoMemory = Memory
 abbrev pub IsTextInput : (before after : SourceState) → Bool → Result (List ℕ) InputError → Type 0
 IsTextInput = IsWholeInput 16777216
 
--- the bytes that the digits of a text stand for, or what is wrong with them
-abbrev pub IsDecoded : List ℕ → Result (List ℕ) Ending → Type 0
-IsDecoded text (Ok bytes) = decode_of (without_spaces text) ≡ Ok bytes
-IsDecoded text (Err (Hex fault)) = (error : FromHexError) × (decode_of (without_spaces text) ≡ Err error)
-    × (fault ≡ fault_of error)
-IsDecoded text (Err Memory) = ⊤
-IsDecoded text (Err _) = ⊥
+-- the bytes that digits stand for, or what is wrong with them, or that there was no memory for these bytes
+abbrev pub AreDecoded : List ℕ → Result (List ℕ) Ending → Type 0
+AreDecoded digits (Ok bytes) = decode_of digits ≡ Ok bytes
+AreDecoded digits (Err (Hex fault)) = (error : FromHexError) × (decode_of digits ≡ Err error) × (fault ≡ fault_of error)
+AreDecoded digits (Err Memory) = (bytes : List ℕ) × (decode_of digits ≡ Ok bytes) × (0 < length bytes)
+AreDecoded digits (Err _) = ⊥
 
--- the bytes that the text to come stands for, or why there are none
+-- the same of a text with white space
+abbrev pub IsDecoded : List ℕ → Result (List ℕ) Ending → Type 0
+IsDecoded text = AreDecoded (without_spaces text)
+
+-- the bytes that the text to come stands for, or why there are none: memory fails for the text, or for its bytes
 abbrev pub IsHexInput : (before after : SourceState) → Bool → Result (List ℕ) Ending → Type 0
 IsHexInput before after failed (Ok bytes) = (text : List ℕ) × IsTextInput before after failed (Ok text)
     × IsDecoded text (Ok bytes)
 IsHexInput before after failed (Err (Hex fault)) = (text : List ℕ) × IsTextInput before after failed (Ok text)
     × IsDecoded text (Err (Hex fault))
+IsHexInput before after failed (Err Memory) = IsTextInput before after failed (Err errors.NoMemory)
+    ⊎ ((text : List ℕ) × IsTextInput before after failed (Ok text) × IsDecoded text (Err Memory))
 IsHexInput before after failed (Err ending) = (error : InputError) × IsTextInput before after failed (Err error)
     × (ending ≡ input_ending error)

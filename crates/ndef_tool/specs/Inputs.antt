@@ -1,19 +1,21 @@
 -- The messages of an input, which may be hexadecimal text.
-use Rattle.std.specs.Prelude.{◌≡◌, ℕ, Bool, true, false, List, [], Option, Some, Result, Ok, Err}
+use Rattle.std.specs.Prelude.{◌≡◌, ℕ, Bool, true, false, List, [], drop, Option, Some, Result, Ok, Err}
 use Rattle.ndef_message.specs.States.{SourceState}
 use Rattle.ndef_message.specs.declared.message_reading.Read.{Read}
 use Rattle.ndef_tool.specs.Hexadecimal.{IsHexInput}
 use Rattle.ndef_tool.specs.Output.{total_bytes}
-use Rattle.ndef_tool.specs.Sessions.{Handles, IsSession, SessionHasTaken, Silences}
+use Rattle.ndef_tool.specs.Rules.{typed_rules}
+use Rattle.ndef_tool.specs.Sessions.{Handles, IsSession, SessionHasTaken, Silences, TakesAfter}
 use Rattle.ndef_tool.specs.Streams.{Streams}
 use Rattle.ndef_tool.specs.declared.choice.Choice.{Choice}
 use Rattle.ndef_tool.specs.declared.ending.Ending.{Ending}
 use Rattle.ndef_tool.specs.declared.session.Session.{Session}
 
--- what is read of bytes; or none, where there are no bytes
+-- what is read of bytes, and taken of those after the last message; or none, where there are no bytes
 abbrev pub ReadsBytes : Choice → (sink_failed : Bool) → Result (List ℕ) Ending → List Read → Ending → Type 0
 ReadsBytes choice sink_failed (Ok bytes) reads ending =
     (left : Option (List ℕ)) × IsSession choice (Some bytes) left false sink_failed reads ending
+    × (n : ℕ) × TakesAfter (typed_rules choice.limits) (Some (drop (total_bytes reads) bytes)) ending n
 ReadsBytes choice sink_failed (Err why) reads ending = (reads ≡ []) × (ending ≡ why)
 
 -- what is read of the bytes to come, and how many are taken; or of those that they stand for
@@ -21,7 +23,7 @@ abbrev pub ReadsIn : (hex : Bool) → Choice → (before after : SourceState) �
     → Type 0
 ReadsIn false choice before after sink_failed reads ending =
     IsSession choice before.coming after.coming after.failed sink_failed reads ending
-    × SessionHasTaken choice.limits (total_bytes reads) before.taken after.taken ending
+    × SessionHasTaken (typed_rules choice.limits) (total_bytes reads) before.coming before.taken after.taken ending
 ReadsIn true choice before after sink_failed reads ending = (input : Result (List ℕ) Ending)
     × IsHexInput before after after.failed input
     × ReadsBytes choice sink_failed input reads ending

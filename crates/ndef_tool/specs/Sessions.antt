@@ -1,9 +1,11 @@
 -- The messages of a source, one after another, and how they end.
-use Rattle.std.specs.Prelude.{◌≡◌, ◌≢◌, ◌+◌, ◌<◌, ◌≤◌, ◌⊎◌, ℕ, Bool, true, false, List, [], ◌∷◌, length, drop, Option, None, Some, Result, Ok, Err, ⊤}
+use Rattle.std.specs.Prelude.{◌≡◌, ◌≢◌, ◌+◌, ◌<◌, ◌≤◌, ◌⊎◌, ℕ, Bool, true, false, List, [], ◌∷◌, ◌++◌, length, drop, Option, None, Some, Result, Ok, Err, IfSome, ⊤}
 use Rattle.std.specs.Io.KnownBytes.{Keeps, IsAtEnd}
-use Rattle.ndef_format.specs.Limits.{LimitValues, greatest_length}
+use Rattle.std.specs.Option.{option_map}
+use Rattle.ndef_format.specs.Accepted.{IsAccepted}
+use Rattle.ndef_format.specs.Limits.{greatest_length}
 use Rattle.ndef_message.specs.Checkings.{ChecksFrom}
-use Rattle.ndef_message.specs.Readings.{ReadsFrom}
+use Rattle.ndef_message.specs.Readings.{NeedsMemory, IsIncomplete, ReadsFrom}
 use Rattle.ndef_message.specs.Sources.{Counts}
 use Rattle.ndef_message.specs.States.{SinkState}
 use Rattle.ndef_message.specs.Views.{Viewed, Views}
@@ -73,17 +75,27 @@ pub record IsSession (choice : Choice) (before after : Option (List ℕ)) (sourc
 
 -- ---- how many bytes are taken
 
--- behind the last message: those before a refused one; where reading or memory failed, at most those of a message; else
--- none
-abbrev pub TakesBehind : LimitValues → Ending → ℕ → Type 0
-TakesBehind limits (Refused refusal) n = (n ≡ refusal.at) × (n ≤ greatest_length limits)
-TakesBehind limits Reading n = n ≤ greatest_length limits
-TakesBehind limits Memory n = n ≤ greatest_length limits
-TakesBehind limits _ n = n ≡ 0
+-- the bytes come next, and are a message
+abbrev pub IsMessageNext : Rules → (coming : Option (List ℕ)) → List ℕ → Type 0
+IsMessageNext rules coming bytes = IsAccepted rules.set rules.limits bytes
+    × IfSome coming (λ input. (rest : List ℕ) × (input ≡ bytes ++ rest))
 
--- in all, whether or not the source tells them, where the messages have so many
-abbrev pub SessionHasTaken : LimitValues → (at : ℕ) → (before after : ℕ) → Ending → Type 0
-SessionHasTaken limits at before after ending = (n : ℕ) × TakesBehind limits ending n × Counts before after (at + n)
+-- What is taken of the bytes that come after the last message: those before a refused one; where reading failed, none
+-- or an incomplete message; where memory failed, a message whose block was not made, or bytes after which memory is
+-- needed; else none.
+abbrev pub TakesAfter : Rules → (coming : Option (List ℕ)) → Ending → ℕ → Type 0
+TakesAfter rules coming (Refused refusal) n = (n ≡ refusal.at) × (n ≤ greatest_length rules.limits)
+TakesAfter rules coming Reading n = (n ≤ greatest_length rules.limits)
+    × ((n ≡ 0) ⊎ ((bytes : List ℕ) × (n ≡ length bytes) × IsIncomplete rules.set rules.limits coming bytes))
+TakesAfter rules coming Memory n = (n ≤ greatest_length rules.limits)
+    × (bytes : List ℕ) × (n ≡ length bytes)
+    × (IsMessageNext rules coming bytes ⊎ NeedsMemory rules.set rules.limits coming bytes)
+TakesAfter rules coming _ n = n ≡ 0
+
+-- how many bytes are taken in all, of any source, where the messages have this many
+abbrev pub SessionHasTaken : Rules → (at : ℕ) → (coming : Option (List ℕ)) → (before after : ℕ) → Ending → Type 0
+SessionHasTaken rules at coming before after ending =
+    (n : ℕ) × TakesAfter rules (option_map (drop at) coming) ending n × Counts before after (at + n)
 
 -- ---- what goes out
 
@@ -151,9 +163,12 @@ ViewsNext rules count before after (Err ending) =
     Stops rules count (Some before) (Some after) false false ending × (is_memory ending ≡ false)
 
 -- how many bytes of the next message are taken, of which `X` tells the number, or how many before the ending
-abbrev pub TakesNext : {X : Type 0} → (X → ℕ) → LimitValues → (before after : ℕ) → Result X Ending → Type 0
-TakesNext taken_of limits before after (Ok x) = (taken_of x ≤ greatest_length limits) × Counts before after (taken_of x)
-TakesNext taken_of limits before after (Err ending) = SessionHasTaken limits 0 before after ending
+abbrev pub TakesNext : {X : Type 0} → (X → ℕ) → Rules → (coming : Option (List ℕ)) → (before after : ℕ)
+    → Result X Ending → Type 0
+TakesNext taken_of rules coming before after (Ok x) = (taken_of x ≤ greatest_length rules.limits)
+    × Counts before after (taken_of x)
+TakesNext taken_of rules coming before after (Err ending) =
+    (n : ℕ) × TakesAfter rules coming ending n × Counts before after n
 
 -- all that is printed of the next message, of which this many bytes come before, or why there is none
 abbrev pub PrintsNext : Choice → (count at : ℕ) → (before after : Option (List ℕ)) → Bool → Result Printed Ending

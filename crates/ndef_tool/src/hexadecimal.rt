@@ -1,8 +1,9 @@
 //! Hexadecimal text, read whole.
-ghost use Rattle.std.specs.Prelude.{◌≡◌, false, IfErr};
+ghost use Rattle.std.specs.Prelude.{◌≡◌, ◌<◌, ◌%◌, false, length, Err, IfErr};
+ghost use Rattle.hex.specs.Hex.{is_hex_digit};
 ghost use Rattle.ndef_message.specs.Inputs.{bytes_of};
 ghost use Rattle.ndef_message.specs.States.{source_state};
-ghost use Rattle.ndef_tool.specs.Hexadecimal.{IsDecoded, IsHexInput, without_spaces, fault_of, is_space};
+ghost use Rattle.ndef_tool.specs.Hexadecimal.{AreDecoded, IsDecoded, IsHexInput, without_spaces, fault_of, is_space};
 ghost use Rattle.ndef_tool.specs.Output.{FitsPlace};
 ghost use Rattle.ndef_tool.specs.Sessions.{is_writing};
 
@@ -38,15 +39,40 @@ fn fault_of(error: FromHexError) -> HexFault
     }
 }
 
-/// The bytes that the digits of a text stand for.
+/// Whether a byte is a hexadecimal digit.
+fn is_digit(byte: u8) -> bool
+    ensures { result ≡ is_hex_digit byte }
+{
+    byte.is_ascii_hexdigit()
+}
+
+/// Why an even number of digits, for whose bytes there was no memory, has no bytes: one of them is none, or else
+/// memory.
+fn without_memory(digits: &[u8]) -> Ending
+    requires some { 0 < length digits.now }
+    requires even { length digits.now % 2 ≡ 0 }
+    ensures { AreDecoded digits.now (Err result) }
+{
+    for (place, digit) in digits.iter().enumerate() {
+        if !is_digit(*digit) {
+            return Ending::Hex(HexFault::BadDigit(place as u64));
+        }
+    }
+    Ending::Memory
+}
+
+/// The bytes that the digits of a text stand for. What is wrong with them comes before want of memory.
 fn decode_text(alloc: Global, text: Vec<u8>) -> Result<Vec<u8>, Ending>
     ensures { IsDecoded text.items (bytes_of result) }
 {
     let mut text = text;
     drop_spaces(&mut text);
+    if text.is_empty() {
+        return Ok(text);
+    }
     match hex::decode(alloc, text.as_slice()) {
         Ok(bytes) => Ok(bytes),
-        Err(FromHexError::OutOfMemory) => Err(Ending::Memory),
+        Err(FromHexError::OutOfMemory) => Err(without_memory(text.as_slice())),
         Err(error) => Err(Ending::Hex(fault_of(error))),
     }
 }

@@ -30,14 +30,16 @@ pub(crate) trait Reading<L: OuterLanguage, S> {
         requires { count ≤ MOST }
         ensures next { IsNext (rules_of L.set L.holds limits) count
             (coming from.old) (coming from.new) (has_failed from.new) result }
-        ensures taken { TakesNext (λ read. read.taken) limits (taken from.old) (taken from.new) result };
+        ensures taken { TakesNext (λ read. read.taken) (rules_of L.set L.holds limits)
+            (coming from.old) (taken from.old) (taken from.new) result };
 
     /// Checks the next message, after so many, or tells how the messages end here. It takes no memory.
     fn check(limits: Limits, count: u64, from: &mut S) -> Result<Checked, Ending>
         requires { count ≤ MOST }
         ensures next { ChecksNext (rules_of L.set L.holds limits) count
             (coming from.old) (coming from.new) (has_failed from.new) result }
-        ensures taken { TakesNext (λ checked. checked.taken) limits (taken from.old) (taken from.new) result };
+        ensures taken { TakesNext (λ checked. checked.taken) (rules_of L.set L.holds limits)
+            (coming from.old) (taken from.old) (taken from.new) result };
 }
 
 /// Messages come from a source, and are read as its bytes come.
@@ -54,6 +56,7 @@ impl<L: OuterLanguage, S: Source> Reading<L, S> for FromSource {
     ghost has_failed = { S.has_failed };
 
     fn read(alloc: Global, limits: Limits, count: u64, from: &mut S) -> Result<Read, Ending> {
+        messages_are_bounded();
         look_ahead(count, from)?;
         match read_message::<L, S>(alloc, from, limits) {
             Ok(read) => Ok(read),
@@ -64,6 +67,7 @@ impl<L: OuterLanguage, S: Source> Reading<L, S> for FromSource {
     }
 
     fn check(limits: Limits, count: u64, from: &mut S) -> Result<Checked, Ending> {
+        messages_are_bounded();
         look_ahead(count, from)?;
         match check_message::<L, S>(from, limits) {
             Ok(checked) => Ok(checked),
@@ -135,7 +139,8 @@ fn view_next<'a, L: OuterLanguage>(
 ) -> Result<View<'a>, Ending>
     requires { count ≤ MOST }
     ensures next { ViewsNext (rules_of L.set L.holds limits) count left.old.now left.new.now result }
-    ensures taken { TakesNext (λ viewed. viewed.taken) limits (2 ^ 64) (2 ^ 64) result }
+    ensures taken { TakesNext (λ viewed. viewed.taken) (rules_of L.set L.holds limits)
+        (Some left.old.now) (2 ^ 64) (2 ^ 64) result }
 {
     let bytes = *left;
     go_on(count, bytes)?;

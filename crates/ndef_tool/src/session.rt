@@ -7,6 +7,7 @@ ghost use Rattle.ndef_tool.specs.Blocks.{block_text};
 ghost use Rattle.ndef_tool.specs.Chosen.{HasSize};
 ghost use Rattle.ndef_tool.specs.Inputs.{HandlesIn, SilencesIn};
 ghost use Rattle.ndef_tool.specs.Output.{FitsPlace};
+ghost use Rattle.ndef_tool.specs.Rules.{typed_rules};
 ghost use Rattle.ndef_tool.specs.Sessions.{Handles, SessionHasTaken, IsSession, PrintsNext, Silences, TakesNext};
 ghost use Rattle.ndef_tool.specs.Streams.{streams};
 
@@ -48,8 +49,8 @@ fn print_next<R: Reading<Typed, S>, S>(
     requires size { HasSize choice.now.action }
     ensures prints { PrintsNext choice.now count at
         (R.coming from.old) (R.coming from.new) (R.has_failed from.new) result }
-    ensures taken { TakesNext (λ printed. printed.taken) choice.now.limits
-        (R.taken from.old) (R.taken from.new) result }
+    ensures taken { TakesNext (λ printed. printed.taken) (typed_rules choice.now.limits)
+        (R.coming from.old) (R.taken from.old) (R.taken from.new) result }
 {
     let limits = choice.limits;
     let number = count + 1;
@@ -101,7 +102,8 @@ fn handle_messages<R: Reading<Typed, S>, S, K: Sink>(
     ensures silent { K.has_failed sink.old ≡ true
         → Silences (IsSession choice.now (R.coming from.old) (R.coming from.new) (R.has_failed from.new)
         (K.has_failed sink.new)) choice.now (sink_state K.Sink sink.old) (sink_state K.Sink sink.new) result }
-    ensures taken { SessionHasTaken choice.now.limits result.at (R.taken from.old) (R.taken from.new) result.ending }
+    ensures taken { SessionHasTaken (typed_rules choice.now.limits) result.at (R.coming from.old)
+        (R.taken from.old) (R.taken from.new) result.ending }
     ensures room { FitsPlace result.at result.ending }
 {
     choice.limits.profile();

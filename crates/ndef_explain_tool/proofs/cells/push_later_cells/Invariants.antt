@@ -4,7 +4,7 @@ use Rattle.ndef_explain_tool.proofs.cells.push_later_cells.Given as goal
 
 abbrev pub invariant-loop-rest : goal.invariant-loop-rest
 invariant-loop-rest l = record {
-  same : l.line ++ later_cells l.column l.rest ≡ l.initial.line ++ later_cells 0 l.octets;
+  same : l.line ++ later_cells l.depth l.column l.rest ≡ l.initial.line ++ later_cells l.depth 0 l.octets;
   column : l.column < 8;
 }
 

@@ -1,5 +1,5 @@
 use Rattle.ndef_explain_tool.specs.Hexadecimal.{is_separator}
-use Rattle.ndef_explain_tool.proofs.Cuts.{cut_parts, uncut_parts}
+use Rattle.ndef_program.specs.CutLaws.{cut_parts, uncut_parts}
 use Rattle.ndef_explain_tool.proofs.hexadecimal.cut_word.Goals as goal
 
 pub returns-in-Some-clause-split : goal.returns-in-Some-clause-split

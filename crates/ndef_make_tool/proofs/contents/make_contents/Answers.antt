@@ -1,33 +1,29 @@
-use Rattle.std.proofs.Common.{◌≡◌, ◌+◌, List, [], sym, subst, rules, Err, get_or, map, take}
-use Rattle.ndef_format.specs.Messages.{Item}
-use Rattle.ndef_make_tool.specs.Contents.{MakesContent, content_of}
-use Rattle.ndef_make_tool.specs.Records.{AreAnsweredBy, AreMadeBy}
+use Rattle.std.proofs.Common.{◌≡◌, [], Err, get_or, rules}
+use Rattle.clap.specs.Words.{found_of, rows_of}
 use Rattle.ndef_make_tool.specs.declared.contents.Property.TheVariants.{Uri}
-use Rattle.ndef_make_tool.specs.declared.contents.Word.{Word}
+use Rattle.ndef_make_tool.specs.declared.contents.Wanted.{Wanted}
+use Rattle.ndef_make_tool.proofs.Appended.{options_fail, options_more, options_whole}
 use Rattle.ndef_make_tool.proofs.Lists.{got_there}
-use Rattle.ndef_make_tool.proofs.Made.{answered_fails, made_more}
 use Rattle.ndef_make_tool.proofs.contents.make_contents.Goals as goal
 
-abbrev missing : Word
-missing = record { property = Uri; text = record { ref_ptr = (0, 0); now = [] } }
+abbrev missing : Wanted
+missing = record { property = Uri; id = record { ref_ptr = (0, 0); now = [] } }
 
-pub returns-in_err-make_content : goal.returns-in_err-make_content
-returns-in_err-make_content c =
-    let fault = c.in_err-make_content.field-0.0 in
-    let e : c.from_residual.result ≡ Err fault = search rules in
-    let words = c.args.words.now in
-    let n = c.loop-said.said-index in
-    let p = get_or words n missing in
-    subst (AreAnsweredBy MakesContent (map content_of words)) (sym e)
-    (answered_fails MakesContent content_of words n p c.loop-said.records.items fault c.loop-said-test.true (got_there words n missing p c.loop-said-test.true)
-    c.loop-said.invariant c.in_err-make_content.ensures)
+pub returns-in_err-push_words : goal.returns-in_err-push_words
+returns-in_err-push_words c =
+    let fault = c.in_err-push_words.field-0.0 in
+    let is : c.from_residual.result ≡ Err fault = search rules in
+    let options = c.args.options.now in
+    let n = c.loop-option.option-index in
+    rw is (options_fail (rows_of (found_of c.args.matches.now)) options n (get_or options n missing) c.loop-option.records.items c.push_words.new.records.items fault c.loop-option-test.true (got_there options n missing _ c.loop-option-test.true)
+    c.loop-option.invariant c.in_err-push_words.ensures)
 
-pub loop-said-preserved : goal.loop-said-preserved
-loop-said-preserved c =
-    let words = c.args.words.now in
-    let n = c.loop-said.said-index in
-    let p = get_or words n missing in
-    let made =
-    made_more MakesContent content_of words n p c.loop-said.records.items c.in_ok-make_content.field-0 c.loop-said-test.true
-    (got_there words n missing p c.loop-said-test.true) c.loop-said.invariant c.in_ok-make_content.ensures in
-    subst (λ (items : List Item). AreMadeBy MakesContent (map content_of (take (n + 1) words)) items) (sym c.in_ok-push.ensures.items) made
+pub loop-option-preserved : goal.loop-option-preserved
+loop-option-preserved c =
+    let options = c.args.options.now in
+    let n = c.loop-option.option-index in
+    options_more (rows_of (found_of c.args.matches.now)) options n (get_or options n missing) c.loop-option.records.items c.push_words.new.records.items c.loop-option-test.true (got_there options n missing _ c.loop-option-test.true)
+    c.loop-option.invariant c.in_ok-push_words.ensures
+
+pub returns : goal.returns
+returns c = options_whole (rows_of (found_of c.args.matches.now)) c.args.options.now c.loop-option.option-index c.loop-option.records.items c.loop-option-test.false c.loop-option.invariant

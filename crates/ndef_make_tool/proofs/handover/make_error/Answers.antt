@@ -1,7 +1,6 @@
-use Rattle.std.proofs.Common.{◌≡◌, Some, Err, rules, subst}
-use Rattle.ndef_make_tool.specs.Handovers.{AsksError}
+use Rattle.std.proofs.Common.{◌≡◌, Some, Err, rules}
 use Rattle.ndef_make_tool.specs.Options.{cut_at, is_colon, number_below}
-use Rattle.ndef_make_tool.proofs.Linked.{error_asked, error_unsaid}
+use Rattle.ndef_make_tool.proofs.Linked.{error_asked, error_of_parts, error_unsaid}
 use Rattle.ndef_make_tool.proofs.handover.make_error.Goals as goal
 
 pub returns-in_err-detail : goal.returns-in_err-detail
@@ -12,4 +11,7 @@ returns-in_err-detail c =
     rw is (error_unsaid c.args.word.now _ _ _ c.in_err-detail.field-0.0 cut number c.in_err-detail.ensures)
 
 pub returns : goal.returns
-returns c = error_asked c.args.word.now c.make_reason.result (search rules)
+returns c =
+    let cut : cut_at is_colon c.args.word.now ≡ Some (c.in-Some.reason.now, c.in-Some.digits.now) = search rules in
+    let number : number_below 256 c.in-Some.reason.now ≡ Some c.in-Some-number_below.reason = search rules in
+    error_asked c.args.word.now _ c.make_reason.result (error_of_parts c.args.word.now _ _ _ c.in_ok-detail.detail.items cut number c.in_ok-detail.ensures) (search rules)

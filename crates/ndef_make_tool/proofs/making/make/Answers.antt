@@ -1,4 +1,4 @@
-use Rattle.std.proofs.Common.{◌≡◌, List, map, rules, string_bytes, subst, Err, Some}
+use Rattle.std.proofs.Common.{◌≡◌, List, map, rules, string_bytes, subst, inl, Err, Some}
 use Rattle.std.specs.List.{flat_map}
 use Rattle.ndef_format.specs.Messages.{Item}
 use Rattle.ndef_make_tool.specs.Asked.{asked_part}
@@ -14,6 +14,18 @@ write_records-requires g c =
     let e = asked (λ part. map string_bytes part.now) words (map string_bytes c.words_behind.result.now) c.as_slice.result.now c.in_ok-parts.parts.items (Some said)
     c.as_slice.ensures.value c.in_ok-parts.ensures c.words_behind.ensures c.in_ok-said.ensures in
     λ none. some_record words said _ c.in_ok-records.records.items e (rw c.as_slice-3.ensures.value at c.in_ok-records.ensures) none
+
+pub returns-in_err-records : goal.returns-in_err-records
+returns-in_err-records g c =
+    let words = map string_bytes c.args.words.now in
+    let said = map asked_part c.in_ok-said.said.items in
+    let e = asked (λ part. map string_bytes part.now) words (map string_bytes c.words_behind.result.now) c.as_slice.result.now c.in_ok-parts.parts.items (Some said)
+    c.as_slice.ensures.value c.in_ok-parts.ensures c.words_behind.ensures c.in_ok-said.ensures in
+    let reads = rw c.as_slice-2.ensures.value at c.in_ok-input.ensures in
+    let fails = rw (c.as_slice-3.ensures.value, c.as_slice-4.ensures.value) at c.in_err-records.ensures in
+    let fault = c.in_err-records.field-0.0 in
+    let is : c.from_residual-in_err-records.result ≡ Err fault = search rules in
+    rw is (written words c.args.terminal said _ _ c.in_ok-input.input (Err fault) e reads (inl fails))
 
 pub returns-in_err-find_all : goal.returns-in_err-find_all
 returns-in_err-find_all g c =

@@ -1,6 +1,7 @@
-use Rattle.std.proofs.Common.{rules, Ok, Err, refl}
+use Rattle.std.proofs.Common.{rules, Ok, Err, length, refl, inr, arith}
 use Rattle.ndef_message.specs.declared.message_checking.CheckError.TheVariants.{Refused}
-use Rattle.ndef_tool.proofs.Sessions.{checks_kept}
+use Rattle.ndef_tool.proofs.Bounded.{viable_bounded}
+use Rattle.ndef_tool.proofs.Sessions.{checks_kept, incomplete_kept}
 use Rattle.ndef_tool.proofs.reading.FromSourceReading.check.Goals as goal
 
 pub returns-in-Ok-clause-next : goal.returns-in-Ok-clause-next
@@ -26,3 +27,18 @@ returns-in-Err-Refused-clause-next g c =
 
 pub returns-in-Err-ReadFault-clause-next : goal.returns-in-Err-ReadFault-clause-next
 returns-in-Err-ReadFault-clause-next g c = search rules
+
+pub returns-in-Err-ReadFault-clause-taken : goal.returns-in-Err-ReadFault-clause-taken
+returns-in-Err-ReadFault-clause-taken g c =
+    let ahead = c.in_ok-look_ahead.ensures.ahead in
+    let same = c.in_ok-look_ahead.ensures.taken in
+    let set = g.L.Language.set in
+    let failed = rw c.in-Err-ReadFault.field-0-is at c.in-Err-ReadFault.ensures in
+    let u = failed.fails in (
+      length u.0,
+      (
+        viable_bounded c.messages_are_bounded.ensures set c.args.limits u.0 u.1.viable,
+        inr (u.0, refl, incomplete_kept set c.args.limits _ _ u.0 ahead.2 u.1),
+      ),
+      λ small. let up = u.2 (omega (arith, same)) in omega (arith, up, same),
+    )

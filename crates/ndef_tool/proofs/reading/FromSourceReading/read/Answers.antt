@@ -1,6 +1,7 @@
-use Rattle.std.proofs.Common.{Ok, Err}
-use Rattle.ndef_message.specs.declared.message_reading.ReadError.TheVariants.{Refused}
-use Rattle.ndef_tool.proofs.Sessions.{reads_kept}
+use Rattle.std.proofs.Common.{Ok, Err, length, refl, inr, arith}
+use Rattle.ndef_message.specs.declared.message_reading.ReadError.TheVariants.{NoMemory, Refused}
+use Rattle.ndef_tool.proofs.Bounded.{viable_bounded, needs_bounded}
+use Rattle.ndef_tool.proofs.Sessions.{reads_kept, incomplete_kept, needs_kept}
 use Rattle.ndef_tool.proofs.reading.FromSourceReading.read.Goals as goal
 
 pub returns-in-Ok-clause-next : goal.returns-in-Ok-clause-next
@@ -19,4 +20,42 @@ returns-in-Err-Refused-clause-next g c =
       refused.mark,
       ahead.3,
       reads_kept g.L.Language.set g.L.Language.holds c.args.limits _ _ _ (Err (Refused c.in-Err-Refused.refusal)) ahead.2 refused.reads,
+    )
+
+pub returns-in-Err-ReadFault-clause-taken : goal.returns-in-Err-ReadFault-clause-taken
+returns-in-Err-ReadFault-clause-taken g c =
+    let ahead = c.in_ok-look_ahead.ensures.ahead in
+    let same = c.in_ok-look_ahead.ensures.taken in
+    let set = g.L.Language.set in
+    let failed = rw c.in-Err-ReadFault.field-0-is at c.in-Err-ReadFault.ensures in
+    let u = failed.fails in (
+      length u.0,
+      (
+        viable_bounded c.messages_are_bounded.ensures set c.args.limits u.0 u.1.viable,
+        inr (u.0, refl, incomplete_kept set c.args.limits _ _ u.0 ahead.2 u.1),
+      ),
+      λ small. let up = u.2 (omega (arith, same)) in omega (arith, up, same),
+    )
+
+pub returns-in-Err-NoMemory-clause-next : goal.returns-in-Err-NoMemory-clause-next
+returns-in-Err-NoMemory-clause-next g c =
+    let ahead = c.in_ok-look_ahead.ensures.ahead in
+    let failed = rw c.in-Err-NoMemory.field-0-is at c.in-Err-NoMemory.ensures in
+    (ahead.0, failed.mark, reads_kept g.L.Language.set g.L.Language.holds c.args.limits _ _ _ (Err NoMemory) ahead.2 failed.reads)
+
+pub returns-in-Err-NoMemory-clause-taken : goal.returns-in-Err-NoMemory-clause-taken
+returns-in-Err-NoMemory-clause-taken g c =
+    let ahead = c.in_ok-look_ahead.ensures.ahead in
+    let same = c.in_ok-look_ahead.ensures.taken in
+    let set = g.L.Language.set in
+    let failed = rw c.in-Err-NoMemory.field-0-is at c.in-Err-NoMemory.ensures in
+    let w = failed.fails in (
+      length w.0,
+      (
+        needs_bounded c.messages_are_bounded.ensures set c.args.limits _ w.0 w.1,
+        w.0,
+        refl,
+        inr (needs_kept set c.args.limits _ _ w.0 ahead.2 w.1),
+      ),
+      λ small. let up = w.2.1 (omega (arith, same)) in omega (arith, up, same),
     )

@@ -1,6 +1,6 @@
 use Rattle.std.proofs.Common.{◌==◌}
-use Rattle.ndef_explain_tool.proofs.Cuts.{cut_front, cut_parts, uncut_front, uncut_parts}
-use Rattle.ndef_explain_tool.proofs.cutting.cut_at.Goals as goal
+use Rattle.ndef_program.specs.CutLaws.{cut_front, cut_parts, uncut_front, uncut_parts}
+use Rattle.ndef_program.proofs.cutting.cut_at.Goals as goal
 
 pub returns-in-Some-clause-before : goal.returns-in-Some-clause-before
 returns-in-Some-clause-before c = cut_front (λ x. x == c.args.byte) c.args.text.now c.in-Some.place c.in-Some.ensures
