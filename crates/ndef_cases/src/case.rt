@@ -39,6 +39,9 @@ pub const REASONS: [Reason; 25] = [
 #[derive(Drop)]
 pub struct Case<'a> {
     pub languages: &'a str,
+    /// The profiles in which the answer is this one: `strict`, `standard` or `both`.
+    pub profiles: &'a str,
+    /// The limits, of a strict reader.
     pub limits: Limits,
     pub bytes: Vec<u8>,
     pub answer: Answer,
@@ -82,6 +85,11 @@ pub fn profile_of(text: &str) -> Option<Profile> {
     }
 }
 
+/// Whether a text names the profile, alone or with the other one.
+pub fn is_in(text: &str, profile: Profile) -> bool {
+    text == "both" || profile_of(text) == Some(profile)
+}
+
 /// The reason of a number.
 pub fn reason(number: u64) -> Option<Reason> {
     match number {
@@ -107,13 +115,26 @@ pub fn answer_of(text: &str) -> Option<(Answer, Option<u64>)> {
     }
 }
 
-/// The case that a line tells.
+/// The case of a line.
 pub fn case_of(alloc: Global, line: &str) -> Option<Case<'_>> {
-    let [_, languages, profile, limits, bytes, answer, records] = fields(line);
+    let [
+        _,
+        _,
+        _,
+        _,
+        languages,
+        profiles,
+        limits,
+        bytes,
+        answer,
+        records,
+        _,
+    ] = fields(line);
     let (answer, held) = answer_of(answer)?;
     Some(Case {
         languages,
-        limits: limits_of(limits)?.with(profile_of(profile)?),
+        profiles,
+        limits: limits_of(limits)?,
         bytes: bytes_of(alloc, bytes)?,
         answer,
         held,

@@ -1,5 +1,5 @@
-//! What the tests of several crates share: lines of cases, sample messages, slow and failing streams, and memory that is
-//! used up. It serves tests alone, so that its functions have no contracts.
+//! What the tests of several crates share: lines of cases, sample messages, slow and failing streams, and memory that
+//! is used up. It serves tests alone, so that its functions have no contracts.
 #![tactic(auto)]
 
 pub mod case;

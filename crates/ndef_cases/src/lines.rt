@@ -3,7 +3,7 @@ use std::alloc::{AllocError, Global};
 use std::test::Fail;
 
 /// The most fields of a line.
-const MOST_FIELDS: usize = 7;
+const MOST_FIELDS: usize = 11;
 
 /// The first field of a line, and those behind it.
 pub fn field(line: &str) -> (&str, &str) {
@@ -24,9 +24,12 @@ pub fn fields(line: &str) -> [&str; MOST_FIELDS] {
     fields
 }
 
-/// The bytes that hexadecimal digits stand for, with spaces between some.
+/// The bytes that hexadecimal digits stand for, with spaces between some; `-` is none.
 pub fn bytes_of(alloc: Global, text: &str) -> Option<Vec<u8>> {
     let mut bytes = Vec::new(alloc);
+    if text == "-" {
+        return Some(bytes);
+    }
     for digits in text.split_whitespace() {
         let part = hex::decode(alloc, digits).ok()?;
         bytes.extend_from_slice(part.as_slice()).ok()?;

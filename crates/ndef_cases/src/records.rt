@@ -1,8 +1,8 @@
-//! The records of a message, compared with those that a text tells: `TNF TYPE ID PAYLOAD`, with commas
-//! between; the payload in hexadecimal, a type name format by its number, `-` for what is empty.
+//! The records of a message, compared with those of a text: `TNF TYPE ID PAYLOAD`, with commas between. A type name
+//! format stands there by its number, the other parts in hexadecimal, with `-` for what is empty.
 use crate::lines::bytes_of;
 use ndef_message::View;
-use ndef_value::{Message, Tnf};
+use ndef_value::{Message, Record, Tnf};
 use std::alloc::Global;
 
 /// The parts of a record.
@@ -26,31 +26,49 @@ fn tnf_of(text: &str) -> Option<Tnf> {
     }
 }
 
-/// A part, where `-` stands for an empty one.
-fn part_of(text: Option<&str>) -> Option<&str> {
-    match text? {
-        "-" => Some(""),
-        part => Some(part),
-    }
+/// The octets of a part.
+fn part_of(alloc: Global, text: Option<&str>) -> Option<Vec<u8>> {
+    bytes_of(alloc, text?)
 }
 
-/// Whether the record is the one that the text tells.
+/// Whether the record is the one of the text.
 fn is_told(alloc: Global, text: Option<&str>, record: &Parts<'_>) -> Option<bool> {
     let mut words = text?.split_whitespace();
-    let tnf = tnf_of(part_of(words.next())?)?;
-    let kind = part_of(words.next())?;
-    let id = part_of(words.next())?;
-    let payload = bytes_of(alloc, part_of(words.next())?)?;
+    let tnf = tnf_of(words.next()?)?;
+    let kind = part_of(alloc, words.next())?;
+    let id = part_of(alloc, words.next())?;
+    let payload = part_of(alloc, words.next())?;
     Some(
         tnf == record.tnf
-            && kind.as_bytes() == record.kind
-            && id.as_bytes() == record.id
+            && kind.as_slice() == record.kind
+            && id.as_slice() == record.id
             && payload.as_slice() == record.payload
             && words.next().is_none(),
     )
 }
 
-/// Whether the records of the message are those that the text tells.
+/// The message of the records of a text.
+pub fn message_of(alloc: Global, text: &str) -> Option<Message> {
+    let mut records = Vec::new(alloc);
+    for record in text.split(',') {
+        let mut words = record.split_whitespace();
+        let tnf = tnf_of(words.next()?)?;
+        let kind = part_of(alloc, words.next())?;
+        let id = part_of(alloc, words.next())?;
+        let payload = part_of(alloc, words.next())?;
+        let record = Record::new(
+            alloc,
+            tnf,
+            kind.as_slice(),
+            id.as_slice(),
+            payload.as_slice(),
+        );
+        records.push(record.ok()?).ok()?;
+    }
+    Message::new(records).ok()
+}
+
+/// Whether the records of the message are those of the text.
 pub fn are_told(alloc: Global, text: &str, message: &Message) -> Option<bool> {
     let mut texts = text.split(',');
     for record in message {
@@ -67,7 +85,7 @@ pub fn are_told(alloc: Global, text: &str, message: &Message) -> Option<bool> {
     Some(texts.next().is_none())
 }
 
-/// Whether the items of the view are the records that the text tells.
+/// Whether the items of the view are the records of the text.
 pub fn are_shown(alloc: Global, text: &str, view: &View<'_>) -> Option<bool> {
     let mut texts = text.split(',');
     for item in view.items() {

@@ -29,6 +29,12 @@ pub(super) const WHOLE: Parts = Parts {
 /// Byte by byte.
 pub(super) const BYTES: Parts = Parts { first: 0, size: 1 };
 
+/// A message of more bytes isn't cut at each place.
+const LONG: usize = 1024;
+
+/// At how many places a long message is cut.
+const MOST_CUTS: usize = 32;
+
 fn two_parts(first: usize) -> Parts {
     Parts {
         first,
@@ -178,7 +184,18 @@ fn is_answered_in_two<L: OuterLanguage>(
         && check_from::<L, _>(limits, &mut SliceSource::new(bytes, &cuts)) == wanted
 }
 
-/// Whether the bytes are answered so whole, in each two parts and byte by byte.
+/// Every how many bytes a message is cut: at each place, or at some of a long message.
+pub(super) fn step_of(length: usize, most: usize) -> usize {
+    if length <= LONG {
+        return 1;
+    }
+    match length.checked_div(most) {
+        Some(step) => step.saturating_add(1),
+        None => 1,
+    }
+}
+
+/// Whether the bytes are answered so whole, in each two parts (of long messages in some) and byte by byte.
 pub(super) fn is_answered<L: OuterLanguage>(
     alloc: Global,
     limits: Limits,
@@ -186,8 +203,11 @@ pub(super) fn is_answered<L: OuterLanguage>(
     answer: Answer,
 ) -> bool {
     let wanted = Some(answer);
+    let step = step_of(bytes.len(), MOST_CUTS);
     for cut in 0..=bytes.len() {
-        if !is_answered_in_two::<L>(alloc, limits, bytes, cut, wanted) {
+        if cut.checked_rem(step) == Some(0)
+            && !is_answered_in_two::<L>(alloc, limits, bytes, cut, wanted)
+        {
             return false;
         }
     }

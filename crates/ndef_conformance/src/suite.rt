@@ -1,6 +1,6 @@
 //! Cases, each run through every door: all have to give its one answer.
-use super::doors::{is_agreed, is_answered, is_held};
-use ndef_cases::case::{Case, case_of};
+use super::doors::{is_agreed, is_answered, is_held, step_of};
+use ndef_cases::case::{Case, case_of, is_in};
 use ndef_cases::records::{are_shown, are_told};
 use ndef_lang::{Leaf, Opaque, OuterLanguage};
 use ndef_message::{SliceSource, StdSink, read_message, view};
@@ -24,14 +24,20 @@ fn has_records<L: OuterLanguage>(alloc: Global, case: &Case<'_>) -> Option<bool>
     Some(are_told(alloc, case.records, &read.message)? && are_shown(alloc, case.records, &view)?)
 }
 
-/// Whether each proper front of a message is refused where it ends.
+/// The most fronts of a long message that are tried.
+const MOST_FRONTS: usize = 8;
+
+/// Whether each proper front of a message (of a long one some) is refused where it ends.
 fn are_fronts<L: OuterLanguage>(alloc: Global, limits: Limits, message: &[u8]) -> bool {
+    let step = step_of(message.len(), MOST_FRONTS);
     for count in 0..message.len() {
         let refusal = Refusal {
             at: count as u64,
             reason: Reason::EndOfInput,
         };
-        if !is_answered::<L>(alloc, limits, &message[..count], Err(refusal)) {
+        if count.checked_rem(step) == Some(0)
+            && !is_answered::<L>(alloc, limits, &message[..count], Err(refusal))
+        {
             return false;
         }
     }
@@ -171,14 +177,30 @@ fn wrong_in_language(alloc: Global, case: &Case<'_>, language: &str) -> Option<W
     }
 }
 
-/// What is wrong with the case of a line, if anything is; nothing where the line can't be read.
-pub(super) fn wrong_with(alloc: Global, line: &str) -> Option<Wrong> {
-    let case = case_of(alloc, line)?;
+/// What is wrong with a case, with the profile of its limits, if anything is.
+fn wrong_in_profile(alloc: Global, case: &Case<'_>) -> Option<Wrong> {
     for language in case.languages.split_whitespace() {
-        let wrong = wrong_in_language(alloc, &case, language)?;
+        let wrong = wrong_in_language(alloc, case, language)?;
         if wrong.is_some() {
             return Some(wrong);
         }
     }
     Some(None)
+}
+
+/// What is wrong with the case of a line, if anything is; nothing where the line can't be read.
+pub(super) fn wrong_with(alloc: Global, line: &str) -> Option<Wrong> {
+    let mut case = case_of(alloc, line)?;
+    let mut tried = false;
+    for profile in [Profile::Strict, Profile::Standard] {
+        if is_in(case.profiles, profile) {
+            tried = true;
+            case.limits = case.limits.with(profile);
+            let wrong = wrong_in_profile(alloc, &case)?;
+            if wrong.is_some() {
+                return Some(wrong);
+            }
+        }
+    }
+    Some(if tried { None } else { Some("no such profile") })
 }

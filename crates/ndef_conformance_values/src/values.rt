@@ -1,13 +1,15 @@
 //! Typed values as lines of text. conformance/README.md says what their columns are.
-use ndef_cases::case::{Answer, answer_of, profile_of};
+use crate::links::number_of;
+use ndef_cases::case::{Answer, answer_of, is_in};
 use ndef_cases::lines::{bytes_of, digits, fields};
 use ndef_types::{
-    Ac, Carrier, DecodeError, EncodeError, HandoverError, Request, Select, SmartPoster, Text, Uri,
+    Ac, Action, Carrier, DecodeError, EncodeError, Encoding, HandoverError, Request, Select,
+    SmartPoster, Text, Uri,
 };
-use ndef_value::{Bytes, Name, Profile};
+use ndef_value::{Bytes, Profile};
 use std::alloc::Global;
 
-/// What is told of a value, and the payload that is written for it.
+/// The words of a value, and the payload that is written for it.
 #[derive(Drop)]
 struct Value {
     words: String,
@@ -22,35 +24,62 @@ fn alike(made: Result<Bytes, EncodeError>, decoded: Result<Bytes, EncodeError>) 
 
 /// Encoding, language code and the octets of the text in UTF-8.
 fn text(alloc: Global, text: &Text) -> Option<Value> {
-    let encoding = text.encoding();
+    let encoding = match text.encoding() {
+        Encoding::Utf8 => "utf-8",
+        Encoding::Utf16 => "utf-16",
+    };
     let language = digits(alloc, text.language().as_bytes()).ok()?;
     let octets = digits(alloc, text.text().as_bytes()).ok()?;
-    let made = Text::new(alloc, encoding, text.language(), text.text()).ok()?;
+    let made = Text::new(alloc, text.encoding(), text.language(), text.text()).ok()?;
     Some(Value {
-        words: format!(in alloc; "{encoding:?} {language} {octets}").ok()?,
+        words: format!(in alloc; "encoding={encoding} language={language} text={octets}").ok()?,
         written: alike(made.encode(alloc), text.encode(alloc))?,
     })
 }
 
 /// The whole URI.
 fn uri(alloc: Global, uri: &Uri) -> Option<Value> {
+    let octets = digits(alloc, uri.text().as_bytes()).ok()?;
     let made = Uri::new(alloc, uri.text()).ok()?;
     Some(Value {
-        words: String::from_str(alloc, uri.text()).ok()?,
+        words: format!(in alloc; "uri={octets}").ok()?,
         written: alike(made.encode(alloc), uri.encode(alloc))?,
     })
 }
 
-/// Power state, reference, the number of auxiliary names and the first of them, and what is behind them.
+/// A list in words: the items with commas between, or `none`.
+fn listed(alloc: Global, items: &str) -> Option<String> {
+    let words = if items.is_empty() { "none" } else { items };
+    String::from_str(alloc, words).ok()
+}
+
+/// Adds an item to a list, in hexadecimal.
+fn add(alloc: Global, list: &mut String, octets: &[u8]) -> Option<()> {
+    if !list.is_empty() {
+        list.push_str(",").ok()?;
+    }
+    list.push_str(digits(alloc, octets).ok()?.as_str()).ok()
+}
+
+/// The auxiliary references.
+fn auxiliaries(alloc: Global, ac: &Ac) -> Option<String> {
+    let mut all = String::new(alloc);
+    for index in 0..ac.auxiliary_count() {
+        add(alloc, &mut all, ac.auxiliary(index)?.as_slice())?;
+    }
+    listed(alloc, all.as_str())
+}
+
+/// Power state, reference, auxiliary references, and what follows them.
 fn alternative(alloc: Global, ac: &Ac) -> Option<Value> {
-    let power = ac.power();
+    let power = number_of(ac.power());
     let reference = digits(alloc, ac.reference().as_slice()).ok()?;
-    let count = ac.auxiliary_count();
-    let first = ac.auxiliary(0).map(Name::as_slice).unwrap_or_default();
-    let auxiliary = digits(alloc, first).ok()?;
+    let auxiliary = auxiliaries(alloc, ac)?;
     let rest = digits(alloc, ac.rest()).ok()?;
     Some(Value {
-        words: format!(in alloc; "{power:?} {reference} {count} {auxiliary} {rest}").ok()?,
+        words: format!(in alloc;
+            "power={power} reference={reference} auxiliary={auxiliary} rest={rest}"
+        ).ok()?,
         written: ac.encode(alloc).ok()?,
     })
 }
@@ -61,7 +90,7 @@ fn error(alloc: Global, error: &HandoverError) -> Option<Value> {
     let detail = digits(alloc, error.detail()).ok()?;
     let made = HandoverError::new(alloc, reason, error.detail()).ok()?;
     Some(Value {
-        words: format!(in alloc; "{reason} {detail}").ok()?,
+        words: format!(in alloc; "reason={reason} data={detail}").ok()?,
         written: alike(made.encode(alloc), error.encode(alloc))?,
     })
 }
@@ -72,42 +101,60 @@ fn carrier(alloc: Global, carrier: &Carrier) -> Option<Value> {
     let kind = digits(alloc, carrier.kind().as_slice()).ok()?;
     let carried = digits(alloc, carrier.carried()).ok()?;
     Some(Value {
-        words: format!(in alloc; "{format} {kind} {carried}").ok()?,
+        words: format!(in alloc; "format={format} type={kind} data={carried}").ok()?,
         written: carrier.encode(alloc).ok()?,
     })
 }
 
-/// The texts of the titles, with commas between.
+/// The texts of the titles.
 fn titles(alloc: Global, poster: &SmartPoster) -> Option<String> {
     let mut all = String::new(alloc);
     for title in &poster.titles(alloc).ok()? {
-        if !all.is_empty() {
-            all.push_str(",").ok()?;
-        }
-        all.push_str(title.text()).ok()?;
+        add(alloc, &mut all, title.text().as_bytes())?;
     }
-    Some(all)
+    listed(alloc, all.as_str())
 }
 
-/// The media type, or `-`.
+/// The number of an action, or `none`.
+fn action(alloc: Global, poster: &SmartPoster) -> Option<String> {
+    let number = match poster.action() {
+        Some(Action::Do) => 0,
+        Some(Action::Save) => 1,
+        Some(Action::Open) => 2,
+        Some(Action::Other(number)) => number,
+        None => return String::from_str(alloc, "none").ok(),
+    };
+    format!(in alloc; "{number}").ok()
+}
+
+/// The size, or `none`.
+fn size(alloc: Global, poster: &SmartPoster) -> Option<String> {
+    match poster.size() {
+        Some(size) => format!(in alloc; "{size}").ok(),
+        None => String::from_str(alloc, "none").ok(),
+    }
+}
+
+/// The media type, or `none`.
 fn media(alloc: Global, poster: &SmartPoster) -> Option<String> {
     match poster.media(alloc).ok()? {
         Some(media) => digits(alloc, media.as_slice()).ok(),
-        None => digits(alloc, b"").ok(),
+        None => String::from_str(alloc, "none").ok(),
     }
 }
 
 /// The number of records, URI, titles, action, size and media type.
 fn poster(alloc: Global, poster: &SmartPoster) -> Option<Value> {
     let records = poster.message().len();
-    let uri = poster.uri(alloc).ok()?;
-    let uri = uri.text();
+    let uri = digits(alloc, poster.uri(alloc).ok()?.text().as_bytes()).ok()?;
     let titles = titles(alloc, poster)?;
-    let action = poster.action();
-    let size = poster.size();
+    let action = action(alloc, poster)?;
+    let size = size(alloc, poster)?;
     let media = media(alloc, poster)?;
     Some(Value {
-        words: format!(in alloc; "{records} {uri} [{titles}] {action:?} {size:?} {media}").ok()?,
+        words: format!(in alloc;
+            "records={records} uri={uri} titles={titles} action={action} size={size} media={media}"
+        ).ok()?,
         written: poster.encode(alloc).ok()?,
     })
 }
@@ -118,7 +165,7 @@ fn request(alloc: Global, request: &Request) -> Option<Value> {
     let collision = request.collision();
     let records = request.message().len();
     Some(Value {
-        words: format!(in alloc; "{minor} {collision} {records}").ok()?,
+        words: format!(in alloc; "minor={minor} collision={collision} records={records}").ok()?,
         written: request.encode(alloc).ok()?,
     })
 }
@@ -126,27 +173,30 @@ fn request(alloc: Global, request: &Request) -> Option<Value> {
 /// Minor version and the number of records.
 fn select(alloc: Global, select: &Select) -> Option<Value> {
     let minor = select.minor();
-    let records = select.message().map(|message| message.len());
+    let words = match select.message() {
+        Some(message) => format!(in alloc; "minor={minor} records={}", message.len()).ok()?,
+        None => format!(in alloc; "minor={minor} records=none").ok()?,
+    };
     Some(Value {
-        words: format!(in alloc; "{minor} {records:?}").ok()?,
+        words,
         written: select.encode(alloc).ok()?,
     })
 }
 
-/// What is told of the value for which a payload stands.
+/// The value for which a payload stands.
 fn told(alloc: Global, kind: &str, profile: Profile, payload: &[u8]) -> Option<Value> {
     match kind {
-        "text" => text(alloc, &Text::decode(alloc, payload).ok()?),
-        "URI" => uri(alloc, &Uri::decode_as(alloc, payload, profile).ok()?),
-        "alternative carrier" => alternative(alloc, &Ac::decode(alloc, payload).ok()?),
-        "error" => error(alloc, &HandoverError::decode(alloc, payload).ok()?),
-        "carrier" => carrier(alloc, &Carrier::decode(alloc, payload).ok()?),
-        "poster" => poster(
+        "T" => text(alloc, &Text::decode(alloc, payload).ok()?),
+        "U" => uri(alloc, &Uri::decode_as(alloc, payload, profile).ok()?),
+        "ac" => alternative(alloc, &Ac::decode(alloc, payload).ok()?),
+        "err" => error(alloc, &HandoverError::decode(alloc, payload).ok()?),
+        "Hc" => carrier(alloc, &Carrier::decode(alloc, payload).ok()?),
+        "Sp" => poster(
             alloc,
             &SmartPoster::decode_as(alloc, payload, profile).ok()?,
         ),
-        "request" => request(alloc, &Request::decode_as(alloc, payload, profile).ok()?),
-        "select" => select(alloc, &Select::decode_as(alloc, payload, profile).ok()?),
+        "Hr" => request(alloc, &Request::decode_as(alloc, payload, profile).ok()?),
+        "Hs" => select(alloc, &Select::decode_as(alloc, payload, profile).ok()?),
         _ => None,
     }
 }
@@ -162,23 +212,23 @@ fn refusal<T: Drop>(decoded: Result<T, DecodeError>) -> Option<Answer> {
 /// Where and why a payload is refused, by the calls without a profile and with it.
 fn refusals(alloc: Global, kind: &str, profile: Profile, payload: &[u8]) -> [Option<Answer>; 2] {
     match kind {
-        "text" => [refusal(Text::decode(alloc, payload)); 2],
-        "URI" => [
+        "T" => [refusal(Text::decode(alloc, payload)); 2],
+        "U" => [
             refusal(Uri::decode(alloc, payload)),
             refusal(Uri::decode_as(alloc, payload, profile)),
         ],
-        "alternative carrier" => [refusal(Ac::decode(alloc, payload)); 2],
-        "error" => [refusal(HandoverError::decode(alloc, payload)); 2],
-        "carrier" => [refusal(Carrier::decode(alloc, payload)); 2],
-        "poster" => [
+        "ac" => [refusal(Ac::decode(alloc, payload)); 2],
+        "err" => [refusal(HandoverError::decode(alloc, payload)); 2],
+        "Hc" => [refusal(Carrier::decode(alloc, payload)); 2],
+        "Sp" => [
             refusal(SmartPoster::decode(alloc, payload)),
             refusal(SmartPoster::decode_as(alloc, payload, profile)),
         ],
-        "request" => [
+        "Hr" => [
             refusal(Request::decode(alloc, payload)),
             refusal(Request::decode_as(alloc, payload, profile)),
         ],
-        "select" => [
+        "Hs" => [
             refusal(Select::decode(alloc, payload)),
             refusal(Select::decode_as(alloc, payload, profile)),
         ],
@@ -198,10 +248,9 @@ fn is_refused(
     answer.is_some() && by_profile == answer && (strict == answer || profile != Profile::Strict)
 }
 
-/// Whether a line tells what its payload stands for; nothing where there is no value.
-pub(super) fn is_told(alloc: Global, line: &str) -> Option<bool> {
-    let [kind, profile, payload, value, written, ..] = fields(line);
-    let profile = profile_of(profile)?;
+/// Whether the payload of a line stands for its value in a profile; nothing where there is no value.
+fn is_told_in(alloc: Global, line: &str, profile: Profile) -> Option<bool> {
+    let [_, kind, _, _, _, payload, value, written, ..] = fields(line);
     let payload = bytes_of(alloc, payload)?;
     if value.starts_with("refused") {
         let answer = answer_of(value).map(|(answer, _)| answer);
@@ -210,4 +259,19 @@ pub(super) fn is_told(alloc: Global, line: &str) -> Option<bool> {
     let told = told(alloc, kind, profile, payload.as_slice())?;
     let written = bytes_of(alloc, written)?;
     Some(told.words.as_str() == value && told.written.as_slice() == written.as_slice())
+}
+
+/// Whether the payload of a line stands for its value in each profile that it names; nothing where there is no value.
+pub(super) fn is_told(alloc: Global, line: &str) -> Option<bool> {
+    let [_, _, _, _, profiles, ..] = fields(line);
+    let mut told = false;
+    for profile in [Profile::Strict, Profile::Standard] {
+        if is_in(profiles, profile) {
+            told = true;
+            if !is_told_in(alloc, line, profile)? {
+                return Some(false);
+            }
+        }
+    }
+    Some(told)
 }

@@ -4,6 +4,7 @@ mod handovers;
 mod judged_first;
 mod links;
 mod made;
+mod most_records;
 mod nested_memory;
 mod texts;
 mod typed_memory;

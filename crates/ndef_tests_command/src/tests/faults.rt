@@ -35,6 +35,86 @@ fn tells_faults_behind_a_message(rt: HostRuntime) -> Result<(), Fail> {
     Ok(())
 }
 
+/// A text record, and behind it a message of two records.
+const BOTH: [u8; 20] = [
+    0xD1, 0x01, 0x08, 0x54, 0x02, 0x65, 0x6E, 0x48, 0x65, 0x6C, 0x6C, 0x6F, 0x91, 0x01, 0x00, 0x41,
+    0x51, 0x01, 0x00, 0x42,
+];
+
+/// Where its messages end.
+const ENDS: [usize; 2] = [12, 20];
+
+/// The blocks of the messages that come before a fault at this place, and the line of the fault.
+fn written_before(
+    alloc: Global,
+    place: usize,
+    blocks: [&[u8]; 2],
+    fault: &[u8],
+) -> Result<Vec<u8>, Fail> {
+    let mut wanted = Vec::new(alloc);
+    for (block, end) in blocks.iter().zip(&ENDS) {
+        if *end <= place {
+            wanted.extend_from_slice(block)?;
+        }
+    }
+    wanted.extend_from_slice(fault)?;
+    Ok(wanted)
+}
+
+/// Whether an input that fails at each place in turn, and at its end, leaves the blocks of the messages before that
+/// place, and no less.
+fn keeps_messages(
+    alloc: Global,
+    action: &str,
+    blocks: [&[u8]; 2],
+    fault: &[u8],
+) -> Result<bool, Fail> {
+    for place in 0..=20usize {
+        let wanted = written_before(alloc, place, blocks, fault)?;
+        let mut whole = FailingSource::new(&BOTH, &[], place.min(20));
+        let mut cut = FailingSource::new(&BOTH, &[5, 12, 15], place.min(20));
+        let (status, out) = run_from(alloc, &["ndef", action], &mut whole)?;
+        let (status_cut, out_cut) = run_from(alloc, &["ndef", action], &mut cut)?;
+        if (status, status_cut) != (3, 3) || out != wanted || out_cut != wanted {
+            return Ok(false);
+        }
+    }
+    Ok(true)
+}
+
+#[test]
+fn keeps_each_message_before_a_fault(rt: HostRuntime) -> Result<(), Fail> {
+    let alloc = rt.alloc();
+    let fault = b"fault: reading\n".as_slice();
+    let shown = [
+        b"message 1 at 0: records 1, bytes 12\n 1 tnf 1 type \"T\" id \"\" payload 8 text utf-8 \"en\" \"Hello\"\n".as_slice(),
+        b"message 2 at 12: records 2, bytes 8\n 1 tnf 1 type \"A\" id \"\" payload 0 other\n 2 tnf 1 type \"B\" id \"\" payload 0 other\n",
+    ];
+    assert!(rt; keeps_messages(alloc, "show", shown, fault)?);
+    let checked = [
+        b"message 1 at 0: records 1, bytes 12\n".as_slice(),
+        b"message 2 at 12: records 2, bytes 8\n",
+    ];
+    assert!(rt; keeps_messages(alloc, "check", checked, fault)?);
+    let encoded = [&BOTH[..12], &BOTH[12..]];
+    assert!(rt; keeps_messages(alloc, "encode", encoded, b"")?);
+    Ok(())
+}
+
+// Hexadecimal text is read whole first.
+#[test]
+fn reads_text_whole_before_a_message(rt: HostRuntime) -> Result<(), Fail> {
+    let alloc = rt.alloc();
+    let digits = hex::encode(alloc, BOTH)?;
+    let text = digits.as_bytes();
+    for place in 0..=40usize {
+        let mut source = FailingSource::new(text, &[], place.min(text.len()));
+        let (status, out) = run_from(alloc, &["ndef", "show", "--hex"], &mut source)?;
+        assert!(rt; status == 3 && out.as_slice() == b"fault: reading\n".as_slice());
+    }
+    Ok(())
+}
+
 /// Whether a run whose input fails at this place ends as the whole run, or with status 3 and a front
 /// of what it writes, the line of the fault behind it.
 fn reads_in_part(

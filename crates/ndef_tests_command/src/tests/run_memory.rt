@@ -190,6 +190,55 @@ fn encodes_whole_blocks(rt: HostRuntime) -> Result<(), Fail> {
     Ok(())
 }
 
+/// Whether an input is refused as soon as there is memory for the words, and never ends for want of memory after them.
+fn refuses_at_last(
+    alloc: Global,
+    words: &[String],
+    bytes: &[u8],
+    line: &[u8],
+    spare: &mut Vec<Vec<u8>>,
+) -> bool {
+    let mut room = [0; 512];
+    for _ in 0..=spare.len() {
+        let mut source = SliceSource::whole(bytes);
+        let mut sink = FailingSink::new(&mut room, 512, None);
+        let status = run(alloc, words, &mut source, &mut sink);
+        match status {
+            Status::Refused => return sink.written() == line,
+            Status::Fault if sink.written().is_empty() => {}
+            _ => return false,
+        }
+        let _ = spare.pop();
+    }
+    false
+}
+
+/// Whether `show` refuses an input so, once memory is used up.
+fn refuses_without_memory(alloc: Global, bytes: &[u8], line: &[u8]) -> Result<bool, Fail> {
+    let words = words(alloc, &["ndef", "show"])?;
+    let mut spare = spare_blocks(alloc)?;
+    let mut held = Vec::with_capacity(alloc, 65536)?;
+    let used_up = use_up(alloc, &mut held);
+    let refused = refuses_at_last(alloc, words.as_slice(), bytes, line, &mut spare);
+    drop(held);
+    if used_up {
+        Ok(refused)
+    } else {
+        Err("memory has no end here".into())
+    }
+}
+
+// At the first byte, at a length, and at the last byte of a message.
+#[test]
+fn tells_refusals_before_want_of_memory(rt: HostRuntime) -> Result<(), Fail> {
+    let alloc = rt.alloc();
+    assert!(rt; refuses_without_memory(alloc, &[0xF5], b"refused at 0: 7 ChunkAtEnd\n")?);
+    assert!(rt; refuses_without_memory(alloc, &[0xD1, 0x00], b"refused at 1: 12 TypeEmpty\n")?);
+    let text = [0xD1, 0x01, 0x01, 0x54, 0x40];
+    assert!(rt; refuses_without_memory(alloc, &text, b"refused at 4: 15 TextBit\n")?);
+    Ok(())
+}
+
 // Once the words are read, nothing else takes memory but hexadecimal text.
 #[test]
 fn checks_without_memory(rt: HostRuntime) -> Result<(), Fail> {

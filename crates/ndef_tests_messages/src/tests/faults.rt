@@ -90,6 +90,29 @@ fn reads_1024_records(rt: HostRuntime) -> Result<(), Fail> {
     Ok(())
 }
 
+/// A record of 4096 pieces, all empty.
+fn many_pieces(alloc: Global) -> Result<Vec<u8>, Fail> {
+    let mut bytes = Vec::new(alloc);
+    bytes.extend_from_slice(&[0xB5, 0x00, 0x00])?;
+    for _ in 0..4094u16 {
+        bytes.extend_from_slice(&[0x36, 0x00, 0x00])?;
+    }
+    bytes.extend_from_slice(&[0x56, 0x00, 0x00])?;
+    Ok(bytes)
+}
+
+#[test]
+fn reads_4096_pieces(rt: HostRuntime) -> Result<(), Fail> {
+    let alloc = rt.alloc();
+    let bytes = many_pieces(alloc)?;
+    let taken = read_from(
+        alloc,
+        &mut FailingSource::new(bytes.as_slice(), &[], bytes.len()),
+    );
+    assert!(rt; taken == Ok(12288), "{taken:?}");
+    Ok(())
+}
+
 /// What is written of the text record into so much room, three bytes at a time.
 fn written_into(
     alloc: Global,

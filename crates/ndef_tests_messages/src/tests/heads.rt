@@ -92,7 +92,7 @@ fn is_printed<T: Debug>(alloc: Global, value: &T, text: &str) -> Option<bool> {
 
 /// Whether a line tells the answer and the lengths behind its octets.
 fn is_answered(alloc: Global, line: &str) -> Option<bool> {
-    let [_, _, _, _, octets, told, lengths] = fields(line);
+    let [_, _, _, _, octets, told, lengths, ..] = fields(line);
     let mut reader = reader_of(line)?;
     let octets = bytes_of(alloc, octets)?;
     let answer = last_answer(&mut reader, octets.as_slice())?;

@@ -6,7 +6,10 @@ use ndef_message::{
     Checker, Decoder, Event, FailingSink, Fed, Form, Item, ReadError, SliceSource, View,
     check_message, encode, encode_chunked, read_message, view, write_message,
 };
-use ndef_value::{Bytes, Limits, Message, Name, NameError, NoMemory, Record, RecordError, Tnf};
+use ndef_nest::Typed;
+use ndef_value::{
+    Bytes, Limits, Message, Name, NameError, NoMemory, Reason, Record, RecordError, Refusal, Tnf,
+};
 use std::alloc::Global;
 use std::test::Fail;
 
@@ -24,7 +27,11 @@ fn refuses_names(alloc: Global) -> bool {
 
 /// Whether byte strings are refused, and what is extended is as it was.
 fn refuses_bytes(alloc: Global, bytes: &mut Bytes) -> bool {
-    Bytes::from_slice(alloc, b"T").is_err()
+    let nothing = Bytes::from_slice(alloc, b"").is_ok() && bytes.extend(b"").is_ok();
+    let empty = Record::new(alloc, Tnf::Media, &LETTERS[..32], &LETTERS[..32], b"").is_ok();
+    nothing
+        && empty
+        && Bytes::from_slice(alloc, b"T").is_err()
         && bytes.extend(&LETTERS).is_err()
         && bytes.as_slice() == b"kept".as_slice()
 }
@@ -171,12 +178,26 @@ fn fails_for_good(alloc: Global) -> bool {
     head && failed && decoder.place() == 4 && decoder.held() == 0
 }
 
+fn is_refused(alloc: Global, bytes: &[u8], at: u64, reason: Reason) -> bool {
+    let mut source = SliceSource::new(bytes, &[]);
+    let read = read_message::<Typed, _>(alloc, &mut source, Limits::usual());
+    read.err() == Some(ReadError::Refused(Refusal { at, reason }))
+}
+
+// A refusal comes before want of memory: at the first byte, at a length, and at the last byte of a message.
+fn tells_refusals(alloc: Global) -> bool {
+    is_refused(alloc, &[0xF5], 0, Reason::ChunkAtEnd)
+        && is_refused(alloc, &[0xD1, 0x00], 1, Reason::TypeEmpty)
+        && is_refused(alloc, &[0xD1, 0x01, 0x01, 0x54, 0x40], 4, Reason::TextBit)
+}
+
 // What is refused while memory is used up, and what isn't.
 fn refuses_messages(alloc: Global, wide: &Message, bytes: &[u8]) -> bool {
     works_without_memory(alloc)
         && writes_without_memory(wide, bytes)
         && reserves_nothing(alloc)
         && fails_for_good(alloc)
+        && tells_refusals(alloc)
         && is_read(alloc, &[0xD0, 0x00, 0x00]) == Err(ReadError::NoMemory)
         && encode(alloc, wide, Form::Short).is_err()
         && encode_chunked(alloc, wide, Form::Long, 8).is_err()

@@ -17,7 +17,7 @@ use std::test::Fail;
 fn gives_the_parts_of_records(rt: HostRuntime) -> Result<(), Fail> {
     let alloc = rt.alloc();
     let read = read_message::<Opaque, _>(alloc, &mut SliceSource::whole(&SELECT), usual())?;
-    let records = "1 Hs - 12D10204616301013000, 2 a/b 0 01";
+    let records = "1 4873 - 12D10204616301013000, 2 612F62 30 01";
     assert!(rt; read.taken == 24 && are_told(alloc, records, &read.message) == Some(true));
     let checked = check_message::<Opaque, _>(&mut SliceSource::whole(&SELECT), usual())?;
     let wanted = Checked {

@@ -113,8 +113,8 @@ fn consumes_at_once_what_is_taken(rt: HostRuntime) -> Result<(), Fail> {
     Ok(())
 }
 
-/// Takes all bytes of a source, four at a time: of a `StdSource` the first take consumes at once, and what the others take
-/// waits.
+/// Takes all bytes of a source, four at a time: of a `StdSource` the first take consumes at once, and what the others
+/// take waits.
 fn take_in_three<S: Source>(source: &mut S) -> Result<(), Fail> {
     if source.fill()?.len() != 12 {
         return Err("another number is shown".into());

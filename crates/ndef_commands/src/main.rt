@@ -1,0 +1,26 @@
+//! The commands `ndef`, `ndef-make` and `ndef-explain` in one program, which does what its own name says.
+//! `explaining.rt`: `ndef-explain`. `making.rt`: `ndef-make`. `showing.rt`: `ndef`.
+#![tactic(auto)]
+
+mod explaining;
+mod making;
+mod showing;
+
+use ndef_program::{Status, exit_code, read_words};
+use std::process::ExitCode;
+
+/// Runs the command that the first word names: `ndef-make` and `ndef-explain` by these endings, `ndef` by any
+/// other. Where there is no memory for the words, it ends with status 3 and prints nothing.
+fn main(rt: HostRuntime) -> ExitCode {
+    let Ok(words) = read_words(rt.alloc(), &rt) else {
+        return exit_code(Status::Fault);
+    };
+    let words = words.as_slice();
+    match words.first() {
+        Some(name) if name.as_slice().ends_with(b"ndef-make") => making::run_with(&rt, words),
+        Some(name) if name.as_slice().ends_with(b"ndef-explain") => {
+            explaining::run_with(&rt, words)
+        }
+        _ => showing::run_with(&rt, words),
+    }
+}
