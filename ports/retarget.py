@@ -1,10 +1,11 @@
 #!/usr/bin/env python3
-"""ports/retarget.py IN.ll OUT.ll TRIPLE LAYOUT [signext] [--small-utf8]
+"""ports/retarget.py IN.ll OUT.ll TRIPLE LAYOUT [signext] [--small-utf8] [--no-vectors]
 
 Changes the LLVM module of ports/module for another machine: its triple and data layout, no processor's name, and for addresses
 of 32 bits the two places that take an address as a number. `signext` tells a machine's C compiler that results of 32 bits are
 sign-extended, as the calling convention of riscv64 wants. --small-utf8 puts the standard library's check of UTF-8, whose
-contract is the same, in the place of the one that works by blocks: for machines with no vectors and little memory.
+contract is the same, in the place of the one that works by blocks: for machines with no vectors and little memory. --no-vectors
+does that, and gives the two functions left that use vectors bodies that look at one octet after another: for ports/translate.py.
 
 The module that comes in is what was proved and compiled; no proof covers the changes. So each kind of place is counted, and a
 module that isn't the one this script knows is refused. Big-endian machines and i386 lay structs out in another way, and are
@@ -50,6 +51,32 @@ def with_small_utf8(text):
   ret void''')
 
 
+def with_plain_marks(text, count):
+    """Gives the function that marks in which of so many octets two slices differ a body without vectors."""
+    return with_body(text, f'core::slice::scan::ByteMismatchLaneTest::marks::<={count}>', f'''start:
+  %r0 = load ptr, ptr %a0, align 8
+  %r1 = getelementptr i8, ptr %a0, i64 16
+  %r2 = load ptr, ptr %r1, align 8
+  br label %each
+each:
+  %r3 = phi i64 [ 0, %start ], [ %r14, %each ]
+  %r4 = phi i64 [ 0, %start ], [ %r13, %each ]
+  %r5 = add i64 %a1, %r3
+  %r6 = getelementptr i8, ptr %r0, i64 %r5
+  %r7 = getelementptr i8, ptr %r2, i64 %r5
+  %r8 = load i8, ptr %r6, align 1
+  %r9 = load i8, ptr %r7, align 1
+  %r10 = icmp ne i8 %r8, %r9
+  %r11 = zext i1 %r10 to i64
+  %r12 = shl i64 %r11, %r3
+  %r13 = or i64 %r4, %r12
+  %r14 = add i64 %r3, 1
+  %r15 = icmp eq i64 %r14, {count}
+  br i1 %r15, label %end, label %each
+end:
+  ret i64 %r13''')
+
+
 def exports():
     """How many calls include/ndef.h declares that give a number."""
     with open(sys.path[0] + '/../include/ndef.h', encoding='utf-8') as header:
@@ -73,13 +100,15 @@ def retargeted(text, triple, layout, is_extended):
 
 
 def main(words):
-    flags = [word for word in words if word in ('signext', '--small-utf8')]
+    flags = [word for word in words if word in ('signext', '--small-utf8', '--no-vectors')]
     source, to, triple, layout = [word for word in words if word not in flags]
     with open(source, encoding='utf-8') as file:
         text = file.read()
     text = retargeted(text, triple, layout, 'signext' in flags)
-    if '--small-utf8' in flags:
+    if '--small-utf8' in flags or '--no-vectors' in flags:
         text = with_small_utf8(text)
+    if '--no-vectors' in flags:
+        text = with_plain_marks(with_plain_marks(text, 16), 64)
     with open(to, 'w', encoding='utf-8') as file:
         file.write(text)
 

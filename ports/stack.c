@@ -6,7 +6,7 @@
 void put(const char *line, unsigned length);
 void answers(void);
 
-enum { DEEP = 16000, MOST = 1 << 16, PAINT = 0xa5 };
+enum { DEEP = 16000, MOST = 1 << 16, PAINT = 0xa5, ELEMENTS = 4096 };
 
 static uint8_t bytes[MOST], payload[MOST], room[2 * MOST];
 static const uint8_t *given;
@@ -16,6 +16,16 @@ static ndef_checker checker;
 static ndef_checked out;
 static uint32_t flags;
 static const ndef_part parts[2] = { { 0, 0 }, { 0, 1 } };
+static const ndef_alternative_writing alternatives[2] = { { 0, 2, 1 }, { 1, 1, 0 } };
+
+/* Arrays that calls fill. */
+static union {
+    ndef_part parts[ELEMENTS];
+    ndef_link links[ELEMENTS];
+    ndef_field fields[ELEMENTS];
+    ndef_text_parts titles[ELEMENTS];
+    ndef_icon icons[ELEMENTS];
+} array;
 
 static void nothing(void) {}
 static void check(void) { ndef_check(given, given_length, &limits, &out); }
@@ -51,18 +61,80 @@ static void write_size(void) { ndef_write_size(7, room, sizeof room, &count); }
 static void write_collision(void) { ndef_write_collision(7, room, sizeof room, &count); }
 static void reason_name(void) { ndef_reason_name(flags, room, sizeof room, &count); }
 static void usual_limits(void) { static ndef_limits to; ndef_usual_limits(&to); }
+static void version(void) { ndef_version(); }
+static void status_name(void) { ndef_status_name(flags, room, sizeof room, &count); }
+static void pieces(void) { ndef_pieces(given, given_length, 0, array.parts, ELEMENTS, &count); }
+static void references(void) { ndef_references(given, given_length, array.parts, ELEMENTS, &count); }
+static void links(void) { ndef_links(bytes, given_length, given, given_length, array.links, ELEMENTS, &count); }
+static void find_type(void) { static ndef_record to; ndef_find_type(given, given_length, 0, 1, (const uint8_t *)"none", 4, &to); }
+static void find_id(void) { static ndef_record to; ndef_find_id(given, given_length, 0, (const uint8_t *)"none", 4, &to); }
+static void fields(void) { ndef_fields(given, given_length, &limits, array.fields, ELEMENTS, &count, &out); }
+static void field_at(void) { static ndef_field to; ndef_field_at(given, given_length, &limits, given_length / 2, &to, &out); }
+static void next_field(void) {
+    static ndef_field to;
+    if (ndef_next_field(given, given_length, &limits, &to, &out) != NDEF_OK) to.at = to.length = 0;
+}
+static void payload_fields(void) {
+    static const char *const types[] = { "T", "Sp", "Hr", "Hs" };
+    static const ndef_size lengths[] = { 1, 2, 2, 2 };
+    ndef_payload_fields(1, (const uint8_t *)types[flags], lengths[flags], given, given_length, array.fields, ELEMENTS, &count);
+}
+static void field_name(void) { ndef_field_name(flags, room, sizeof room, &count); }
+static void uri_view(void) { static ndef_uri_parts to; ndef_uri_view(given, given_length, flags & 1, &to, &out); }
+static void uri_prefix(void) { ndef_uri_prefix(flags, room, sizeof room, &count); }
+static void append(void) {
+    static const ndef_built none;
+    static const ndef_writing how = { NDEF_TNF_WELL_KNOWN, 0, 3 };
+    static ndef_built built;
+    built = none;
+    ndef_append(&built, (const uint8_t *)"T", 1, given, 0, given, given_length, &how, room, sizeof room, &count);
+}
+static void append_text(void) {
+    static const ndef_built none;
+    static ndef_built built;
+    built = none;
+    ndef_append_text(&built, given, 0, (const uint8_t *)"en", 2, given, given_length, flags & 1, room, sizeof room, &count);
+}
+static void append_uri(void) {
+    static const ndef_built none;
+    static ndef_built built;
+    built = none;
+    ndef_append_uri(&built, given, 0, given, given_length, room, sizeof room, &count);
+}
+static void poster_titles(void) { ndef_poster_titles(given, given_length, array.titles, ELEMENTS, &count); }
+static void title(void) { static ndef_text_parts to; ndef_title(given, given_length, (const uint8_t *)"en", 2, &to); }
+static void poster_media_type(void) { static ndef_part to; ndef_poster_media_type(given, given_length, &to); }
+static void poster_icons(void) { ndef_poster_icons(given, given_length, array.icons, ELEMENTS, &count); }
+static void rewrite(void) { ndef_rewrite(given, given_length, flags & 1 ? NDEF_WRITE_LONG : 0, room, sizeof room, &count); }
+static void write_poster(void) {
+    static ndef_poster_writing how = { { 0, 0 }, { 0, 0 }, 1, 1, 2, 1, 7 };
+    static ndef_title_writing told;
+    static ndef_icon_writing icon;
+    how.uri.length = told.text.length = icon.data.length = given_length;
+    told.utf16 = flags & 1;
+    icon.media_type.length = given_length < 9 ? given_length : 9;
+    ndef_write_poster(given, given_length, &how, &told, 1, &icon, 1, room, sizeof room, &count);
+}
+static void write_request(void) {
+    ndef_write_request(2, 7, given, given_length, parts, 2, alternatives, 2, room, sizeof room, &count);
+}
+static void write_select(void) {
+    static ndef_select_writing how = { { 0, 0 }, 2, 1, 4 };
+    how.data.length = given_length;
+    ndef_write_select(&how, given, given_length, parts, 2, alternatives, 2, room, sizeof room, &count);
+}
 
+#define CALL(name) { "ndef_" #name, name, 0 }
 static struct call { const char *name; void (*make)(void); unsigned most; } calls[] = {
-    { "", nothing, 0 }, { "ndef_check", check, 0 }, { "ndef_begin", begin, 0 }, { "ndef_feed", feed, 0 },
-    { "ndef_record_at", record_at, 0 }, { "ndef_payload", payload_of, 0 }, { "ndef_uri", uri, 0 }, { "ndef_text", text, 0 },
-    { "ndef_text_in_utf8", text_in_utf8, 0 }, { "ndef_carrier", carrier, 0 }, { "ndef_alternative", alternative, 0 },
-    { "ndef_reference", reference, 0 }, { "ndef_request", request, 0 }, { "ndef_select", select_of, 0 },
-    { "ndef_link_at", link_at, 0 }, { "ndef_poster", poster, 0 }, { "ndef_error", error, 0 },
-    { "ndef_write_record", write_record, 0 }, { "ndef_write_uri", write_uri, 0 }, { "ndef_write_text", write_text, 0 },
-    { "ndef_write_carrier", write_carrier, 0 }, { "ndef_write_alternative", write_alternative, 0 },
-    { "ndef_write_error", write_error, 0 }, { "ndef_write_error_number", write_error_number, 0 },
-    { "ndef_write_handover", write_handover, 0 }, { "ndef_write_action", write_action, 0 }, { "ndef_write_size", write_size, 0 },
-    { "ndef_write_collision", write_collision, 0 }, { "ndef_reason_name", reason_name, 0 }, { "ndef_usual_limits", usual_limits, 0 }
+    { "", nothing, 0 }, CALL(check), CALL(begin), CALL(feed), CALL(record_at), { "ndef_payload", payload_of, 0 }, CALL(pieces),
+    CALL(find_type), CALL(find_id), CALL(fields), CALL(field_at), CALL(next_field), CALL(payload_fields), CALL(uri), CALL(uri_view),
+    CALL(uri_prefix), CALL(text), CALL(text_in_utf8), CALL(carrier), CALL(alternative), CALL(reference), CALL(references),
+    CALL(request), { "ndef_select", select_of, 0 }, CALL(link_at), CALL(links), CALL(poster), CALL(poster_titles), CALL(title),
+    CALL(poster_media_type), CALL(poster_icons), CALL(error), CALL(write_record), CALL(write_uri), CALL(write_text),
+    CALL(write_carrier), CALL(write_alternative), CALL(write_error), CALL(write_error_number), CALL(write_handover),
+    CALL(write_action), CALL(write_size), CALL(write_collision), CALL(write_poster), CALL(write_request), CALL(write_select),
+    CALL(append), CALL(append_text), CALL(append_uri), CALL(rewrite), CALL(reason_name), CALL(field_name), CALL(status_name),
+    CALL(version), CALL(usual_limits)
 };
 enum { CALLS = sizeof calls / sizeof *calls };
 

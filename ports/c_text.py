@@ -1,0 +1,568 @@
+"""Writes the functions of an LLVM module in C99. What it has no C for it refuses by Unknown, with the line.
+
+A value is a variable, or stands where it is used if that is one place of the same block. Memory is read and written by
+memcpy alone, so C's rules of aliasing and alignment are kept. A pointer in memory takes 8 bytes on every machine, as in
+the module. What LLVM leaves without a value, C must not leave undefined: a count of bits to shift by is cut to the width
+of the type, and memory of no bytes is not handed to memcpy.
+"""
+
+import re
+
+from module_text import (Array, Fields, Global, Int, Local, Moved, NO_EFFECT, Nothing, Number, Pointer, Struct, Unknown,
+                         Void, type_of_result)
+
+PREFIX = 'nd_'
+DEEPEST = 12  # how deep an expression may be
+OPERATORS = {'add': '+', 'sub': '-', 'mul': '*', 'and': '&', 'or': '|', 'xor': '^', 'udiv': '/', 'urem': '%', 'shl': '<<',
+             'lshr': '>>'}
+COMPARED = {'eq': '==', 'ne': '!=', 'ult': '<', 'ule': '<=', 'ugt': '>', 'uge': '>=', 'slt': '<', 'sle': '<=', 'sgt': '>',
+            'sge': '>='}
+PURE = {*OPERATORS, 'ashr', 'icmp', 'select', 'zext', 'sext', 'trunc', 'ptrtoaddr', 'ptrtoint', 'inttoptr',
+        'getelementptr', 'extractvalue', 'insertvalue', 'freeze'}
+POINTER = 'unsigned char *'
+WIDTHS = (8, 16, 32, 64)
+
+HELPERS = {
+    'load_ptr': '''#if UINTPTR_MAX == UINT64_MAX
+static unsigned char *nd_load_ptr(const unsigned char *from) { unsigned char *p; memcpy(&p, from, 8); return p; }
+#else
+static unsigned char *nd_load_ptr(const unsigned char *from) { return (unsigned char *)(uintptr_t)nd_load_64(from); }
+#endif''',
+    'store_ptr': '''#if UINTPTR_MAX == UINT64_MAX
+static void nd_store_ptr(unsigned char *to, const unsigned char *p) { memcpy(to, &p, 8); }
+#else
+static void nd_store_ptr(unsigned char *to, const unsigned char *p) { nd_store_64(to, (uintptr_t)p); }
+#endif''',
+    'load_part': '''static uint64_t nd_load_part(const unsigned char *from, size_t size) {
+    uint64_t v = 0;
+    memcpy(&v, from, size);
+    return v;
+}''',
+    'store_part': '''static void nd_store_part(unsigned char *to, uint64_t v, size_t size) { memcpy(to, &v, size); }''',
+    'copy': '''static void nd_copy(unsigned char *to, const unsigned char *from, uint64_t size) {
+    if (size) memcpy(to, from, (size_t)size);
+}''',
+    'move': '''static void nd_move(unsigned char *to, const unsigned char *from, uint64_t size) {
+    if (size) memmove(to, from, (size_t)size);
+}''',
+    'fill': '''static void nd_fill(unsigned char *to, uint8_t octet, uint64_t size) {
+    if (size) memset(to, octet, (size_t)size);
+}''',
+}
+# Helpers for each width, whose number of bits stands for %d.
+FOR_WIDTHS = {
+    'load_%d': '''static uint%d_t nd_load_%d(const unsigned char *from) {
+    uint%d_t v;
+    memcpy(&v, from, sizeof v);
+    return v;
+}''',
+    'store_%d': 'static void nd_store_%d(unsigned char *to, uint%d_t v) { memcpy(to, &v, sizeof v); }',
+    'umin_i%d': 'static uint%d_t nd_umin_i%d(uint%d_t a, uint%d_t b) { return a < b ? a : b; }',
+    'umax_i%d': 'static uint%d_t nd_umax_i%d(uint%d_t a, uint%d_t b) { return a > b ? a : b; }',
+    'smin_i%d': 'static uint%d_t nd_smin_i%d(uint%d_t a, uint%d_t b) { return (int%d_t)a < (int%d_t)b ? a : b; }',
+    'smax_i%d': 'static uint%d_t nd_smax_i%d(uint%d_t a, uint%d_t b) { return (int%d_t)a > (int%d_t)b ? a : b; }',
+    'usub_sat_i%d': 'static uint%d_t nd_usub_sat_i%d(uint%d_t a, uint%d_t b) { return (uint%d_t)(a > b ? a - b : 0); }',
+    'uadd_sat_i%d': '''static uint%d_t nd_uadd_sat_i%d(uint%d_t a, uint%d_t b) {
+    uint%d_t sum = (uint%d_t)(a + b);
+    return sum < a ? (uint%d_t)-1 : sum;
+}''',
+    'cttz_i%d': '''static uint%d_t nd_cttz_i%d(uint%d_t v) {
+    uint%d_t count = 0;
+    if (!v) return %d;
+    while (!(v & 1)) { v >>= 1; count++; }
+    return count;
+}''',
+    'bswap_i%d': '''static uint%d_t nd_bswap_i%d(uint%d_t v) {
+    uint%d_t turned = 0;
+    int i;
+    for (i = 0; i < %d; i += 8) turned = (uint%d_t)(turned << 8 | (v >> i & 255));
+    return turned;
+}''',
+}
+OF_WIDTHS = {name % bits: text.replace('%d', str(bits)) for name, text in FOR_WIDTHS.items() for bits in WIDTHS}
+# Those of pointers call those of numbers, which come first.
+HELPERS = {**OF_WIDTHS, **HELPERS}
+NEEDED = {'load_ptr': ['load_64'], 'store_ptr': ['store_64']}
+
+
+def stop(why):
+    raise Unknown(why)
+
+
+def width(type_of):
+    """The bits of the C type that holds an integer."""
+    for bits in WIDTHS:
+        if type_of.bits <= bits:
+            return bits
+    return stop(f'an integer of {type_of.bits} bits')
+
+
+def number(value, type_of):
+    value &= (1 << type_of.bits) - 1
+    return f'{value}{"" if type_of.bits <= 16 else "U" if type_of.bits <= 32 else "ULL"}'
+
+
+def cut(type_of, text):
+    """A C expression as a value of an integer type, whose other bits are 0."""
+    if type_of.bits in WIDTHS:
+        return f'(uint{width(type_of)}_t){text}'
+    return f'(uint{width(type_of)}_t)({text} & {number(-1, type_of)})'
+
+
+def signed(type_of, text):
+    if type_of.bits in WIDTHS:
+        return f'(int{type_of.bits}_t){text}'
+    places = 64 - type_of.bits
+    return f'((int64_t)((uint64_t){text} << {places}) >> {places})'
+
+
+def bare(text):
+    """An expression without the parentheses around all of it."""
+    depth = 0
+    for at, letter in enumerate(text):
+        depth += {'(': 1, ')': -1}.get(letter, 0)
+        if depth == 0:
+            return text[1:-1] if at == len(text) - 1 and text[0] == '(' else text
+    return text
+
+
+class Names:
+    """The C names of a module's constants, functions and structs, and which helpers its functions need."""
+
+    def __init__(self):
+        self.of = {}
+        self.taken = set()
+        self.structs = {}
+        self.helpers = set()
+        self.exact = {}
+
+    def add(self, name, shown):
+        """Gives a static name of the module a C name made of the words in it."""
+        words = re.sub(r'\W+', '_', re.sub(r'::<.*', '', shown)).strip('_')
+        chosen, count = PREFIX + words, 1
+        while chosen in self.taken:
+            count += 1
+            chosen = f'{PREFIX}{words}_{count}'
+        self.taken.add(chosen)
+        self.of[name] = chosen
+
+    def help(self, name):
+        if name not in HELPERS:
+            stop(f'no helper {name}')
+        self.helpers.update([name, *NEEDED.get(name, [])])
+        return PREFIX + name
+
+    def type(self, type_of):
+        if isinstance(type_of, Int):
+            return f'uint{width(type_of)}_t '
+        if isinstance(type_of, Pointer):
+            return POINTER
+        if isinstance(type_of, Void):
+            return 'void '
+        if isinstance(type_of, Struct) and not type_of.is_packed:
+            parts = [self.type(field).replace('unsigned char *', 'ptr').strip() for field in type_of.fields]
+            name = PREFIX + '_'.join(re.sub(r'^uint(\d+)_t$', r'\1', part) for part in parts)
+            self.structs[name] = type_of
+            return f'struct {name} '
+        return stop(f'a value of the type {type_of}')
+
+    def value(self, value, type_of):
+        """A value that stands for itself in C."""
+        if isinstance(value, Number):
+            return number(value.value, type_of)
+        if isinstance(value, Global):
+            return f'({POINTER}){self.of[value.name]}' if value.name in self.of else stop(f'no {value.name}')
+        if isinstance(value, Moved):
+            return f'({self.value(value.base, type_of)} + {value.bytes})'
+        if isinstance(value, Nothing):
+            return self.nothing(type_of)
+        return stop(f'the value {value}')
+
+    def nothing(self, type_of):
+        if isinstance(type_of, Struct):
+            self.type(type_of)
+            return f'(({self.type(type_of).strip()}) {{ 0 }})'
+        return '0' if isinstance(type_of, Int) else f'({POINTER})0'
+
+
+class Body:
+    """The body of one function in C."""
+
+    def __init__(self, names, function):
+        self.names, self.function = names, function
+        self.types = {name: type_of for type_of, name in function.parameters}
+        self.blocks = [(label, [line for line in lines if not has_no_effect(line)]) for label, lines in function.blocks]
+        self.lines, self.used = [], set()
+        self.texts, self.depths, self.rooms, self.parts = {}, {}, {}, {}
+        for _, lines in self.blocks:
+            for line in lines:
+                if line.result is not None:
+                    self.types[line.result] = type_of_result(line)
+        self.variables = {name: f'v{place}' for place, name in enumerate(self.types, 1)}
+        self.labels = {label: f'L{place}' for place, (label, _) in enumerate(self.blocks)}
+        self.edges = self.edges_of()
+        self.places = self.places_of()
+        self.folded = set()
+        for label, lines in self.blocks:
+            self.fold_block(label, lines)
+
+    # ---- what is known before the first line is written
+
+    def edges_of(self):
+        """What each way from a block to another gives to the phis there: (phi, type, value)."""
+        found = {}
+        for label, lines in self.blocks:
+            for line in lines:
+                if line.kind != 'phi':
+                    continue
+                for value, come_from in zip(line.operands, line.detail):
+                    if come_from not in self.labels:
+                        stop(f'a value from {come_from}: {line.line}')
+                    gives = found.setdefault((come_from, label), [])
+                    if all(name != line.result for name, _, _ in gives):
+                        gives.append((line.result, line.type, value))
+        return found
+
+    def places_of(self):
+        """Where each value is used: labels of blocks with the numbers of lines. What a phi takes is used at the end of the
+        other block."""
+        places = {}
+        for label, lines in self.blocks:
+            for at, line in enumerate(lines):
+                for name in locals_of(line.operands) if line.kind != 'phi' else []:
+                    places.setdefault(name, []).append((label, at))
+        ends = {label: len(lines) - 1 for label, lines in self.blocks}
+        for (come_from, _), gives in self.edges.items():
+            for name in locals_of([value for _, _, value in gives]):
+                places.setdefault(name, []).append((come_from, ends[come_from]))
+        return places
+
+    def fold_block(self, label, lines):
+        """Finds the results that stand where they are used: pure ones, and loads where nothing is written before that
+        place."""
+        shown = list(range(len(lines)))
+        for at in reversed(range(len(lines))):
+            line = lines[at]
+            used = self.places.get(line.result, [])
+            if len(used) != 1 or used[0][0] != label or line.kind not in PURE | {'load'}:
+                continue
+            last = shown[used[0][1]]
+            if line.kind != 'load' or not any(has_effect(other) for other in lines[at + 1:last]):
+                shown[at] = last
+                self.folded.add(line.result)
+
+    # ---- values
+
+    def value(self, value, type_of):
+        if isinstance(value, Local):
+            self.used.add(value.name)
+            return self.texts.get(value.name) or self.rooms.get(value.name) or self.variables[value.name]
+        if isinstance(value, Fields):
+            parts = ', '.join(self.value(part, part_type) for part_type, part in value.parts)
+            return f'(({self.names.type(type_of).strip()}) {{ {parts} }})'
+        return self.names.value(value, type_of)
+
+    def values(self, line):
+        return [self.value(operand, line.type) for operand in line.operands]
+
+    def binary(self, line):
+        type_of, kind = line.type, line.kind
+        first, second = self.values(line)
+        if kind in ('shl', 'lshr', 'ashr') and not isinstance(line.operands[1], Number):
+            second = f'({second} & {width(type_of) - 1})'
+        if kind == 'ashr':
+            return cut(type_of, f'({signed(type_of, first)} >> {second})')
+        if type_of.bits < 32 and kind in ('mul', 'shl'):
+            first = f'(uint32_t){first}'
+        if type_of.bits == 1 and second.startswith('('):
+            second = f'(int){second}'  # clang warns of | between two comparisons
+        text = f'({first} {OPERATORS[kind]} {second})'
+        is_exact = type_of.bits in (32, 64) or type_of.bits == 1 and kind in ('and', 'or', 'xor')
+        return text if is_exact else cut(type_of, text)
+
+    def compare(self, line):
+        first, second = self.values(line)
+        if line.detail[0] == 's':
+            first, second = signed(line.type, first), signed(line.type, second)
+        elif isinstance(line.type, Pointer) and line.detail not in ('eq', 'ne'):
+            first, second = f'(uintptr_t){first}', f'(uintptr_t){second}'
+        return f'({first} {COMPARED[line.detail]} {second})'
+
+    def select(self, line):
+        condition = self.value(line.operands[0], Int(1))
+        first, second = [self.value(operand, line.type) for operand in line.operands[1:]]
+        text = f'({condition} ? {first} : {second})'
+        is_narrow = isinstance(line.type, Int) and line.type.bits < 32
+        return f'({self.names.type(line.type).strip()}){text}' if is_narrow else text
+
+    def cast(self, line):
+        value, = self.values(line)
+        kind, wanted = line.kind, line.detail
+        if kind == 'inttoptr':
+            return f'({POINTER})(uintptr_t){value}'
+        if kind in ('ptrtoaddr', 'ptrtoint'):
+            return cut(wanted, f'(uintptr_t){value}')
+        if kind == 'sext':
+            value = f'(0 - (uint64_t){value})' if line.type.bits == 1 else signed(line.type, value)
+        return cut(wanted, value) if kind != 'zext' else f'(uint{width(wanted)}_t){value}'
+
+    def element(self, line):
+        base = self.value(line.operands[0], Pointer())
+        size = size_of(line.type)
+        if isinstance(line.operands[1], Number):
+            count = line.operands[1].value * size
+            return f'({base} {"-" if count < 0 else "+"} {abs(count)})'
+        count = f'(ptrdiff_t){self.value(line.operands[1], Int(64))}'
+        return f'({base} + {count})' if size == 1 else f'({base} + {count} * {size})'
+
+    def loaded(self, line):
+        pointer = self.value(line.operands[0], Pointer())
+        if isinstance(line.type, Pointer):
+            return f'{self.names.help("load_ptr")}({pointer})'
+        if not isinstance(line.type, Int):
+            stop(f'a load: {line.line}')
+        if line.type.bits not in WIDTHS and line.type.bits > 8:
+            return cut(line.type, f'{self.names.help("load_part")}({pointer}, {(line.type.bits + 7) // 8})')
+        text = f'{self.names.help(f"load_{width(line.type)}")}({pointer})'
+        return text if line.type.bits in WIDTHS else cut(line.type, text)
+
+    def inserted(self, line):
+        """A struct with another value in one field."""
+        whole, part = line.operands
+        count = len(line.type.fields)
+        if isinstance(whole, Nothing):
+            parts = ['0' if isinstance(field, Int) else self.names.nothing(field) for field in line.type.fields]
+        elif isinstance(whole, Local) and whole.name in self.parts:
+            self.used.add(whole.name)
+            parts = list(self.parts[whole.name])
+        else:
+            text = self.value(whole, line.type)
+            parts = [f'{text}.f{place}' for place in range(count)]
+        parts[line.detail] = self.value(part, line.type.fields[line.detail])
+        if line.result in self.folded:
+            self.parts[line.result] = parts
+        return f'(({self.names.type(line.type).strip()}) {{ {", ".join(parts)} }})'
+
+    def expression(self, line):
+        """The value of a pure instruction or a load."""
+        if line.kind in OPERATORS or line.kind == 'ashr':
+            return self.binary(line)
+        if line.kind == 'icmp':
+            return self.compare(line)
+        if line.kind == 'select':
+            return self.select(line)
+        if line.kind == 'getelementptr':
+            return self.element(line)
+        if line.kind == 'extractvalue':
+            return f'{self.values(line)[0]}.f{line.detail}'
+        if line.kind == 'insertvalue':
+            return self.inserted(line)
+        if line.kind == 'freeze':
+            return self.values(line)[0]
+        if line.kind == 'load':
+            return self.loaded(line)
+        return self.cast(line)
+
+    # ---- lines
+
+    def say(self, text):
+        self.lines.append(f'    {text}\n')
+
+    def set(self, name, text):
+        self.used.add(name)
+        self.say(f'{self.variables[name]} = {bare(text)};')
+
+    def write(self, label, line, after):
+        """Writes an instruction of a block, which the block `after` follows."""
+        kind = line.kind
+        if kind == 'phi':
+            return
+        if kind in PURE | {'load'}:
+            self.evaluated(line)
+        elif kind == 'alloca':
+            self.room_for(line)
+        elif kind == 'store':
+            self.stored(line)
+        elif kind == 'call':
+            self.called(line)
+        elif kind == 'ret':
+            self.say(f'return {bare(self.values(line)[0])};' if line.operands else 'return;')
+        elif kind == 'unreachable':
+            if not self.lines or 'nd_stop();' not in self.lines[-1]:
+                self.say('nd_stop();')
+        elif kind == 'br':
+            self.branch(label, line, after)
+        else:
+            self.switch(label, line, after)
+
+    def evaluated(self, line):
+        depth = 1 + max([self.depths.get(name, 0) for name in locals_of(line.operands)], default=0)
+        text = self.expression(line)
+        if line.result in self.folded and depth < DEEPEST:
+            self.texts[line.result], self.depths[line.result] = text, depth
+        else:
+            self.parts.pop(line.result, None)
+            self.set(line.result, text)
+
+    def room_for(self, line):
+        if line.detail > 8:
+            stop(f'memory aligned to {line.detail}: {line.line}')
+        self.rooms[line.result] = f'{self.variables[line.result]}.b'
+
+    def stored(self, line):
+        value, pointer = self.value(line.operands[0], line.type), self.value(line.operands[1], Pointer())
+        if isinstance(line.type, Pointer):
+            self.say(f'{self.names.help("store_ptr")}({pointer}, {value});')
+        elif isinstance(line.type, Int) and line.type.bits not in WIDTHS and line.type.bits > 8:
+            self.say(f'{self.names.help("store_part")}({pointer}, {value}, {(line.type.bits + 7) // 8});')
+        elif isinstance(line.type, Int):
+            self.say(f'{self.names.help(f"store_{width(line.type)}")}({pointer}, {value});')
+        else:
+            stop(f'a store: {line.line}')
+
+    def called(self, line):
+        name, types = line.detail
+        arguments = [self.value(operand, type_of) for operand, type_of in zip(line.operands, types)]
+        if name == 'llvm.trap':
+            self.say('nd_stop();')
+        elif name.startswith('llvm.mem'):
+            self.memory(line, name.split('.')[1], arguments)
+        else:
+            self.returned(line, self.callee(name, arguments))
+
+    def callee(self, name, arguments):
+        if not name.startswith('llvm.'):
+            return f'{self.names.of[name]}({", ".join(arguments)})'
+        name = name[5:].replace('.', '_')
+        count = 1 if name.startswith(('cttz', 'bswap')) else 2
+        return f'{self.names.help(name)}({", ".join(arguments[:count])})'
+
+    def returned(self, line, text):
+        if line.result in self.places:
+            self.set(line.result, text)
+        else:
+            self.say(f'{text};')
+
+    def memory(self, line, kind, arguments):
+        to, other, size = arguments[:3]
+        if isinstance(line.operands[2], Number):
+            self.say(f'{kind}({to}, {other}, {line.operands[2].value});')
+        else:
+            helper = {'memcpy': 'copy', 'memmove': 'move', 'memset': 'fill'}[kind]
+            self.say(f'{self.names.help(helper)}({to}, {other}, {size});')
+
+    # ---- from block to block
+
+    def steps(self, label, to):
+        """The assignments to the phis of a block on the way there."""
+        edges = self.edges.get((label, to), [])
+        self.used.update(name for name, _, _ in edges)
+        gives = [(self.variables[name], self.value(value, type_of), type_of) for name, type_of, value in edges]
+        gives = [(name, text, type_of) for name, text, type_of in gives if name != text]
+        read = [set(re.findall(r'\bv\d+\b', text)) for _, text, _ in gives]
+        if not any(name in others for at, (name, _, _) in enumerate(gives) for others in read[at + 1:]):
+            return [f'{name} = {bare(text)};' for name, text, _ in gives]
+        first = [f'{self.names.type(type_of)}t{at} = {text};' for at, (_, text, type_of) in enumerate(gives)]
+        return first + [f'{name} = t{at};' for at, (name, _, _) in enumerate(gives)]
+
+    def jump(self, label, to, after):
+        """The statements that lead from a block to another."""
+        steps = self.steps(label, to)
+        return steps if to == after else steps + [f'goto {self.labels[to]};']
+
+    def block(self, statements):
+        return statements[0] if len(statements) == 1 else f'{{ {" ".join(statements)} }}'
+
+    def branch(self, label, line, after):
+        if len(line.detail) == 1:
+            statements = self.jump(label, line.detail[0], after)
+            self.say_all(statements)
+            return
+        condition = self.value(line.operands[0], Int(1))
+        first, second = line.detail
+        if first == after and not self.steps(label, first):
+            self.say(f'if (!{condition}) {self.block(self.jump(label, second, None))}')
+            return
+        self.say(f'if ({bare(condition)}) {self.block(self.jump(label, first, None))}')
+        self.say_all(self.jump(label, second, after))
+
+    def say_all(self, statements):
+        if any(re.search(r'\bt0\b', text) for text in statements):
+            self.say(self.block(statements))
+        else:
+            for text in statements:
+                self.say(text)
+
+    def switch(self, label, line, after):
+        others, pairs = line.detail
+        self.say(f'switch ({bare(self.values(line)[0])}) {{')
+        for value, to in pairs:
+            self.say(f'case {number(value.value, line.type)}: {self.block(self.jump(label, to, None))}')
+        statements = self.jump(label, others, None)
+        self.say(f'default: {self.block(statements)} }}')
+
+    def text(self):
+        """The lines of the body, and the C names of the parameters that it uses."""
+        order = [label for label, _ in self.blocks]
+        for at, (label, lines) in enumerate(self.blocks):
+            self.lines.append(f'{self.labels[label]}:;\n')
+            after = order[at + 1] if at + 1 < len(order) else None
+            for line in lines:
+                try:
+                    self.write(label, line, after)
+                except Unknown as unknown:
+                    raise Unknown(f'{unknown} in {self.function.name}: {line.line.strip()[:300]}') from None
+        code = ''.join(self.lines)
+        reached = set(re.findall(r'goto (L\d+);', code))
+        return ''.join(line for line in self.lines if not line.startswith('L') or line[:-3] in reached)
+
+    def declarations(self):
+        """The variables: of each C type on one line."""
+        groups = {}
+        parameters = {name for _, name in self.function.parameters}
+        for name, type_of in self.types.items():
+            if name in self.used and name not in parameters and name not in self.rooms and name not in self.texts:
+                groups.setdefault(self.names.type(type_of), []).append(self.variables[name])
+        between = {c_type: ', *' if '*' in c_type else ', ' for c_type in groups}
+        lines = [f'    {c_type}{between[c_type].join(names)};\n' for c_type, names in groups.items()]
+        return ''.join(lines) + self.room_lines()
+
+    def room_lines(self):
+        groups = {}
+        for _, lines in self.blocks:
+            for line in lines:
+                if line.kind == 'alloca' and line.result in self.used:
+                    groups.setdefault(max(size_of(line.type), 1), []).append(self.variables[line.result])
+        return ''.join(f'    ND_ROOM({size}) {", ".join(names)};\n' for size, names in groups.items())
+
+    def unused(self):
+        """Lines for parameters that nothing uses."""
+        names = [name for _, name in self.function.parameters if name not in self.used]
+        return ''.join(f'    (void){self.variables[name]};\n' for name in names)
+
+
+def has_no_effect(line):
+    return line.kind == 'call' and line.detail[0].startswith(NO_EFFECT)
+
+
+def has_effect(line):
+    return line.kind in ('store', 'call')
+
+
+def locals_of(values):
+    """The names of the values that others are made of."""
+    for value in values:
+        if isinstance(value, Local):
+            yield value.name
+        elif isinstance(value, Fields):
+            yield from locals_of([part for _, part in value.parts])
+
+
+def size_of(type_of):
+    if isinstance(type_of, Pointer):
+        return 8
+    if isinstance(type_of, Int):
+        return width(type_of) // 8
+    if isinstance(type_of, Array):
+        return type_of.count * size_of(type_of.element)
+    return stop(f'the size of {type_of}')

@@ -1,0 +1,222 @@
+#!/usr/bin/env python3
+"""ports/translate.py IN.ll INCLUDE TREE OUT.c: writes the LLVM module of the library for C as one C99 file, whose calls are
+those that the headers ndef*.h in the folder INCLUDE declare. TREE is the hash of the crates (packaging/tree_hash). It stops at
+anything it doesn't know, with the line of the module."""
+
+import os
+import pathlib
+import re
+import sys
+
+from c_text import HELPERS, PREFIX, Body, Names
+from module_text import Array, Bytes, Fields, Int, Moved, Nothing, Number, Pointer, Struct, Unknown, module
+
+WIDE = 100  # numbers to a line of an array
+HEAD = '''/* The library of Simbegyor for C, in one file of C99: ndef.h documents its calls. Compile it with your program, with
+ * ndef.h beside it; it needs memcpy, memmove and memset alone.
+ *
+ * Made by `make amalgamation` of the crates with the hash {tree}
+ * (packaging/tree_hash prints that of a checkout). The crates are proved. This file is their LLVM module, optimised by
+ * clang and translated by ports/translate.py: that is tested, and not proved.
+ *
+ * License: MIT or Apache-2.0, as the project's. */
+#include "ndef.h"
+#include <limits.h>
+#include <stddef.h>
+#include <stdint.h>
+
+#if CHAR_BIT != 8
+#error "ndef.c needs bytes of 8 bits"
+#endif
+#if defined(__BYTE_ORDER__) && defined(__ORDER_LITTLE_ENDIAN__)
+#if __BYTE_ORDER__ != __ORDER_LITTLE_ENDIAN__
+#error "ndef.c needs a little-endian machine"
+#endif
+#elif defined(__BIG_ENDIAN__) || defined(_BIG_ENDIAN) || defined(__ARMEB__) || defined(__MIPSEB__) || defined(__s390__)
+#error "ndef.c needs a little-endian machine"
+#endif
+
+#if defined(__STDC_HOSTED__) && __STDC_HOSTED__ == 0
+void *memcpy(void *to, const void *from, size_t size);
+void *memmove(void *to, const void *from, size_t size);
+void *memset(void *to, int octet, size_t size);
+#else
+#include <string.h>
+#endif
+
+/* What the proofs say is never reached. */
+#if defined(__GNUC__)
+#define nd_stop() __builtin_trap()
+#else
+#define nd_stop() do {{ }} while (1)
+#endif
+
+/* Memory of a call, aligned for a number of 64 bits. */
+#define ND_ROOM(size) union {{ unsigned char b[size]; uint64_t a; }}
+/* A pointer in a constant: 8 bytes on every machine. */
+#define ND_POINTER union {{ const unsigned char *p; uint64_t a; }}
+
+'''
+LAYOUT = '''
+/* The header's structs have to be laid out as the module's are: numbers of 64 bits at multiples of 8 bytes. */
+struct nd_layout { char c; ndef_size size; };
+typedef char nd_layout_is_known[offsetof(struct nd_layout, size) == 8 && sizeof(struct nd_layout) == 16 ? 1 : -1];
+'''
+
+
+def stop(why):
+    sys.exit(f'ports/translate.py: {why}')
+
+
+def wrapped(numbers):
+    """Numbers of an array, in lines."""
+    rows = [', '.join(numbers[at:at + WIDE]) for at in range(0, len(numbers), WIDE)]
+    return ',\n    '.join(rows) or '0'
+
+
+def octets(value, type_of):
+    data = value.data if isinstance(value, Bytes) else bytes(type_of.count)
+    if len(data) != type_of.count:
+        raise Unknown(f'{len(data)} bytes for {type_of}')
+    return wrapped([str(octet) for octet in data])
+
+
+def is_octets(type_of):
+    return isinstance(type_of, Array) and type_of.element == Int(8)
+
+
+def pointer(names, value):
+    """The initialiser of a pointer within a constant."""
+    base, offset = (value.base, value.bytes) if isinstance(value, Moved) else (value, 0)
+    text = f'(const unsigned char *){names.of[base.name]}'
+    return f'{{ {text} + {offset} }}' if offset else f'{{ {text} }}'
+
+
+def parts_of(names, constant):
+    """The members of a struct in C for a constant with pointers, and what they hold."""
+    members, held, at = [], [], 0
+    parts = constant.value.parts
+    for place, (type_of, value) in enumerate(parts):
+        if isinstance(type_of, Pointer) and at % 8 == 0:
+            members.append(f'ND_POINTER p{place};')
+            held.append(pointer(names, value))
+            at += 8
+        elif is_octets(type_of):
+            members.append(f'unsigned char b{place}[{type_of.count}];')
+            held.append(f'{{ {octets(value, type_of)} }}')
+            at += type_of.count
+        else:
+            raise Unknown(f'a constant of the type {type_of}')
+    return members, held
+
+
+def named(names, constant):
+    """Gives a constant its name, by which its address is taken."""
+    names.add(constant.name, f'data_{constant.name}')
+    name = names.of[constant.name]
+    if is_octets(constant.type):
+        names.of[constant.name] = name if constant.align == 1 else f'{name}.b'
+    elif isinstance(constant.value, Fields) and any(type_of == Pointer() for type_of, _ in constant.value.parts):
+        names.of[constant.name] = f'&{name}'
+    return name
+
+
+def constant_text(names, name, constant):
+    """The definition of a constant in C."""
+    type_of, value = constant.type, constant.value
+    if constant.align > 8:
+        raise Unknown(f'a constant aligned to {constant.align}: {constant.name}')
+    if is_octets(type_of) and isinstance(value, (Bytes, Nothing)):
+        if constant.align == 1:
+            return f'static const unsigned char {name}[{max(type_of.count, 1)}] = {{ {octets(value, type_of)} }};\n'
+        return f'static const ND_ROOM({max(type_of.count, 1)}) {name} = {{ {{ {octets(value, type_of)} }} }};\n'
+    if names.of[constant.name] == f'&{name}':
+        members, held = parts_of(names, constant)
+        return f'static const struct {{ {" ".join(members)} }} {name} = {{ {", ".join(held)} }};\n'
+    if isinstance(type_of, Array) and isinstance(type_of.element, Int) and isinstance(value, Fields):
+        numbers = wrapped([names.value(part, type_of.element) for _, part in value.parts])
+        return f'static const {names.type(type_of.element)}{name}[{type_of.count}] = {{ {numbers} }};\n'
+    raise Unknown(f'the constant {constant.name} of the type {type_of}')
+
+
+def function_head(names, function, variables):
+    parameters = ', '.join(f'{names.type(type_of)}{variables[name]}' for type_of, name in function.parameters)
+    return f'static {names.type(function.type)}{names.of[function.name]}({parameters or "void"})'
+
+
+def function_text(names, function):
+    """The prototype and the definition of a function in C."""
+    body = Body(names, function)
+    code = body.text()
+    head = function_head(names, function, body.variables)
+    return f'{head};\n', f'\n{head} {{\n{body.declarations()}{body.unused()}{code}}}\n'
+
+
+def calls_of(include):
+    """The calls that the headers declare: name, result and parameters."""
+    text = ''.join(path.read_text(encoding='utf-8') for path in sorted(pathlib.Path(include).glob('ndef*.h')))
+    calls = {}
+    for result, name, parameters in re.findall(r'^(uint32_t|void) (ndef_\w+)\((.*?)\);', text, re.M | re.S):
+        given = [one.strip() for one in parameters.split(',') if one.strip() != 'void']
+        split = [re.fullmatch(r'(.*?)(\w+)', one, re.S) for one in given]
+        calls[name] = (result, ' '.join(parameters.split()), [(match[1].strip(), match[2]) for match in split])
+    return calls
+
+
+def type_in_header(text):
+    if text.endswith('*'):
+        return Pointer()
+    known = {'uint8_t': Int(8), 'uint16_t': Int(16), 'uint32_t': Int(32), 'uint64_t': Int(64), 'ndef_size': Int(64)}
+    return known.get(text)
+
+
+def call_text(names, function, calls):
+    """A call of the header, made of the static function."""
+    if function.name not in calls:
+        raise Unknown(f'{function.name} is not in the header')
+    result, parameters, named_parameters = calls[function.name]
+    wanted = [type_in_header(text) for text, _ in named_parameters]
+    if wanted != [type_of for type_of, _ in function.parameters]:
+        raise Unknown(f'{function.name} has other parameters in the header')
+    given = ', '.join(f'(unsigned char *){name}' if text.endswith('*') else name for text, name in named_parameters)
+    says = 'return ' if result != 'void' else ''
+    return f'\n{result} {function.name}({parameters}) {{\n    {says}{names.of[function.name]}({given});\n}}\n'
+
+
+def translated(text, include, tree):
+    constants, functions, _ = module(text)
+    names = Names()
+    known = [(named(names, constant), constant) for constant in constants]
+    for function in functions:
+        names.add(function.name, function.name)
+    data = [constant_text(names, name, constant) for name, constant in known]
+    code = [function_text(names, function) for function in functions]
+    calls = calls_of(include)
+    exported = [function for function in functions if not function.is_static]
+    if sorted(function.name for function in exported) != sorted(calls):
+        raise Unknown('the module has other calls than the header')
+    helpers = [HELPERS[name] + '\n' for name in HELPERS if name in names.helpers]
+    structs = [f'{name} {{ {" ".join(f"{names.type(field)}f{at};" for at, field in enumerate(type_of.fields))} }};\n'
+               for name, type_of in sorted((f'struct {name}', type_of) for name, type_of in names.structs.items())]
+    heads, bodies = [head for head, _ in code], [body for _, body in code]
+    exports = [call_text(names, function, calls) for function in exported]
+    return ''.join([HEAD.format(tree=tree), *helpers, '\n', *structs, LAYOUT, '\n', *data, '\n', *heads, *bodies, *exports])
+
+
+def main(words):
+    if len(words) != 4:
+        stop(__doc__)
+    source, include, tree, to = words
+    with open(source, encoding='utf-8') as file:
+        text = file.read()
+    try:
+        made = translated(text, include, tree)
+    except Unknown as unknown:
+        stop(unknown)
+    with open(to + '.part', 'w', encoding='utf-8') as file:
+        file.write(made)
+    os.replace(to + '.part', to)
+
+
+if __name__ == '__main__':
+    main(sys.argv[1:])
