@@ -1,133 +1,237 @@
-# Builds and installs the commands, the library for C and the Python module. Needs rt and a C compiler.
+# Builds and installs the commands, the library for C and the Python module. They are made of what was proved here,
+# where that was done and crates/ hasn't changed since; else of dist/, the generated sources of the last release,
+# which a C compiler compiles.
 #
-#   make             makes all of it; what has changed is proved and built first (README.md says what that takes)
+#   make             makes all of it
+#   make prove       proves crates/ and makes all of it of that; it needs rt (CONTRIBUTING.md says how long it takes)
+#   make from-dist   makes all of it of dist/
+#   make programs    makes the commands alone, in out/bin
+#   make library     makes the library for C alone, in out/lib
 #   make python      makes the Python module alone, in out/python
-#   make install     puts it below PREFIX, and below DESTDIR where that is given
+#   make install     puts all of it below PREFIX, and below DESTDIR where that is given
 #   make uninstall   takes away what make install puts
-#   make check       runs the gate
+#   make check       runs the gate; it needs rt
 #   make deb         makes a Debian package of it in out; MAINTAINER names who distributes it
 #   make web         makes the web page and the module for JavaScript in out/web
+#   make amalgamation    makes the library for C as one C file, in out/amalgamation; it needs rt
+#   make dist        makes dist/ anew of what is proved; it needs rt (ports/README.md says what comes first)
+#   make release     makes out/simbegyor-VERSION.tar.xz (CONTRIBUTING.md says how a release is made); it needs rt
 #   make TARGET=aarch64-linux    makes the library for C for AArch64 Linux alone, in out/aarch64-linux
 #
-# The programs, the shared library and libndef.a run on every x86-64. libndef-v2.a needs SSSE3 and SSE4.1, and is faster on long
-# texts. libsimbegyor-ndef.a is the same as libndef.a; nfc-tools has another library of the name ndef.
+# NDEF_FROM=crates or NDEF_FROM=dist, in the environment or as a word, says of what each of these makes things.
+#
+# The programs, the shared library and libndef.a run on every x86-64. libndef-v2.a needs SSSE3 and SSE4.1, and is
+# faster on long texts; it is made on x86-64 alone. libsimbegyor-ndef.a is the same as libndef.a; nfc-tools has
+# another library of the name ndef.
 
 PREFIX ?= /usr/local
 LIBDIR ?= $(PREFIX)/lib
 PYTHON ?= python3
 PYTHONDIR ?= $(shell packaging/python_folder $(PYTHON) $(PREFIX))
 VERSION := $(shell cat VERSION)
+# The same as Python writes it.
+python_version := $(patsubst %.dev,%.dev0,$(VERSION))
 # The interface of the shared library: another number where a program must be linked anew.
 ABI := 0
 MAINTAINER ?= The Simbegyor authors <simbegyor@example.org>
+ifndef NDEF_FROM
+NDEF_FROM := $(shell packaging/made_of)
+endif
+ifeq ($(filter crates dist,$(NDEF_FROM)),)
+$(error NDEF_FROM is $(NDEF_FROM), and has to be crates or dist)
+endif
+export NDEF_FROM
 
-program := crates/ndef/out/ndef
-maker := crates/ndef_make/out/ndef_make
-explainer := crates/ndef_explain/out/ndef_explain
-archive := crates/ndef_c/out/libndef_c.a
-faster := out/x86-64-v2/libndef.a
-library := out/libsimbegyor-ndef.so.$(VERSION)
+commands := ndef ndef-make ndef-explain
+library := out/lib/libsimbegyor-ndef.so.$(VERSION)
 cmake = $(LIBDIR)/cmake/simbegyor-ndef
-below_c := ndef_format ndef_value ndef_piece ndef_lang ndef_nest ndef_message ndef_types ndef_fields ndef_c
-sources = $(shell find $(foreach crate,$(1),$(wildcard $(addprefix crates/$(crate)/,src specs proofs))) -type f)
 modules := $(wildcard python/simbegyor_ndef/*.py python/simbegyor_ndef/py.typed)
 module := out/python/simbegyor_ndef
+module_data := simbegyor_ndef-$(python_version).dist-info
 pages := $(wildcard man/*.1)
-calls := $(shell sed -nE 's/^(uint32_t|void) (ndef_[a-z0-9_]+).*/\2/p' include/ndef.h)
-call_pages := $(patsubst %,out/man3/%.3,$(calls) simbegyor-ndef)
-headers := include/ndef.h include/ndef.hpp
+calls = $(shell sed -nE 's/^(uint32_t|void) (ndef_[a-z0-9_]+).*/\2/p' $(header))
+call_pages = $(patsubst %,out/man3/%.3,$(calls) simbegyor-ndef)
 completions := $(wildcard share/completion/*)
 zsh_completions := $(wildcard share/zsh/*)
 fish_completions := $(wildcard share/fish/*)
 shared := -shared -Wl,-z,defs -Wl,-z,relro -Wl,-z,now
-filled := s,@PREFIX@,$(PREFIX),; s,@LIBDIR@,$(LIBDIR),; s,@VERSION@,$(VERSION),; s,@ABI@,$(ABI),
+whole := -Wl,--whole-archive out/lib/libndef.a -Wl,--no-whole-archive
+fill = packaging/fill PREFIX='$(PREFIX)' LIBDIR='$(LIBDIR)' VERSION=$(VERSION) ABI=$(ABI)
+CROSS_CC ?= aarch64-linux-gnu-gcc
+
+# What all is made of: the programs, the headers for C and the archives, one for every x86-64 and on x86-64 a faster
+# one.
+ifeq ($(NDEF_FROM),dist)
+made_programs := $(addprefix out/dist/,$(commands))
+made_archive := out/dist/libndef.a
+made_faster := $(if $(filter x86_64 amd64,$(shell uname -m)),out/dist/libndef-v2.a)
+header := dist/ndef.h
+else
+made_programs := crates/ndef/out/ndef crates/ndef_make/out/ndef_make crates/ndef_explain/out/ndef_explain
+made_archive := crates/ndef_c/out/libndef_c.a
+made_faster := out/x86-64-v2/libndef.a
+header := include/ndef.h
+endif
+headers := $(wildcard $(dir $(header))ndef*.h include/ndef*.hpp)
+faster := $(if $(made_faster),out/lib/libndef-v2.a)
 
 ifdef TARGET
-all: out/$(TARGET)/libndef.a out/$(TARGET)/libndef.so out/$(TARGET)/ndef.h
+proved := ndef_c
+all: cost out/$(TARGET)/libndef.a out/$(TARGET)/libndef.so
+	cp $(wildcard $(dir $(header))ndef*.h) out/$(TARGET)
 else
-all: $(program) $(maker) $(explainer) $(archive) $(faster) $(library) $(call_pages) python
+proved := ndef ndef_make ndef_explain ndef_c
+all: cost programs library python
 endif
 
+# Says what is left to prove, and what that takes.
+cost:
+	@[ $(NDEF_FROM) = dist ] || packaging/cost $(proved)
+
+programs: out/bin/ndef
+library: out/lib/libndef.a $(faster) $(library)
+python: $(module)/libndef.so $(patsubst python/%,out/python/%,$(modules)) out/python/$(module_data)/METADATA
+
+prove:
+	$(MAKE) NDEF_FROM=crates all
+from-dist:
+	$(MAKE) NDEF_FROM=dist all
+
+# What everything is made of; a line says so where that is another than the last time.
+out/from: FORCE
+	@mkdir -p out
+	@if [ "$$(cat $@ 2>/dev/null)" != $(NDEF_FROM) ]; then \
+	    case $(NDEF_FROM) in \
+	    dist) echo "out/ is made of dist/, release $$(packaging/from_dist version); see make prove" >&2 ;; \
+	    crates) echo 'out/ is made of crates/, as it is proved here' >&2 ;; \
+	    esac && echo $(NDEF_FROM) >$@; \
+	fi
+FORCE:
+
+ifeq ($(NDEF_FROM),dist)
+out/dist/ndef out/dist/ndef-make out/dist/ndef-explain &: $(wildcard dist/SOURCE dist/commands* dist/runtime.c)
+	packaging/from_dist commands
+
+out/dist/libndef.a: dist/ndef.c
+	packaging/from_dist library $@
+
+out/dist/libndef-v2.a: dist/ndef.c
+	packaging/from_dist library $@ -mssse3 -msse4.1
+
+out/aarch64-linux/libndef.a: dist/ndef.c out/from
+	CC='$(CROSS_CC)' packaging/from_dist library $@
+
+dist/ndef.c dist/ndef.h:
+	packaging/from_dist version
+else
+below_c := ndef_format ndef_value ndef_piece ndef_lang ndef_nest ndef_message ndef_types ndef_fields ndef_c
+sources = $(shell find $(foreach crate,$(1),$(wildcard $(addprefix crates/$(crate)/,src specs proofs))) -type f)
+every_source := crates.txt $(call sources,$(notdir $(wildcard crates/*)))
+
 # The scripts prove and build their programs where those are older than the sources.
-$(program): crates.txt $(call sources,$(notdir $(wildcard crates/*)))
-	./ndef encode </dev/null
+crates/ndef/out/ndef: $(every_source)
+	./ndef --prove encode </dev/null
 
-$(maker): crates.txt $(call sources,$(notdir $(wildcard crates/*)))
-	./ndef-make record --tnf 0 </dev/null >/dev/null
+crates/ndef_make/out/ndef_make: $(every_source)
+	./ndef-make --prove record --tnf 0 </dev/null >/dev/null
 
-$(explainer): crates.txt $(call sources,$(notdir $(wildcard crates/*)))
-	./ndef-explain </dev/null
+crates/ndef_explain/out/ndef_explain: $(every_source)
+	./ndef-explain --prove </dev/null
 
-$(archive): crates.txt $(call sources,$(below_c))
+crates/ndef_c/out/libndef_c.a: crates.txt $(call sources,$(below_c))
 	cd crates/ndef_c && rt lib --cpu x86-64
 	touch $@
 
 # The library for other machines, over the crates that the line above proved.
-out/%/libndef.a: $(archive) packaging/library
+out/%/libndef.a: $(made_archive) packaging/library
 	packaging/library $*
+endif
 
-out/%/ndef.h: include/ndef.h
-	install -D -m 644 $< $@
+# The commands of dist/ are one program with two links to it.
+out/bin/ndef: $(made_programs) out/from
+	mkdir -p $(@D)
+	rm -f $(addprefix $(@D)/,$(commands))
+	cp -P $(word 2,$(made_programs)) $(@D)/ndef-make
+	cp -P $(word 3,$(made_programs)) $(@D)/ndef-explain
+	cp $< $@
 
-CROSS_CC ?= aarch64-linux-gnu-gcc
+out/lib/libndef.a: $(made_archive) out/from
+	mkdir -p $(@D)
+	cp $< $@
+
+out/lib/libndef-v2.a: $(made_faster) out/from
+	mkdir -p $(@D)
+	cp $< $@
+
+$(library): out/lib/libndef.a packaging/libsimbegyor-ndef.map
+	$(CC) $(LDFLAGS) $(shared) -Wl,--version-script=packaging/libsimbegyor-ndef.map \
+	    -Wl,-soname,libsimbegyor-ndef.so.$(ABI) -o $@ $(whole)
+
 out/aarch64-linux/libndef.so: out/aarch64-linux/libndef.a packaging/ndef.map
 	$(CROSS_CC) $(shared) -Wl,--version-script=packaging/ndef.map -o $@ -Wl,--whole-archive $< -Wl,--no-whole-archive
 
-web: $(archive)
+# Of dist/ it takes the module for WebAssembly, and no archive.
+web: $(if $(filter crates,$(NDEF_FROM)),$(made_archive))
 	web/build
-
-python: $(module)/libndef.so $(patsubst python/%,out/python/%,$(modules))
 
 out/python/%: python/% VERSION
 	mkdir -p $(@D)
-	sed "s/@VERSION@/$$(cat VERSION)/" $< >$@
+	packaging/fill VERSION=$(python_version) <$< >$@
 
-$(module)/libndef.so: $(archive) packaging/ndef.map
+$(module)/libndef.so: out/lib/libndef.a packaging/ndef.map
 	mkdir -p $(@D)
-	$(CC) $(shared) -Wl,--version-script=packaging/ndef.map -o $@ -Wl,--whole-archive $(archive) -Wl,--no-whole-archive
+	$(CC) $(LDFLAGS) $(shared) -Wl,--version-script=packaging/ndef.map -o $@ $(whole)
 
-$(call_pages) &: include/ndef.h packaging/man3 VERSION CHANGELOG.md
-	packaging/man3 out/man3 $(VERSION)
+# What pip and importlib.metadata know of the module.
+out/python/$(module_data)/METADATA: python/METADATA.in python/README.md VERSION
+	rm -rf out/python/simbegyor_ndef-*.dist-info
+	mkdir -p $(@D)/licenses
+	cp LICENSE-MIT LICENSE-APACHE $(@D)/licenses
+	echo 'make install' >$(@D)/INSTALLER
+	{ packaging/fill VERSION=$(python_version) <python/METADATA.in && echo && cat python/README.md; } >$@
 
-$(library): $(archive) packaging/libsimbegyor-ndef.map
-	mkdir -p $(@D)
-	$(CC) $(shared) -Wl,--version-script=packaging/libsimbegyor-ndef.map -Wl,-soname,libsimbegyor-ndef.so.$(ABI) -o $@ \
-	    -Wl,--whole-archive $(archive) -Wl,--no-whole-archive
+out/man3/simbegyor-ndef.3: $(header) packaging/man3 VERSION CHANGELOG.md out/from
+	rm -rf out/man3
+	packaging/man3 out/man3 $(VERSION) $(header)
 
-install: all
+install: all out/man3/simbegyor-ndef.3
 	install -d $(addprefix $(DESTDIR),$(PREFIX)/bin $(PREFIX)/include $(LIBDIR)/pkgconfig $(cmake) \
-	    $(PYTHONDIR)/simbegyor_ndef \
+	    $(PYTHONDIR)/simbegyor_ndef $(PYTHONDIR)/$(module_data)/licenses \
 	    $(PREFIX)/share/man/man1 $(PREFIX)/share/man/man3 $(PREFIX)/share/bash-completion/completions \
 	    $(PREFIX)/share/zsh/site-functions $(PREFIX)/share/fish/vendor_completions.d)
-	install -m 755 $(program) $(DESTDIR)$(PREFIX)/bin
-	install -m 755 $(maker) $(DESTDIR)$(PREFIX)/bin/ndef-make
-	install -m 755 $(explainer) $(DESTDIR)$(PREFIX)/bin/ndef-explain
+	install -m 755 out/bin/ndef $(DESTDIR)$(PREFIX)/bin
+	for command in ndef-make ndef-explain; do \
+	    if [ -L out/bin/$$command ]; then ln -sf ndef $(DESTDIR)$(PREFIX)/bin/$$command; \
+	    else install -m 755 out/bin/$$command $(DESTDIR)$(PREFIX)/bin; fi || exit; \
+	done
 	install -m 644 $(headers) $(DESTDIR)$(PREFIX)/include
-	install -m 644 $(archive) $(DESTDIR)$(LIBDIR)/libndef.a
-	install -m 644 $(faster) $(DESTDIR)$(LIBDIR)/libndef-v2.a
-	install -m 644 $(library) $(DESTDIR)$(LIBDIR)
+	install -m 644 out/lib/libndef.a $(faster) $(library) $(DESTDIR)$(LIBDIR)
 	ln -sf libndef.a $(DESTDIR)$(LIBDIR)/libsimbegyor-ndef.a
 	ln -sf $(notdir $(library)) $(DESTDIR)$(LIBDIR)/libsimbegyor-ndef.so.$(ABI)
 	ln -sf libsimbegyor-ndef.so.$(ABI) $(DESTDIR)$(LIBDIR)/libsimbegyor-ndef.so
-	sed '$(filled)' packaging/simbegyor-ndef.pc.in >$(DESTDIR)$(LIBDIR)/pkgconfig/simbegyor-ndef.pc
+	$(fill) <packaging/simbegyor-ndef.pc.in >$(DESTDIR)$(LIBDIR)/pkgconfig/simbegyor-ndef.pc
 	for file in config config-version; do \
-	    sed '$(filled)' packaging/simbegyor-ndef-$$file.cmake.in >$(DESTDIR)$(cmake)/simbegyor-ndef-$$file.cmake; \
+	    $(fill) <packaging/simbegyor-ndef-$$file.cmake.in >$(DESTDIR)$(cmake)/simbegyor-ndef-$$file.cmake; \
 	done
-	sed '$(filled)' packaging/ndef.pc.in >$(DESTDIR)$(LIBDIR)/pkgconfig/ndef.pc
-	sed '$(filled); s,^Name: .*,& for x86-64-v2,; s,-lndef,&-v2,' packaging/ndef.pc.in >$(DESTDIR)$(LIBDIR)/pkgconfig/ndef-v2.pc
+	$(fill) FOR= LIBRARY=ndef <packaging/ndef.pc.in >$(DESTDIR)$(LIBDIR)/pkgconfig/ndef.pc
+	$(if $(faster),$(fill) FOR=' for x86-64-v2' LIBRARY=ndef-v2 <packaging/ndef.pc.in \
+	    >$(DESTDIR)$(LIBDIR)/pkgconfig/ndef-v2.pc)
 	install -m 644 $(addprefix out/,$(modules)) $(module)/libndef.so $(DESTDIR)$(PYTHONDIR)/simbegyor_ndef
+	install -m 644 $(addprefix out/python/$(module_data)/,METADATA INSTALLER) $(DESTDIR)$(PYTHONDIR)/$(module_data)
+	install -m 644 LICENSE-MIT LICENSE-APACHE $(DESTDIR)$(PYTHONDIR)/$(module_data)/licenses
 	@packaging/python_told $(PYTHON) $(PYTHONDIR)
 	install -m 644 $(pages) $(DESTDIR)$(PREFIX)/share/man/man1
-	install -m 644 $(call_pages) $(DESTDIR)$(PREFIX)/share/man/man3
+	install -m 644 out/man3/*.3 $(DESTDIR)$(PREFIX)/share/man/man3
 	install -m 644 $(completions) $(DESTDIR)$(PREFIX)/share/bash-completion/completions
 	install -m 644 $(zsh_completions) $(DESTDIR)$(PREFIX)/share/zsh/site-functions
 	install -m 644 $(fish_completions) $(DESTDIR)$(PREFIX)/share/fish/vendor_completions.d
 
 uninstall:
-	rm -f $(addprefix $(DESTDIR)$(PREFIX)/bin/,ndef ndef-make ndef-explain) $(addprefix $(DESTDIR)$(PREFIX)/,$(headers))
-	rm -f $(addprefix $(DESTDIR)$(LIBDIR)/,libndef.a libndef-v2.a $(addprefix libsimbegyor-ndef,.a .so .so.$(ABI) .so.$(VERSION)))
+	rm -f $(addprefix $(DESTDIR)$(PREFIX)/bin/,$(commands)) $(addprefix $(DESTDIR)$(PREFIX)/include/,$(notdir $(headers)))
+	rm -f $(addprefix $(DESTDIR)$(LIBDIR)/,libndef.a libndef-v2.a)
+	rm -f $(addprefix $(DESTDIR)$(LIBDIR)/libsimbegyor-ndef,.a .so .so.$(ABI) .so.$(VERSION))
 	rm -f $(addprefix $(DESTDIR)$(LIBDIR)/pkgconfig/,ndef.pc ndef-v2.pc simbegyor-ndef.pc)
-	rm -rf $(DESTDIR)$(cmake) $(DESTDIR)$(PYTHONDIR)/simbegyor_ndef
+	rm -rf $(DESTDIR)$(cmake) $(addprefix $(DESTDIR)$(PYTHONDIR)/,simbegyor_ndef $(module_data))
 	rm -f $(addprefix $(DESTDIR)$(PREFIX)/share/man/man1/,$(notdir $(pages)))
 	rm -f $(addprefix $(DESTDIR)$(PREFIX)/share/man/man3/,$(notdir $(call_pages)))
 	rm -f $(addprefix $(DESTDIR)$(PREFIX)/share/bash-completion/completions/,$(notdir $(completions)))
@@ -137,7 +241,16 @@ uninstall:
 check:
 	.ci/run
 
-deb: all
+deb: all out/man3/simbegyor-ndef.3
 	packaging/make_deb $(VERSION) '$(MAINTAINER)'
 
-.PHONY: all python install uninstall check deb web
+amalgamation:
+	ports/amalgamation out/amalgamation
+
+dist:
+	ports/dist dist
+
+release:
+	packaging/release
+
+.PHONY: all amalgamation cost dist programs library python prove from-dist install uninstall check deb web release FORCE

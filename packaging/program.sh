@@ -1,20 +1,17 @@
-# Functions of the scripts `ndef`, `ndef-make` and `ndef-explain`: each runs a program of the repository. The program is proved and built first
-# where it is missing or older than its sources. The scripts set `top`, the folder of the repository.
-
-# Processor seconds that the proof of a crate takes from nothing.
-declare -A processor_seconds=(
-    [ndef_format]=40 [ndef_value]=75 [ndef_piece]=107 [ndef_lang]=162 [ndef_nest]=128 [ndef_message]=329 [ndef_types]=264
-    [ndef_program]=20 [ndef_tool]=237 [ndef_make_tool]=200 [ndef]=54 [ndef_make]=54
-)
+# shellcheck shell=bash disable=SC2154
+# Functions of packaging/by_rt, which proves, builds and runs a program of the repository. It sets `top`, the folder
+# of the repository, `name`, what it calls itself, and `program` and `crates`, the program's file and the crates of
+# which it is made. packaging/cost uses these functions too.
 
 say() { echo "$name: $*" >&2; }
 
-# The crates that a crate needs, lowest first, and that crate.
+# The crates that some crates need, lowest first, and those crates.
 crates_of() {
-    awk -v wanted="$1" '
+    awk -v wanted="$*" '
         !/^#/ && NF { split($0, half, ":"); split(half[1], word, " "); crate[++count] = word[1]; needs[count] = half[2] }
         END {
-            is_wanted[wanted] = 1
+            k = split(wanted, each, " ")
+            for (j = 1; j <= k; j++) is_wanted[each[j]] = 1
             for (i = count; i >= 1; i--)
                 if (crate[i] in is_wanted) {
                     k = split(needs[i], below, " ")
@@ -33,25 +30,44 @@ is_newer() {
     [ -z "$(find "${folders[@]}" -type f -newer "$file" -print -quit 2>/dev/null)" ]
 }
 
-# The crates whose proof is missing, or older than their sources or those of a crate below.
+# The crates whose proof is missing, or older than their sources or those of a crate below. What is built of a crate
+# is a library, a program or a library for C.
 crates_left() {
-    local crate below
+    local crate below file
     for crate in "${crates[@]}"; do
         mapfile -t below < <(crates_of "$crate")
-        is_newer "$top/crates/$crate/out/rlib" "${below[@]}" || echo "$crate"
+        for file in rlib "$crate" "lib$crate.a"; do
+            is_newer "$top/crates/$crate/out/$file" "${below[@]}" && continue 2
+        done
+        echo "$crate"
     done
 }
 
-# Says what the proof costs of the crates that are left.
+# The processor seconds that the proofs of crates take from nothing, by the table packaging/processor_seconds. A crate
+# that it hasn't counts a minute.
+seconds_of() {
+    awk -v wanted="$*" '
+        !/^#/ { seconds[$1] = $2 }
+        END {
+            k = split(wanted, each, " ")
+            for (j = 1; j <= k; j++) sum += each[j] in seconds ? seconds[each[j]] : 60
+            print sum + 0
+        }' "$top/packaging/processor_seconds"
+}
+
+# The same in minutes, with those that they take on 4 cores, where crates wait for one another.
+minutes_of() {
+    local minutes=$((($(seconds_of "$@") + 59) / 60))
+    echo "$minutes processor minutes ($(((minutes * 12 + 25) / 26)) minutes on 4 cores)"
+}
+
+# Says what the proof costs of the crates that are left, to build what is named.
 say_cost() {
-    local crate left seconds=0 minutes
+    local left
     mapfile -t left < <(crates_left)
-    for crate in "${left[@]}"; do seconds=$((seconds + ${processor_seconds[$crate]:-60})); done
-    minutes=$(((seconds + 59) / 60))
-    say "proving and building the program, once (crates to prove: ${#left[@]} of ${#crates[@]})"
-    if [ "$minutes" -gt 3 ]; then
-        say "this takes some $minutes processor minutes ($(((minutes * 12 + 25) / 26)) minutes on 4 cores, at least $(((minutes + 1) / 2)) on 2)," \
-            'up to 4 GB of memory, and 5 GB of disk'
+    say "proving and building $1, once (crates to prove: ${#left[@]} of ${#crates[@]})"
+    if [ "$(seconds_of "${left[@]}")" -gt 180 ]; then
+        say "this takes some $(minutes_of "${left[@]}"), up to 4 GB of memory, and 5 GB of disk"
     else
         say "this takes a minute or two"
     fi
@@ -71,7 +87,7 @@ progress() {
 needs_rt() {
     command -v rt >/dev/null && return
     say "$1 needs the command rt of the Rattle kit, which is not on the path"
-    say 'README.md, "Install it", says how to install a package, which needs no rt'
+    say "without it ./$name runs the release in dist/, which needs a C compiler alone"
     exit 3
 }
 
@@ -84,7 +100,7 @@ interrupted() {
 build() {
     local log begun=$SECONDS
     needs_rt 'the first run'
-    say_cost
+    say_cost 'the program'
     log=$(mktemp)
     trap interrupted INT TERM
     if ! (cd "$top/crates/${crates[-1]}" && rt run --cpu x86-64 -- "$@" </dev/null 2>&1) | tee "$log" | progress; then
@@ -101,7 +117,7 @@ build() {
 run_unproved() {
     local log status
     needs_rt --try
-    say "running unproved; ./$name proves it first"
+    say "running unproved; ./$name --prove proves it first"
     log=$(mktemp)
     (cd "$top/crates/${crates[-1]}" && rt try -- "$@") 2>"$log"
     status=$?
@@ -111,6 +127,3 @@ run_unproved() {
     rm -f "$log"
     exit "$status"
 }
-
-# Says on a terminal that the program waits for standard input. The first word is what it reads.
-say_waiting() { [ ! -t 0 ] || say "reading $1 from standard input"; }
