@@ -26,18 +26,24 @@ class Field(NamedTuple):
     octets: bytes
 
 
-def fields(octets: Union[bytes, bytearray, memoryview]) -> List[Field]:
+_FLAGS = {'strict': 0, 'standard': library.STANDARD}
+
+
+def fields(octets: Union[bytes, bytearray, memoryview], profile: str = 'strict') -> List[Field]:
     """The fields of the message with which the octets begin, in order; none where there are no octets.
 
-    They follow one another without a gap from the first octet of the message to its last. Where the octets are refused,
+    `profile` says what becomes of the reserved type name format 7 and of reserved identifier codes of URIs: 'strict', they
+    are refused; 'standard', they are read as the standards say. They follow one another without a gap from the first octet of the message to its last. Where the octets are refused,
     DecodeError is raised; its `fields` are those before the refused octet.
     """
     if not isinstance(octets, (bytes, bytearray, memoryview)):
         raise TypeError('octets are needed, not %s' % type(octets).__name__)
+    if profile not in _FLAGS:
+        raise ValueError("profile is 'strict' or 'standard', not %r" % (profile,))
     given = bytes(octets)
     if not given:
         return []
-    checked, told = library.fields(given, library.limits(Record.MAX_PAYLOAD_SIZE, 0))
+    checked, told = library.fields(given, library.limits(Record.MAX_PAYLOAD_SIZE, _FLAGS[profile]))
     listed = [Field(part.at, part.length, part.depth, library.field_name(part.name), given[part.at:part.at + part.length])
               for part in told]
     if checked.reason:

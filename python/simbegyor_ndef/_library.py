@@ -106,13 +106,14 @@ _path = os.path.join(os.path.dirname(os.path.abspath(__file__)), 'libndef.so')
 try:
     # Other threads run while a call looks at a whole message; the other calls are too short for that.
     _long, _short = ctypes.CDLL(_path), ctypes.PyDLL(_path)
-except OSError as error:
-    raise ImportError('simbegyor_ndef needs the library for C, for this machine, at %s' % _path) from error
+except OSError as missing:
+    raise ImportError('simbegyor_ndef needs the library for C, for this machine, at %s' % _path) from missing
 
 
 def _call(name: str, loaded: Any = _short, result: Any = u32) -> Callable[..., int]:
-    call = getattr(loaded, name)
-    call.restype = result
+    found: Any = getattr(loaded, name)
+    found.restype = result
+    call: Callable[..., int] = found
     return call
 
 
@@ -135,7 +136,7 @@ poster = _call('ndef_poster')
 carrier = _call('ndef_carrier')
 write_carrier = _call('ndef_write_carrier')
 alternative = _call('ndef_alternative')
-reference = _call('ndef_reference')
+references = _call('ndef_references')
 request = _call('ndef_request')
 select = _call('ndef_select')
 write_alternative = _call('ndef_write_alternative')
@@ -169,7 +170,8 @@ class _Room:
     """Room for what a call writes, and the number of octets that it wrote."""
 
     def __init__(self, size: int) -> None:
-        self.octets, self.size, self.count = (ctypes.c_char * size)(), SIZES[size], _size()
+        self.octets: Any = (ctypes.c_char * size)()
+        self.size, self.count = SIZES[size], _size()
         self.told = byref(self.count)
 
 
@@ -193,7 +195,7 @@ def put(call: Callable[..., int], guess: int, *arguments: Any, behind: Tuple[Any
         room = _room(guess)
         status = call(*arguments, room.octets, room.size, room.told, *behind)
         count = room.count.value
-        octets = room.octets[:count] if status == OK else b''
+        octets: bytes = room.octets[:count] if status == OK else b''
         if guess <= _USUAL:
             _rooms.append(room)
         if status != NO_ROOM:
@@ -237,6 +239,18 @@ def fields(octets: bytes, within: Any) -> Tuple[Checked, List[Any]]:
         if status != NO_ROOM:
             return checked, array[:count.value]
         room = count.value
+
+
+def parts_of_references(payload: bytes, count: int) -> List[Any]:
+    """Where the references of an alternative carrier lie, of which there are so many."""
+    parts, told = (Part * count)(), _size()
+    references(payload, SIZES[len(payload)], parts, SIZES[count], byref(told))
+    return list(parts)
+
+
+def first_of(octets: bytearray) -> Any:
+    """A reference to the first of the octets, which may not be resized while it is there."""
+    return byref(ctypes.c_char.from_buffer(octets)) if octets else b''
 
 
 def refused(why: Checked, before: int = 0) -> DecodeError:

@@ -6,7 +6,7 @@ from typing import Any, ClassVar, Dict, Iterable, List, NamedTuple, Optional, Tu
 from . import _library as library
 from .errors import EncodeError
 from .message import message_encoder, records_of
-from .record import GlobalRecord, LocalRecord, Octets, Parts, Record, number_of, octets_of, parts_of, spelled_of, text_of
+from .record import GlobalRecord, LocalRecord, Octets, Parts, Record, number_of, octets_of, parts_of, shown, spelled_of, text_of
 
 __all__ = ['AlternativeCarrier', 'AlternativeCarrierRecord', 'CollisionResolutionRecord', 'ErrorRecord', 'HandoverCarrierRecord',
            'HandoverError', 'HandoverRequestRecord', 'HandoverSelectRecord', 'Version']
@@ -98,10 +98,9 @@ class AlternativeCarrierRecord(LocalRecord):
         parts, why, size = library.AlternativeParts(), library.Checked(), library.SIZES[len(octets)]
         if library.alternative(octets, size, library.byref(parts), library.byref(why)) != library.OK:
             raise library.refused(why)
-        made, part, names = cls.__new__(cls), library.Part(), []
-        for index in range(parts.references):
-            library.reference(octets, size, library.SIZES[index], library.byref(part))
-            names.append(octets[part.at:part.at + part.length].decode('latin-1'))
+        made = cls.__new__(cls)
+        names = [octets[part.at:part.at + part.length].decode('latin-1')
+                 for part in library.parts_of_references(octets, parts.references)]
         made._power, made._reference, made.auxiliary_data_reference = parts.power, names[0], names[1:]
         return made
 
@@ -409,8 +408,8 @@ class HandoverCarrierRecord(GlobalRecord):
 
     def __init__(self, carrier_type: str, carrier_data: Optional[Octets] = None, reference: Union[str, Octets, None] = None) -> None:
         self._carrier = parts_of(text_of(carrier_type, 'a carrier type'))
-        self.carrier_data = carrier_data
-        self.name = reference
+        self._carrier_data = octets_of(carrier_data, 'carrier data')
+        self._take_name(reference)
 
     @property
     def carrier_type(self) -> str:
@@ -448,14 +447,13 @@ class HandoverCarrierRecord(GlobalRecord):
         if form == 'args':
             return '%r, %r, %r' % (self.carrier_type, bytes(self.carrier_data), self.name)
         if form == 'data':
-            return "Carrier Type '%s' Carrier Data %d byte '%s'" % (
-                self.carrier_type, len(self.carrier_data), bytes(self.carrier_data[:10]).hex())
+            return "Carrier Type '%s' Carrier Data %s" % (self.carrier_type, shown(bytes(self.carrier_data)))
         return super().__format__(form)
 
 
 HandoverRequestRecord.register_type(CollisionResolutionRecord)
 HandoverSelectRecord.register_type(ErrorRecord)
-for _handover in (HandoverRequestRecord, HandoverSelectRecord):
-    _handover.register_type(AlternativeCarrierRecord)
+HandoverRequestRecord.register_type(AlternativeCarrierRecord)
+HandoverSelectRecord.register_type(AlternativeCarrierRecord)
 for _known in (HandoverRequestRecord, HandoverSelectRecord, HandoverCarrierRecord):
     Record.register_type(_known)

@@ -2,7 +2,7 @@
 from __future__ import annotations
 
 import io
-from typing import Any, BinaryIO, Dict, Generator, Iterable, Iterator, Mapping, Optional, Tuple, Type, Union
+from typing import Any, BinaryIO, Dict, Generator, Iterable, Iterator, Mapping, Optional, Tuple, Type, Union, overload
 
 from . import _library as library
 from .errors import DecodeError, left_out
@@ -16,7 +16,8 @@ _Told = Optional[Dict[Type[Record], Any]]
 
 
 def message_decoder(stream_or_bytes: Union[bytes, bytearray, memoryview, BinaryIO], errors: str = 'strict',
-                    known_types: Optional[Mapping[str, Type[Record]]] = None, *, whole: bool = False) -> Iterator[Record]:
+                    known_types: Optional[Mapping[str, Type[Record]]] = None, *,
+                    whole: bool = False) -> Generator[Record, None, None]:
     """A generator of the records of the message with which the octets begin; of none where there are no octets.
 
     The octets are bytes, or a stream, of which only those of the records that were given are taken. A fault is raised as
@@ -100,8 +101,7 @@ class _Incoming:
     def _is_whole(self) -> bool:
         """Whether a whole record is among the octets at hand, of those that are accepted."""
         accepted = self.checked.place - self.before
-        first = library.byref(library.ctypes.c_char.from_buffer(self.taken)) if self.taken else b''
-        return library.record_at(first, library.SIZES[accepted], library.SIZES[0], library.byref(self.parts)) == library.OK
+        return library.record_at(library.first_of(self.taken), library.SIZES[accepted], library.SIZES[0], library.byref(self.parts)) == library.OK
 
     def _look(self, seen: bytes) -> int:
         """Takes of the octets ahead those that belong to the record; none where they are refused."""
@@ -189,18 +189,36 @@ def _place_in_pieces(octets: bytes, is_first: bool, error: DecodeError, payload_
     for part in (before, octets):
         status = library.feed(library.byref(checker), part, library.SIZES[len(part)], library.byref(checked))
     if error.number and status == library.REFUSED and checked.reason == error.number:
-        return checked.place - len(before)
+        return int(checked.place) - len(before)
     return payload_at
+
+
+@overload
+def message_encoder(message: Iterable[Record], stream: None = None) -> Generator[bytes, None, None]: ...
+
+
+@overload
+def message_encoder(message: Iterable[Record], stream: BinaryIO) -> Generator[int, None, None]: ...
+
+
+@overload
+def message_encoder(message: None = None, stream: None = None) -> Generator[Optional[bytes], Optional[Record], None]: ...
+
+
+@overload
+def message_encoder(message: None = None, *, stream: BinaryIO) -> Generator[Optional[int], Optional[Record], None]: ...
 
 
 def message_encoder(message: Optional[Iterable[Record]] = None, stream: Optional[BinaryIO] = None) -> Generator[Any, Any, None]:
     """A generator of the octets of each record of the message in turn, or, where a stream is given that they are written
     to, of their numbers. With no message, a generator to which the records are sent, and None behind the last: each
     gives the octets of the record before it."""
-    return _sent(stream) if message is None else _encoded(message, stream)
+    if message is None:
+        return _sent(stream)
+    return _encoded(message, stream)
 
 
-def _encoded(message: Iterable[Record], stream: Optional[BinaryIO]) -> Generator[Any, Any, None]:
+def _encoded(message: Iterable[Record], stream: Optional[BinaryIO]) -> Generator[Any, None, None]:
     encoder = _sent(stream)
     encoder.send(None)
     begun = False
@@ -213,9 +231,9 @@ def _encoded(message: Iterable[Record], stream: Optional[BinaryIO]) -> Generator
         yield encoder.send(None)
 
 
-def _sent(stream: Optional[BinaryIO]) -> Generator[Any, Any, None]:
+def _sent(stream: Optional[BinaryIO]) -> Generator[Any, Optional[Record], None]:
     place, flags, octets = 0, library.FIRST, None
-    record = yield
+    record: Any = yield
     while record is not None:
         if not isinstance(record, Record):
             raise TypeError('a Record is needed, not %s' % type(record).__name__)

@@ -81,6 +81,16 @@ def octets_of(value: Any, what: str) -> bytearray:
     return bytearray(value if value is not None else b'')
 
 
+def shown(octets: bytes) -> str:
+    """The number of the octets and the first ten of them, as ndeflib prints them."""
+    told = '%d byte' % len(octets)
+    if octets:
+        told += " '%s'" % octets[:10].hex()
+    if len(octets) > 10:
+        told += ' ... %d more' % (len(octets) - 10)
+    return told
+
+
 class Record:
     """A record of any type.
 
@@ -106,7 +116,7 @@ class Record:
             type = type.decode('latin-1')
         self._parts = parts_of(text_of('' if type is None else type, 'a record type'))
         self._data = octets_of(data, 'data')
-        self.name = name
+        self._take_name(name)
 
     @classmethod
     def register_type(cls, record_class: Type['Record']) -> None:
@@ -129,7 +139,8 @@ class Record:
             raise cls._decode_error('payload length is {} to {}, not {}', cls._decode_min_payload_length,
                                     cls._decode_max_payload_length, len(octets))
         try:
-            return cls._decode_payload(octets, 'strict')
+            made: Record = cls._decode_payload(octets, 'strict')
+            return made
         except struct.error as error:
             raise cls._decode_error('{}', error) from None
 
@@ -158,6 +169,9 @@ class Record:
 
     @name.setter
     def name(self, value: Union[str, Octets, None]) -> None:
+        self._take_name(value)
+
+    def _take_name(self, value: Union[str, Octets, None]) -> None:
         if isinstance(value, str):
             octets = value.encode('latin-1')
         elif value is None or isinstance(value, (bytes, bytearray)):
@@ -209,9 +223,7 @@ class Record:
         if form == 'args':
             return '%r, %r, %r' % (self.type, self.name, self.data)
         if form == 'data':
-            data = bytes(self.data)
-            more = '' if len(data) <= 10 else '... %d more' % (len(data) - 10)
-            return "PAYLOAD %d byte '%s%s'" % (len(data), data[:10].hex(), more)
+            return 'PAYLOAD ' + shown(bytes(self.data))
         return format(str(self), form)
 
     def __repr__(self) -> str:

@@ -307,7 +307,7 @@ class SmartposterRecord(GlobalRecord):
     def _decode_payload(cls, octets: bytes, errors: str) -> SmartposterRecord:
         parts = _parts_of(octets)
         made = cls.__new__(cls)
-        told = {ActionRecord: parts, SizeRecord: parts}
+        told: Dict[Type[Record], Any] = {ActionRecord: parts, SizeRecord: parts}
         made._records = list(records_of(octets, 0, len(octets), cls._known_parts, told))
         return made
 

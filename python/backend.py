@@ -1,0 +1,183 @@
+"""Makes the wheel and the source distribution of the module, for pip and build (PEP 517). It needs a C compiler and no
+package of Python's.
+
+The shared object in the wheel is compiled of dist/ndef.c; or it is linked of the archive libndef.a in the folder that
+NDEF_LIB_DIR names. CC names the compiler, CFLAGS its flags. The same files with the same compiler make the same wheel;
+its times are SOURCE_DATE_EPOCH's.
+"""
+import base64
+import gzip
+import hashlib
+import io
+import os
+import pathlib
+import re
+import shlex
+import shutil
+import subprocess
+import sys
+import sysconfig
+import tarfile
+import tempfile
+import time
+import zipfile
+
+HERE = pathlib.Path(__file__).resolve().parent
+# In the source distribution all files lie here; in the repository some lie above.
+TOP = HERE if (HERE / 'VERSION').exists() else HERE.parent
+LICENSES = ('LICENSE-MIT', 'LICENSE-APACHE')
+GENERATED = ('dist/ndef.c', 'dist/SOURCE')
+
+
+def stop(why):
+    sys.exit('simbegyor-ndef: ' + why)
+
+
+def version():
+    """The version as Python writes it."""
+    if not (TOP / 'VERSION').exists():
+        stop('the repository around the folder python/ is missing: use pip 21.3 or newer, which builds there and not '
+             'in a copy of the folder')
+    text = (TOP / 'VERSION').read_text().strip()
+    return text + '0' if text.endswith('.dev') else text
+
+
+NAME = 'simbegyor_ndef-' + version()
+
+
+def moment():
+    """The time that files in archives get, in seconds since 1970; a zip file can't tell one before 1980."""
+    return max(int(os.environ.get('SOURCE_DATE_EPOCH', 0)), 315532800)
+
+
+def metadata():
+    head = (HERE / 'METADATA.in').read_text(encoding='utf-8').replace('@VERSION@', version())
+    return (head + '\n' + (HERE / 'README.md').read_text(encoding='utf-8')).encode()
+
+
+def modules():
+    """The files of the module by their names in the wheel."""
+    for path in sorted((HERE / 'simbegyor_ndef').glob('*')):
+        if path.suffix in ('.py', '.typed'):
+            yield 'simbegyor_ndef/' + path.name, path.read_bytes().replace(b'@VERSION@', version().encode())
+
+
+def headers():
+    return sorted(path.name for path in (TOP / 'dist').glob('ndef*.h'))
+
+
+def check_generated():
+    """Stops where a file of dist/ isn't the one that dist/SOURCE names."""
+    if not all((TOP / name).exists() for name in GENERATED):
+        stop('dist/ is missing: take it from the release, or set NDEF_LIB_DIR to a folder with libndef.a')
+    wanted = (TOP / 'dist/SOURCE').read_text().split('\n')
+    for name in ('ndef.c', *headers()):
+        if '%s  %s' % (hashlib.sha256((TOP / 'dist' / name).read_bytes()).hexdigest(), name) not in wanted:
+            stop("dist/%s isn't the file whose SHA-256 is in dist/SOURCE: take dist/ from the release again, as by "
+                 "'git checkout dist'" % name)
+
+
+def compiler():
+    usual = [[name] for name in ('cc', 'gcc', 'clang') if shutil.which(name)]
+    words = shlex.split(os.environ.get('CC', '')) or (usual + [['cc']])[0]
+    if not shutil.which(words[0]):
+        stop("there is no C compiler %s on the path: install one, as by 'apt install gcc', or name it with CC"
+             % words[0])
+    return words
+
+
+def make_library(file):
+    """Compiles the shared object."""
+    words = [*compiler(), '-std=c99', *shlex.split(os.environ.get('CFLAGS', '-O2')), '-fPIC', '-shared']
+    if sys.platform == 'linux':
+        words += ['-s', '-Wl,-z,defs', '-Wl,-z,relro', '-Wl,-z,now', '-Wl,--build-id=none']
+    folder = os.environ.get('NDEF_LIB_DIR')
+    if not folder:
+        check_generated()
+        words += [str(TOP / 'dist/ndef.c')]
+    elif (pathlib.Path(folder) / 'libndef.a').exists():
+        words += ['-Wl,--whole-archive', str(pathlib.Path(folder) / 'libndef.a'), '-Wl,--no-whole-archive']
+    else:
+        stop('NDEF_LIB_DIR is %s, which has no libndef.a: unset it, and the library is compiled' % folder)
+    if subprocess.run([*words, '-o', str(file)]).returncode != 0:
+        stop("%s doesn't compile the library, as it says above: name another C compiler with CC" % words[0])
+
+
+def platform_tag(library):
+    """The platform of a wheel: manylinux2014 where the shared object needs the GNU C library alone, and of that no call
+    newer than 2.17."""
+    machine = sysconfig.get_platform().replace('-', '_').replace('.', '_')
+    code = library.read_bytes()
+    needed = set(re.findall(rb'\0([\w.+-]+\.so[.\d]*)(?=\0)', code))
+    versions = [tuple(map(int, number.split(b'.'))) for number in re.findall(rb'\0GLIBC_([\d.]+)(?=\0)', code)]
+    is_known = machine in ('linux_x86_64', 'linux_i686', 'linux_aarch64', 'linux_armv7l')
+    if not is_known or needed - {b'libc.so.6'} or max(versions, default=()) > (2, 17):
+        return machine
+    return machine.replace('linux', 'manylinux2014') + '.' + machine.replace('linux', 'manylinux_2_17')
+
+
+def wheel_data(tag):
+    """The files of the wheel's folder of data, but the list of all files. One tag stands for each platform."""
+    folder = NAME + '.dist-info/'
+    tags = ''.join('Tag: py3-none-%s\n' % platform for platform in tag.split('.'))
+    yield folder + 'METADATA', metadata()
+    yield folder + 'WHEEL', ('Wheel-Version: 1.0\nGenerator: simbegyor-ndef\nRoot-Is-Purelib: false\n' + tags).encode()
+    for name in LICENSES:
+        yield folder + 'licenses/' + name, (TOP / name).read_bytes()
+
+
+def record_line(name, content):
+    digest = base64.urlsafe_b64encode(hashlib.sha256(content).digest()).rstrip(b'=').decode()
+    return '%s,sha256=%s,%d\n' % (name, digest, len(content))
+
+
+def build_wheel(wheel_directory, config_settings=None, metadata_directory=None):
+    with tempfile.TemporaryDirectory() as folder:
+        library = pathlib.Path(folder, 'libndef.so')
+        make_library(library)
+        tag, code = platform_tag(library), library.read_bytes()
+    files = dict([*modules(), ('simbegyor_ndef/libndef.so', code), *wheel_data(tag)])
+    listed = ''.join(record_line(name, files[name]) for name in sorted(files))
+    record = NAME + '.dist-info/RECORD'
+    wheel = '%s-py3-none-%s.whl' % (NAME, tag)
+    with zipfile.ZipFile(pathlib.Path(wheel_directory, wheel), 'w', zipfile.ZIP_DEFLATED) as made:
+        for name, content in [*sorted(files.items()), (record, (listed + record + ',,\n').encode())]:
+            entry = zipfile.ZipInfo(name, time.gmtime(moment())[:6])
+            entry.compress_type = zipfile.ZIP_DEFLATED
+            entry.external_attr = (0o755 if name.endswith('.so') else 0o644) << 16
+            made.writestr(entry, content)
+    return wheel
+
+
+def prepare_metadata_for_build_wheel(metadata_directory, config_settings=None):
+    for name, content in wheel_data('any'):
+        path = pathlib.Path(metadata_directory, name)
+        path.parent.mkdir(parents=True, exist_ok=True)
+        path.write_bytes(content)
+    return NAME + '.dist-info'
+
+
+def sources():
+    """The files of the source distribution, which make the wheel anywhere."""
+    check_generated()
+    yield 'PKG-INFO', metadata()
+    for name in ('README.md', 'METADATA.in', 'pyproject.toml', 'backend.py'):
+        yield name, (HERE / name).read_bytes()
+    for path in (HERE / 'simbegyor_ndef').glob('*'):
+        if path.suffix in ('.py', '.typed'):
+            yield 'simbegyor_ndef/' + path.name, path.read_bytes()
+    for name in ('VERSION', *LICENSES, *GENERATED, *('dist/' + name for name in headers())):
+        yield name, (TOP / name).read_bytes()
+
+
+def build_sdist(sdist_directory, config_settings=None):
+    packed = io.BytesIO()
+    with tarfile.open(fileobj=packed, mode='w', format=tarfile.PAX_FORMAT) as made:
+        for name, content in sorted(sources()):
+            entry = tarfile.TarInfo(NAME + '/' + name)
+            entry.size, entry.mode, entry.mtime = len(content), 0o644, moment()
+            made.addfile(entry, io.BytesIO(content))
+    path = pathlib.Path(sdist_directory, NAME + '.tar.gz')
+    with path.open('wb') as file, gzip.GzipFile('', 'wb', 9, file, moment()) as gz:
+        gz.write(packed.getvalue())
+    return path.name
