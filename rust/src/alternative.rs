@@ -6,7 +6,9 @@ use core::fmt;
 use core::iter::FusedIterator;
 
 #[cfg(feature = "alloc")]
-use alloc::vec::Vec;
+use crate::Part;
+#[cfg(feature = "alloc")]
+use alloc::{vec, vec::Vec};
 
 /// The power state of a carrier (Connection Handover 1.2, Alternative Carrier record).
 #[derive(Clone, Copy, Debug, PartialEq, Eq, Hash)]
@@ -70,7 +72,8 @@ impl<'a> AlternativeCarrier<'a> {
 
     /// The auxiliary data references, at most 255, each of at most 255 bytes.
     pub fn auxiliaries(&self) -> Auxiliaries<'_> {
-        Auxiliaries { payload: &self.payload, next: 1, count: self.parts.references.into() }
+        let count = self.parts.references.into();
+        Auxiliaries { payload: &self.payload, told: Told::of(&self.payload, count), next: 1, count }
     }
 
     /// Its payload.
@@ -103,11 +106,49 @@ impl fmt::Debug for AlternativeCarrier<'_> {
     }
 }
 
+/// When the library tells where the references lie.
+#[derive(Clone)]
+enum Told {
+    /// Each one when it is asked for, which looks at those before it.
+    #[cfg(not(feature = "alloc"))]
+    OneByOne,
+    /// All of them before.
+    #[cfg(feature = "alloc")]
+    Before(Vec<Part>),
+}
+
+impl Told {
+    #[cfg(not(feature = "alloc"))]
+    fn of(_payload: &[u8], _count: Size) -> Self {
+        Self::OneByOne
+    }
+
+    #[cfg(feature = "alloc")]
+    fn of(payload: &[u8], count: Size) -> Self {
+        let mut parts = vec![Part::default(); ffi::index(count)];
+        promised(ffi::references(payload, &mut parts));
+        Self::Before(parts)
+    }
+
+    fn reference<'a>(&self, payload: &'a [u8], index: Size) -> Option<&'a [u8]> {
+        match self {
+            #[cfg(not(feature = "alloc"))]
+            Self::OneByOne => ffi::reference(payload, index),
+            #[cfg(feature = "alloc")]
+            Self::Before(parts) => {
+                let part = parts.get(ffi::index(index))?;
+                Some(ffi::part(payload, part.at, part.length))
+            }
+        }
+    }
+}
+
 /// The auxiliary data references of an alternative carrier, one after another.
 #[derive(Clone)]
 #[must_use = "an iterator does nothing unless it is used"]
 pub struct Auxiliaries<'a> {
     payload: &'a [u8],
+    told: Told,
     next: Size,
     count: Size,
 }
@@ -116,7 +157,7 @@ impl<'a> Iterator for Auxiliaries<'a> {
     type Item = &'a [u8];
 
     fn next(&mut self) -> Option<&'a [u8]> {
-        let reference = ffi::reference(self.payload, self.next)?;
+        let reference = self.told.reference(self.payload, self.next)?;
         self.next += 1;
         Some(reference)
     }

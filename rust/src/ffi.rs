@@ -87,8 +87,6 @@ structs! {
     PosterParts (32) {
         uri_at: Size, uri_length: Size, has_action: u32, action: u32, has_size: u32, size: u32
     }
-    /// `ndef_field`
-    Field (24) { at: Size, length: Size, depth: u32, name: u32 }
     /// `ndef_error_parts`
     ErrorParts (32) { data_at: Size, data_length: Size, reason: u32, has_number: u32, number: u32 }
 }
@@ -101,6 +99,17 @@ pub struct Part {
     pub(crate) length: Size,
 }
 const _: () = assert!(size_of::<Part>() == 16);
+
+/// Which bytes stand in a field, and its name. [`Fields::of_in`](crate::Fields::of_in) fills an array of them.
+#[repr(C)]
+#[derive(Clone, Copy, Debug, Default, PartialEq, Eq, Hash)]
+pub struct Field {
+    pub(crate) at: Size,
+    pub(crate) length: Size,
+    pub(crate) depth: u32,
+    pub(crate) name: u32,
+}
+const _: () = assert!(size_of::<Field>() == 24);
 
 /// `ndef_checker`
 #[repr(C)]
@@ -128,8 +137,9 @@ mod c {
         pub(super) fn ndef_pieces(
             bytes: *const u8, length: Size, at: Size, parts: *mut Part, size: Size, count: *mut Size,
         ) -> u32;
-        pub(super) fn ndef_field_at(
-            bytes: *const u8, length: Size, limits: *const Limits, place: Size, out: *mut Field, why: *mut Checked,
+        pub(super) fn ndef_fields(
+            bytes: *const u8, length: Size, limits: *const Limits, fields: *mut Field, size: Size, count: *mut Size,
+            why: *mut Checked,
         ) -> u32;
         pub(super) fn ndef_field_name(name: u32, room: *mut u8, size: Size, count: *mut Size) -> u32;
         pub(super) fn ndef_find_id(
@@ -165,6 +175,9 @@ mod c {
             payload: *const u8, length: Size, out: *mut AlternativeParts, why: *mut Checked,
         ) -> u32;
         pub(super) fn ndef_reference(payload: *const u8, length: Size, index: Size, out: *mut Part) -> u32;
+        pub(super) fn ndef_references(
+            payload: *const u8, length: Size, parts: *mut Part, size: Size, count: *mut Size,
+        ) -> u32;
         pub(super) fn ndef_write_alternative(
             power: u32, bytes: *const u8, length: Size, parts: *const Part, parts_count: Size, room: *mut u8,
             size: Size, count: *mut Size,
@@ -287,12 +300,16 @@ pub(crate) fn pieces(bytes: &[u8], at: Size, parts: &mut [Part]) -> Result<usize
 
 // ---- fields
 
-/// The field in which the byte at a place stands.
-pub(crate) fn field_at(bytes: &[u8], limits: &Limits, place: usize) -> Option<Field> {
-    let (mut out, mut why) = (Field::default(), Checked::default());
-    // SAFETY: LEN, ONE, MAX: a slice, and values of their types. APART: `out` and `why` are local values.
-    let status = unsafe { c::ndef_field_at(bytes.as_ptr(), size(bytes), limits, place as Size, &mut out, &mut why) };
-    (status == OK).then_some(out)
+/// The fields of the message with which the bytes begin, or those before the refused byte, which `why` tells: their
+/// number. If the array has fewer elements it is unchanged, and the error is the number.
+pub(crate) fn fields(bytes: &[u8], limits: &Limits, fields: &mut [Field], why: &mut Checked) -> Result<usize, usize> {
+    let (at, room, mut count) = (fields.as_mut_ptr(), size(fields), 0);
+    // SAFETY: LEN, ONE, MAX: slices, and values of their types. APART: `fields` and `why` are `&mut`, and `count` is a local
+    // value.
+    match unsafe { c::ndef_fields(bytes.as_ptr(), size(bytes), limits, at, room, &mut count, why) } {
+        NO_ROOM => Err(index(count)),
+        _ => Ok(index(count)),
+    }
 }
 
 // ---- rooms
@@ -468,6 +485,14 @@ pub(crate) fn reference(payload: &[u8], index: Size) -> Option<&[u8]> {
     // SAFETY: LEN, ONE, MAX: a slice, and a value of its type. APART: `out` is a local value.
     let status = unsafe { c::ndef_reference(payload.as_ptr(), size(payload), index, &mut out) };
     (status == OK).then(|| part(payload, out.at, out.length))
+}
+
+/// Where the references of an alternative carrier lie.
+pub(crate) fn references(payload: &[u8], parts: &mut [Part]) -> Result<usize, Unfilled> {
+    let (at, room, mut count) = (parts.as_mut_ptr(), size(parts), 0);
+    // SAFETY: LEN, ONE, MAX: slices, and a value of its type. APART: `parts` is a `&mut`, and `count` is a local value.
+    let status = unsafe { c::ndef_references(payload.as_ptr(), size(payload), at, room, &mut count) };
+    filled(status, count, Checked::default())
 }
 
 /// The link with an index of a message, whose handover has the payload.

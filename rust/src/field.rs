@@ -1,8 +1,13 @@
 //! In which field each byte of a message stands.
-use crate::ffi;
-use crate::{Limits, Payloads};
+use crate::ffi::{self, Field as FieldPart, Size};
+use crate::{DecodeError, Limits, Payloads, Refusal};
 use core::fmt;
 use core::iter::FusedIterator;
+
+#[cfg(feature = "alloc")]
+use crate::promised;
+#[cfg(feature = "alloc")]
+use alloc::vec::Vec;
 
 macro_rules! names {
     ($($number:literal $name:ident $text:literal,)*) => {
@@ -93,14 +98,22 @@ pub struct Field<'a> {
     pub name: FieldName,
 }
 
+/// Where the fields are kept that the library told.
+#[derive(Clone)]
+enum Told<'a> {
+    Borrowed(&'a [FieldPart]),
+    #[cfg(feature = "alloc")]
+    Owned(Vec<FieldPart>),
+}
+
 /// The fields of the message with which some bytes begin, in order; of bytes that are refused, those before the refused
-/// one. Payloads are looked into, whatever the limits say. Each step looks at the message from its start.
+/// one. Payloads are looked into, whatever the limits say. The message is looked at once.
 ///
 /// ```
 /// use simbegyor_ndef::{FieldName, Fields, Limits};
 ///
 /// let fields = Fields::of(b"\xD1\x01\x08T\x02enHello, and more", &Limits::new());
-/// assert_eq!(fields.clone().count(), 7);
+/// assert_eq!(fields.len(), 7);
 /// assert_eq!(fields.at(5).unwrap().name, FieldName::Language);
 /// assert_eq!(fields.last().unwrap().bytes, b"Hello");
 /// ```
@@ -108,19 +121,56 @@ pub struct Field<'a> {
 #[must_use = "an iterator does nothing unless it is used"]
 pub struct Fields<'a> {
     bytes: &'a [u8],
-    limits: Limits,
+    told: Told<'a>,
+    refusal: Option<Refusal>,
     next: usize,
 }
 
 impl<'a> Fields<'a> {
     /// The fields of the message with which these bytes begin.
+    #[cfg(feature = "alloc")]
     pub fn of(bytes: &'a [u8], limits: &Limits) -> Self {
-        Self { bytes, limits: limits.with_payloads(Payloads::Typed), next: 0 }
+        let (limits, mut why) = (limits.with_payloads(Payloads::Typed).raw(), ffi::Checked::default());
+        let mut told = Vec::new();
+        if let Err(count) = ffi::fields(bytes, &limits, &mut told, &mut why) {
+            told.resize(count, FieldPart::default());
+            promised(ffi::fields(bytes, &limits, &mut told, &mut why));
+        }
+        Self { bytes, told: Told::Owned(told), refusal: refusal_of(why), next: 0 }
     }
 
-    /// The field in which the byte at a place stands; none behind the message, or from a refused byte on.
+    /// The same, in a room that needs an element for each field.
+    ///
+    /// # Errors
+    ///
+    /// [`DecodeError::NoRoom`] alone.
+    pub fn of_in(bytes: &'a [u8], limits: &Limits, room: &'a mut [FieldPart]) -> Result<Self, DecodeError> {
+        let (limits, mut why) = (limits.with_payloads(Payloads::Typed).raw(), ffi::Checked::default());
+        let count = ffi::fields(bytes, &limits, room, &mut why).map_err(DecodeError::NoRoom)?;
+        Ok(Self { bytes, told: Told::Borrowed(&room[..count]), refusal: refusal_of(why), next: 0 })
+    }
+
+    /// Where and why the bytes are refused; none if they begin with a message.
+    pub fn refusal(&self) -> Option<Refusal> {
+        self.refusal
+    }
+
+    /// The field in which the byte at a place stands; none after the message, or from a refused byte on.
     pub fn at(&self, place: usize) -> Option<Field<'a>> {
-        let told = ffi::field_at(self.bytes, &self.limits.raw(), place)?;
+        let index = self.all().partition_point(|told| told.at <= place as Size).checked_sub(1)?;
+        self.field(index).filter(|field| place - field.at < field.bytes.len())
+    }
+
+    fn all(&self) -> &[FieldPart] {
+        match &self.told {
+            Told::Borrowed(told) => told,
+            #[cfg(feature = "alloc")]
+            Told::Owned(told) => told,
+        }
+    }
+
+    fn field(&self, index: usize) -> Option<Field<'a>> {
+        let told = self.all().get(index)?;
         Some(Field {
             at: ffi::index(told.at),
             bytes: ffi::part(self.bytes, told.at, told.length),
@@ -130,16 +180,27 @@ impl<'a> Fields<'a> {
     }
 }
 
+/// The refusal, if the library told one.
+fn refusal_of(why: ffi::Checked) -> Option<Refusal> {
+    (why.reason != 0).then(|| Refusal::of(why))
+}
+
 impl<'a> Iterator for Fields<'a> {
     type Item = Field<'a>;
 
     fn next(&mut self) -> Option<Field<'a>> {
-        let field = self.at(self.next)?;
-        self.next = field.at + field.bytes.len();
+        let field = self.field(self.next)?;
+        self.next += 1;
         Some(field)
+    }
+
+    fn size_hint(&self) -> (usize, Option<usize>) {
+        let left = self.all().len() - self.next;
+        (left, Some(left))
     }
 }
 
+impl ExactSizeIterator for Fields<'_> {}
 impl FusedIterator for Fields<'_> {}
 
 impl fmt::Debug for Fields<'_> {
@@ -180,15 +241,39 @@ mod tests {
             (9, 1, "identifier code"),
             (10, 1, "URI"),
         ];
-        let fields = Fields::of(poster, &Limits::new().with_payloads(Payloads::Opaque));
+        let mut room = [FieldPart::default(); 10];
+        let fields = Fields::of_in(poster, &Limits::new().with_payloads(Payloads::Opaque), &mut room).unwrap();
         assert!(fields.clone().map(|field| (field.at, field.depth, field.name.text())).eq(told));
         assert!(fields.clone().flat_map(|field| field.bytes).eq(poster));
+        assert_eq!((fields.len(), fields.clone().skip(3).len(), fields.refusal()), (10, 7, None));
         assert_eq!(fields.at(4), fields.at(3));
         assert_eq!((fields.at(11), fields.at(usize::MAX)), (None, None));
+        let needed = Fields::of_in(poster, &Limits::new(), &mut [FieldPart::default(); 9]).err();
+        assert_eq!(needed, Some(DecodeError::NoRoom(10)));
+        assert_eq!(Fields::of_in(poster, &Limits::new(), &mut []).err(), needed);
 
         let refused = b"\xD1\x02\x06Sp\xD1\x01\x02U\xFFa";
-        let fields = Fields::of(refused, &Limits::new());
+        let mut room = [FieldPart::default(); 8];
+        let fields = Fields::of_in(refused, &Limits::new(), &mut room).unwrap();
         assert!(fields.clone().map(|field| field.name.text()).eq(told[..8].iter().map(|field| field.2)));
         assert_eq!((fields.at(8).unwrap().bytes, fields.at(9)), (&b"U"[..], None));
+        assert_eq!(fields.refusal(), Some(Refusal { at: 9, reason: crate::Reason::UriCode }));
+
+        let two = Limits::new().with_records(core::num::NonZeroU16::new(2).unwrap());
+        let fields = Fields::of_in(b"\x90\0\0\x10\0\0\x50\0\0", &two, &mut room).unwrap();
+        assert_eq!((fields.len(), fields.refusal().unwrap().at), (3, 3));
+    }
+
+    /// What `of` keeps in memory of its own is what `of_in` keeps in a room.
+    #[cfg(feature = "alloc")]
+    #[test]
+    fn fields_in_memory() {
+        for bytes in [&b"\xD1\x01\x08T\x02enHello, and more"[..], b"\xD1\x01\x08T\x02enH", b"\xD7", b""] {
+            let mut room = [FieldPart::default(); 7];
+            let kept = Fields::of_in(bytes, &Limits::new(), &mut room).unwrap();
+            let fields = Fields::of(bytes, &Limits::new());
+            assert_eq!((fields.refusal(), fields.len()), (kept.refusal(), kept.len()));
+            assert!(fields.eq(kept));
+        }
     }
 }

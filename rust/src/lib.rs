@@ -6,6 +6,9 @@ extern crate alloc;
 #[cfg(feature = "std")]
 extern crate std;
 
+// It links the library for C.
+use simbegyor_ndef_sys as _;
+
 /// Compares and hashes values of a type by what its method `value` answers.
 #[cfg(feature = "alloc")]
 macro_rules! compare_by_value {
@@ -62,7 +65,7 @@ pub use carrier::HandoverCarrier;
 pub use check::{check, Checked, Checker};
 pub use chunks::Chunks;
 pub use error::{DecodeError, EncodeError};
-pub use ffi::Part;
+pub use ffi::{Field as FieldPart, Part};
 pub use field::{Field, FieldName, Fields};
 pub use handover::{Alternatives, HandoverRequest, HandoverSelect};
 #[cfg(feature = "alloc")]
@@ -75,7 +78,7 @@ pub use message::{Message, Records};
 pub use message_builder::MessageBuilder;
 pub use new_record::{encode, Form, NewRecord};
 pub use payload::Payload;
-pub use poster::{Action, SmartPoster, Titles};
+pub use poster::{Action, Icon, Icons, SmartPoster, Titles};
 #[cfg(feature = "alloc")]
 pub use poster_builder::SmartPosterBuilder;
 #[cfg(feature = "std")]
@@ -97,9 +100,15 @@ fn promised<T, E>(answer: Result<T, E>) -> T {
 
 #[cfg(test)]
 mod tests {
+    /// The version that a header of the library names.
+    fn named(header: &str) -> u32 {
+        let numbers = header.lines().filter_map(|line| line.strip_prefix("#define NDEF_VERSION_")?.split_once(' '));
+        numbers.filter_map(|(_, number)| number.parse::<u32>().ok()).fold(0, |version, number| 256 * version + number)
+    }
+
     #[test]
-    fn the_library_has_this_version() {
-        let numbers = env!("CARGO_PKG_VERSION").split('.').map(|number| number.parse::<u32>().unwrap());
-        assert_eq!(crate::ffi::version(), numbers.fold(0, |version, number| 256 * version + number));
+    fn the_library_has_the_version_of_its_header() {
+        let headers = [include_str!("../../include/ndef.h"), include_str!("../../dist/ndef.h")];
+        assert!(headers.map(named).contains(&crate::ffi::version()));
     }
 }

@@ -2,13 +2,14 @@
 use crate::ffi;
 use core::num::{NonZeroU16, NonZeroU32};
 
-/// What becomes of values that the standard reserves.
+/// What becomes of the type name format 7 and of URI codes above 0x23, which are reserved. The repository's
+/// docs/FORMAT.md has each difference from the standards.
 #[derive(Clone, Copy, Debug, Default, PartialEq, Eq, Hash)]
 pub enum Profile {
-    /// They are refused.
+    /// They are refused, though the standards bid a reader accept them.
     #[default]
     Strict,
-    /// They are read as the standard says: the type name format 7 as [`Tnf::Unknown`](crate::Tnf::Unknown) (NDEF 1.0,
+    /// They are read as the standards say: the type name format 7 as [`Tnf::Unknown`](crate::Tnf::Unknown) (NDEF 1.0,
     /// 3.2.6), and a reserved identifier code of a URI as no prefix (RTD URI 1.0, 3.2.2).
     Standard,
 }

@@ -99,7 +99,8 @@ impl<'a> Message<'a> {
         }
     }
 
-    /// The same. The payload of a handover that lies in several chunks is joined in the room.
+    /// The same. The payload of a handover that lies in several chunks is joined in the room. Each step reads the whole
+    /// handover and the message from its start.
     ///
     /// # Errors
     ///

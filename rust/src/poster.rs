@@ -1,5 +1,5 @@
 //! Smart posters.
-use crate::bytes::Bytes;
+use crate::bytes::{Bytes, Quoted};
 use crate::ffi;
 use crate::{promised, NewRecord, Profile, Records, Refusal, Text, Tnf, Uri};
 use core::fmt;
@@ -104,6 +104,12 @@ impl<'a> SmartPoster<'a> {
         self.titles().find(|title| title.language().eq_ignore_ascii_case(language))
     }
 
+    /// The icons, each with its media type: all records of a media type. The standard asks for types that begin with
+    /// "image/" or "video/", and the library does not look at that: look at the type before you use the data.
+    pub fn icons(&self) -> Icons<'_> {
+        Icons(self.records())
+    }
+
     /// What it recommends to do; of several recommendations the first.
     pub fn action(&self) -> Option<Action> {
         (self.parts.has_action != 0).then(|| Action::of(self.parts.action))
@@ -172,3 +178,35 @@ impl<'a> Iterator for Titles<'a> {
 }
 
 impl core::iter::FusedIterator for Titles<'_> {}
+
+/// An icon of a smart poster.
+#[derive(Clone, Copy, PartialEq, Eq, Hash)]
+#[non_exhaustive]
+pub struct Icon<'a> {
+    /// Its media type, such as `image/png`, 1 to 255 bytes.
+    pub media_type: &'a [u8],
+    /// The bytes of the image.
+    pub data: &'a [u8],
+}
+
+impl fmt::Debug for Icon<'_> {
+    fn fmt(&self, to: &mut fmt::Formatter<'_>) -> fmt::Result {
+        to.debug_struct("Icon").field("media_type", &Quoted(self.media_type)).field("data", &Quoted(self.data)).finish()
+    }
+}
+
+/// The icons of a smart poster, one after another.
+#[derive(Clone, Debug)]
+#[must_use = "an iterator does nothing unless it is used"]
+pub struct Icons<'a>(Records<'a>);
+
+impl<'a> Iterator for Icons<'a> {
+    type Item = Icon<'a>;
+
+    fn next(&mut self) -> Option<Icon<'a>> {
+        let record = self.0.find(|record| record.tnf() == Tnf::Media)?;
+        Some(Icon { media_type: record.kind(), data: record.payload()? })
+    }
+}
+
+impl core::iter::FusedIterator for Icons<'_> {}

@@ -37,7 +37,13 @@ impl<'a> SmartPosterBuilder<'a> {
         self.record(NewRecord::new(Tnf::WellKnown, b"t", kind.as_bytes()))
     }
 
-    /// Adds any other record, as an icon.
+    /// Adds an icon of a media type, such as `image/png`. The standard asks for types that begin with "image/" or
+    /// "video/", and the library does not look at that.
+    pub fn icon(self, media_type: &'a str, data: &'a [u8]) -> Self {
+        self.record(NewRecord::media(media_type, data))
+    }
+
+    /// Adds any other record.
     pub fn record(mut self, record: impl Into<NewRecord<'a>>) -> Self {
         self.records = self.records.map(|records| records.record(record));
         self

@@ -4,10 +4,16 @@ mod suite;
 use simbegyor_ndef::{
     check, read_message, Checked, Checker, Limits, Message, Payloads, Profile, ReadError, Reason, Refusal,
 };
-use suite::{cases, columns, unhex};
+use suite::{cases, columns, is_in, unhex};
 
-fn limits_of(text: &str, profile: &str, payloads: Payloads) -> Limits {
-    let profile = if profile == "standard" { Profile::Standard } else { Profile::Strict };
+/// The languages of the suite that the crate reads, by name, in each profile.
+fn ways() -> [(&'static str, Profile, Payloads); 4] {
+    let (typed, opaque) = (("typed", Payloads::Typed), ("opaque", Payloads::Opaque));
+    [(typed, Profile::Strict), (typed, Profile::Standard), (opaque, Profile::Strict), (opaque, Profile::Standard)]
+        .map(|((name, payloads), profile)| (name, profile, payloads))
+}
+
+fn limits_of(text: &str, profile: Profile, payloads: Payloads) -> Limits {
     let mut limits = Limits::new().with_profile(profile).with_payloads(payloads);
     let words: Vec<&str> = text.split_whitespace().filter(|word| *word != "usual").collect();
     for pair in words.chunks(2) {
@@ -68,15 +74,6 @@ fn read(bytes: &[u8], limits: &Limits) {
     assert_eq!(left, bytes[taken..]);
 }
 
-/// A column of a record: `-` stands for the empty one.
-fn named(text: &str) -> &[u8] {
-    if text == "-" {
-        b""
-    } else {
-        text.as_bytes()
-    }
-}
-
 fn is_message(bytes: &[u8], limits: &Limits, length: u64, records: &str) {
     let message = Message::parse_within(bytes, limits).unwrap();
     assert_eq!(message.as_bytes().len() as u64, length);
@@ -87,7 +84,7 @@ fn is_message(bytes: &[u8], limits: &Limits, length: u64, records: &str) {
         let words: Vec<&str> = told.split_whitespace().collect();
         let payload = unhex(words[3]);
         assert_eq!(record.tnf().number().to_string(), words[0]);
-        assert_eq!((record.kind(), record.id()), (named(words[1]), named(words[2])));
+        assert_eq!((record.kind(), record.id()), (&unhex(words[1])[..], &unhex(words[2])[..]));
         assert_eq!((record.payload_len(), record.payload_cow()), (payload.len(), payload.clone().into()));
         assert_eq!(record.chunks().len(), record.pieces());
         assert_eq!(record.chunks().collect::<Vec<_>>().concat(), payload);
@@ -107,13 +104,13 @@ fn is_message(bytes: &[u8], limits: &Limits, length: u64, records: &str) {
 fn each_case_is_answered() {
     let (mut run, mut accepted) = (0, 0);
     for line in cases("conformance/cases.txt") {
-        let [_, languages, profile, limits, bytes, answer, records] = columns(&line);
+        let [_, _, _, _, languages, column, limits, bytes, answer, records] = columns(&line);
         let bytes = unhex(bytes);
         let words: Vec<&str> = answer.split_whitespace().collect();
         let at = words[1].parse().unwrap();
         println!("{line}");
-        for (language, payloads) in [("typed", Payloads::Typed), ("opaque", Payloads::Opaque)] {
-            if !languages.contains(language) {
+        for (name, profile, payloads) in ways() {
+            if !languages.contains(name) || !is_in(column, profile) {
                 continue;
             }
             run += 1;

@@ -104,6 +104,20 @@ fn posters_there_and_back() {
     }
 }
 
+/// A poster of a URI, an icon, a record of another type and an icon without bytes, as RTD Smart Poster 1.0 lays it out.
+#[test]
+fn icons_are_read() {
+    let bytes = b"\x91\x01\x02U\x00a\x12\x09\x02image/pngAB\x14\x03\x01a:bC\x52\x07\x00video/x";
+    let poster = SmartPoster::parse(bytes, Profile::Strict).unwrap();
+    let icons: Vec<(&[u8], &[u8])> = poster.icons().map(|icon| (icon.media_type, icon.data)).collect();
+    assert_eq!(icons, [(&b"image/png"[..], &b"AB"[..]), (b"video/x", b"")]);
+    let built = SmartPoster::builder("a").icon("image/png", b"AB").icon("video/x", b"").build().unwrap();
+    assert!(built.icons().eq(poster.icons()));
+    assert_eq!(built.titles().count(), 0);
+    assert_eq!(format!("{:?}", built.icons().next().unwrap()), r#"Icon { media_type: b"image/png", data: b"AB" }"#);
+    assert_eq!(SmartPoster::builder("a").icon("", b"AB").build().err(), Some(EncodeError::Record));
+}
+
 #[test]
 fn handovers_there_and_back() {
     use PowerState::*;

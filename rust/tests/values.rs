@@ -2,16 +2,29 @@
 mod suite;
 
 use simbegyor_ndef::{
-    AlternativeCarrier, Encoding, HandoverCarrier, HandoverError, HandoverRequest, HandoverSelect, PowerState, Profile,
-    Refusal, SmartPoster, Text, Uri,
+    Action, AlternativeCarrier, Encoding, HandoverCarrier, HandoverError, HandoverRequest, HandoverSelect, PowerState,
+    Profile, Refusal, SmartPoster, Text, Uri,
 };
-use suite::{cases, columns, unhex};
+use suite::{cases, columns, is_in, unhex};
 
 fn hex(bytes: &[u8]) -> String {
     if bytes.is_empty() {
         return "-".to_string();
     }
     bytes.iter().map(|byte| format!("{byte:02X}")).collect()
+}
+
+/// The items of a list, with commas between.
+fn listed<T: AsRef<[u8]>>(items: impl Iterator<Item = T>) -> String {
+    let items: Vec<String> = items.map(|item| hex(item.as_ref())).collect();
+    if items.is_empty() {
+        return "none".to_string();
+    }
+    items.join(",")
+}
+
+fn number_or_none<T: ToString>(number: Option<T>) -> String {
+    number.map_or("none".to_string(), |number| number.to_string())
 }
 
 /// The value in the words of the column, and the payload that is written for it. `None`: the crate doesn't write one.
@@ -23,10 +36,10 @@ fn text(payload: &[u8]) -> Result<Told, Refusal> {
     let written = Text::with_encoding(language, &value, text.encoding()).unwrap();
     assert_eq!(written, text);
     let encoding = match text.encoding() {
-        Encoding::Utf8 => "Utf8",
-        Encoding::Utf16 => "Utf16",
+        Encoding::Utf8 => "utf-8",
+        Encoding::Utf16 => "utf-16",
     };
-    let told = format!("{encoding} {} {}", hex(language.as_bytes()), hex(value.as_bytes()));
+    let told = format!("encoding={encoding} language={} text={}", hex(language.as_bytes()), hex(value.as_bytes()));
     Ok((told, Some(written.payload().into())))
 }
 
@@ -35,20 +48,25 @@ fn uri(payload: &[u8], profile: Profile) -> Result<Told, Refusal> {
     assert_eq!(uri.uri_len(), uri.to_uri().len());
     let written = Uri::new(&uri.to_uri()).unwrap();
     assert_eq!(written, uri);
-    Ok((uri.to_string(), Some(written.payload().into())))
+    Ok((format!("uri={}", hex(uri.to_string().as_bytes())), Some(written.payload().into())))
 }
 
 fn poster(payload: &[u8], profile: Profile) -> Result<Told, Refusal> {
     let poster = SmartPoster::parse(payload, profile)?;
-    let titles: Vec<String> = poster.titles().map(|title| title.text().into()).collect();
-    let (count, media) = (poster.records().count(), poster.media_type().unwrap_or(""));
+    let titles = listed(poster.titles().map(|title| title.text().to_string()));
+    let action = poster.action().map(|action| match action {
+        Action::Do => 0,
+        Action::Save => 1,
+        Action::Open => 2,
+        Action::Other(number) => number,
+    });
     let told = format!(
-        "{count} {} [{}] {:?} {:?} {}",
-        poster.uri(),
-        titles.join(","),
-        poster.action(),
-        poster.size(),
-        hex(media.as_bytes())
+        "records={} uri={} titles={titles} action={} size={} media={}",
+        poster.records().count(),
+        hex(poster.uri().to_string().as_bytes()),
+        number_or_none(action),
+        number_or_none(poster.size()),
+        poster.media_type().map_or("none".to_string(), |media| hex(media.as_bytes()))
     );
     Ok((told, None))
 }
@@ -63,16 +81,16 @@ fn alternative(payload: &[u8], rest: &str) -> Result<Told, Refusal> {
     let carrier = AlternativeCarrier::parse(payload)?;
     let auxiliaries: Vec<&[u8]> = carrier.auxiliaries().collect();
     let power = match carrier.power() {
-        PowerState::Inactive => "Inactive",
-        PowerState::Active => "Active",
-        PowerState::Activating => "Activating",
-        PowerState::Unknown => "Unknown",
+        PowerState::Inactive => 0,
+        PowerState::Active => 1,
+        PowerState::Activating => 2,
+        PowerState::Unknown => 3,
     };
-    let first_of = auxiliaries.first().copied().unwrap_or(&[]);
-    let told = format!("{power} {} {} {} {rest}", hex(carrier.reference()), auxiliaries.len(), hex(first_of));
+    let (reference, auxiliary) = (hex(carrier.reference()), listed(auxiliaries.iter()));
+    let told = format!("power={power} reference={reference} auxiliary={auxiliary} {rest}");
     let select = HandoverSelect::builder(2).alternative(carrier.power(), carrier.reference(), &auxiliaries).build();
     // What follows the references is read over, and never written.
-    Ok((told, (rest == "-").then(|| first(&select.unwrap(), b"ac"))))
+    Ok((told, (rest == "rest=-").then(|| first(&select.unwrap(), b"ac"))))
 }
 
 fn error(payload: &[u8]) -> Result<Told, Refusal> {
@@ -82,14 +100,15 @@ fn error(payload: &[u8]) -> Result<Told, Refusal> {
         assert_eq!(HandoverSelect::builder(2).error(error.reason, number).build().as_ref(), Ok(&select));
     }
     assert_eq!(select.error(), Some(error));
-    Ok((format!("{} {}", error.reason, hex(error.data)), Some(first(&select, b"err"))))
+    Ok((format!("reason={} data={}", error.reason, hex(error.data)), Some(first(&select, b"err"))))
 }
 
 fn carrier(payload: &[u8]) -> Result<Told, Refusal> {
     let carrier = HandoverCarrier::parse(payload)?;
     let written = HandoverCarrier::new(carrier.format(), carrier.kind(), carrier.data()).unwrap();
     assert_eq!(written, carrier);
-    let told = format!("{} {} {}", carrier.format(), hex(carrier.kind()), hex(carrier.data()));
+    let (kind, data) = (hex(carrier.kind()), hex(carrier.data()));
+    let told = format!("format={} type={kind} data={data}", carrier.format());
     Ok((told, Some(written.payload().into())))
 }
 
@@ -99,7 +118,7 @@ fn request(payload: &[u8], profile: Profile) -> Result<Told, Refusal> {
     let builder = HandoverRequest::builder(minor, request.collision());
     let written = request.records().skip(1).fold(builder, |builder, record| builder.record(record)).build().unwrap();
     assert_eq!(written, request);
-    Ok((format!("{minor} {} {count}", request.collision()), Some(written.payload().into())))
+    Ok((format!("minor={minor} collision={} records={count}", request.collision()), Some(written.payload().into())))
 }
 
 fn select(payload: &[u8], profile: Profile) -> Result<Told, Refusal> {
@@ -108,38 +127,44 @@ fn select(payload: &[u8], profile: Profile) -> Result<Told, Refusal> {
     let written = select.records().fold(HandoverSelect::builder(minor), |builder, record| builder.record(record));
     let written = written.build().unwrap();
     assert_eq!(written, select);
-    Ok((format!("{minor} {:?}", (count > 0).then_some(count)), Some(written.payload().into())))
+    let count = number_or_none((count > 0).then_some(count));
+    Ok((format!("minor={minor} records={count}"), Some(written.payload().into())))
+}
+
+/// Reads the payload of a line, and compares its value and what is written for it.
+fn is_told(line: &str, profile: Profile) {
+    let [_, kind, _, _, _, payload, value, written] = columns(line);
+    let payload = unhex(payload);
+    let told = match kind {
+        "T" => text(&payload),
+        "U" => uri(&payload, profile),
+        "Sp" => poster(&payload, profile),
+        "ac" => alternative(&payload, value.split(' ').next_back().unwrap()),
+        "err" => error(&payload),
+        "Hc" => carrier(&payload),
+        "Hr" => request(&payload, profile),
+        "Hs" => select(&payload, profile),
+        kind => panic!("there is no type {kind}"),
+    };
+    match told {
+        Ok((told, bytes)) => {
+            assert_eq!(told, value);
+            assert!(bytes.is_none_or(|bytes| bytes == unhex(written)));
+        }
+        Err(refusal) => assert_eq!(format!("refused {} {}", refusal.at, refusal.reason.number()), value),
+    }
 }
 
 #[test]
 fn each_value_is_told() {
     let mut run = 0;
     for line in cases("conformance/typed.txt") {
-        let [kind, profile, payload, value, written] = columns(&line);
-        let profile = if profile == "standard" { Profile::Standard } else { Profile::Strict };
-        let payload = unhex(payload);
-        println!("{line}");
-        let told = match kind {
-            "text" => text(&payload),
-            "URI" => uri(&payload, profile),
-            "poster" => poster(&payload, profile),
-            "alternative carrier" => alternative(&payload, value.split(' ').next_back().unwrap()),
-            "error" => error(&payload),
-            "carrier" => carrier(&payload),
-            "request" => request(&payload, profile),
-            "select" => select(&payload, profile),
-            kind => panic!("there is no type {kind}"),
-        };
-        match told {
-            Ok((told, bytes)) => {
-                assert_eq!(told, value);
-                assert!(bytes.is_none_or(|bytes| bytes == unhex(written)));
-            }
-            Err(refusal) => {
-                assert_eq!(format!("refused {} {}", refusal.at, refusal.reason.number()), value);
-            }
+        let [_, _, _, _, profiles] = columns(&line);
+        for profile in [Profile::Strict, Profile::Standard].into_iter().filter(|profile| is_in(profiles, *profile)) {
+            println!("{line}");
+            is_told(&line, profile);
+            run += 1;
         }
-        run += 1;
     }
     assert!(run > 100);
 }
