@@ -6,7 +6,7 @@ const MODULE = "NDEF.WASM IN BASE64";
 
 const MOST_SHOWN = 2048; // bytes that the page shows at once
 const MOST_ROWS = 500; // records of a message in the table
-const MOST_MESSAGES = 100;
+const MOST_TABLES = 100; // messages with a table; all of them are checked
 
 const TNF = ["empty", "well-known", "media type", "absolute URI", "external", "unknown"];
 const POWER = ["inactive", "active", "activating", "unknown"];
@@ -67,22 +67,18 @@ function refusal(ndef, answer, where) {
 
 // ---- what the input holds
 
-// The messages one behind another, each with its place, up to the first refused one.
+// The messages one after another, each with its place and what the check answers, up to the first refused one. They have
+// their bytes; a refused one has all that follow.
 function messagesOf(ndef, bytes, options) {
-    const messages = [];
-    let at = 0;
-    do {
-        const rest = bytes.subarray(at), answer = ndef.check(rest, options);
-        messages.push({ at, bytes: rest, answer, records: ndef.records(rest) });
-        if (answer.status !== Ndef.OK) break;
-        at += answer.place;
-    } while (at < bytes.length && messages.length < MOST_MESSAGES);
-    return messages;
+    return ndef.checkAll(bytes, options).map((answer) => {
+        const { at, status, place } = answer;
+        return { at, answer, bytes: bytes.subarray(at, status === Ndef.OK ? at + place : bytes.length) };
+    });
 }
 
 // What a record's payload means: lines of text, and where the records within it begin.
 function meaning(ndef, record, message, flags) {
-    const read = record.tnf === 1 ? READERS[quoted(record.type)] : undefined;
+    const read = record.tnf === 1 ? READERS.get(quoted(record.type)) : undefined;
     if (!read) return { lines: [], nested: null };
     const told = read(ndef, record.payload, flags & Ndef.STANDARD, message);
     if (told.status === Ndef.REFUSED) return { lines: [], why: refusal(ndef, told, " of the payload"), nested: null };
@@ -154,9 +150,9 @@ function readError(ndef, payload) {
 }
 
 // The call of the library for each type of the NFC Forum, as include/ndef.h names them.
-const READERS = {
+const READERS = new Map(Object.entries({
     T: readText, U: readUri, Sp: readPoster, Hr: readRequest, Hs: readSelect, Hc: readCarrier, ac: readAlternative, err: readError,
-};
+}));
 
 // ---- which field a byte is
 
@@ -177,24 +173,36 @@ function paintRecord(fields, start, record, name) {
 
 // Gives the bytes of a message the names and colours of their fields, as far as payloads are looked into.
 function paintFields(ndef, fields, { at, bytes }, options) {
-    (ndef.fields(bytes, options).fields ?? []).forEach((field) => {
+    (ndef.fields(bytes, { ...options, flags: options.flags & ~Ndef.OPAQUE }).fields ?? []).forEach((field) => {
         for (let place = at + field.at; place < at + field.at + field.length; place++)
             fields[place] = { ...fields[place], kind: COLOURS[field.name] ?? "payload", name: field.name };
     });
 }
 
-// The rows of the records of a message, nested ones behind their own, and the fields of their bytes. `start` is where the
-// message begins in the input, or null where its bytes don't lie there in one piece.
-function describe(ndef, bytes, records, start, flags, fields, depth, prefix) {
-    return records.flatMap((record, index) => {
-        const name = `${prefix}${index + 1}`, told = meaning(ndef, record, bytes, flags);
+// Adds the rows of the records of a message, nested ones after their own, and gives their bytes a record and a kind. `start`
+// is where the message begins in the input, or null where its bytes don't lie there in one piece. What payloads mean is
+// asked of the records alone that get a row.
+function describe(ndef, { bytes, records, start, depth, prefix }, flags, fields, rows) {
+    records.forEach((record, index) => {
+        const name = `${prefix}${index + 1}`;
         if (start !== null) paintRecord(fields, start, record, name);
-        const row = { name, record, told, depth };
-        if (told.nested === null || depth > 3) return [row];
+        const told = rows.length < MOST_ROWS ? meaning(ndef, record, bytes, flags) : { lines: [], nested: null };
+        rows.push({ name, record, told, depth });
+        if (told.nested === null || depth > 3) return;
         const within = record.payload.slice(told.nested);
         const place = start !== null && record.pieces === 1 ? start + record.payloadAt + told.nested : null;
-        return [row, ...describe(ndef, within, ndef.records(within), place, flags, fields, depth + 1, `${name}.`)];
+        const nested = { bytes: within, records: ndef.records(within), start: place, depth: depth + 1, prefix: `${name}.` };
+        describe(ndef, nested, flags, fields, rows);
     });
+}
+
+// Gives the bytes of a message their records and fields; answers the rows of its table.
+function rowsOf(ndef, message, options, fields) {
+    const { at, bytes } = message, rows = [];
+    const outer = { bytes, records: ndef.records(bytes), start: at, depth: 0, prefix: "" };
+    describe(ndef, outer, options.flags, fields, rows);
+    paintFields(ndef, fields, message, options);
+    return rows;
 }
 
 // ---- what is shown
@@ -206,8 +214,7 @@ function showVerdict(ndef, messages, bytes) {
     const length = whole.reduce((sum, message) => sum + message.answer.place, 0);
     const good = `${plural(whole.length, "message")}, ${plural(records, "record")}, ${plural(length, "byte")}`;
     verdict.className = refused ? "bad" : "good";
-    if (last.answer.status === Ndef.BAD_ARGUMENT) verdict.textContent = "A limit is out of range.";
-    else if (refused) {
+    if (refused) {
         const answer = { ...last.answer, place: last.at + last.answer.place };
         const before = whole.length ? `${good}, then ` : "";
         const end = answer.place === bytes.length ? " (the end of the input)" : "";
@@ -247,7 +254,8 @@ function showBytes(bytes, fields, place) {
     const box = byId("bytes"), detail = byId("detail"), count = fields.length;
     box.replaceChildren();
     let end = 0;
-    shownRanges(count, place).forEach(([from, to]) => {
+    const ranges = shownRanges(count, place);
+    ranges.forEach(([from, to]) => {
         if (from > end) box.append(element("span", { kind: "gap", text: `${plural(from - end, "byte")} not shown` }));
         for (let at = from; at < to; at++) box.append(byteSpan(bytes, fields, at, detail));
         end = to;
@@ -256,7 +264,7 @@ function showBytes(bytes, fields, place) {
     const first = box.querySelector(".refused") ?? box.firstElementChild;
     if (first) first.tabIndex = 0;
     detail.textContent = first ? detailOf(bytes, fields, Number(first.dataset.at)) : "";
-    const kinds = new Set(fields.map((field) => field?.kind ?? "rest"));
+    const kinds = new Set(ranges.flatMap(([from, to]) => fields.slice(from, to)).map((field) => field?.kind ?? "rest"));
     byId("legend").replaceChildren(...Object.keys(KINDS).filter((kind) => kinds.has(kind))
         .map((kind) => element("li", {}, element("i", { kind }), KINDS[kind])));
 }
@@ -296,22 +304,40 @@ function recordTable(rows) {
     return rows.length > MOST_ROWS ? [table, element("p", { text: `${plural(rows.length - MOST_ROWS, "record")} not shown` })] : [table];
 }
 
+// The tables of the first messages and of a refused one, with a line for those between. Bytes that are shown get their
+// fields, whether their message has a table or not.
+function tablesOf(ndef, messages, options, fields, ranges) {
+    const tables = [];
+    messages.forEach((message, index) => {
+        const { at, bytes, answer } = message, last = index === messages.length - 1;
+        const hasTable = index < MOST_TABLES || (last && answer.status !== Ndef.OK);
+        const isShown = ranges.some(([from, to]) => at < to && at + bytes.length >= from);
+        const rows = hasTable || isShown ? rowsOf(ndef, message, options, fields) : [];
+        const whole = answer.status === Ndef.OK ? messages.length : messages.length - 1;
+        if (last && whole > MOST_TABLES) {
+            const text = `Messages ${MOST_TABLES + 1} to ${whole} are checked, and their records are not listed.`;
+            tables.push(element("p", { text }));
+        }
+        if (hasTable && rows.length) {
+            const title = messages.length > 1 ? `Message ${index + 1}, at byte ${at}` : "Records";
+            tables.push(element("h2", { text: title }), ...recordTable(rows));
+        }
+    });
+    return tables;
+}
+
 function showMessages(ndef, bytes, options) {
     const messages = messagesOf(ndef, bytes, options), last = messages[messages.length - 1];
     const refused = last.answer.status === Ndef.REFUSED, place = refused ? last.at + last.answer.place : Infinity;
     const fields = new Array(bytes.length + (place === bytes.length ? 1 : 0)).fill(null);
-    const tables = messages.filter((message) => message.records.length).map((message, index) => {
-        const rows = describe(ndef, message.bytes, message.records, message.at, options.flags, fields, 0, "");
-        return [element("h2", { text: messages.length > 1 ? `Message ${index + 1}, at byte ${message.at}` : "Records" }), ...recordTable(rows)];
-    });
-    messages.forEach((message) => paintFields(ndef, fields, message, options));
+    const tables = tablesOf(ndef, messages, options, fields, shownRanges(fields.length, place));
     if (refused) {
         for (let at = place + 1; at < fields.length; at++) fields[at] = null;
         fields[place] = { ...fields[place], kind: "refused" };
     }
     showVerdict(ndef, messages, bytes);
     showBytes(bytes, fields, place);
-    byId("record-part").replaceChildren(...tables.flat());
+    byId("record-part").replaceChildren(...tables);
 }
 
 // ---- input
@@ -330,20 +356,26 @@ function optionsOf() {
     return options;
 }
 
+// Shows that there is no answer, and why.
+function showFault(text) {
+    ["bytes", "legend", "record-part"].forEach((id) => byId(id).replaceChildren());
+    byId("detail").textContent = "";
+    byId("verdict").className = "bad";
+    byId("verdict").textContent = text;
+}
+
 function show(ndef) {
     const bytes = bytesOf(byId("hex").value), options = optionsOf();
-    if (typeof bytes === "string") {
-        ["bytes", "legend", "record-part"].forEach((id) => byId(id).replaceChildren());
-        byId("detail").textContent = "";
-        byId("verdict").className = "bad";
-        byId("verdict").textContent = bytes;
-        return;
-    }
+    if (typeof bytes === "string") return showFault(bytes);
     const words = [toHex(bytes).replaceAll(" ", "")];
     if (options.flags & Ndef.STANDARD) words.push("standard");
     if (options.flags & Ndef.OPAQUE) words.push("opaque");
     byId("link").setAttribute("href", "#" + words.join("&"));
-    showMessages(ndef, bytes, options);
+    try {
+        showMessages(ndef, bytes, options);
+    } catch (error) {
+        showFault(error instanceof RangeError ? "A limit is out of range." : `The page failed: ${error.message}`);
+    }
 }
 
 // Takes the bytes and the options behind # in the address.
