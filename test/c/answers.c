@@ -287,6 +287,7 @@ static void find(const uint8_t *bytes, ndef_size length, const ndef_record *reco
         mix_status(ndef_find_id(bytes, length, from[i], bytes + record->id_at, record->id_length, &found));
         mix_record(&found);
     }
+    for (uint32_t within = 0; within < 8; within++) mix(ndef_kind(bytes, length, record, within));
 }
 
 /* Appends the record to a message of it; `copy` has its payload. */
@@ -368,6 +369,8 @@ static void names(void) {
     mix(usual.payload), mix(usual.records), mix(usual.pieces), mix(usual.flags);
     for (uint32_t reason = 0; reason < 40; reason++)
         WRITTEN(24, ndef_reason_name(reason, to, reason % 20, &count));
+    for (uint32_t reason = 0; reason < 40; reason++)
+        WRITTEN(80, ndef_reason_sentence(reason, to, 2 * reason + 22, &count));
     for (uint32_t name = 0; name < 40; name++)
         WRITTEN(40, ndef_field_name(name, to, name, &count));
     for (uint32_t number = 0; number < 8; number++)

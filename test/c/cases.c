@@ -1,4 +1,4 @@
-/* Runs the cases that are given as lines: name | languages | profile | limits | bytes | answer | records.
+/* Runs the cases that are given as lines: id | name | rule | class | languages | profile | limits | bytes | answer | records.
  * Each goes through check, walk, payload and write, and in parts through feed; a line that fails is printed. */
 #include "ndef.h"
 
@@ -25,7 +25,7 @@ typedef char writing_lies[sizeof(ndef_writing) == 12 && offsetof(ndef_writing, c
 struct aligned { char first; ndef_size second; };
 typedef char size_lies[sizeof(ndef_size) == 8 && offsetof(struct aligned, second) == 8 ? 1 : -1];
 
-enum { FIELDS = 7, LINE = 1 << 22 };
+enum { FIELDS = 11, LANGUAGES = 4, PROFILE, LIMITS, BYTES, ANSWER, RECORDS, LINE = 1 << 22 };
 
 static char line[LINE];
 static uint8_t bytes[LINE], payload[LINE], written[LINE];
@@ -48,9 +48,10 @@ static ndef_size from_hex(const char *text, uint8_t *out) {
     return count;
 }
 
-static int is_part(const char *text, const uint8_t *part, ndef_size length) {
-    if (strcmp(text, "-") == 0) text = "";
-    return strlen(text) == length && memcmp(text, part, length) == 0;
+/* Whether the octets are those of the digits, or none where they are `-`. */
+static int is_part(const char *digits, const uint8_t *part, ndef_size length) {
+    static uint8_t told[256];
+    return (strcmp(digits, "-") ? from_hex(digits, told) : 0) == length && memcmp(told, part, length) == 0;
 }
 
 /* Whether the record, which is written behind what was, is the one that the text tells. */
@@ -58,7 +59,7 @@ static int is_record(const char *text, const ndef_record *record, const uint8_t 
     static char hexadecimal[LINE];
     static uint8_t told[LINE];
     unsigned tnf;
-    char type[512], id[512];
+    char type[512], id[512]; /* 255 octets at most */
     ndef_size count = 0;
     if (sscanf(text, "%u %511s %511s %4194303s", &tnf, type, id, hexadecimal) != 4 || tnf != record->tnf) return 0;
     if (!is_part(type, bytes + record->type_at, record->type_length)) return 0;
@@ -148,14 +149,17 @@ int main(void) {
         char *fields[FIELDS], *rest = copy;
         strcpy(copy, line);
         for (int i = 0; i < FIELDS; i++) fields[i] = field(&rest);
-        ndef_size length = from_hex(fields[4], bytes);
-        for (int opaque = 0; opaque < 2; opaque++) {
-            if (!strstr(fields[1], opaque ? "opaque" : "typed")) continue;
-            char limits[128], records[1 << 16];
-            snprintf(limits, sizeof limits, "%s", fields[3]);
-            snprintf(records, sizeof records, "%s", fields[6]);
+        ndef_size length = strcmp(fields[BYTES], "-") ? from_hex(fields[BYTES], bytes) : 0;
+        for (int way = 0; way < 4; way++) {
+            const char *profile = way & 1 ? "standard" : "strict";
+            int opaque = way >> 1;
+            if (!strstr(fields[LANGUAGES], opaque ? "opaque" : "typed")) continue;
+            if (strcmp(fields[PROFILE], "both") && strcmp(fields[PROFILE], profile)) continue;
+            static char limits[128], records[LINE];
+            snprintf(limits, sizeof limits, "%s", fields[LIMITS]);
+            snprintf(records, sizeof records, "%s", fields[RECORDS]);
             run++;
-            if (!is_answered(limits, fields[2], opaque, length, fields[5], records)) failed++, printf("%s", line);
+            if (!is_answered(limits, profile, opaque, length, fields[ANSWER], records)) failed++, printf("%s", line);
         }
     }
     printf("cases %llu, failed %llu\n", (unsigned long long)run, (unsigned long long)failed);

@@ -1,5 +1,5 @@
-/* The calls that fill an array, find a record or build a message, and those of names: with an array or a room that fits and
- * with one that is too small by one. VERSION_NUMBER is the number that the file VERSION has. */
+/* The calls that fill an array, find a record, give its kind or build a message, and those of names: with an array or a room that fits and
+ * with one that is too small by one. VERSION_NUMBER is the version that the header names. */
 #include "ndef.h"
 
 #include <stdio.h>
@@ -9,6 +9,45 @@ static int failed;
 
 static void expect(int holds, const char *what) {
     if (!holds) failed++, printf("%s\n", what);
+}
+
+/* ---- kinds */
+
+/* The types that RTD Text 1.0, RTD URI 1.0, RTD Smart Poster 1.0 and Connection Handover 1.2 define, and which payloads
+ * hold a message in which they stand: bit 0 for a message of its own, and the bit of each other kind of payload. */
+static const struct { const char *type; uint32_t kind, within; } kinds[] = {
+    { "T", NDEF_KIND_TEXT, 1 | 1 << NDEF_KIND_SMART_POSTER },
+    { "U", NDEF_KIND_URI, 1 | 1 << NDEF_KIND_SMART_POSTER },
+    { "Sp", NDEF_KIND_SMART_POSTER, 1 }, { "Hr", NDEF_KIND_REQUEST, 1 }, { "Hs", NDEF_KIND_SELECT, 1 },
+    { "Hc", NDEF_KIND_CARRIER, 1 },
+    { "act", NDEF_KIND_ACTION, 1 << NDEF_KIND_SMART_POSTER }, { "s", NDEF_KIND_SIZE, 1 << NDEF_KIND_SMART_POSTER },
+    { "t", NDEF_KIND_MEDIA_TYPE, 1 << NDEF_KIND_SMART_POSTER },
+    { "ac", NDEF_KIND_ALTERNATIVE, 1 << NDEF_KIND_REQUEST | 1 << NDEF_KIND_SELECT },
+    { "cr", NDEF_KIND_COLLISION, 1 << NDEF_KIND_REQUEST }, { "err", NDEF_KIND_ERROR, 1 << NDEF_KIND_SELECT },
+    { "u", 0, 0 }, { "Tx", 0, 0 }, { "S", 0, 0 }, { "HR", 0, 0 }, { "actx", 0, 0 }, { "", 0, 0 },
+};
+
+static void kinds_told(void) {
+    for (size_t i = 0; i < sizeof kinds / sizeof kinds[0]; i++) {
+        const ndef_size length = strlen(kinds[i].type);
+        for (uint32_t tnf = 0; tnf < 9; tnf++)
+            for (uint32_t within = 0; within < 15; within++) {
+                const ndef_record record = { .type_at = 2, .type_length = length, .tnf = tnf };
+                uint8_t bytes[8] = { 'T', 'U' };
+                memcpy(bytes + 2, kinds[i].type, length);
+                const uint32_t kind = tnf == NDEF_TNF_WELL_KNOWN && kinds[i].within >> within & 1 ? kinds[i].kind : 0;
+                expect(ndef_kind(bytes, 2 + length, &record, within) == kind, kinds[i].type);
+                expect(length == 0 || ndef_kind(bytes, 1 + length, &record, within) == 0, "kinds: half a type has one");
+            }
+    }
+    const ndef_record far = { .type_at = (ndef_size)-1, .type_length = 2, .tnf = NDEF_TNF_WELL_KNOWN };
+    expect(ndef_kind((const uint8_t *)"T", 1, &far, 0) == NDEF_KIND_OTHER, "kinds: a type that is far away has one");
+    ndef_record record;
+    static const uint8_t poster[] = { 0xd1, 2, 7, 'S', 'p', 0xd9, 1, 1, 1, 'U', '0', 0 };
+    expect(ndef_record_at(poster, sizeof poster, 0, &record) == NDEF_OK, "kinds: no record");
+    expect(ndef_kind(poster, sizeof poster, &record, 0) == NDEF_KIND_SMART_POSTER, "kinds: no poster");
+    expect(ndef_record_at(poster + 5, 7, 0, &record) == NDEF_OK, "kinds: no record in a poster");
+    expect(ndef_kind(poster + 5, 7, &record, NDEF_KIND_SMART_POSTER) == NDEF_KIND_URI, "kinds: no URI in a poster");
 }
 
 /* ---- pieces */
@@ -149,7 +188,7 @@ static void found(void) {
 /* ---- names */
 
 static void version(void) {
-    expect(ndef_version() == VERSION_NUMBER, "the version is another one than the file VERSION has");
+    expect(ndef_version() == VERSION_NUMBER, "the version is another one than the header names");
 }
 
 static void names(void) {
@@ -498,6 +537,7 @@ static void select_written(void) {
 
 int main(void) {
     make_message();
+    kinds_told();
     pieces();
     references();
     links();

@@ -1,5 +1,5 @@
-/* The names of the header: the lists of reasons and of fields agree with the constants and with ndef_reason_name and
- * ndef_field_name, and the old names are there where they are asked for. */
+/* The names of the headers: the lists and the functions that return strings agree with the constants and with what the
+ * library writes to rooms, and the old names are there where they are asked for. */
 #define NDEF_OLD_NAMES
 #include "ndef.h"
 
@@ -18,6 +18,10 @@ static void expect(int holds, const char *what) {
 NDEF_REASONS(NUMBERS)
 #define FIELD_NUMBERS(number, name, text) typedef char number_of_field_##name[number == NDEF_FIELD_##name ? 1 : -1];
 NDEF_FIELDS(FIELD_NUMBERS)
+#define STATUS_NUMBERS(number, name, text) typedef char number_of_status_##name[number == NDEF_##name ? 1 : -1];
+NDEF_STATUSES(STATUS_NUMBERS)
+#define SENTENCES(number, name, text) typedef char number_of_sentence_##name[number == NDEF_REASON_##name ? 1 : -1];
+NDEF_SENTENCES(SENTENCES)
 typedef char formats[NDEF_EMPTY == 0 && NDEF_WELL_KNOWN == 1 && NDEF_MEDIA == 2 && NDEF_ABSOLUTE_URI == 3
     && NDEF_EXTERNAL == 4 && NDEF_UNKNOWN == 5 ? 1 : -1];
 typedef char flags[NDEF_FIRST == 1 && NDEF_LAST == 2 && NDEF_LONG == 4 ? 1 : -1];
@@ -48,6 +52,62 @@ static void try_fields(void) {
     expect(FIELDS == 32, "the list has another number of fields");
 }
 
+/* What a call writes to a room is the string of a function, and a number that the call refuses is "unknown". */
+struct names {
+    uint32_t (*write)(uint32_t number, uint8_t *room, ndef_size size, ndef_size *count);
+    const char *(*text)(uint32_t number);
+    uint32_t first, last;
+    ndef_size most;
+};
+
+static void try_name(const struct names *names, uint32_t number, const char *what) {
+    uint8_t room[80];
+    const char *text = names->text(number);
+    const ndef_size length = strlen(text);
+    ndef_size count = 77;
+    memset(room, 0x77, sizeof room);
+    expect(names->write(number, room, sizeof room, &count) == NDEF_OK && count == length, what);
+    expect(length > 0 && length <= names->most && !memcmp(room, text, length) && room[length] == 0x77, what);
+    expect(names->write(number, room, length - 1, &count) == NDEF_NO_ROOM && count == length, what);
+    expect(names->write(number, NULL, 0, &count) == NDEF_NO_ROOM && count == length, what);
+    for (uint32_t other = names->first; other < number; other++) expect(strcmp(names->text(other), text) != 0, what);
+}
+
+static void try_names(const struct names *names, const char *what) {
+    const uint32_t others[] = { names->last + 1, 300, 0x10000 + names->last, UINT32_MAX };
+    ndef_size longest = 0, count = 77;
+    for (uint32_t number = names->first; number <= names->last; number++) {
+        try_name(names, number, what);
+        if (strlen(names->text(number)) > longest) longest = strlen(names->text(number));
+    }
+    expect(longest == names->most, what);
+    for (size_t i = 0; i < sizeof others / sizeof others[0]; i++) {
+        expect(names->write(others[i], NULL, 0, &count) == NDEF_BAD_ARGUMENT && count == 77, what);
+        expect(!strcmp(names->text(others[i]), "unknown"), what);
+    }
+    if (names->first) expect(!strcmp(names->text(0), "unknown"), what);
+}
+
+static void try_strings(void) {
+    const struct names reasons = { ndef_reason_name, ndef_reason_text, 1, 25, 16 };
+    const struct names sentences = { ndef_reason_sentence, ndef_sentence_text, 1, 25, 70 };
+    const struct names statuses = { ndef_status_name, ndef_status_text, 0, 5, 11 };
+    const struct names of_fields = { ndef_field_name, ndef_field_text, 1, 31, 31 };
+    try_names(&reasons, "the name of a reason is another");
+    try_names(&sentences, "the sentence of a reason is another");
+    try_names(&statuses, "the name of a status is another");
+    try_names(&of_fields, "the name of a field is another");
+}
+
+/* The version as text is that of the numbers, and here that of the library. */
+static void try_version(void) {
+    char text[40];
+    const unsigned version = ndef_version();
+    snprintf(text, sizeof text, "%u.%u.%u", version >> 16, version >> 8 & 255, version & 255);
+    expect(!strcmp(ndef_version_string(), text), "the version as text is another");
+    expect(!strcmp(NDEF_VERSION_STRING, text), "the version of the header as text is another");
+}
+
 int main(void) {
     uint8_t room[16];
     for (uint32_t reason = 0; reason < 300; reason++) {
@@ -61,5 +121,7 @@ int main(void) {
     }
     expect(COUNT == 26, "the list has another number of reasons");
     try_fields();
+    try_strings();
+    try_version();
     return failed != 0;
 }

@@ -29,6 +29,7 @@ static void check_calls(int way, const uint8_t *none, uint8_t *room) {
     answer(way, ndef_record_at(none, 0, 0, &record));
     answer(way, ndef_payload(none, 0, 0, room, 0, &count));
     answer(way, ndef_reason_name(22, room, 0, &count));
+    answer(way, ndef_reason_sentence(22, room, 0, &count));
     answer(way, ndef_link_at(none, 0, none, 0, 0, &link));
 }
 
@@ -94,6 +95,8 @@ static void more_calls(int way, const uint8_t *none, ndef_part *no_parts, ndef_l
     answer(way, ndef_find_type(none, 0, 0, 0, none, 0, &record));
     answer(way, ndef_find_type((const uint8_t *)"\xd0\0", 3, 0, 0, none, 0, &record));
     answer(way, ndef_find_id((const uint8_t *)"\xd0\0", 3, 0, none, 0, &record));
+    memset(&record, 0, sizeof record);
+    answer(way, ndef_kind(none, 0, &record, 0));
     answer(way, ndef_status_name(2, room, 0, &count));
     answer(way, ndef_uri_view(none, 0, 0, &uri, &why));
     answer(way, ndef_uri_prefix(0, room, 0, &count));

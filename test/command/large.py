@@ -1,21 +1,21 @@
 """Rows of large messages: runs the programs whose paths are given, `ndef` and `ndef-make`, and compares what they print with
 what NDEF 1.0, RTD Smart Poster 1.0 and Connection Handover 1.2 say of these records. The last line is 'N passed, M failed'."""
+import pathlib
 import subprocess
 import sys
 
+sys.path.insert(0, str(pathlib.Path(__file__).resolve().parents[1]))
+import harness  # noqa: E402
+
 NDEF, MAKE = sys.argv[1:]
 WELL_KNOWN, EXTERNAL = 1, 4
-counts = {True: 0, False: 0}
 
 
 def row(name, program, words, given, wanted):
     """The program prints what is wanted, ends with 0 and says nothing on standard error."""
     run = subprocess.run([program, *words], input=given, capture_output=True)
-    passed = (run.returncode, run.stdout, run.stderr) == (0, wanted, b'')
-    counts[passed] += 1
-    print('%s: %s' % ('ok' if passed else 'FAILED', name))
-    if not passed:
-        print('status %d, printed %r, complained %r' % (run.returncode, run.stdout[:500], run.stderr[:500]))
+    harness.count(name, (run.returncode, run.stdout, run.stderr) == (0, wanted, b''),
+                  'status %d, printed %r, complained %r' % (run.returncode, run.stdout[:500], run.stderr[:500]))
 
 
 def piece(flags, tnf, kind, name, payload):
@@ -115,5 +115,4 @@ many_records()
 many_parts()
 posters()
 select()
-print('%d passed, %d failed' % (counts[True], counts[False]))
-sys.exit(counts[False] > 0)
+harness.finish()

@@ -92,9 +92,8 @@ static bool are_records(ndef::message message, const std::vector<std::string> &w
         if (record.chunks() > 1 && record.payload_size() != 0 && record.payload().error().needed != payload->size())
             return false;
         const auto parts = split(words[count], ' ');
-        const auto named = [](const std::string &word) { return word == "-" ? std::string_view() : word; };
-        if (parts.size() != 4 || parts[0] != std::to_string(record.format()) || named(parts[1]) != record.type() ||
-            named(parts[2]) != record.id() || parts[3] != hex(*payload) || record.payload_string() != payload->text())
+        if (parts.size() != 4 || parts[0] != std::to_string(record.format()) || parts[1] != hex(record.type()) ||
+            parts[2] != hex(record.id()) || parts[3] != hex(*payload) || record.payload_string() != payload->text())
             return false;
         if (record.is_last() != (count + 1 == words.size())) return false;
         records[count++] = {record.format(), record.type(), *payload, record.id()};
@@ -102,38 +101,69 @@ static bool are_records(ndef::message message, const std::vector<std::string> &w
     return count == words.size() && is_written_again(message, count);
 }
 
-/// Whether fields follow one another up to the end of the message or the refused byte, and none is behind. Of long
-/// messages only the first ones are looked at.
+static ndef_field told[1 << 20];
+
+/// Whether the field in which the last byte of one stands is that one.
+static bool is_field(const ndef::fields &fields, std::size_t at, const ndef::field &field) {
+    const auto found = fields.at(at + field.octets.size() - 1);
+    return found && found->at == at && found->octets == field.octets && found->depth == field.depth &&
+        found->name == field.name;
+}
+
+/// Whether an array of the caller gets the same fields, each with the numbers that ndef_fields writes, and one element
+/// fewer is too few. Nothing is allocated.
+static bool are_in_an_array(const ndef::fields &fields, ndef::bytes input, const ndef_limits &limits) {
+    const auto before = allocations;
+    const auto all = ndef::fields::in(told, std::size(told), input, limits);
+    if (!all || all->size() != fields.size() || all->after().what != fields.after().what) return false;
+    std::size_t index = 0;
+    auto one = fields.begin();
+    for (ndef::field field : *all) {
+        const ndef_field &wanted = told[index++];
+        if (field.at != wanted.at || field.octets.size() != wanted.length || field.depth != wanted.depth) return false;
+        if (field.name != static_cast<ndef::field_name>(wanted.name) || one->name != field.name) return false;
+        if (one->octets != field.octets || one->depth != field.depth) return false;
+        ++one;
+    }
+    if (index) {
+        const auto few = ndef::fields::in(told, index - 1, input, limits);
+        if (few || few.error().what != NDEF_NO_ROOM || few.error().needed != index) return false;
+    }
+    return index == all->size() && one == fields.end() && allocations == before;
+}
+
+/// Whether fields follow one another up to the end of the message or the refused byte, and none is behind.
 static bool has_fields(ndef::bytes input, const ndef_limits &limits, const answer &checked) {
-    const ndef::fields fields(input, limits);
+    const ndef::fields made(input, limits), fields = made;
     const auto behind = fields.at(checked.place);
     if (limits.flags & NDEF_OPAQUE)
-        return !behind && behind.error().what == NDEF_BAD_ARGUMENT && fields.begin() == fields.end();
+        return !behind && behind.error().what == NDEF_BAD_ARGUMENT && fields.begin() == fields.end() &&
+            ndef::fields::in(told, std::size(told), input, limits).error().what == NDEF_BAD_ARGUMENT;
     if (behind || behind.error().what != (checked.what == NDEF_OK ? NDEF_END : NDEF_REFUSED)) return false;
-    if (behind.error().why != checked.why) return false;
+    if (behind.error().why != checked.why || behind.error().place != (checked.what == NDEF_OK ? 0 : checked.place)) return false;
     std::size_t at = 0, count = 0;
     for (ndef::field field : fields) {
         if (field.at != at || field.octets.empty() || field.octets.data() != input.data() + at) return false;
-        if (field.depth > 1 || ndef::to_string(field.name).empty()) return false;
+        if (field.depth > 1 || ndef::to_string(field.name).empty() || !is_field(fields, at, field)) return false;
         at += field.octets.size();
-        if (++count == 40) return at <= checked.place;
+        count++;
     }
-    return at == checked.place;
+    return at == checked.place && count == fields.size() && are_in_an_array(fields, input, limits);
 }
 
-static bool is_answered(const std::vector<std::string> &fields, bool is_opaque) {
+static bool is_answered(const std::vector<std::string> &fields, bool is_standard, bool is_opaque) {
     ndef::limits limits;
-    limits.flags = (fields[2] == "standard" ? NDEF_STANDARD : 0) | (is_opaque ? NDEF_OPAQUE : 0);
-    const auto words = split(fields[3], ' ');
+    limits.flags = (is_standard ? NDEF_STANDARD : 0) | (is_opaque ? NDEF_OPAQUE : 0);
+    const auto words = split(fields[LIMITS], ' ');
     for (std::size_t at = 0; at + 1 < words.size(); at += 2) {
         const auto number = static_cast<std::uint32_t>(std::stoul(words[at + 1]));
         if (words[at] == "payload") limits.payload = number;
         if (words[at] == "records") limits.records = number;
         if (words[at] == "pieces") limits.pieces = number;
     }
-    const auto input = from_hex(fields[4]);
-    const auto told = split(fields[5], ' ');
-    const auto rows = split(fields.size() > 6 ? fields[6] : "", ',');
+    const auto input = from_hex(fields[BYTES]);
+    const auto told = split(fields[ANSWER], ' ');
+    const auto rows = split(fields.size() > RECORDS ? fields[RECORDS] : "", ',');
     const bool is_accepted = told[0] == "accepted";
     answer wanted = {NDEF_REFUSED, NDEF_REASON_END_OF_INPUT, std::stoul(told[1]), 0};
     if (is_accepted) wanted = {NDEF_OK, {}, wanted.place, rows.size()};
@@ -143,8 +173,8 @@ static bool is_answered(const std::vector<std::string> &fields, bool is_opaque) 
     bool holds = at_once(input, limits) == wanted;
     for (std::size_t cut = 0; cut <= input.size(); cut += 1 + input.size() / 64)
         holds = holds && in_parts(input, limits, cut) == wanted;
-    holds = holds && has_fields(input, limits, wanted);
     if (allocations != before) return false;
+    holds = holds && has_fields(input, limits, wanted);
     return holds && (!is_accepted || are_records(*ndef::message::check(input, limits), rows));
 }
 
@@ -154,9 +184,12 @@ int main() {
     while (std::getline(std::cin, line)) {
         const auto fields = split(line, '|');
         for (bool is_opaque : {false, true}) {
-            if (fields[1].find(is_opaque ? "opaque" : "typed") == std::string::npos) continue;
-            run++;
-            if (!is_answered(fields, is_opaque)) failed++, std::cout << line << '\n';
+            if (fields[LANGUAGES].find(is_opaque ? "opaque" : "typed") == std::string::npos) continue;
+            for (bool is_standard : {false, true}) {
+                if (fields[PROFILE] == (is_standard ? "strict" : "standard")) continue;
+                run++;
+                if (!is_answered(fields, is_standard, is_opaque)) failed++, std::cout << line << '\n';
+            }
         }
     }
     std::cout << "cases " << run << ", failed " << failed << '\n';

@@ -21,6 +21,12 @@ void *operator new(std::size_t size) {
 void operator delete(void *memory) noexcept { std::free(memory); }
 void operator delete(void *memory, std::size_t) noexcept { std::free(memory); }
 
+/// The columns of a case.
+enum column { LANGUAGES = 4, PROFILE, LIMITS, BYTES, ANSWER, RECORDS };
+
+/// The columns of a value.
+enum value_column { TYPE = 1, VALUE_PROFILE = 4, PAYLOAD, VALUE, WRITTEN };
+
 /// Parts of a text between separators, without the spaces around them.
 inline std::vector<std::string> split(const std::string &text, char separator) {
     std::vector<std::string> parts;

@@ -1,5 +1,5 @@
-// Reads the payloads of the suite through ndef.hpp, a line each: type | profile | payload | value | written, or
-// type | profile | payload | refused PLACE REASON. Each value is written again. A line that fails is printed.
+// Reads the payloads of the suite through ndef.hpp, a line each: id | type | rule | class | profile | payload | value | written,
+// or `refused PLACE REASON` in place of the last two. Each value is written again. A line that fails is printed.
 #include "lines.hpp"
 
 static std::uint8_t memory[1 << 20];
@@ -7,67 +7,76 @@ static ndef::profile profile;
 
 /// A value in the words of the suite.
 static std::string number_or_none(const std::optional<std::uint32_t> &number) {
-    return number ? "Some(" + std::to_string(*number) + ")" : "None";
+    return number ? std::to_string(*number) : "none";
 }
 
 static std::string word_of(const std::optional<ndef::action> &action) {
-    static const char *const words[] = {"Do", "Save", "Open"};
-    if (!action) return "None";
-    const auto number = static_cast<std::uint32_t>(*action);
-    return number < 3 ? std::string("Some(") + words[number] + ")" : "Some(Other(" + std::to_string(number) + "))";
+    return action ? std::to_string(static_cast<std::uint32_t>(*action)) : "none";
+}
+
+/// The items of a list, in hexadecimal.
+static std::string listed(const std::vector<std::string> &items) {
+    std::string all;
+    for (const auto &item : items) all += (all.empty() ? "" : ",") + hex(item);
+    return all.empty() ? "none" : all;
 }
 
 static std::string value_of(const ndef::text &text) {
     ndef::room room(memory);
     const auto utf8 = text.utf8(room);
     if (!utf8 || *utf8 != text.str()) return "two texts";
-    return std::string(text.is_utf16() ? "Utf16 " : "Utf8 ") + hex(text.language()) + ' ' + hex(*utf8);
+    return std::string(text.is_utf16() ? "encoding=utf-16" : "encoding=utf-8") + " language=" + hex(text.language()) +
+        " text=" + hex(*utf8);
 }
 
 static std::string value_of(const ndef::uri &uri) {
     ndef::room room(memory);
     const auto utf8 = uri.utf8(room);
     const bool is_rest = utf8 && utf8->substr(utf8->size() - uri.rest().size()) == uri.rest();
-    return is_rest && *utf8 == uri.str() && uri.code() == uri.payload()[0] ? uri.str() : "two URIs";
+    return is_rest && *utf8 == uri.str() && uri.code() == uri.payload()[0] ? "uri=" + hex(uri.str()) : "two URIs";
 }
 
 static std::string value_of(const ndef::poster &poster) {
-    std::string titles;
-    for (ndef::text title : poster.titles()) titles += (titles.empty() ? "" : ",") + title.str();
+    std::vector<std::string> titles;
+    for (ndef::text title : poster.titles()) titles.push_back(title.str());
     const auto media = poster.records().find("t");
-    return std::to_string(poster.records().record_count()) + ' ' + poster.uri().str() + " [" + titles + "] " +
-        word_of(poster.action()) + ' ' + number_or_none(poster.size()) + ' ' +
-        (media ? hex(*media->payload()) : std::string("-"));
+    return "records=" + std::to_string(poster.records().record_count()) + " uri=" + hex(poster.uri().str()) + " titles=" +
+        listed(titles) + " action=" + word_of(poster.action()) + " size=" + number_or_none(poster.size()) + " media=" +
+        (media ? hex(*media->payload()) : std::string("none"));
 }
 
 static std::string value_of(const ndef::alternative &alternative) {
-    static const char *const powers[] = {"Inactive", "Active", "Activating", "Unknown"};
-    const auto auxiliary = alternative.reference(1);
-    if (!auxiliary != (alternative.reference_count() == 1)) return "another number of references";
+    if (alternative.reference(alternative.reference_count())) return "another number of references";
+    std::vector<std::string> auxiliary;
     ndef_size end = 3;
-    for (std::uint32_t index = 0; index < alternative.reference_count(); index++)
-        end += alternative.reference(index)->size() + (index ? 1 : 0);
-    return powers[static_cast<std::uint32_t>(alternative.power())] + (' ' + hex(*alternative.reference(0))) + ' ' +
-        std::to_string(alternative.reference_count() - 1) + ' ' + hex(auxiliary.value_or(std::string_view())) + ' ' +
-        hex(alternative.payload().from(end));
+    const auto references = alternative.references();
+    if (references.size() != alternative.reference_count()) return "another number of references";
+    for (std::uint32_t index = 0; index < alternative.reference_count(); index++) {
+        const std::string_view reference = *alternative.reference(index);
+        if (references[index].data() != reference.data()) return "two references";
+        end += reference.size() + (index ? 1 : 0);
+        if (index) auxiliary.emplace_back(reference);
+    }
+    return "power=" + std::to_string(static_cast<std::uint32_t>(alternative.power())) + " reference=" +
+        hex(*alternative.reference(0)) + " auxiliary=" + listed(auxiliary) + " rest=" + hex(alternative.payload().from(end));
 }
 
 static std::string value_of(const ndef::handover_error &error) {
-    return std::to_string(error.error_reason()) + ' ' + hex(error.data());
+    return "reason=" + std::to_string(error.error_reason()) + " data=" + hex(error.data());
 }
 
 static std::string value_of(const ndef::carrier &carrier) {
-    return std::to_string(carrier.format()) + ' ' + hex(carrier.type()) + ' ' + hex(carrier.data());
+    return "format=" + std::to_string(carrier.format()) + " type=" + hex(carrier.type()) + " data=" + hex(carrier.data());
 }
 
 static std::string value_of(const ndef::request &request) {
-    return std::to_string(request.minor_version()) + ' ' + std::to_string(request.collision()) + ' ' +
-        std::to_string(request.records().record_count());
+    return "minor=" + std::to_string(request.minor_version()) + " collision=" + std::to_string(request.collision()) +
+        " records=" + std::to_string(request.records().record_count());
 }
 
 static std::string value_of(const ndef::select &select) {
     const auto count = select.records().record_count();
-    return std::to_string(select.minor_version()) + ' ' + (count ? "Some(" + std::to_string(count) + ")" : "None");
+    return "minor=" + std::to_string(select.minor_version()) + " records=" + (count ? std::to_string(count) : "none");
 }
 
 /// What is written of a value.
@@ -123,34 +132,46 @@ static ndef::result<ndef::bytes> written(ndef::room &room, const ndef::select &s
 
 /// Alternative carriers end with bytes that have no meaning, which no call writes.
 static bool has_rest(const std::string &type, const std::string &value) {
-    return type == "alternative carrier" && split(value, ' ').back() != "-";
+    return type == "ac" && split(value, ' ').back() != "rest=-";
 }
 
 template <class View> bool is_told(const std::vector<std::string> &fields) {
-    const auto payload = from_hex(fields[2]);
+    const auto payload = from_hex(fields[PAYLOAD]);
     const auto before = allocations;
     const auto view = View::read(payload, profile);
     if (allocations != before) return false;
     if (!view) {
         const auto answer = "refused " + std::to_string(view.error().place) + ' ' + std::to_string(view.error().why);
-        return view.error().what == NDEF_REFUSED && fields[3] == answer;
+        return view.error().what == NDEF_REFUSED && fields[VALUE] == answer;
     }
-    if (value_of(*view) != fields[3]) return std::cout << value_of(*view) << '\n', false;
+    if (value_of(*view) != fields[VALUE]) return std::cout << value_of(*view) << '\n', false;
     ndef::room room(memory);
     const auto made = written(room, *view);
-    return has_rest(fields[0], fields[3]) || (made && hex(*made) == hex(from_hex(fields[4])));
+    return has_rest(fields[TYPE], fields[VALUE]) || (made && hex(*made) == hex(from_hex(fields[WRITTEN])));
 }
 
 static bool is_told_of(const std::vector<std::string> &fields) {
-    profile = fields[1] == "standard" ? ndef::profile::standard : ndef::profile::strict;
-    if (fields[0] == "text") return is_told<ndef::text>(fields);
-    if (fields[0] == "URI") return is_told<ndef::uri>(fields);
-    if (fields[0] == "poster") return is_told<ndef::poster>(fields);
-    if (fields[0] == "alternative carrier") return is_told<ndef::alternative>(fields);
-    if (fields[0] == "error") return is_told<ndef::handover_error>(fields);
-    if (fields[0] == "carrier") return is_told<ndef::carrier>(fields);
-    if (fields[0] == "request") return is_told<ndef::request>(fields);
-    return fields[0] == "select" && is_told<ndef::select>(fields);
+    const std::string &type = fields[TYPE];
+    if (type == "T") return is_told<ndef::text>(fields);
+    if (type == "U") return is_told<ndef::uri>(fields);
+    if (type == "Sp") return is_told<ndef::poster>(fields);
+    if (type == "ac") return is_told<ndef::alternative>(fields);
+    if (type == "err") return is_told<ndef::handover_error>(fields);
+    if (type == "Hc") return is_told<ndef::carrier>(fields);
+    if (type == "Hr") return is_told<ndef::request>(fields);
+    return type == "Hs" && is_told<ndef::select>(fields);
+}
+
+/// The links of a request with two carriers: the first refers to the third record, the other to none.
+static bool are_two_links(const ndef::links &links) {
+    std::size_t index = 0;
+    for (ndef::link link : links) {
+        const bool is_first = index++ == 0;
+        if (link.alternative.power() != (is_first ? ndef::power::active : ndef::power::inactive)) return false;
+        if (link.record.has_value() != is_first) return false;
+        if (is_first && (link.record_index != 2 || link.record->payload()->text() != "carrier")) return false;
+    }
+    return index == 2 && links.size() == 2;
 }
 
 /// A request with two carriers and the records to which they refer, written and read.
@@ -173,16 +194,16 @@ static bool are_linked() {
     const auto before = allocations;
     const auto request = message->begin()->as<ndef::request>();
     if (!request || request->carrier_count() != 2 || request->collision() != 4660) return false;
-    std::size_t index = 0;
-    for (ndef::link link : request->links(*message)) {
-        const bool is_first = index++ == 0;
-        if (link.alternative.power() != (is_first ? ndef::power::active : ndef::power::inactive)) return false;
-        if (link.record.has_value() != is_first) return false;
-        if (is_first && (link.record_index != 2 || link.record->payload()->text() != "carrier")) return false;
-    }
+    ndef_link array[2];
+    const auto few = request->links(array, 1, *message);
+    if (few || few.error().what != NDEF_NO_ROOM || few.error().needed != 2) return false;
+    const auto links = request->links(array, 2, *message);
+    if (!links || !are_two_links(*links) || allocations != before) return false;
+    const ndef::links made = request->links(*message), copied = made;
     const auto found = message->find_id("a"), typed = message->find(NDEF_TNF_MEDIA, "a/b");
-    return index == 2 && allocations == before && found && typed && found->place() == typed->place() &&
-        !message->find_id("") && !message->find("T") && !message->begin()->as<ndef::select>();
+    return are_two_links(made) && are_two_links(copied) && found && typed && found->place() == typed->place() &&
+        !message->find_id("") && !message->find("T") && !message->begin()->as<ndef::select>() &&
+        ndef::links(*message, ndef::bytes()).begin() == ndef::links().end();
 }
 
 /// A poster and a select, each written in one call.
@@ -258,6 +279,32 @@ static bool has_media_type() {
     return poster && poster->media_type() == "a/b" && !other;
 }
 
+/// The icons of a poster, as ndef_poster_icons tells them, and its titles by language.
+static bool has_icons_and_titles() {
+    ndef::room room(memory);
+    const std::string_view image = "image", german = "\2deJa", english = "\2enYes", uri = std::string_view("\0u", 2);
+    const auto made = ndef::write_message(room, {ndef::well_known("U", uri), ndef::well_known("T", german),
+                                                 ndef::media("image/png", image), ndef::well_known("T", english),
+                                                 ndef::external("a:b", image), ndef::media("video/x", ndef::bytes())});
+    const auto before = allocations;
+    const auto poster = ndef::poster::read(made->octets());
+    if (!poster) return false;
+    const auto yes = poster->title("EN"), ja = poster->title("de"), none = poster->title("fr");
+    if (!yes || !ja || none || none.error().what != NDEF_END || allocations != before) return false;
+    if (yes->str() != "Yes" || yes->language() != "en" || yes->payload().text() != english || ja->str() != "Ja") return false;
+    ndef_icon told[2];
+    ndef_size count = 0;
+    if (ndef_poster_icons(made->octets().data(), made->octets().size(), told, 2, &count) != NDEF_OK) return false;
+    std::size_t index = 0;
+    for (ndef::icon icon : poster->icons()) {
+        const auto part = [&](ndef_part one) { return made->octets().part(one.at, one.length); };
+        if (index == count || part(told[index].media_type).text() != icon.media_type) return false;
+        if (part(told[index++].data) != icon.data) return false;
+    }
+    return index == 2 && count == 2 && poster->icons().begin()->media_type == "image/png" &&
+        poster->icons().begin()->data.text() == image && allocations == before;
+}
+
 /// A select with an error.
 static bool has_error() {
     const std::uint8_t payload[] = {0x12, 0xd1, 3, 5, 'e', 'r', 'r', 2, 0, 0, 1, 4};
@@ -284,8 +331,12 @@ int main() {
     while (std::getline(std::cin, line)) {
         const auto fields = split(line, '|');
         if (line.empty() || line[0] == '#') continue;
-        run++;
-        if (!is_told_of(fields)) failed++, std::cout << line << '\n';
+        for (auto how : {ndef::profile::strict, ndef::profile::standard}) {
+            if (fields[VALUE_PROFILE] == (how == ndef::profile::strict ? "standard" : "strict")) continue;
+            profile = how;
+            run++;
+            if (!is_told_of(fields)) failed++, std::cout << line << '\n';
+        }
     }
     if (!are_linked()) failed++, std::cout << "a request's links are told otherwise\n";
     if (!are_refused()) failed++, std::cout << "a wrong value is written\n";
@@ -295,6 +346,7 @@ int main() {
     if (!are_appended()) failed++, std::cout << "texts and URIs are appended otherwise\n";
     if (!is_rewritten()) failed++, std::cout << "a message is written again otherwise\n";
     if (!has_media_type()) failed++, std::cout << "a poster's media type is told otherwise\n";
+    if (!has_icons_and_titles()) failed++, std::cout << "a poster's icons or titles are told otherwise\n";
     if (!has_error()) failed++, std::cout << "a select's error is told otherwise\n";
     std::cout << "values " << run << ", failed " << failed << '\n';
     return failed || !run;

@@ -1,12 +1,12 @@
 """Links of a page, and the names of files, functions and definitions in it."""
 import re
 
-CODE = ('*.rt', '*.antt', '*.py', '*.h', '*.c', '*.hpp', '*.cpp', '*.rs', '*.map', 'ndef', 'ndef-make', 'ndef-explain', 'Makefile', '*.sh',
-        'crates.txt', 'run', 'Cargo.toml')
+CODE = ('*.rt', '*.antt', '*.py', '*.h', '*.c', '*.hpp', '*.cpp', '*.rs', '*.js', '*.map', 'ndef', 'ndef-make', 'ndef-explain', 'Makefile', '*.sh',
+        'crates.txt', 'machines.txt', 'run', 'release', 'Cargo.toml')
 # Names of Rust's, of C's, of the kit's, of Debian's packages and of ndeflib's classes that pages use, and placeholders.
 FOREIGN = set('''
     rt git apt make dpkg-dev lintian clang ctypes clap cc strip simdutf8 hex itoa arrayvec smallvec byteorder thiserror anyhow
-    requires ensures after_borrow Copy Display Eq Hash PartialEq QNdefMessage Sig
+    FetchContent add_subdirectory npm requires ensures after_borrow Copy Display Eq Hash PartialEq QNdefMessage Sig
     mandoc pkg-config help ndeflib type nodejs qemu-user cargo rustdoc rustfmt clippy
     gcc-riscv64-linux-gnu gcc-arm-linux-gnueabihf gcc-arm-none-eabi gcc-mingw-w64-x86-64-win32 gcc-aarch64-linux-gnu
     BluetoothEasyPairingRecord BluetoothLowEnergyRecord WifiSimpleConfigRecord WifiPeerToPeerRecord DeviceInformationRecord
@@ -49,7 +49,8 @@ def known(top):
     paths = {str(path.relative_to(top)) for path in files}
     words = {path.stem for path in files} | {folder for path in paths for folder in path.split('/')[:-1]}
     for path in files:
-        if any(path.match(pattern) for pattern in CODE):
+        # The names in generated code say nothing.
+        if any(path.match(pattern) for pattern in CODE) and 'dist' not in path.relative_to(top).parts:
             words.update(re.findall(r'[\w-]+', path.read_text(errors='replace')))
             words.update(re.findall(r'\w+', path.read_text(errors='replace')))
     return words, paths

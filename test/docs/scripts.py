@@ -1,4 +1,5 @@
-"""What the scripts `ndef` and `ndef-make` do, with a stand-in for rt."""
+"""What the scripts `ndef`, `ndef-make` and `ndef-explain` do, with stand-ins for rt and for dist/."""
+import hashlib
 import os
 import pathlib
 import pty
@@ -24,7 +25,7 @@ run)
 try)
     shift 2
     echo tried "$@"
-    echo 'a line of its own' >&2
+    echo 'error: a line of its own' >&2
     [ ! -e ../../broken ] || exit 1
     printf 'checked: ended status=1\nrun=ended status=1 runners=1 proved=no\n' >&2
     exit 1
@@ -33,17 +34,36 @@ esac
 '''
 
 
+# A program in the place of the commands of dist/.
+COMMANDS = r'''#include <stdio.h>
+#include <string.h>
+int main(int count, char **words) {
+    printf("dist %s", strrchr(words[0], '/') + 1);
+    for (int i = 1; i < count; i++) printf(" %s", words[i]);
+    return puts("") < 0;
+}
+'''
+
+SCRIPTS = ('ndef', 'ndef-make', 'ndef-explain')
+
+
 class Copy:
-    """A copy of the scripts, with crates that have no code and a stand-in for rt."""
+    """A copy of the scripts, with crates that have no code and stand-ins for rt and for dist/."""
 
     def __init__(self, top, folder):
         self.folder = pathlib.Path(folder)
-        for name in ('ndef', 'ndef-make', 'packaging', 'crates.txt'):
+        for name in (*SCRIPTS, 'packaging', 'crates.txt'):
             copy = shutil.copytree if (top / name).is_dir() else shutil.copy
             copy(top / name, self.folder / name)
-        for crate in ('ndef_value', 'ndef_lang', 'ndef', 'ndef_make'):
+        for crate in ('ndef_value', 'ndef_lang', 'ndef', 'ndef_make', 'ndef_explain'):
             (self.folder / 'crates' / crate / 'src').mkdir(parents=True)
             (self.folder / 'crates' / crate / 'src/main.rt').write_text('')
+        (self.folder / 'dist').mkdir()
+        texts = {'commands.c': COMMANDS, 'runtime.c': 'extern int no_calls;\n'}
+        for name, text in texts.items():
+            (self.folder / 'dist' / name).write_text(text)
+        sums = ''.join('%s  %s\n' % (hashlib.sha256(text.encode()).hexdigest(), name) for name, text in texts.items())
+        (self.folder / 'dist/SOURCE').write_text('version 9.8.7\n' + sums)
         (self.folder / 'bin').mkdir()
         (self.folder / 'bin/rt').write_text(STAND_IN)
         (self.folder / 'bin/rt').chmod(0o755)
@@ -53,8 +73,8 @@ class Copy:
                                 if not os.path.exists(os.path.join(folder, 'rt')))
         return dict(os.environ, PATH=f'{self.folder / "bin"}{os.pathsep}{tools}' if has_rt else tools)
 
-    def run(self, *words, has_rt=True, stdin=subprocess.DEVNULL):
-        return subprocess.run([f'./{words[0]}', *words[1:]], cwd=self.folder, env=self.environment(has_rt),
+    def run(self, *words, has_rt=True, stdin=subprocess.DEVNULL, **more):
+        return subprocess.run([f'./{words[0]}', *words[1:]], cwd=self.folder, env=dict(self.environment(has_rt), **more),
                               stdin=stdin, capture_output=True, text=True)
 
 
@@ -69,17 +89,63 @@ def expect(run, status, stdout, *lines):
             yield f'no line {line!r} in {run.stderr!r}'
 
 
+def says_only(run, line):
+    """Whether standard error is one line."""
+    if run.stderr != line + '\n':
+        yield f'standard error {run.stderr!r}'
+
+
+def from_dist(copy):
+    first = copy.run('ndef', 'show', '--hex', has_rt=False)
+    yield from expect(first, 0, 'dist ndef show --hex\n')
+    yield from says_only(first, 'ndef: compiling release 9.8.7 of dist/, once')
+    for name in SCRIPTS:
+        run = copy.run(name, 'a', 'b c')
+        yield from expect(run, 0, f'dist {name} a b c\n')
+        yield from says_only(run, f'{name}: running release 9.8.7 of dist/')
+
+
+def not_from_dist(copy):
+    dist = copy.folder / 'dist'
+    run = copy.run('ndef', 'show', CC='no-such-cc')
+    yield from expect(run, 3, '')
+    yield from says_only(run, "ndef: there is no C compiler no-such-cc on the path: install one, as by 'apt install gcc', or name it with CC")
+    (dist / 'runtime.c').write_text('extern int changed;\n')
+    run = copy.run('ndef', 'show')
+    yield from expect(run, 3, '')
+    yield from says_only(run, "ndef: dist/runtime.c isn't the file whose SHA-256 is in dist/SOURCE: take dist/ from the release again, "
+                              "as by 'git checkout dist'")
+    (dist / 'commands.c').rename(dist / 'commands-pdp11-linux.s')
+    (copy.folder / 'bin/elsewhere').write_text('#!/bin/sh\necho riscv64-linux-gnu\n')
+    (copy.folder / 'bin/elsewhere').chmod(0o755)
+    run = copy.run('ndef', 'show', CC='elsewhere')
+    yield from expect(run, 3, '')
+    yield from says_only(run, 'ndef: dist/ has commands for x86-64 and AArch64 Linux alone, and this compiler is for riscv64-linux-gnu: '
+                              "make the library for C with 'make library'")
+    shutil.rmtree(dist)
+    run = copy.run('ndef', 'show')
+    yield from expect(run, 3, '')
+    yield from says_only(run, "ndef: dist/SOURCE is missing: take the folder dist/ from the release, or prove the sources with 'make prove'")
+
+
 def without_rt(copy):
-    for words in (('ndef', 'show'), ('ndef', '--try', 'show'), ('ndef-make', 'text', 'x')):
+    for words in (('ndef', '--prove', 'show'), ('ndef', '--try', 'show'), ('ndef-make', '--prove', 'text', 'x'), ('ndef-explain', '--prove', '-')):
         yield from expect(copy.run(*words, has_rt=False), 3, '',
-                          f'{words[0]}: README.md, "Install it", says how to install a package, which needs no rt')
+                          f'{words[0]}: without it ./{words[0]} runs the release in dist/, which needs a C compiler alone')
 
 
 def unproved(copy):
-    run = copy.run('ndef', '--try', 'check', '--hex')
-    yield from expect(run, 1, 'tried check --hex\n', 'ndef: running unproved; ./ndef proves it first', 'a line of its own')
-    if 'run=ended' in run.stderr:
-        yield "rt's own lines are shown"
+    for script in SCRIPTS:
+        run = copy.run(script, '--try', 'check', '--hex')
+        yield from expect(run, 1, 'tried check --hex\n', f'{script}: running unproved; ./{script} --prove proves it first', 'error: a line of its own')
+        if 'run=ended' in run.stderr:
+            yield f"{script}: rt's own lines are shown"
+
+
+def try_comes_first(copy):
+    for script in SCRIPTS:
+        copy.run(script, '--prove')
+        yield from expect(copy.run(script, 'check', '--try'), 0, 'built check --try\n')
 
 
 def unproved_and_broken(copy):
@@ -88,14 +154,70 @@ def unproved_and_broken(copy):
 
 
 def built_once(copy):
-    first = copy.run('ndef', 'show', '--hex')
+    first = copy.run('ndef', '--prove', 'show', '--hex')
     yield from expect(first, 0, 'built show --hex\n', 'ndef: crate 4 of {}: ndef_lang, 120 of 183 functions'.format(count(first)))
     if 'processor minutes' not in first.stderr or 'ndef: proved and built in 0 minutes' not in first.stderr:
         yield f'no cost or no time in {first.stderr!r}'
-    second = copy.run('ndef', 'show', has_rt=False)
-    yield from expect(second, 0, 'built show\n')
-    if second.stderr:
-        yield f'the second run says {second.stderr!r}'
+    for words in (('ndef', 'show'), ('ndef', '--prove', 'show')):
+        again = copy.run(*words, has_rt=False)
+        yield from expect(again, 0, 'built show\n')
+        if again.stderr:
+            yield f'the next run says {again.stderr!r}'
+    time.sleep(0.1)
+    (copy.folder / 'crates/ndef/src/main.rt').write_text('another')
+    changed = copy.run('ndef', 'show', has_rt=False)
+    yield from expect(changed, 0, 'dist ndef show\n')
+    yield from says_only(changed, 'ndef: crates/ has changed since it was proved here; compiling release 9.8.7 of dist/, once')
+
+
+def built_anew(copy):
+    for script in SCRIPTS:
+        crate = script.replace('-', '_')
+        copy.run(script, '--prove')
+        for source in ('ndef_lang/src/main.rt', f'{crate}/src/main.rt', 'ndef_lang/specs/New.antt'):
+            path = copy.folder / 'crates' / source
+            path.parent.mkdir(exist_ok=True)
+            path.write_text('')
+            # A file system may keep no more than whole ticks of the clock.
+            os.utime(path, (time.time() + 5, time.time() + 5))
+            run = copy.run(script, '--prove')
+            yield from expect(run, 0, 'built\n')
+            if 'processor minutes' not in run.stderr and 'a minute or two' not in run.stderr:
+                yield f'{script}: after an edit of {source} the old program ran'
+            os.utime(path, (0, 0))
+        (copy.folder / 'crates' / OTHER[script] / 'src/main.rt').write_text('')
+        os.utime(copy.folder / 'crates' / OTHER[script] / 'src/main.rt', (time.time() + 5, time.time() + 5))
+        if copy.run(script, '--prove', has_rt=False).returncode:
+            yield f'{script}: an edit of {OTHER[script]}, on which it does not stand, builds it anew'
+
+
+# A crate on which a script's program doesn't stand.
+OTHER = {'ndef': 'ndef_make', 'ndef-make': 'ndef_explain', 'ndef-explain': 'ndef'}
+
+
+def cost_is_said(copy):
+    """The cost is that of the crates that are left, by the table."""
+    (copy.folder / 'packaging/processor_seconds').write_text('# seconds\nndef_value 600\nndef_lang 1190\n')
+    first = copy.run('ndef', '--prove').stderr
+    count = len(crates_of(copy, 'ndef'))
+    minutes = (600 + 1190 + 60 * (count - 2) + 59) // 60
+    for line in (f'ndef: proving and building the program, once (crates to prove: {count} of {count})', f'ndef: this takes some {minutes} processor minutes'):
+        if line not in first:
+            yield f'no {line!r} in {first!r}'
+    (copy.folder / 'crates/ndef_value/out').mkdir()
+    (copy.folder / 'crates/ndef_value/out/rlib').write_text('')
+    (copy.folder / 'crates/ndef/out/ndef').unlink(missing_ok=True)
+    second = copy.run('ndef', '--prove').stderr
+    if f'(crates to prove: {count - 1} of {count})' not in second or f'some {minutes - 10} processor minutes' not in second:
+        yield f'with one crate proved: {second!r}'
+    said = subprocess.run(['packaging/cost', 'ndef', 'ndef_c'], cwd=copy.folder, capture_output=True, text=True).stderr
+    if 'make: proving and building the programs and the libraries, once' not in said:
+        yield f'packaging/cost says {said!r}'
+
+
+def crates_of(copy, *crates):
+    script = f'top={copy.folder}; . "$top/packaging/program.sh"; crates_of {" ".join(crates)}'
+    return subprocess.run(['bash', '-c', script], capture_output=True, text=True).stdout.split()
 
 
 def count(run):
@@ -105,40 +227,59 @@ def count(run):
 
 def not_proved(copy):
     (copy.folder / 'broken').touch()
-    yield from expect(copy.run('ndef-make', 'text', 'x'), 3, '', 'error: not proved')
+    yield from expect(copy.run('ndef-make', '--prove', 'text', 'x'), 3, '', 'error: not proved')
 
 
 def interrupted(copy):
     (copy.folder / 'slow').touch()
-    run = subprocess.Popen(['./ndef', 'show'], cwd=copy.folder, env=copy.environment(), stdin=subprocess.DEVNULL,
+    run = subprocess.Popen(['./ndef', '--prove', 'show'], cwd=copy.folder, env=copy.environment(), stdin=subprocess.DEVNULL,
                            stderr=subprocess.PIPE, text=True, start_new_session=True)
-    time.sleep(2)
+    begun = run.stderr.readline()
+    time.sleep(3)
     os.killpg(run.pid, signal.SIGINT)
-    said = run.communicate(timeout=10)[1]
+    said = begun + run.communicate(timeout=60)[1]
     if run.returncode != 3 or 'ndef: interrupted; the next run goes on from what is proved' not in said:
         yield f'status {run.returncode}, {said!r}'
 
 
+# Words of each script, and what it reads then from a terminal.
+READS = {('ndef', 'show'): 'a message', ('ndef', 'check'): 'a message', ('ndef', 'encode', '--hex'): 'a message', ('ndef', '--help'): None,
+         ('ndef',): None, ('ndef-make', 'text', 'x'): None, ('ndef-make', 'uri', 'x'): None, ('ndef-make', '--help'): None,
+         ('ndef-make', 'record', '--tnf', '5'): 'the payload of the record',
+         ('ndef-make', 'carrier', '--format', '1', '--type', 'a'): 'the payload of the record',
+         ('ndef-make', 'text', 'x', '--and', 'record', '--tnf', '5'): 'the payload of the record', ('ndef-explain', '--hex'): 'messages'}
+
+
 def on_a_terminal(copy):
-    copy.run('ndef', 'show')
-    waiting = 'ndef: reading a message from standard input'
+    for script in SCRIPTS:
+        copy.run(script, '--prove')
     terminal, end = pty.openpty()
-    yield from expect(copy.run('ndef', 'show', stdin=end), 0, 'built show\n', waiting)
-    if waiting in copy.run('ndef', '--help', stdin=end).stderr or waiting in copy.run('ndef', 'show').stderr:
-        yield 'it says that it waits where it does not'
+    for words, reads in READS.items():
+        waiting = [f'{words[0]}: reading {reads} from standard input'] if reads else []
+        run = copy.run(*words, stdin=end)
+        yield from expect(run, 0, ' '.join(['built', *words[1:]]) + '\n', *waiting)
+        if run.stderr.splitlines() != waiting:
+            yield f'{words}: on a terminal {run.stderr!r}'
+        if copy.run(*words).stderr:
+            yield f'{words}: where no terminal is the input, it says that it waits'
     os.close(terminal)
     os.close(end)
 
 
 def all_tests(top):
     """The name of each test, and what is wrong."""
-    tests = {'the scripts say what is missing without rt': without_rt,
-             './ndef --try runs the program unproved, with its status': unproved,
+    tests = {'the scripts compile dist/ once, and say that they run it': from_dist,
+             './ndef says why it does not compile dist/, with status 3': not_from_dist,
+             'the scripts say what is missing without rt': without_rt,
+             '--try runs the programs unproved, with their status': unproved,
+             'the scripts run unproved where --try is the first word alone': try_comes_first,
              './ndef --try ends with 3 where the program can not run': unproved_and_broken,
-             './ndef proves and builds once, and says what it costs and how far it is': built_once,
-             './ndef-make shows why nothing is proved, with status 3': not_proved,
-             './ndef says that an interrupted run goes on': interrupted,
-             './ndef says on a terminal that it reads a message': on_a_terminal}
+             './ndef --prove proves and builds once, and says what it costs and how far it is': built_once,
+             '--prove proves and builds anew after an edit of a source, and after no other': built_anew,
+             '--prove says what is left, by the table of processor seconds': cost_is_said,
+             './ndef-make --prove shows why nothing is proved, with status 3': not_proved,
+             './ndef --prove says that an interrupted run goes on': interrupted,
+             'the scripts say on a terminal that they read, and what': on_a_terminal}
     for name, run in tests.items():
         with tempfile.TemporaryDirectory() as folder:
             yield name, list(run(Copy(top, folder)))

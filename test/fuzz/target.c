@@ -368,6 +368,9 @@ static void look_at_poster(const uint8_t *payload, ndef_size length, uint32_t fl
     if (flags == 0) write_poster(payload, length, &parts);
 }
 
+/* Of a call that begins at the front each time, at most about so many are made for one input. */
+enum { STEPS = 64 };
+
 /* The links of a handover that stands in the message: as many as it has carriers. */
 static void look_at_links(const uint8_t *bytes, ndef_size length, const uint8_t *payload, ndef_size payload_length,
                           ndef_size carriers) {
@@ -378,7 +381,8 @@ static void look_at_links(const uint8_t *bytes, ndef_size length, const uint8_t 
     ndef_checked why;
     ndef_size number;
     LIST(links, number, ndef_links(bytes, length, payload, payload_length, array, size, &count));
-    for (ndef_size i = 0; i <= carriers; i++) {
+    const ndef_size apart = 1 + carriers / STEPS;
+    for (ndef_size i = 0;; i = i + apart < carriers ? i + apart : carriers) {
         const uint32_t status = ndef_link_at(bytes, length, payload, payload_length, i, &link);
         if (status == NDEF_BAD_ARGUMENT) HOLDS(links == NULL);
         if (status == NDEF_BAD_ARGUMENT) return;
@@ -695,10 +699,11 @@ static void look_at_fields(const uint8_t *bytes, ndef_size length, const ndef_li
     }
     HOLDS(ndef_fields(bytes, length, limits, fields, count, &again, &why) == status && again == count);
     HOLDS(is_checked(&why, checked));
+    const ndef_size apart = 16 + count / STEPS;
     for (ndef_size i = 0; i < count; at += fields[i].length, i++) {
         HOLDS(fields[i].at == at && fields[i].length > 0 && fields[i].depth <= 1);
         HOLDS(fields[i].name >= NDEF_FIELD_HEADER && fields[i].name <= NDEF_FIELD_CARRIER_DATA);
-        if (i % 16 == 0 || i + 1 == count) look_at_field(bytes, length, limits, fields, count, i);
+        if (i % apart == 0 || i + 1 == count) look_at_field(bytes, length, limits, fields, count, i);
     }
     HOLDS(at == checked->place);
     free(fields);

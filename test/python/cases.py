@@ -1,11 +1,12 @@
 """The lines of the conformance cases and of the typed values, and the names of the reasons and of the fields."""
+import collections
 import pathlib
 import re
 
 TOP = pathlib.Path(__file__).resolve().parents[2]
 
 
-def listed(name):
+def texts(name):
     """The texts by their numbers, as a list of ndef.h has them."""
     header = (TOP / 'include/ndef.h').read_text()
     found = re.search(r'#define %s\(X\)((?:.*\\\n)*.*)' % name, header)[1]
@@ -14,12 +15,12 @@ def listed(name):
 
 def reasons():
     """The names of the reasons by their numbers."""
-    return listed('NDEF_REASONS')
+    return texts('NDEF_REASONS')
 
 
 def field_names():
     """The names of the fields by their numbers."""
-    return listed('NDEF_FIELDS')
+    return texts('NDEF_FIELDS')
 
 
 def lines(name):
@@ -32,19 +33,35 @@ def lines(name):
 def cases():
     """Strict cases within the limits for usual tags: the line, whether payloads are looked into, octets, answer, records."""
     for line, parts in lines('cases.txt'):
-        if parts[2] != 'strict' or parts[3] != 'usual':
+        _, _, _, _, languages, profile, limits, octets, answer, records, *_ = parts + ['', '']
+        if profile == 'standard' or limits != 'usual':
             continue
-        for word in {'typed', 'opaque'} & set(parts[1].split()):
-            yield line, word == 'typed', bytes.fromhex(parts[4]), parts[5].split(), parts[6] if len(parts) > 6 else ''
+        for word in {'typed', 'opaque'} & set(languages.split()):
+            yield line, word == 'typed', octets_of(octets), answer.split(), records
+
+
+# A line of a typed value. `words` has the parts of the value by their names and `written` the payload that is written for
+# it; where the payload is refused both are None, and `refusal` is the place and the number of the reason.
+Value = collections.namedtuple('Value', 'line payload refusal words written')
 
 
 def values(kind):
-    """Strict values of a kind: the line, the payload, the value or the refusal, and the payload that is written for a value."""
-    for line, parts in lines('typed.txt'):
-        if parts[0] == kind and parts[1] == 'strict':
-            yield line, bytes.fromhex(parts[2]), parts[3], bytes.fromhex(parts[4]) if len(parts) > 4 else None
+    """Strict values of the payloads of a type."""
+    for line, (_, type_, _, _, profile, payload, told, *written) in lines('typed.txt'):
+        if type_ != kind or profile == 'standard':
+            continue
+        words = told.split()
+        if words[0] == 'refused':
+            yield Value(line, octets_of(payload), (int(words[1]), int(words[2])), None, None)
+        else:
+            yield Value(line, octets_of(payload), None, dict(word.split('=') for word in words), octets_of(written[0]))
 
 
 def octets_of(word):
-    """The octets of a word of a line."""
+    """The octets of a column or of a part of a value."""
     return b'' if word == '-' else bytes.fromhex(word)
+
+
+def items_of(word):
+    """The octets of the items of a list."""
+    return [] if word == 'none' else [octets_of(item) for item in word.split(',')]

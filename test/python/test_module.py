@@ -10,7 +10,7 @@ import unittest
 
 import simbegyor_ndef as ndef
 from simbegyor_ndef import _library as library
-from cases import TOP, cases, field_names, octets_of, reasons, values
+from cases import TOP, cases, field_names, items_of, octets_of, reasons, values
 
 HELLO = bytes.fromhex('d101085402656e48656c6c6f')
 REASONS = reasons()
@@ -21,14 +21,15 @@ def octets(*records):
     return b''.join(ndef.message_encoder(records))
 
 
-ACTIONS = {'Do': 'exec', 'Save': 'save', 'Open': 'edit'}
+ACTIONS = {0: 'exec', 1: 'save', 2: 'edit'}
+POWERS = ('inactive', 'active', 'activating', 'unknown')
 KNOWN = (ndef.TextRecord, ndef.UriRecord, ndef.SmartposterRecord, ndef.HandoverRequestRecord, ndef.HandoverSelectRecord,
          ndef.HandoverCarrierRecord)
 
 
-def some(word):
-    """What stands in Some(..), or None."""
-    return None if word == 'None' else word[len('Some('):-1]
+def number_of(word):
+    """A number, or None."""
+    return None if word == 'none' else int(word)
 
 
 class Suite(unittest.TestCase):
@@ -36,7 +37,7 @@ class Suite(unittest.TestCase):
         """Type, name and payload of each record that a line tells."""
         for record in records.split(','):
             tnf, kind, name, payload = record.split()
-            yield SPELLED[int(tnf)] + kind.strip('-'), name.strip('-'), octets_of(payload)
+            yield SPELLED[int(tnf)] + octets_of(kind).decode('latin-1'), octets_of(name).decode('latin-1'), octets_of(payload)
 
     def test_cases(self):
         count = 0
@@ -63,86 +64,82 @@ class Suite(unittest.TestCase):
         self.assertGreater(count, 1000)
 
     def decoded(self, kind):
-        """The records for the payloads of a kind: the record, the value that a line tells, and the payload that it has written."""
-        names = {'text': 'T', 'URI': 'U', 'poster': 'Sp', 'carrier': 'Hc', 'request': 'Hr', 'select': 'Hs'}
-        for line, payload, value, written in values(kind):
-            given = octets(ndef.Record('urn:nfc:wkt:' + names[kind], '', payload))
+        """The records for the payloads of a type: the record, the words of its value, and the payload that it has written."""
+        for line, payload, refusal, value, written in values(kind):
+            given = octets(ndef.Record('urn:nfc:wkt:' + kind, '', payload))
             for known in (None, {known._type: known for known in KNOWN}):
                 with self.subTest(line, known=known):
-                    if value.startswith('refused'):
-                        _, place, number = value.split()
+                    if refusal:
+                        place, number = refusal
                         with self.assertRaises(ndef.DecodeError) as caught:
                             list(ndef.message_decoder(given, known_types=known))
-                        self.assertEqual(caught.exception.reason, REASONS[int(number)])
+                        self.assertEqual(caught.exception.reason, REASONS[number])
                         if known is not None:
-                            self.assertEqual(caught.exception.place, int(place) + len(given) - len(payload))
+                            self.assertEqual(caught.exception.place, place + len(given) - len(payload))
                     else:
                         (record,) = ndef.message_decoder(given, known_types=known)
                         yield record, value, written
 
     def test_texts(self):
-        for text, value, written in self.decoded('text'):
-            encoding, *parts = value.split()
-            language, spelled = (octets_of(part).decode() for part in parts)
-            self.assertEqual((text.encoding, text.language, text.text), (encoding.replace('f', 'F-').upper(), language, spelled))
+        for text, value, written in self.decoded('T'):
+            language, spelled = octets_of(value['language']).decode(), octets_of(value['text']).decode()
+            self.assertEqual((text.encoding, text.language, text.text), (value['encoding'].upper(), language, spelled))
             self.assertEqual(ndef.TextRecord(spelled, language, text.encoding).data, written)
 
     def test_uris(self):
-        for uri, value, written in self.decoded('URI'):
-            self.assertEqual(uri.iri, value)
+        for uri, value, written in self.decoded('U'):
+            self.assertEqual(uri.iri, octets_of(value['uri']).decode())
             self.assertEqual(ndef.UriRecord(uri.iri).data, written)
 
     def test_posters(self):
-        for poster, value, written in self.decoded('poster'):
-            uri, titles, action, size, media = re.fullmatch(r'\d+ (.*) \[(.*)\] (\S+) (\S+) (\S+)', value).groups()
-            action = some(action)
-            if action is not None:
-                action = ACTIONS.get(action) or int(some(action.replace('Other', 'Some')))
-            size = some(size)
-            self.assertEqual((poster.resource.iri, poster.action, poster.resource_size), (uri, action, size and int(size)))
-            self.assertEqual(poster.resource_type, None if media == '-' else octets_of(media).decode())
-            self.assertEqual([title.text for title in poster.title_records], titles.split(',') if titles else [])
+        for poster, value, written in self.decoded('Sp'):
+            uri, size, media = octets_of(value['uri']).decode(), number_of(value['size']), value['media']
+            action = number_of(value['action'])
+            action = ACTIONS.get(action, action)
+            self.assertEqual((poster.resource.iri, poster.action, poster.resource_size), (uri, action, size))
+            self.assertEqual(poster.resource_type, None if media == 'none' else octets_of(media).decode())
+            self.assertEqual([title.text.encode() for title in poster.title_records], items_of(value['titles']))
             self.assertEqual(poster.data, written)
-            made = ndef.SmartposterRecord(uri, action=action, resource_size=size and int(size))
+            made = ndef.SmartposterRecord(uri, action=action, resource_size=size)
             (back,) = ndef.message_decoder(octets(made))
-            self.assertEqual((back.resource.iri, back.action, back.resource_size), (uri, action, size and int(size)))
+            self.assertEqual((back.resource.iri, back.action, back.resource_size), (uri, action, size))
             poster.action, poster.resource_size = 7, 65536
             self.assertEqual((poster.action, poster.resource_size), (7, 65536))
 
     def test_carriers(self):
-        for carrier, value, written in self.decoded('carrier'):
-            form, kind, data = value.split()
-            self.assertEqual((carrier.carrier_type, carrier.carrier_data), (SPELLED[int(form)] + octets_of(kind).decode(), octets_of(data)))
+        for carrier, value, written in self.decoded('Hc'):
+            kind = SPELLED[int(value['format'])] + octets_of(value['type']).decode()
+            self.assertEqual((carrier.carrier_type, carrier.carrier_data), (kind, octets_of(value['data'])))
             self.assertEqual(carrier.data, written)
 
     def test_handovers(self):
-        for kind in ('request', 'select'):
+        for kind in ('Hr', 'Hs'):
             for handover, _, written in self.decoded(kind):
                 self.assertEqual(handover.data, written)
                 self.assertLessEqual(len(handover.alternative_carriers), 1)
 
     def test_alternative_carriers(self):
-        for line, payload, value, written in values('alternative carrier'):
-            if value.startswith('refused'):
+        for line, payload, refusal, value, written in values('ac'):
+            if refusal:
                 continue
             with self.subTest(line):
-                power, reference, count, first, rest = value.split()
+                power, reference, rest = POWERS[int(value['power'])], octets_of(value['reference']).decode(), value['rest']
                 (select,) = ndef.message_decoder(octets(ndef.Record('urn:nfc:wkt:Hs', '', b'\x12' + octets(ndef.Record('urn:nfc:wkt:ac', '', payload)))))
                 (carrier,) = select.alternative_carriers
-                self.assertEqual(carrier.carrier_power_state, power.lower())
-                self.assertEqual(carrier.carrier_data_reference, octets_of(reference).decode())
+                self.assertEqual(carrier.carrier_power_state, power)
+                self.assertEqual(carrier.carrier_data_reference, reference)
                 auxiliary = carrier.auxiliary_data_reference
-                self.assertEqual((len(auxiliary), auxiliary[:1]), (int(count), [octets_of(first).decode()] if int(count) else []))
-                made = ndef.HandoverSelectRecord('1.2', None, (power.lower(), octets_of(reference).decode(), *auxiliary))
+                self.assertEqual([name.encode() for name in auxiliary], items_of(value['auxiliary']))
+                made = ndef.HandoverSelectRecord('1.2', None, (power, reference, *auxiliary))
                 self.assertEqual(made.alternative_carriers, [carrier])
                 self.assertEqual(made.data, b'\x12' + octets(ndef.Record('urn:nfc:wkt:ac', '', written[:len(written) - len(octets_of(rest))])))
 
     def test_errors(self):
-        for line, _, value, written in values('error'):
-            if value.startswith('refused'):
+        for line, _, refusal, value, written in values('err'):
+            if refusal:
                 continue
             with self.subTest(line):
-                reason, told = int(value.split()[0]), octets_of(value.split()[1])
+                reason, told = int(value['reason']), octets_of(value['data'])
                 numbers = [int.from_bytes(told, 'big')] if reason in (1, 2, 3) else []
                 for data in [told] + numbers:
                     made = ndef.HandoverSelectRecord('1.2', (reason, data))
@@ -152,13 +149,13 @@ class Suite(unittest.TestCase):
                     self.assertEqual(back.error, (reason, (numbers + [told])[0]))
 
     def test_requests(self):
-        for line, _, value, written in values('request'):
-            if value.startswith('refused'):
+        for line, _, refusal, value, written in values('Hr'):
+            if refusal or value['records'] != '1':
                 continue
             with self.subTest(line):
-                minor, number, records = (int(part) for part in value.split())
+                minor, number = int(value['minor']), int(value['collision'])
                 made = ndef.HandoverRequestRecord(16 + minor, number)
-                self.assertEqual((made.data, records), (written, 1))
+                self.assertEqual(made.data, written)
                 self.assertEqual((made.version_info, made.hexversion), ((1, minor), 16 + minor))
                 (back,) = ndef.message_decoder(octets(made))
                 self.assertEqual((back.version_info, back.collision_resolution_number), ((1, minor), number))
@@ -426,6 +423,19 @@ class Fields(unittest.TestCase):
             self.assertEqual([field.length for field in told], [len(field.octets) for field in told])
             self.assertEqual([field.at for field in told], [sum(field.length for field in told[:i]) for i in range(16)])
         self.assertEqual(told[3], ndef.Field(3, 2, 0, 'TYPE', b'Sp'))
+
+    def test_profiles(self):
+        """The type name format 7 and a reserved code of a URI, as NDEF 1.0, 3.2.6 and RTD URI 1.0, 3.2.2 read them."""
+        for given, place in (('d70001aa', 0), ('d1010255ff61', 4)):
+            octets = bytes.fromhex(given)
+            for strict in (lambda: ndef.fields(octets), lambda: ndef.fields(octets, profile='strict')):
+                with self.assertRaises(ndef.DecodeError) as caught:
+                    strict()
+                self.assertEqual((caught.exception.place, sum(field.length for field in caught.exception.fields)), (place, place))
+            self.assertEqual(b''.join(field.octets for field in ndef.fields(octets, 'standard')), octets)
+        self.assertEqual([field.name for field in ndef.fields(octets, 'standard')][4:], ['identifier code', 'URI'])
+        for profile in ('lax', 'Standard', '', None, 1):
+            self.assertRaises(ValueError, ndef.fields, b'', profile)
 
     def test_more_fields_than_are_guessed(self):
         given = octets(*(ndef.UriRecord('http://www.a.com') for _ in range(100)))

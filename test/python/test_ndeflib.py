@@ -162,7 +162,7 @@ class Forms(unittest.TestCase):
         self.assertTrue(simbegyor_ndef)
 
     def test_printed_forms(self):
-        forms = ["NDEF Record TYPE 'a/b' ID 'n' PAYLOAD 1 byte '78'", "NDEF Record TYPE '' ID '' PAYLOAD 0 byte ''",
+        forms = ["NDEF Record TYPE 'a/b' ID 'n' PAYLOAD 1 byte '78'", "NDEF Record TYPE '' ID '' PAYLOAD 0 byte",
                  "NDEF Text Record ID '' Text ''' Language 'en' Encoding 'UTF-8'", "NDEF Uri Record ID '' Resource 'tel:1'",
                  "NDEF Smartposter Record ID '' Resource 'http://www.example.com' Title 'Title' Action 'save' Size '1024 byte' Type 'text/html'",
                  "NDEF Smartposter Record ID '' Resource 'tel:1' Icon 'image/png'", "NDEF Action Record ID '' Action '7'",
@@ -178,6 +178,11 @@ class Forms(unittest.TestCase):
         for record, form in zip(self.records(), forms):
             self.assertTrue(form.endswith(format(record, 'data')))
             self.assertEqual(format(record, '>200'), form.rjust(200))
+        for count, told in ((10, ''), (11, ' ... 1 more'), (12, ' ... 2 more')):
+            told = "%d byte '%s'%s" % (count, 10 * '00', told)
+            self.assertEqual(str(ndef.Record('unknown', '', bytes(count))), "NDEF Record TYPE 'unknown' ID '' PAYLOAD " + told)
+            carrier = str(ndef.HandoverCarrierRecord('a/b', bytes(count)))
+            self.assertEqual(carrier, "NDEF Handover Carrier Record ID '' Carrier Type 'a/b' Carrier Data " + told)
 
     def test_names_of_ndeflib(self):
         for module, names in (('record', 'DecodeError EncodeError GlobalRecord LocalRecord Record'), ('text', 'TextRecord'), ('uri', 'UriRecord'),
@@ -187,7 +192,7 @@ class Forms(unittest.TestCase):
             for name in names.split():
                 self.assertTrue(hasattr(getattr(ndef, module), name), name)
                 self.assertIn(name, getattr(ndef, module).__all__)
-        self.assertEqual(ndef.__version__, (TOP / 'VERSION').read_text().strip())
+        self.assertEqual(ndef.__version__, (TOP / 'VERSION').read_text().strip().replace('.dev', '.dev0'))
 
     def test_all_is_documented(self):
         for name in ndef.__all__:

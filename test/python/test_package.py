@@ -16,9 +16,8 @@ HERE = ('-c', 'import simbegyor_ndef as ndef; print(*ndef.message_decoder(bytes.
 
 def maker():
     """A Python that can make a wheel: this one, or else that of the system; or None."""
-    words = ('-c', 'import setuptools, pip\ntry: import setuptools.command.bdist_wheel\nexcept ImportError: import wheel.bdist_wheel')
     able = (python for python in (sys.executable, '/usr/bin/python3') if os.path.exists(python)
-            and subprocess.run([python, *words], stderr=subprocess.DEVNULL).returncode == 0)
+            and subprocess.run([python, '-c', 'import pip'], stderr=subprocess.DEVNULL).returncode == 0)
     return next(able, None)
 
 
@@ -41,14 +40,14 @@ class Package(unittest.TestCase):
     def test_it_says_that_it_is_typed(self):
         self.assertTrue(pathlib.Path(ndef.__path__[0], 'py.typed').exists())
 
-    @unittest.skipUnless(MAKER, 'no Python here has setuptools and wheel')
+    @unittest.skipUnless(MAKER, 'no Python here has pip')
     def test_the_wheel(self):
         with tempfile.TemporaryDirectory() as folder:
             pip = [MAKER, '-m', 'pip', '--disable-pip-version-check']
-            made = subprocess.run([*pip, 'wheel', str(TOP / 'python'), '--no-deps', '--no-build-isolation', '--no-index', '-w', folder],
-                                  stdout=subprocess.PIPE, stderr=subprocess.STDOUT)
+            made = subprocess.run([*pip, 'wheel', str(TOP / 'python'), '--no-deps', '--no-index', '-w', folder],
+                                  env={**os.environ, 'NDEF_LIB_DIR': str(TOP / 'out/lib')}, stdout=subprocess.PIPE, stderr=subprocess.STDOUT)
             self.assertEqual(made.returncode, 0, made.stdout.decode())
-            (wheel,) = pathlib.Path(folder).glob('simbegyor_ndef-%s-py3-none-linux_*.whl' % ndef.__version__)
+            (wheel,) = pathlib.Path(folder).glob('simbegyor_ndef-%s-py3-none-*.whl' % ndef.__version__)
             target = str(pathlib.Path(folder, 'target'))
             subprocess.run([*pip, 'install', '--no-index', '--no-deps', '--target', target, str(wheel)], check=True,
                            stdout=subprocess.DEVNULL, stderr=subprocess.DEVNULL)

@@ -16,11 +16,12 @@ def inputs():
     found = collections.defaultdict(list)
     for line in (TOP / 'conformance/cases.txt').read_text().splitlines():
         parts = [part.strip() for part in line.split('|')]
-        if line.startswith('#') or len(parts) < 6 or 'typed' not in parts[1].split() or not parts[5].startswith('accepted '):
+        if line.startswith('#') or len(parts) < 9 or 'typed' not in parts[4].split() or not parts[8].startswith('accepted '):
             continue
-        limits = parts[3].replace('usual', '').split()
-        options = ['--' + word if at % 2 == 0 else word for at, word in enumerate(limits)] + ['--profile', parts[2]]
-        found[tuple(options)].append(bytes.fromhex(parts[4])[:int(parts[5].split()[1])])
+        limits = parts[6].replace('usual', '').split()
+        options = ['--' + word if at % 2 == 0 else word for at, word in enumerate(limits)]
+        for profile in ('strict', 'standard') if parts[5] == 'both' else (parts[5],):
+            found[*options, '--profile', profile].append(bytes.fromhex(parts[7])[:int(parts[8].split()[1])])
     return found
 
 
@@ -30,7 +31,7 @@ def printed(program, options, given):
     return done.stdout, done.returncode
 
 
-command = [*os.environ.get('NDEF', str(TOP / 'ndef')).split(), 'show']
+command = [*os.environ.get('NDEF', str(TOP / 'out/bin/ndef')).split(), 'show']
 count = 0
 for options, messages in inputs().items():
     whole = b''.join(messages)

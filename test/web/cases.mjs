@@ -1,17 +1,15 @@
 // node test/web/cases.mjs: runs the cases of the suite, given as lines on standard input, through out/web/ndef.js. A line that
-// fails is printed. name | languages | profile | limits | bytes | answer | records
+// fails is printed. id | name | rule | class | languages | profile | limits | bytes | answer | records
 import { readFileSync } from "node:fs";
 import { Ndef } from "../../out/web/ndef.js";
 
 const ndef = await Ndef.load(readFileSync(new URL("../../out/web/ndef.wasm", import.meta.url)));
-const fromHex = (text) => Uint8Array.from(Buffer.from(text.replaceAll(" ", ""), "hex"));
-const dash = (text) => (text === "-" ? "" : text);
+const fromHex = (text) => Uint8Array.from(Buffer.from(text.replace(/[ -]/g, ""), "hex"));
+const digits = (octets) => Buffer.from(octets).toString("hex").toUpperCase() || "-";
 
 function isRecord(text, record) {
     const [tnf, type, id, payload] = text.trim().split(" ");
-    return record.tnf === Number(tnf) && Buffer.from(record.type).toString("latin1") === dash(type)
-        && Buffer.from(record.id).toString("latin1") === dash(id)
-        && Buffer.from(record.payload).toString("hex").toUpperCase() === dash(payload);
+    return record.tnf === Number(tnf) && digits(record.type) === type && digits(record.id) === id && digits(record.payload) === payload;
 }
 
 function areRecords(text, bytes, count) {
@@ -28,8 +26,8 @@ function optionsOf(words, profile, opaque) {
 
 // The fields follow one another up to the end of the message, or to the refused byte.
 function areFields(bytes, options, checked) {
+    if (options.flags & Ndef.OPAQUE) return true;
     const told = ndef.fields(bytes, options);
-    if (options.flags & Ndef.OPAQUE) return told.status === Ndef.BAD_ARGUMENT;
     let end = 0;
     return told.status === checked.status && told.place === checked.place && told.reason === checked.reason
         && told.fields.every(({ at, length, depth, name }) => {
@@ -39,7 +37,7 @@ function areFields(bytes, options, checked) {
         }) && end === checked.place;
 }
 
-function isAnswered([, , profile, limits, hex, answer, records], opaque) {
+function isAnswered([, , , , , , limits, hex, answer, records], profile, opaque) {
     const options = optionsOf(limits.split(" "), profile, opaque), bytes = fromHex(hex), checked = ndef.check(bytes, options);
     const [word, place, reason] = answer.split(" ");
     if (checked.place !== Number(place) || !areFields(bytes, options, checked)) return false;
@@ -88,9 +86,11 @@ let run = 0, failed = 0;
 for (const line of readFileSync(0, "utf8").split("\n").filter(Boolean)) {
     const fields = line.split("|").map((field) => field.trim());
     for (const [language, opaque] of [["typed", false], ["opaque", true]]) {
-        if (!fields[1].split(" ").includes(language)) continue;
-        run++;
-        if (!isAnswered(fields, opaque)) { failed++; console.log(line); }
+        if (!fields[4].split(" ").includes(language)) continue;
+        for (const profile of fields[5] === "both" ? ["strict", "standard"] : [fields[5]]) {
+            run++;
+            if (!isAnswered(fields, profile, opaque)) { failed++; console.log(line); }
+        }
     }
 }
 for (const holds of [areTexts, areFieldsOfAPoster, arePosters, areHandovers]) {

@@ -1,0 +1,53 @@
+#!/usr/bin/env python3
+"""test/embedded/compare.py FIGURES: compares what ports/figures printed with docs/EMBEDDED.md: each number of a table to within a
+tenth or 64 bytes, and the structs exactly. Prints 'N passed, M failed'."""
+import pathlib
+import re
+import sys
+
+sys.path.insert(0, str(pathlib.Path(__file__).resolve().parents[1]))
+from harness import TOP, count, finish, left_out  # noqa: E402
+
+
+def tables(text):
+    """The rows of the tables by the word of the table and that of the row."""
+    found, table = {}, None
+    heads = []
+    for line in text.splitlines():
+        cells = [cell.strip() for cell in line.strip('|').split('|')]
+        if not line.startswith('| ') or len(cells) != 5:
+            continue
+        if cells[1] == 'x86-64':
+            table, heads = cells[0], cells[1:]
+        else:
+            found.update({(table, cells[0], head): cell for head, cell in zip(heads, cells[1:])})
+    return found
+
+
+def is_near(table, now, then):
+    """Whether two numbers differ by a tenth or less; stacks of the same call differ by up to 64 bytes between two runs."""
+    return then.isdigit() and abs(int(now) - int(then)) <= max(int(then) // 10, 64 if table == 'call' else 0)
+
+
+def structs(text):
+    """The sizes of structs that a text names."""
+    return {(name, int(size)) for name, size in re.findall(r'`?(ndef_[a-z_]+)`?(?: has)? ([0-9]+)\b', text)}
+
+
+def main(figures):
+    measured, told = pathlib.Path(figures).read_text(), (TOP / 'docs/EMBEDDED.md').read_text()
+    is_now, was = tables(measured), tables(told)
+    count('the document has the rows of both tables', is_now.keys() == was.keys(), *sorted(set(is_now) ^ set(was)), quiet=True)
+    for key in sorted(is_now.keys() & was.keys()):
+        now, then = is_now[key], was[key]
+        if now == '-':
+            left_out('no compiler or qemu for ' + ' '.join(key))
+        else:
+            count('%s: %s, and docs/EMBEDDED.md says %s' % (', '.join(key), now, then), is_near(key[0], now, then), quiet=True)
+    paragraph = told[told.index('Memory of the caller'):].partition('\n\n')[0]
+    lines = '\n'.join(line for line in measured.splitlines() if line.startswith('ndef_'))
+    count('the structs have the sizes that docs/EMBEDDED.md says', structs(lines) == structs(paragraph), structs(lines), structs(paragraph))
+    finish()
+
+
+main(sys.argv[1])

@@ -1,0 +1,44 @@
+"""What the test programs in Python share: they count their tests here, and end with `finish`, as those of test/harness.sh do."""
+import pathlib
+import shutil
+import subprocess
+import sys
+
+TOP = pathlib.Path(__file__).resolve().parents[1]
+counts = {True: 0, False: 0}
+
+
+def count(name, passed, *lines, quiet=False):
+    """Counts a test. Where it failed, the lines are printed; with `quiet` a test that passes prints none."""
+    counts[bool(passed)] += 1
+    if not passed:
+        print(f'FAILED: {name}', *lines, sep='\n  ')
+    elif not quiet:
+        print(f'ok: {name}')
+
+
+def left_out(why, package=None):
+    """Says that tests are left out."""
+    print(f'left out: {why}' + (f' (Debian package {package})' if package else ''))
+
+
+def has(name):
+    """Whether this machine has a program, by the table test/needs.txt. Otherwise a line says what is left out, and which package brings it."""
+    rows = [row.split(None, 2) for row in (TOP / 'test/needs.txt').read_text().splitlines() if row and not row.startswith('#')]
+    package, check = next(((*row[1:], None)[:2] for row in rows if row[0] == name), (None, None))
+    found = subprocess.run(check, shell=True, capture_output=True).returncode == 0 if check else shutil.which(name)
+    if not found:
+        left_out(f'no {name}', package)
+    return bool(found)
+
+
+def make(*targets):
+    """Makes targets of the Makefile, as a test."""
+    run = subprocess.run(['make', '-C', TOP, *targets], stdout=subprocess.PIPE, stderr=subprocess.STDOUT, text=True)
+    count(f'make {" ".join(targets)}', run.returncode == 0, run.stdout, quiet=True)
+
+
+def finish():
+    """Prints the counts and ends the program. Its status is 1 where a test failed, and 77 where none was run."""
+    print(f'{counts[True]} passed, {counts[False]} failed', flush=True)
+    sys.exit(1 if counts[False] else 0 if counts[True] else 77)

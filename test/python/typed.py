@@ -1,0 +1,22 @@
+"""What mypy --strict says of programs that use the module: each `type: ignore` hides an error that has to be there."""
+import io
+from typing import Iterator, List, Optional
+
+import simbegyor_ndef as ndef
+
+records: List[ndef.Record] = list(ndef.message_decoder(b'', known_types={}, whole=True))
+octets: bytes = b''.join(ndef.message_encoder(records))
+sizes: List[int] = list(ndef.message_encoder(records, io.BytesIO()))
+encoder = ndef.message_encoder()
+encoder.send(None)
+sent: Optional[bytes] = encoder.send(ndef.TextRecord('Hello'))
+fields: List[ndef.Field] = ndef.fields(octets, profile='standard')
+names: Iterator[str] = (field.name for field in fields)
+ndef.Record('text/plain', b'name', bytearray(3)).name = 'a'
+ndef.HandoverCarrierRecord('a/b', b'x', 'a').carrier_data.extend(b'y')
+
+wrong_sizes: List[int] = list(ndef.message_encoder(records))  # type: ignore[arg-type]
+wrong_octets: List[bytes] = list(ndef.message_encoder(records, io.BytesIO()))  # type: ignore[arg-type]
+wrong_records: List[bytes] = list(ndef.message_decoder(b''))  # type: ignore[arg-type]
+wrong_sent: bytes = encoder.send(ndef.TextRecord('Hello'))  # type: ignore[assignment]
+encoder.send('text')  # type: ignore[arg-type]

@@ -1,0 +1,73 @@
+// node test/web/growth.mjs: how the time of each walk of ndef.js grows with the records: prints microseconds for 100, 1000 and
+// 10000 of them. A walk that takes much more than ten times as long for ten times as many fails. The links of a handover are
+// left out of that: each carrier is looked for among the records.
+import { readFileSync } from "node:fs";
+import { Ndef } from "../../out/web/ndef.js";
+
+const ndef = await Ndef.load(readFileSync(new URL("../../out/web/ndef.wasm", import.meta.url)));
+const bytesOf = (...parts) => Uint8Array.from(parts.flatMap((part) => (typeof part === "string" ? [...Buffer.from(part, "latin1")] : part)));
+const MANY = { records: 65535 };
+
+// A short record, or one with a length of four octets.
+function record(tnf, type, payload, id = "") {
+    const size = payload.length, short = size < 256;
+    const length = short ? [size] : [size >>> 24, (size >>> 16) & 255, (size >>> 8) & 255, size & 255];
+    return bytesOf([tnf | (short ? 0x10 : 0) | (id ? 8 : 0), type.length], length, id ? [id.length] : [], type, id, [...payload]);
+}
+
+// The records as a message.
+function message(records) {
+    const bytes = Buffer.concat(records);
+    bytes[0] |= 0x80;
+    bytes[bytes.length - records[records.length - 1].length] |= 0x40;
+    return new Uint8Array(bytes);
+}
+
+const times = (count, made) => Array.from({ length: count }, (_, index) => made(index));
+const texts = (count) => message(times(count, () => record(1, "T", "\x02enHello")));
+
+// A request with this many carriers, and as many records to which they refer.
+function handover(count) {
+    const carriers = times(count, (index) => record(1, "ac", bytesOf([1, `${index}`.length], `${index}`, [0])));
+    const payload = bytesOf([0x12], [...message([record(1, "cr", "\x01\x02"), ...carriers])]);
+    return { payload, bytes: message([record(1, "Hr", payload), ...times(count, (index) => record(2, "a/b", "x", `${index}`))]) };
+}
+
+// The microseconds of processor time of a walk: of seven the fewest.
+function timeOf(walk) {
+    let fewest = Infinity;
+    for (let round = 0; round < 7; round++) {
+        const before = process.cpuUsage();
+        walk();
+        const { user, system } = process.cpuUsage(before), taken = user + system;
+        fewest = Math.min(fewest, taken);
+        if (taken > 1e6) break;
+    }
+    return fewest;
+}
+
+let steep = false;
+function row(name, isLinear, walkOf) {
+    const told = [];
+    for (const count of [100, 1000, 10000]) {
+        const before = told[told.length - 1], now = timeOf(walkOf(count));
+        told.push(now);
+        if (isLinear && before !== undefined && now > 35 * before + 2000) { told.push("steep"); steep = true; break; }
+    }
+    console.log(["JavaScript", name, ...told.map((time) => (typeof time === "number" ? time.toFixed(0) : time))].join(" | "));
+}
+
+function messages(count) {
+    const bytes = Uint8Array.from({ length: 3 * count }, (_, at) => (at % 3 ? 0 : 0xd0));
+    return () => ndef.checkAll(bytes);
+}
+
+row("messages", true, messages);
+row("records", true, (count) => { const bytes = texts(count); return () => ndef.records(bytes); });
+row("fields", true, (count) => { const bytes = texts(count); return () => ndef.fields(bytes, MANY); });
+row("links of a handover (carriers times records)", false, (count) => {
+    const { bytes, payload } = handover(count);
+    if (ndef.links(bytes, payload).length !== count) throw new Error("other links");
+    return () => ndef.links(bytes, payload);
+});
+process.exit(steep ? 1 : 0);

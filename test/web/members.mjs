@@ -1,0 +1,188 @@
+// node test/web/members.mjs: every member of every answer of ndef.js beside what the calls of ndef.wasm tell, whose structs are
+// read here anew by include/ndef.h: over the cases of the suite, given as lines on standard input, each also with bytes changed
+// and cut off, and each payload read as every type. Prints 'N passed, M failed'.
+import { readFileSync } from "node:fs";
+import { Ndef } from "../../out/web/ndef.js";
+
+const code = readFileSync(new URL("../../out/web/ndef.wasm", import.meta.url));
+const ndef = await Ndef.load(code);
+const c = (await WebAssembly.instantiate(code)).instance.exports;
+const base = (Number(c.__heap_base.value) + 15) & ~15;
+const OUT = 64, WHY = 256, COUNT = 320, ARRAY = 8192, INPUT = 1 << 20, ROOM = 3 << 20;
+c.memory.grow(128);
+
+const view = () => new DataView(c.memory.buffer);
+const u32 = (at) => view().getUint32(base + at, true);
+const u64 = (at) => Number(view().getBigUint64(base + at, true));
+const bytesAt = (at, length) => new Uint8Array(c.memory.buffer, base + at, length).slice();
+const textAt = (at, length) => Buffer.from(bytesAt(at, length)).toString("utf8");
+const fromHex = (text) => Uint8Array.from(Buffer.from(text.replaceAll(" ", ""), "hex"));
+
+// Lays bytes where calls take them, and others after them.
+function put(bytes, at = INPUT) {
+    new Uint8Array(c.memory.buffer).set(bytes, base + at);
+    return [base + at, BigInt(bytes.length)];
+}
+
+let passed = 0, failed = 0;
+function look(name, told, wanted, bytes) {
+    if (JSON.stringify(told) === JSON.stringify(wanted)) { passed++; return; }
+    if (failed++ < 20) console.log(`FAILED: ${name} of ${Buffer.from(bytes).toString("hex")}\n ${JSON.stringify(told)}\n ${JSON.stringify(wanted)}`);
+}
+
+// The answer of a call that reads a payload: its struct, read by the places of its members; or the refusal.
+function read(call, bytes, members, ...flags) {
+    const status = c[call](...put(bytes), ...flags, base + OUT, base + WHY);
+    if (status === 1) return { status, place: u64(WHY), records: u32(WHY + 8), reason: u32(WHY + 12) };
+    if (status !== 0) return { status };
+    return { status, ...Object.fromEntries(Object.entries(members).map(([name, read]) => [name, read()])) };
+}
+const number = (at) => () => u32(OUT + at), place = (at) => () => u64(OUT + at);
+const optional = (at) => () => (u32(OUT + at) ? u32(OUT + at + 4) : null);
+
+function texts(bytes) {
+    const told = read("ndef_text", bytes, {
+        languageAt: place(0), languageLength: place(8), textAt: place(16), textLength: place(24), utf16: () => u32(OUT + 32) === 1,
+    });
+    if (told.status === 0) {
+        told.language = textAt(INPUT + told.languageAt, told.languageLength);
+        c.ndef_text_in_utf8(...put(bytes), base + ROOM, BigInt(1 << 20), base + COUNT, base + WHY);
+        told.text = textAt(ROOM, u64(COUNT));
+    }
+    return told;
+}
+
+function uris(bytes, flags) {
+    const status = c.ndef_uri(...put(bytes), flags, base + ROOM, BigInt(1 << 20), base + COUNT, base + WHY);
+    if (status === 1) return { status, place: u64(WHY), records: u32(WHY + 8), reason: u32(WHY + 12) };
+    return status ? { status } : { status, text: textAt(ROOM, u64(COUNT)) };
+}
+
+function posters(bytes, flags) {
+    const told = read("ndef_poster", bytes, { uriAt: place(0), uriLength: place(8), action: optional(16), size: optional(24) }, flags);
+    if (told.status === 0) told.uri = uris(bytes.slice(told.uriAt, told.uriAt + told.uriLength), flags).text;
+    return told;
+}
+
+const requests = (bytes, flags) => read("ndef_request", bytes, { carriers: place(0), major: number(8), minor: number(12), collision: number(16) }, flags);
+const selects = (bytes, flags) => read("ndef_select", bytes, {
+    carriers: place(0), detailAt: place(8), detailLength: place(16), major: number(24), minor: number(28), error: optional(32),
+}, flags);
+const carriers = (bytes) => read("ndef_carrier", bytes, { typeAt: place(0), typeLength: place(8), dataAt: place(16), dataLength: place(24), format: number(32) });
+const errors = (bytes) => read("ndef_error", bytes, { dataAt: place(0), dataLength: place(8), errorReason: number(16), number: optional(20) });
+
+function alternatives(bytes) {
+    const told = read("ndef_alternative", bytes, { power: number(0) });
+    if (told.status !== 0) return told;
+    told.references = [];
+    for (let index = 0n; c.ndef_reference(...put(bytes), index, base + OUT) === 0; index++) told.references.push({ at: u64(OUT), length: u64(OUT + 8) });
+    return told;
+}
+
+function links(bytes, payload) {
+    const message = put(bytes), handover = put(payload, INPUT + bytes.length), told = [];
+    for (let index = 0n; c.ndef_link_at(...message, ...handover, index, base + OUT) === 0; index++) {
+        const has = u32(OUT + 32) === 1;
+        told.push({ carrierAt: u64(OUT), carrierLength: u64(OUT + 8), recordIndex: has ? u64(OUT + 16) : null, recordAt: has ? u64(OUT + 24) : null });
+    }
+    return told;
+}
+
+function payloads(bytes) {
+    look("text", ndef.text(bytes), texts(bytes), bytes);
+    look("carrier", ndef.carrier(bytes), carriers(bytes), bytes);
+    look("error", ndef.error(bytes), errors(bytes), bytes);
+    look("alternative", ndef.alternative(bytes), alternatives(bytes), bytes);
+    for (const flags of [0, 1, 2]) {
+        look(`uri with ${flags}`, ndef.uri(bytes, flags), uris(bytes, flags), bytes);
+        look(`poster with ${flags}`, ndef.poster(bytes, flags), posters(bytes, flags), bytes);
+        look(`request with ${flags}`, ndef.request(bytes, flags), requests(bytes, flags), bytes);
+        look(`select with ${flags}`, ndef.select(bytes, flags), selects(bytes, flags), bytes);
+    }
+    look("uri", ndef.uri(bytes), uris(bytes, 0), bytes);
+    look("poster", ndef.poster(bytes), posters(bytes, 0), bytes);
+    look("request", ndef.request(bytes), requests(bytes, 0), bytes);
+    look("select", ndef.select(bytes), selects(bytes, 0), bytes);
+}
+
+// A record in plain numbers and arrays, as ndef_record_at and ndef_payload tell it.
+const RECORD = ["at", "end", "typeAt", "typeLength", "idAt", "idLength", "payloadAt", "partLength", "payloadLength", "pieces"];
+function record(bytes, at) {
+    const input = put(bytes), status = c.ndef_record_at(...input, BigInt(at), base + OUT);
+    if (status !== 0) return { status };
+    const told = { status, tnf: u32(OUT + 80), last: u32(OUT + 84) === 1 };
+    RECORD.forEach((name, index) => { told[name] = u64(OUT + 8 * index); });
+    c.ndef_payload(...input, BigInt(at), base + ROOM, BigInt(1 << 21), base + COUNT);
+    const payload = [...bytesAt(ROOM, u64(COUNT))];
+    const part = (from, length) => [...bytes.subarray(from, from + length)];
+    return { ...told, payload, type: part(told.typeAt, told.typeLength), id: part(told.idAt, told.idLength) };
+}
+const plain = (told) => (told.status === 0 ? { ...told, payload: [...told.payload], type: [...told.type], id: [...told.id] } : told);
+
+function records(bytes) {
+    const wanted = [];
+    for (let at = 0; ;) {
+        const told = record(bytes, at);
+        if (told.status !== 0) break;
+        wanted.push(told);
+        if (told.last) break;
+        at = told.end;
+    }
+    look("records", ndef.records(bytes).map(plain), wanted, bytes);
+    wanted.slice(0, 20).forEach((told) => {
+        look(`recordAt ${told.at}`, plain(ndef.recordAt(bytes, told.at)), told, bytes);
+        const payload = Uint8Array.from(told.payload);
+        look("links", ndef.links(bytes, payload), links(bytes, payload), bytes);
+        if (payload.length < 5000) payloads(payload);
+    });
+    for (const at of [1, bytes.length, bytes.length + 1]) look(`recordAt ${at}`, plain(ndef.recordAt(bytes, at)), record(bytes, at), bytes);
+}
+
+const named = (call, value) => (c[call](value, base + ROOM, 64n, base + COUNT) === 0 ? textAt(ROOM, u64(COUNT)) : null);
+
+function checks(bytes, options, flags) {
+    const limits = [options.payload ?? 1048576, options.records ?? 1024, options.pieces ?? 4096, flags];
+    limits.forEach((value, index) => view().setUint32(base + 4 * index, value, true));
+    const input = put(bytes), status = c.ndef_check(...input, base, base + OUT);
+    const checked = (at) => ({ place: u64(at), records: u32(at + 8), reason: u32(at + 12) });
+    look(`check with ${flags}`, ndef.check(bytes, { ...options, flags }), { status, ...checked(OUT) }, bytes);
+    look("checkAll", ndef.checkAll(bytes, { ...options, flags })[0], { at: 0, status, ...checked(OUT) }, bytes);
+    if (flags & 2) return;
+    const ended = c.ndef_fields(...input, base, base + ARRAY, 20000n, base + COUNT, base + WHY), count = u64(COUNT);
+    const wanted = Array.from({ length: count }, (_, index) => {
+        const at = ARRAY + 24 * index;
+        return { at: u64(at), length: u64(at + 8), depth: u32(at + 16), name: u32(at + 20) };
+    });
+    const answer = { status: ended, ...checked(WHY), fields: wanted.map((field) => ({ ...field, name: named("ndef_field_name", field.name) })) };
+    look(`fields with ${flags}`, ndef.fields(bytes, { ...options, flags }), answer, bytes);
+}
+
+const BYTES = 7; // the column of a case that has its bytes
+
+let random = 1;
+const next = (most) => { random = (Math.imul(random, 1664525) + 1013904223) >>> 0; return (random >>> 8) % most; };
+for (const line of readFileSync(0, "utf8").split("\n").filter(Boolean)) {
+    const hex = line.split("|")[BYTES].trim(), bytes = fromHex(hex === "-" ? "" : hex);
+    if (bytes.length > 20000) continue;
+    for (let round = 0; round < 4; round++) {
+        const given = bytes.slice(0, round === 3 ? next(bytes.length + 1) : bytes.length);
+        if (round === 1 || round === 2) if (given.length) given[next(given.length)] = next(256);
+        const options = round === 2 ? { payload: 9, records: 2, pieces: 2 } : {};
+        for (const flags of [0, 1, 2, 3]) checks(given, options, flags);
+        records(given);
+    }
+}
+for (let value = 0; value < 64; value++) {
+    look("reasonName", ndef.reasonName(value), named("ndef_reason_name", value), []);
+    look("fieldName", ndef.fieldName(value), named("ndef_field_name", value), []);
+}
+c.ndef_usual_limits(base);
+look("usualLimits", ndef.usualLimits(), { payload: u32(0), records: u32(4), pieces: u32(8), flags: u32(12) }, []);
+
+// A byte order mark is a character of a text in UTF-8, and the memory grows by what is given.
+look("text", ndef.text(fromHex("02656EEFBBBF61")).text, "\ufeffa", []);
+const large = new Uint8Array(3000006), fresh = await Ndef.load(code);
+large.set([0xc5, 0, 0, 45, 0xc6, 0xc0]);
+look("a message of 3 MB", [fresh.check(large, { payload: 3000000 }).place, fresh.records(large)[0].payload.length], [3000006, 3000000], []);
+console.log(`${passed} passed, ${failed} failed`);
+process.exit(failed || !passed ? 1 : 0);
