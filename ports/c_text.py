@@ -307,13 +307,18 @@ class Body:
         return cut(wanted, value) if kind != 'zext' else f'(uint{width(wanted)}_t){value}'
 
     def element(self, line):
+        """An address that may lie outside of the object is counted as a number: C allows no other way."""
         base = self.value(line.operands[0], Pointer())
         size = size_of(line.type)
         if isinstance(line.operands[1], Number):
             count = line.operands[1].value * size
-            return f'({base} {"-" if count < 0 else "+"} {abs(count)})'
-        count = f'(ptrdiff_t){self.value(line.operands[1], Int(64))}'
-        return f'({base} + {count})' if size == 1 else f'({base} + {count} * {size})'
+            sign, count = '-' if count < 0 else '+', str(abs(count))
+        else:
+            word = 'ptrdiff_t' if line.detail else 'uintptr_t'
+            sign, count = '+', f'({word}){self.value(line.operands[1], Int(64))}' + (f' * {size}' if size != 1 else '')
+        if line.detail:
+            return f'({base} {sign} {count})'
+        return f'((unsigned char *)((uintptr_t){base} {sign} {count}))'
 
     def loaded(self, line):
         pointer = self.value(line.operands[0], Pointer())

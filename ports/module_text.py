@@ -162,8 +162,11 @@ class Line:
                 self.stop(f'no `{word}`')
 
     def skip(self, words):
+        """Takes those of the words that come next, and returns them."""
+        taken = []
         while self.peek() in words:
-            self.next()
+            taken.append(self.next())
+        return taken
 
     def end(self):
         if self.peek().startswith('#'):
@@ -288,13 +291,13 @@ class Line:
         if kind in CASTS:
             return self.cast()
         readers = {'icmp': self.compare, 'freeze': self.one, 'select': self.select, 'load': self.load,
-                   'store': self.store, 'getelementptr': self.element, 'alloca': self.alloca,
+                   'store': self.store, 'getelementptr': None, 'alloca': self.alloca,
                    'extractvalue': self.extract, 'insertvalue': self.insert, 'phi': self.phi, 'call': self.call,
                    'br': self.branch, 'switch': self.switch, 'ret': self.ret, 'unreachable': self.nothing}
         if kind not in readers:
             self.stop(f'unknown instruction `{kind}`')
-        self.skip(FLAGS)
-        return readers[kind]()
+        flags = self.skip(FLAGS)
+        return self.element('inbounds' in flags) if kind == 'getelementptr' else readers[kind]()
 
     def nothing(self):
         return Void(), [], None
@@ -345,13 +348,13 @@ class Line:
         pointer = self.typed()[1]
         return type_of, [value, pointer], self.align()
 
-    def element(self):
-        """An address, counted on in elements of the type."""
+    def element(self, is_within):
+        """An address, counted on in elements of the type. The detail is whether it stays within one object."""
         type_of = self.type()
         self.expect(',')
         base = self.typed()[1]
         self.expect(',')
-        return type_of, [base, self.typed()[1]], None
+        return type_of, [base, self.typed()[1]], is_within
 
     def alloca(self):
         """The detail is the alignment."""
