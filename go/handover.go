@@ -40,6 +40,7 @@ type HandoverSelect struct {
 type HandoverError struct {
 	Reason uint8 // the standard defines 1 to 3
 	Data   []byte
+	Number *uint32 // for the reasons 1 to 3 the number that the data hold, once they are read; writing takes Data
 }
 
 // HandoverCarrier is the payload of a Handover Carrier record.
@@ -71,20 +72,38 @@ func alternativeOf(payload []byte) (AlternativeCarrier, error) {
 	return carrier, nil
 }
 
-// carriersOf reads the alternative carriers of a handover of a kind that was read: what follows its version byte is a message.
-func carriersOf(payload []byte, kind Kind) ([]AlternativeCarrier, error) {
-	var carriers []AlternativeCarrier
-	for _, record := range recordsOf(payload[1:]) {
-		if record.kindWithin(C.uint32_t(kind)) != C.NDEF_KIND_ALTERNATIVE {
-			continue
-		}
-		carrier, err := alternativeOf(record.Payload)
-		if err != nil {
-			return nil, err
-		}
-		carriers = append(carriers, carrier)
+// errorOf reads the payload of an Error record.
+func errorOf(payload []byte) (*HandoverError, error) {
+	var parts C.ndef_error_parts
+	var why C.ndef_checked
+	if C.ndef_error(first(payload), size(payload), &parts, &why) != C.NDEF_OK {
+		return nil, refused(&why)
 	}
-	return carriers, nil
+	found := &HandoverError{Reason: uint8(parts.reason), Data: within(payload, parts.data_at, parts.data_length)}
+	if parts.has_number == 1 {
+		number := uint32(parts.number)
+		found.Number = &number
+	}
+	return found, nil
+}
+
+// partsOf reads the alternative carriers and the first error of a handover of a kind that was read: what follows its
+// version byte is a message.
+func partsOf(payload []byte, kind Kind) (carriers []AlternativeCarrier, found *HandoverError, err error) {
+	for _, record := range recordsOf(payload[1:]) {
+		switch is := record.kindWithin(C.uint32_t(kind)); {
+		case is == C.NDEF_KIND_ALTERNATIVE:
+			var carrier AlternativeCarrier
+			carrier, err = alternativeOf(record.Payload)
+			carriers = append(carriers, carrier)
+		case is == C.NDEF_KIND_ERROR && found == nil:
+			found, err = errorOf(record.Payload)
+		}
+		if err != nil {
+			return nil, nil, err
+		}
+	}
+	return carriers, found, nil
 }
 
 func requestOf(payload []byte, flags C.uint32_t) (*HandoverRequest, error) {
@@ -93,7 +112,7 @@ func requestOf(payload []byte, flags C.uint32_t) (*HandoverRequest, error) {
 	if C.ndef_request(first(payload), size(payload), flags, &parts, &why) != C.NDEF_OK {
 		return nil, refused(&why)
 	}
-	carriers, err := carriersOf(payload, KindRequest)
+	carriers, _, err := partsOf(payload, KindRequest)
 	return &HandoverRequest{Minor: uint8(parts.minor), Collision: uint16(parts.collision), Carriers: carriers}, err
 }
 
@@ -103,12 +122,8 @@ func selectOf(payload []byte, flags C.uint32_t) (*HandoverSelect, error) {
 	if C.ndef_select(first(payload), size(payload), flags, &parts, &why) != C.NDEF_OK {
 		return nil, refused(&why)
 	}
-	carriers, err := carriersOf(payload, KindSelect)
-	chosen := &HandoverSelect{Minor: uint8(parts.minor), Carriers: carriers}
-	if parts.has_error == 1 {
-		chosen.Error = &HandoverError{Reason: uint8(parts.error), Data: within(payload, parts.detail_at, parts.detail_length)}
-	}
-	return chosen, err
+	carriers, found, err := partsOf(payload, KindSelect)
+	return &HandoverSelect{Minor: uint8(parts.minor), Carriers: carriers, Error: found}, err
 }
 
 func carrierOf(payload []byte) (*HandoverCarrier, error) {

@@ -3,7 +3,10 @@ package ndef
 // #include "ndef.h"
 import "C"
 
-import "fmt"
+import (
+	"fmt"
+	"strings"
+)
 
 // Text is the payload of a Text record (RTD Text 1.0).
 type Text struct {
@@ -132,6 +135,16 @@ func titlesOf(payload []byte) ([]Text, error) {
 		titles = append(titles, title)
 	}
 	return titles, nil
+}
+
+// Title returns the first title in a language, such as "en", in upper or lower case.
+func (poster *SmartPoster) Title(language string) (Text, bool) {
+	for _, title := range poster.Titles {
+		if len(title.Language) == len(language) && strings.EqualFold(title.Language, language) {
+			return title, true
+		}
+	}
+	return Text{}, false
 }
 
 // iconsOf returns the icons of a smart poster that was read.

@@ -26,7 +26,7 @@ func values() []Value {
 			Action: pointerTo(Save), Size: pointerTo(uint32(258)), MediaType: pointerTo("text/html"),
 			Icons: []Icon{{MediaType: "image/png", Data: []byte{1, 2}}, {MediaType: "image/gif", Data: []byte{3}}}},
 		&HandoverRequest{Minor: 2, Collision: 0x1234, Carriers: carriers},
-		&HandoverSelect{Minor: 15, Carriers: carriers, Error: &HandoverError{Reason: 2, Data: []byte{0, 0, 1, 2}}},
+		&HandoverSelect{Minor: 15, Carriers: carriers, Error: &HandoverError{Reason: 2, Data: []byte{0, 0, 1, 2}, Number: pointerTo(uint32(258))}},
 		&HandoverCarrier{Format: 1, Type: "a/b", Data: []byte{5, 6}},
 	}
 }
