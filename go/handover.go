@@ -91,12 +91,12 @@ func errorOf(payload []byte) (*HandoverError, error) {
 // version byte is a message.
 func partsOf(payload []byte, kind Kind) (carriers []AlternativeCarrier, found *HandoverError, err error) {
 	for _, record := range recordsOf(payload[1:]) {
-		switch is := record.kindWithin(C.uint32_t(kind)); {
-		case is == C.NDEF_KIND_ALTERNATIVE:
+		switch is := record.kindWithin(kind); {
+		case is == kindAlternative:
 			var carrier AlternativeCarrier
 			carrier, err = alternativeOf(record.Payload)
 			carriers = append(carriers, carrier)
-		case is == C.NDEF_KIND_ERROR && found == nil:
+		case is == kindError && found == nil:
 			found, err = errorOf(record.Payload)
 		}
 		if err != nil {

@@ -15,18 +15,21 @@ const (
 	KindRequest     Kind = C.NDEF_KIND_REQUEST
 	KindSelect      Kind = C.NDEF_KIND_SELECT
 	KindCarrier     Kind = C.NDEF_KIND_CARRIER
+
+	kindAlternative Kind = C.NDEF_KIND_ALTERNATIVE
+	kindError       Kind = C.NDEF_KIND_ERROR
 )
 
 func (kind Kind) isHandover() bool { return kind == KindRequest || kind == KindSelect }
 
 // Kind returns what the payload of a record of a message is.
-func (record *Record) Kind() Kind { return record.kindWithin(C.NDEF_KIND_OTHER) }
+func (record *Record) Kind() Kind { return record.kindWithin(KindOther) }
 
 // kindWithin returns what the payload is of a record of the message within a payload of a kind.
-func (record *Record) kindWithin(kind C.uint32_t) Kind {
+func (record *Record) kindWithin(kind Kind) Kind {
 	name := []byte(record.Type)
 	parts := C.ndef_record{tnf: C.uint32_t(record.TNF), type_length: size(name)}
-	return Kind(C.ndef_kind(first(name), size(name), &parts, kind))
+	return Kind(C.ndef_kind(first(name), size(name), &parts, C.uint32_t(kind)))
 }
 
 // Value is what a payload means: a Text, a URI, a *SmartPoster, a *HandoverRequest, a *HandoverSelect or a

@@ -125,7 +125,7 @@ func posterOf(payload []byte, flags C.uint32_t) (*SmartPoster, error) {
 func titlesOf(payload []byte) ([]Text, error) {
 	var titles []Text
 	for _, record := range recordsOf(payload) {
-		if record.kindWithin(C.NDEF_KIND_SMART_POSTER) != KindText {
+		if record.kindWithin(KindSmartPoster) != KindText {
 			continue
 		}
 		title, err := textOf(record.Payload)
