@@ -1,0 +1,3 @@
+//go:build !ndef_installed
+
+#include "../dist/ndef.c"

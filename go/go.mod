@@ -1,0 +1,3 @@
+module simbegyor/ndef
+
+go 1.19

@@ -1,0 +1,80 @@
+package ndef
+
+// #include "ndef.h"
+import "C"
+
+// Kind says what a payload is, as the type of its record says: an ndef_kinds of ndef.h.
+type Kind uint32
+
+// The kinds of payloads. Value reads those from KindText to KindCarrier.
+const (
+	KindOther       Kind = C.NDEF_KIND_OTHER
+	KindText        Kind = C.NDEF_KIND_TEXT
+	KindURI         Kind = C.NDEF_KIND_URI
+	KindSmartPoster Kind = C.NDEF_KIND_SMART_POSTER
+	KindRequest     Kind = C.NDEF_KIND_REQUEST
+	KindSelect      Kind = C.NDEF_KIND_SELECT
+	KindCarrier     Kind = C.NDEF_KIND_CARRIER
+
+	kindAlternative Kind = C.NDEF_KIND_ALTERNATIVE
+	kindError       Kind = C.NDEF_KIND_ERROR
+)
+
+func (kind Kind) isHandover() bool { return kind == KindRequest || kind == KindSelect }
+
+// Kind returns what the payload of a record of a message is.
+func (record *Record) Kind() Kind { return record.kindWithin(KindOther) }
+
+// kindWithin returns what the payload is of a record of the message within a payload of a kind.
+func (record *Record) kindWithin(kind Kind) Kind {
+	name := []byte(record.Type)
+	parts := C.ndef_record{tnf: C.uint32_t(record.TNF), type_length: size(name)}
+	return Kind(C.ndef_kind(first(name), size(name), &parts, C.uint32_t(kind)))
+}
+
+// Value is what a payload means: a Text, a URI, a *SmartPoster, a *HandoverRequest, a *HandoverSelect or a
+// *HandoverCarrier. Record makes the record of it, with no id.
+type Value interface {
+	Record() (Record, error)
+}
+
+// Value reads the payload by the strict profile. It is nil for a record of KindOther. The error is a *Refusal, whose
+// place counts from the first byte of the payload.
+func (record *Record) Value() (Value, error) { return Options{}.Value(record) }
+
+// Value reads the payload as the method Value of the record does, by the profile of the options.
+func (options Options) Value(record *Record) (Value, error) {
+	switch record.Kind() {
+	case KindText:
+		return valued[Text](textOf(record.Payload))
+	case KindURI:
+		return valued[URI](uriOf(record.Payload, options.flags()))
+	case KindSmartPoster:
+		return valued[*SmartPoster](posterOf(record.Payload, options.flags()))
+	case KindRequest:
+		return valued[*HandoverRequest](requestOf(record.Payload, options.flags()))
+	case KindSelect:
+		return valued[*HandoverSelect](selectOf(record.Payload, options.flags()))
+	case KindCarrier:
+		return valued[*HandoverCarrier](carrierOf(record.Payload))
+	default:
+		return nil, nil
+	}
+}
+
+// valued is the value as a Value, or nil beside an error.
+func valued[T Value](value T, err error) (Value, error) {
+	if err != nil {
+		return nil, err
+	}
+	return value, nil
+}
+
+// typed makes a record of the NFC Forum's type with the payload that a call writes.
+func typed(name, what, why string, call filling) (Record, error) {
+	payload, status := filled(nil, call)
+	if status != C.NDEF_OK {
+		return Record{}, unwritable(what, why)
+	}
+	return Record{TNF: WellKnown, Type: name, Payload: payload}, nil
+}

@@ -1,0 +1,169 @@
+// Package ndef reads, checks and writes messages of the NFC Data Exchange Format (NFC Forum, NDEF 1.0) with the payloads
+// of RTD Text, RTD URI, Smart Poster and Connection Handover 1.2.
+//
+// The proved library for C decides what a message is: this package knows nothing of the format. The library allocates
+// no memory and has no state, so all functions may be called by any number of goroutines at once.
+package ndef
+
+// #include "ndef.h"
+import "C"
+
+import "fmt"
+
+// TNF is a type name format (NDEF 1.0, 3.2.6).
+type TNF uint8
+
+// The type name formats of records.
+const (
+	Empty       TNF = C.NDEF_TNF_EMPTY
+	WellKnown   TNF = C.NDEF_TNF_WELL_KNOWN
+	Media       TNF = C.NDEF_TNF_MEDIA
+	AbsoluteURI TNF = C.NDEF_TNF_ABSOLUTE_URI
+	External    TNF = C.NDEF_TNF_EXTERNAL
+	Unknown     TNF = C.NDEF_TNF_UNKNOWN
+)
+
+// Record is a record of a message, its chunks joined. Type and ID hold bytes, whether they are UTF-8 or not.
+type Record struct {
+	TNF     TNF
+	Type    string // at most 255 bytes
+	ID      string // at most 255 bytes; empty where the record has no id
+	Payload []byte // at most 4294967295 bytes
+}
+
+// Message is a message: at least one record.
+type Message struct {
+	Records []Record
+}
+
+// Limits are the most that is read. Longer messages are refused.
+type Limits struct {
+	Payload uint32 // bytes of payload of one record, at most 4294967294
+	Records uint32 // records of the message, 1 to 4294967295
+	Pieces  uint32 // chunks of one record, 1 to 65535
+}
+
+// UsualLimits returns limits that suit usual tags: 1048576 bytes of payload, 1024 records and 4096 chunks.
+func UsualLimits() Limits {
+	var limits C.ndef_limits
+	C.ndef_usual_limits(&limits)
+	return Limits{Payload: uint32(limits.payload), Records: uint32(limits.records), Pieces: uint32(limits.pieces)}
+}
+
+// Options say how messages are read. The zero value reads by the strict profile within the usual limits.
+type Options struct {
+	Limits   *Limits // nil for the usual limits
+	Standard bool    // read reserved values as the standards say; docs/FORMAT.md lists them
+	Opaque   bool    // don't look into payloads
+}
+
+// limits are the options as ndef.h has them.
+func (options Options) limits() C.ndef_limits {
+	chosen := options.Limits
+	if chosen == nil {
+		usual := UsualLimits()
+		chosen = &usual
+	}
+	return C.ndef_limits{payload: C.uint32_t(chosen.Payload), records: C.uint32_t(chosen.Records),
+		pieces: C.uint32_t(chosen.Pieces), flags: options.flags() | flag(options.Opaque)*C.NDEF_OPAQUE}
+}
+
+// flags are those for the calls that read a payload.
+func (options Options) flags() C.uint32_t { return flag(options.Standard) * C.NDEF_STANDARD }
+
+// Parse reads a message that is all of the bytes. The message keeps none of them. The error is a *Refusal, or a
+// *Trailing where other bytes follow the message.
+func Parse(bytes []byte) (*Message, error) { return Options{}.Parse(bytes) }
+
+// ParsePrefix reads the message that the bytes begin with, and returns its length too. The error is a *Refusal.
+func ParsePrefix(bytes []byte) (*Message, int, error) { return Options{}.ParsePrefix(bytes) }
+
+// Parse reads a message as the function Parse does. Where the limits are out of range the error is ErrLimits.
+func (options Options) Parse(bytes []byte) (*Message, error) {
+	message, length, err := options.ParsePrefix(bytes)
+	if err == nil && length < len(bytes) {
+		return nil, &Trailing{Place: length}
+	}
+	return message, err
+}
+
+// ParsePrefix reads a message as the function ParsePrefix does. Where the limits are out of range the error is ErrLimits.
+func (options Options) ParsePrefix(bytes []byte) (*Message, int, error) {
+	length, _, err := options.Check(bytes)
+	if err != nil {
+		return nil, 0, err
+	}
+	return &Message{Records: recordsOf(append([]byte(nil), bytes[:length]...))}, length, nil
+}
+
+// Check returns the length of the message that the bytes begin with, and the number of its records. It allocates
+// nothing where they do. The error is a *Refusal or ErrLimits.
+func (options Options) Check(bytes []byte) (length, records int, err error) {
+	var found C.ndef_checked
+	limits := options.limits()
+	switch C.ndef_check(first(bytes), size(bytes), &limits, &found) {
+	case C.NDEF_OK:
+		return int(found.place), int(found.records), nil
+	case C.NDEF_REFUSED:
+		return 0, 0, refused(&found)
+	default:
+		return 0, 0, ErrLimits
+	}
+}
+
+// recordsOf returns the records of a message that was checked. A record in one piece shares its payload.
+func recordsOf(message []byte) []Record {
+	var records []Record
+	var parts C.ndef_record
+	for C.ndef_record_at(first(message), size(message), parts.end, &parts) == C.NDEF_OK {
+		records = append(records, Record{TNF: TNF(parts.tnf), Type: string(within(message, parts.type_at, parts.type_length)),
+			ID: string(within(message, parts.id_at, parts.id_length)), Payload: payloadOf(message, &parts)})
+	}
+	return records
+}
+
+// payloadOf returns the payload of a record of a message, its chunks joined.
+func payloadOf(message []byte, parts *C.ndef_record) []byte {
+	if parts.pieces == 1 {
+		return within(message, parts.payload_at, parts.payload_length)
+	}
+	payload, _ := filled(nil, func(room *C.uint8_t, most C.ndef_size, count *C.ndef_size) C.uint32_t {
+		return C.ndef_payload(first(message), size(message), parts.at, room, most, count)
+	})
+	return payload
+}
+
+// Form says how records are written. The zero value writes the shortest spelling.
+type Form struct {
+	Long  bool   // write payload lengths in four bytes even where one would do
+	Chunk uint32 // the bytes of payload of each chunk but the last; 0 to write each record in one piece
+}
+
+// Encode writes the message in its shortest spelling.
+func (message *Message) Encode() ([]byte, error) { return message.EncodeAs(Form{}) }
+
+// EncodeAs writes the message in a form. The error says which record can't be written, and why.
+func (message *Message) EncodeAs(form Form) ([]byte, error) {
+	if len(message.Records) == 0 {
+		return nil, unwritable("a message", "it has no record")
+	}
+	var bytes []byte
+	for index, record := range message.Records {
+		how := C.ndef_writing{tnf: C.uint32_t(record.TNF), chunk: C.uint32_t(form.Chunk), flags: flag(form.Long)*C.NDEF_WRITE_LONG |
+			flag(index == 0)*C.NDEF_WRITE_FIRST | flag(index == len(message.Records)-1)*C.NDEF_WRITE_LAST}
+		var status C.uint32_t
+		if bytes, status = record.appendTo(bytes, &how); status != C.NDEF_OK {
+			return nil, unwritable(fmt.Sprintf("record %d", index), "its type doesn't fit its type name format, or a part is too long")
+		}
+	}
+	return bytes, nil
+}
+
+// appendTo appends the record to bytes.
+func (record *Record) appendTo(bytes []byte, how *C.ndef_writing) ([]byte, C.uint32_t) {
+	name, id := []byte(record.Type), []byte(record.ID)
+	return filled(bytes, func(room *C.uint8_t, most C.ndef_size, count *C.ndef_size) C.uint32_t {
+		return C.ndef_write_record(first(name), size(name), first(id), size(id), first(record.Payload), size(record.Payload),
+			how, room, most, count)
+	})
+}

@@ -1,0 +1,104 @@
+package ndef
+
+// #include "ndef.h"
+import "C"
+
+import (
+	"bufio"
+	"errors"
+	"io"
+)
+
+// Checker checks a message that arrives in parts. It holds none of its bytes.
+type Checker struct {
+	state C.ndef_checker
+	fed   C.ndef_checked
+}
+
+// NewChecker begins a check. The error is ErrLimits.
+func NewChecker(options Options) (*Checker, error) {
+	checker := new(Checker)
+	limits := options.limits()
+	if C.ndef_begin(&limits, &checker.state) != C.NDEF_OK {
+		return nil, ErrLimits
+	}
+	return checker, nil
+}
+
+// Feed checks the next bytes, of which there may be none. It returns whether the bytes fed so far hold a whole message,
+// whose length Place returns. The error is a *Refusal. After either, every later call returns the same.
+func (checker *Checker) Feed(bytes []byte) (whole bool, err error) {
+	switch C.ndef_feed(&checker.state, first(bytes), size(bytes), &checker.fed) {
+	case C.NDEF_OK:
+		return true, nil
+	case C.NDEF_MORE:
+		return false, nil
+	default:
+		return false, refused(&checker.fed)
+	}
+}
+
+// Place returns the length of the whole message, the place of the refused byte, or else the number of bytes fed.
+func (checker *Checker) Place() int { return int(checker.fed.place) }
+
+// Reader reads messages that follow one another in a source.
+type Reader struct {
+	source  *bufio.Reader
+	options Options
+}
+
+// NewReader returns a reader of the messages of a source. It reads ahead, unless the source is a *bufio.Reader: then
+// the source is positioned just past each message after Next.
+func NewReader(source io.Reader, options Options) *Reader {
+	buffered, is := source.(*bufio.Reader)
+	if !is {
+		buffered = bufio.NewReader(source)
+	}
+	return &Reader{source: buffered, options: options}
+}
+
+// Next reads the next message. At the end of the source the error is io.EOF. Where the source fails within a message the
+// error is that of the source, and the bytes of the message so far are consumed. Where bytes are refused, also because
+// the source ends within a message, the error is a *Refusal whose place counts from the first byte of the message; the
+// bytes before the refused one are consumed.
+func (reader *Reader) Next() (*Message, error) {
+	checker, err := NewChecker(reader.options)
+	if err != nil {
+		return nil, err
+	}
+	var taken []byte
+	for {
+		seen, err := reader.ahead()
+		if err != nil {
+			return nil, atEnd(err, len(taken))
+		}
+		whole, refusal := checker.Feed(seen)
+		mine := checker.Place() - len(taken)
+		taken = append(taken, seen[:mine]...)
+		if _, err := reader.source.Discard(mine); err != nil {
+			return nil, err
+		}
+		if whole {
+			return &Message{Records: recordsOf(taken)}, nil
+		}
+		if refusal != nil {
+			return nil, refusal
+		}
+	}
+}
+
+// ahead returns the bytes that the source gives next, at least one, and doesn't consume them.
+func (reader *Reader) ahead() ([]byte, error) {
+	if _, err := reader.source.Peek(1); err != nil {
+		return nil, err
+	}
+	return reader.source.Peek(reader.source.Buffered())
+}
+
+// atEnd returns the error where the source gives no further byte.
+func atEnd(err error, taken int) error {
+	if errors.Is(err, io.EOF) && taken > 0 {
+		return &Refusal{Place: taken, Reason: EndOfInput}
+	}
+	return err
+}
