@@ -4,6 +4,7 @@
 
 #include "ndef.hpp"
 
+#include <atomic>
 #include <cstdio>
 #include <cstdlib>
 #include <iostream>
@@ -11,10 +12,10 @@
 #include <string>
 #include <vector>
 
-inline unsigned long allocations;
+inline std::atomic<unsigned long> allocations;
 
 [[gnu::noinline]] void *operator new(std::size_t size) {
-    allocations++;
+    ++allocations;
     if (void *memory = std::malloc(size ? size : 1)) return memory;
     std::abort();
 }
