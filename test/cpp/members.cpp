@@ -1,6 +1,7 @@
-// Looks at every member of every answer of ndef.hpp beside what the call of ndef.h tells: over the cases of the suite, a line
-// each, each also with single bytes changed and cut off; over what the fuzzer found; and over random messages. Each payload is
-// read as every type. Then the calls that write, and the short code of the headers themselves. Prints what differs.
+// Looks at every member of every answer of ndef.hpp beside what the call of ndef.h tells: over the cases of the suite,
+// a line each, each also with single bytes changed and cut off; over what the fuzzer found; and over random messages.
+// Each payload is read as every type. Then the calls that write, and the short code of the headers themselves. Prints
+// what differs.
 //
 //     members CORPUS [COUNT] <LINES
 #include "look.hpp"
@@ -16,8 +17,9 @@ template <class Result> static bool is_answer(const Result &told, std::uint32_t 
     if (told) return answer == NDEF_OK;
     const ndef::error &error = told.error();
     const bool refused = answer == NDEF_REFUSED;
-    return error.what == static_cast<ndef::status>(answer) && error.why == (refused ? static_cast<int>(why.reason) : 0) &&
-        error.place == (refused ? why.place : 0) && error.needed == 0;
+    return error.what == static_cast<ndef::status>(answer) &&
+           error.why == (refused ? static_cast<int>(why.reason) : 0) && error.place == (refused ? why.place : 0) &&
+           error.needed == 0;
 }
 
 /// Whether bytes that C++ wrote are those that a call writes: call(room, size, count).
@@ -61,13 +63,16 @@ static void uris(ndef::bytes payload, ndef::profile how) {
     LOOK(utf8 && ndef::bytes(*utf8) == wanted && ndef::bytes(told->str()) == wanted);
 }
 
-/// The records of the message within a payload of a kind: each as ndef_record_at tells it, and what its own payload is there.
+/// The records of the message within a payload of a kind: each as ndef_record_at tells it, and what its own payload is
+/// there.
 static void within(const ndef::message &records, ndef::bytes bytes, ndef::kind kind) {
     ndef_size at = 0, count = 0;
     ndef_record c = {};
     for (ndef::record one : records) {
-        LOOK(ndef_record_at(bytes.data(), bytes.size(), at, &c) == NDEF_OK && one.place() == at && is_part(one.type(), bytes, c.type_at, c.type_length));
-        LOOK(one.kind(kind) == static_cast<ndef::kind>(ndef_kind(bytes.data(), bytes.size(), &c, static_cast<std::uint32_t>(kind))));
+        LOOK(ndef_record_at(bytes.data(), bytes.size(), at, &c) == NDEF_OK && one.place() == at &&
+             is_part(one.type(), bytes, c.type_at, c.type_length));
+        LOOK(one.kind(kind) ==
+             static_cast<ndef::kind>(ndef_kind(bytes.data(), bytes.size(), &c, static_cast<std::uint32_t>(kind))));
         at = c.end, count++;
     }
     LOOK(records.record_count() == count && (count == 0 || c.last));
@@ -189,8 +194,10 @@ static void handovers(ndef::bytes payload, ndef::profile how, ndef::bytes whole)
     const auto select = ndef::select::read(payload, how);
     LOOK(is_answer(select, ndef_select(payload.data(), payload.size(), flags_of(how), &d, &why), why));
     if (!select) return;
-    LOOK(select->major_version() == d.major && select->minor_version() == d.minor && select->carrier_count() == d.carriers);
-    LOOK(select->error_reason().has_value() == (d.has_error == 1) && (!d.has_error || *select->error_reason() == d.error));
+    LOOK(select->major_version() == d.major && select->minor_version() == d.minor &&
+         select->carrier_count() == d.carriers);
+    LOOK(select->error_reason().has_value() == (d.has_error == 1) &&
+         (!d.has_error || *select->error_reason() == d.error));
     LOOK(is_part(select->error_data(), payload, d.detail_at, d.detail_length));
     links(*select, whole, payload);
     within(select->records(), payload.from(1), NDEF_KIND_SELECT);
@@ -216,12 +223,15 @@ template <class View> static void read_as(const ndef::record &one, ndef::bytes p
         const auto told = one.as<View>(room, how);
         const auto in_place = one.as<View>(how);
         if (!one.is(View::type_name)) {
-            LOOK(!told && told.error().what == NDEF_BAD_ARGUMENT && !in_place && in_place.error().what == NDEF_BAD_ARGUMENT);
+            LOOK(!told && told.error().what == NDEF_BAD_ARGUMENT && !in_place &&
+                 in_place.error().what == NDEF_BAD_ARGUMENT);
             continue;
         }
-        LOOK(told ? wanted && told->payload() == payload : !wanted && told.error().place == wanted.error().place && told.error().why == wanted.error().why);
+        LOOK(told ? wanted && told->payload() == payload
+                  : !wanted && told.error().place == wanted.error().place && told.error().why == wanted.error().why);
         if (one.payload()) LOOK(in_place.has_value() == wanted.has_value());
-        else LOOK(!in_place && in_place.error().what == NDEF_NO_ROOM && in_place.error().needed == payload.size());
+        else
+            LOOK(!in_place && in_place.error().what == NDEF_NO_ROOM && in_place.error().needed == payload.size());
     }
     ndef::room room(first_room);
     LOOK(one.as<View>(room).has_value() == one.as<View>(room, ndef::profile::strict).has_value());
@@ -244,9 +254,11 @@ static void record(ndef::bytes whole, const ndef::record &one, const ndef_record
     LOOK(told && *told == payload && one.payload_string() == payload.text());
     LOOK(one.payload().has_value() == (c.pieces == 1 || count == 0));
     LOOK(one.chunks() == 1 ? room.size() == sizeof first_room : room.size() == sizeof first_room - payload.size());
-    LOOK(one.payload() || (one.payload().error().what == NDEF_NO_ROOM && one.payload().error().needed == payload.size()));
+    LOOK(one.payload() ||
+         (one.payload().error().what == NDEF_NO_ROOM && one.payload().error().needed == payload.size()));
     for (const ndef::kind kind : {NDEF_KIND_OTHER, NDEF_KIND_SMART_POSTER, NDEF_KIND_SELECT, NDEF_KIND_ERROR})
-        LOOK(one.kind(kind) == static_cast<ndef::kind>(ndef_kind(whole.data(), whole.size(), &c, static_cast<std::uint32_t>(kind))));
+        LOOK(one.kind(kind) ==
+             static_cast<ndef::kind>(ndef_kind(whole.data(), whole.size(), &c, static_cast<std::uint32_t>(kind))));
     LOOK(one.kind() == one.kind(NDEF_KIND_OTHER));
     read_as<ndef::text>(one, payload);
     read_as<ndef::uri>(one, payload);
@@ -261,7 +273,8 @@ static void record(ndef::bytes whole, const ndef::record &one, const ndef_record
 
 /// Whether a record that was found, or why there is none, is what a call answered.
 static bool is_found(const ndef::result<ndef::record> &told, std::uint32_t answer, const ndef_record &c) {
-    return told ? answer == NDEF_OK && told->place() == c.at && told->parts().end == c.end && told->parts().type_at == c.type_at
+    return told ? answer == NDEF_OK && told->place() == c.at && told->parts().end == c.end &&
+                      told->parts().type_at == c.type_at
                 : is_answer(told, answer, {});
 }
 
@@ -275,7 +288,8 @@ static void finds(const ndef::message &message, ndef::bytes whole) {
     for (const std::string_view type : {"T", "text/plain", ""})
         for (const ndef::tnf format : {NDEF_TNF_EMPTY, NDEF_TNF_WELL_KNOWN, NDEF_TNF_MEDIA}) {
             const std::uint32_t answer =
-                ndef_find_type(whole.data(), whole.size(), 0, static_cast<std::uint32_t>(format), ndef::bytes(type).data(), type.size(), &c);
+                ndef_find_type(whole.data(), whole.size(), 0, static_cast<std::uint32_t>(format),
+                               ndef::bytes(type).data(), type.size(), &c);
             LOOK(is_found(message.find(format, type), answer, c));
             if (format == NDEF_TNF_WELL_KNOWN) LOOK(is_found(message.find(type), answer, c));
         }
@@ -325,7 +339,7 @@ static void checks(ndef::bytes whole, const ndef_limits &limits) {
     for (ndef::bytes part : {whole.part(0, half), whole.from(half), ndef::bytes()}) {
         const auto fed = checker.feed(part);
         const std::uint32_t answer = ndef_feed(&state, part.data(), part.size(), &c);
-        LOOK(fed ? fed->has_value() == (answer == NDEF_OK) : is_answer(fed, answer, c));
+        LOOK(fed ? static_cast<ndef::status>(answer) == (*fed ? NDEF_OK : NDEF_MORE) : is_answer(fed, answer, c));
         LOOK(!fed || !*fed || ((*fed)->size == c.place && (*fed)->records == c.records));
     }
     LOOK(whole.from(half).size() == whole.size() - half && whole.from(half).data() == whole.data() + half);
@@ -336,11 +350,13 @@ static void fields(ndef::bytes whole, const ndef_limits &limits) {
     static ndef_field wanted[1 << 14];
     ndef_size count = 0;
     ndef_checked why = {};
-    const std::uint32_t answer = ndef_fields(whole.data(), whole.size(), &limits, wanted, std::size(wanted), &count, &why);
+    const std::uint32_t answer =
+        ndef_fields(whole.data(), whole.size(), &limits, wanted, std::size(wanted), &count, &why);
     const ndef::fields told(whole, limits);
     const ndef::error &after = told.after();
     LOOK(after.what == static_cast<ndef::status>(answer == NDEF_OK ? static_cast<std::uint32_t>(NDEF_END) : answer));
-    LOOK(after.why == (answer == NDEF_REFUSED ? static_cast<int>(why.reason) : 0) && after.place == (answer == NDEF_REFUSED ? why.place : 0));
+    LOOK(after.why == (answer == NDEF_REFUSED ? static_cast<int>(why.reason) : 0) &&
+         after.place == (answer == NDEF_REFUSED ? why.place : 0));
     LOOK(after.needed == 0);
     if (answer != NDEF_OK && answer != NDEF_REFUSED) count = 0;
     ndef_size index = 0;
@@ -357,7 +373,8 @@ static void fields(ndef::bytes whole, const ndef_limits &limits) {
         ndef_field c = {};
         const std::uint32_t found = ndef_field_at(whole.data(), whole.size(), &limits, place, &c, &why);
         const auto at = told.at(place);
-        LOOK(at ? found == NDEF_OK && at->at == c.at && at->octets.size() == c.length : at.error().what == static_cast<ndef::status>(found));
+        LOOK(at ? found == NDEF_OK && at->at == c.at && at->octets.size() == c.length
+                : at.error().what == static_cast<ndef::status>(found));
     }
 }
 
@@ -392,7 +409,8 @@ static void line(const octets &bytes) {
         if (bytes.empty() || bytes.size() > 4096) return;
         changed = bytes;
         if (round % 3) changed[dice.below(bytes.size())] = dice.octet();
-        else changed.resize(dice.below(bytes.size()));
+        else
+            changed.resize(dice.below(bytes.size()));
     }
 }
 
@@ -409,27 +427,33 @@ static void input(const octets &bytes) {
 static void writers() {
     const ndef::bytes data = std::string_view("data"), parts_of = std::string_view("referenceaux");
     const ndef_part parts[] = {{0, 9}, {9, 3}};
-    for (std::uint32_t number : {0u, 1u, 2u, 3u, 4u, 7u, 8u, 15u, 16u, 255u, 256u, 1000u, 65535u, 65536u, 0x12345678u, 0xffffffffu}) {
+    for (std::uint32_t number :
+         {0u, 1u, 2u, 3u, 4u, 7u, 8u, 15u, 16u, 255u, 256u, 1000u, 65535u, 65536u, 0x12345678u, 0xffffffffu}) {
         ndef::room room(first_room);
-        LOOK(is_written(ndef::write_action(room, static_cast<ndef::action>(number)), [=](auto... to) { return ndef_write_action(number, to...); }));
+        LOOK(is_written(ndef::write_action(room, static_cast<ndef::action>(number)),
+                        [=](auto... to) { return ndef_write_action(number, to...); }));
         LOOK(is_written(ndef::write_size(room, number), [=](auto... to) { return ndef_write_size(number, to...); }));
-        LOOK(is_written(ndef::write_collision(room, number), [=](auto... to) { return ndef_write_collision(number, to...); }));
-        LOOK(is_written(ndef::write_error(room, number, data), [=](auto... to) { return ndef_write_error(number, data.data(), 4, to...); }));
-        LOOK(is_written(ndef::write_error_number(room, number, 7), [=](auto... to) { return ndef_write_error_number(number, 7, to...); }));
-        LOOK(is_written(ndef::write_error_number(room, 2, number), [=](auto... to) { return ndef_write_error_number(2, number, to...); }));
+        LOOK(is_written(ndef::write_collision(room, number),
+                        [=](auto... to) { return ndef_write_collision(number, to...); }));
+        LOOK(is_written(ndef::write_error(room, number, data),
+                        [=](auto... to) { return ndef_write_error(number, data.data(), 4, to...); }));
+        LOOK(is_written(ndef::write_error_number(room, number, 7),
+                        [=](auto... to) { return ndef_write_error_number(number, 7, to...); }));
+        LOOK(is_written(ndef::write_error_number(room, 2, number),
+                        [=](auto... to) { return ndef_write_error_number(2, number, to...); }));
         LOOK(is_written(ndef::write_carrier(room, number, "a/b", data), [=](auto... to) {
             return ndef_write_carrier(number, ndef::bytes(std::string_view("a/b")).data(), 3, data.data(), 4, to...);
         }));
-        LOOK(is_written(ndef::write_alternative(room, static_cast<ndef::power>(number), parts_of, parts, 2), [&](auto... to) {
-            return ndef_write_alternative(number, parts_of.data(), parts_of.size(), parts, 2, to...);
-        }));
+        LOOK(is_written(ndef::write_alternative(room, static_cast<ndef::power>(number), parts_of, parts, 2),
+                        [&](auto... to) {
+                            return ndef_write_alternative(number, parts_of.data(), parts_of.size(), parts, 2, to...);
+                        }));
         for (ndef::handover which : {ndef::handover::request, ndef::handover::select})
             LOOK(is_written(ndef::write_handover(room, which, 1, number, ndef::bytes()), [=](auto... to) {
                 return ndef_write_handover(static_cast<std::uint32_t>(which), 1, number, nullptr, 0, to...);
             }));
-        LOOK(is_written(ndef::write_handover(room, ndef::handover::select, number, 2, ndef::bytes()), [=](auto... to) {
-            return ndef_write_handover(NDEF_SELECT, number, 2, nullptr, 0, to...);
-        }));
+        LOOK(is_written(ndef::write_handover(room, ndef::handover::select, number, 2, ndef::bytes()),
+                        [=](auto... to) { return ndef_write_handover(NDEF_SELECT, number, 2, nullptr, 0, to...); }));
     }
     const ndef_poster_writing poster = {{0, 9}, {9, 3}, 1, 1, 200, 1, 0x12345678};
     const ndef_title_writing titles[] = {{{9, 2}, {0, 4}, 0}, {{9, 3}, {0, 9}, 1}};
@@ -455,8 +479,8 @@ static void built() {
             const std::uint32_t form = is_long ? NDEF_WRITE_LONG : 0, ends = NDEF_WRITE_FIRST | NDEF_WRITE_LAST;
             const ndef_writing how = {NDEF_TNF_EXTERNAL, ends | form, chunk};
             const auto wanted = [&](auto... to) {
-                return ndef_write_record(ndef::bytes(std::string_view("a:b")).data(), 3, ndef::bytes(id).data(), 2, ndef::bytes(data).data(),
-                                         data.size(), &how, to...);
+                return ndef_write_record(ndef::bytes(std::string_view("a:b")).data(), 3, ndef::bytes(id).data(), 2,
+                                         ndef::bytes(data).data(), data.size(), &how, to...);
             };
             LOOK(made && is_written(made->octets(), wanted));
             static std::uint8_t other[256];
@@ -474,7 +498,8 @@ static void built() {
     LOOK(ndef::well_known("T", {}).format == NDEF_TNF_WELL_KNOWN && ndef::media("a/b", {}).format == NDEF_TNF_MEDIA);
     LOOK(ndef::external("a:b", {}).format == NDEF_TNF_EXTERNAL);
     const auto media = ndef::write_message(room, {ndef::media("T", std::string_view("\2enHi"))});
-    LOOK(media && !media->begin()->as<ndef::text>() && media->begin()->as<ndef::text>().error().what == NDEF_BAD_ARGUMENT);
+    LOOK(media && !media->begin()->as<ndef::text>() &&
+         media->begin()->as<ndef::text>().error().what == NDEF_BAD_ARGUMENT);
 }
 
 /// Results, bytes, rooms and names.
@@ -489,22 +514,31 @@ static void basics() {
         LOOK(error.what == NDEF_REFUSED && error.why == NDEF_REASON_UTF8 && error.place == 7 && error.needed == 0);
     const std::string many(1000, 'x');
     const ndef::bytes all(many);
-    LOOK(all == ndef::bytes(many) && all != all.part(0, 999) && all != ndef::bytes(std::string_view("x")) && !(all == all.from(1)));
-    LOOK(ndef::bytes(std::string_view("ab")) != ndef::bytes(std::string_view("ac")) && ndef::bytes() == ndef::bytes(std::string_view("")));
+    LOOK(all == ndef::bytes(many) && all != all.part(0, 999) && all != ndef::bytes(std::string_view("x")) &&
+         !(all == all.from(1)));
+    LOOK(ndef::bytes(std::string_view("ab")) != ndef::bytes(std::string_view("ac")) &&
+         ndef::bytes() == ndef::bytes(std::string_view("")));
     LOOK(all.from(999).size() == 1 && all.from(1000).empty() && all.from(1001).empty() && all.part(998, 5).size() == 2);
     ndef::room room(first_room, 5);
-    LOOK(room.take(3).size() == 3 && room.size() == 2 && room.data() == first_room + 3 && room.take(9).size() == 2 && room.size() == 0);
+    LOOK(room.take(3).size() == 3 && room.size() == 2 && room.data() == first_room + 3 && room.take(9).size() == 2 &&
+         room.size() == 0);
     char text[80];
     ndef_size count = 0;
-    const auto named = [&](std::uint32_t answer) { return answer == NDEF_OK ? std::string(text, static_cast<std::size_t>(count)) : std::string(); };
+    const auto named = [&](std::uint32_t answer) {
+        return answer == NDEF_OK ? std::string(text, static_cast<std::size_t>(count)) : std::string();
+    };
     std::uint8_t *memory = reinterpret_cast<std::uint8_t *>(text);
     for (std::uint32_t value = 0; value < 32; value++) {
         const auto status = static_cast<ndef::status>(value % 8);
         LOOK(ndef::to_string(status) == named(ndef_status_name(status, memory, sizeof text, &count)));
-        LOOK(ndef::to_string(static_cast<ndef::reason>(value)) == named(ndef_reason_name(value, memory, sizeof text, &count)));
-        LOOK(ndef::sentence(static_cast<ndef::reason>(value)) == named(ndef_reason_sentence(value, memory, sizeof text, &count)));
-        LOOK(ndef::error{NDEF_REFUSED, static_cast<ndef::reason>(value), 0, 0}.sentence() == ndef::sentence(static_cast<ndef::reason>(value)));
-        LOOK(ndef::to_string(static_cast<ndef::field_name>(value)) == named(ndef_field_name(value, memory, sizeof text, &count)));
+        LOOK(ndef::to_string(static_cast<ndef::reason>(value)) ==
+             named(ndef_reason_name(value, memory, sizeof text, &count)));
+        LOOK(ndef::sentence(static_cast<ndef::reason>(value)) ==
+             named(ndef_reason_sentence(value, memory, sizeof text, &count)));
+        LOOK(ndef::error{NDEF_REFUSED, static_cast<ndef::reason>(value), 0, 0}.sentence() ==
+             ndef::sentence(static_cast<ndef::reason>(value)));
+        LOOK(ndef::to_string(static_cast<ndef::field_name>(value)) ==
+             named(ndef_field_name(value, memory, sizeof text, &count)));
     }
 }
 
@@ -523,7 +557,9 @@ int main(int count, char **words) {
     writers();
     built();
     basics();
-    std::cout << "lines " << lines << ", inputs " << inputs << ", random messages " << most << ", taken " << taken << ", refused " << refused
-              << ", cut off " << cut_off << ", in chunks " << chunked << ", comparisons " << compared << ", differ " << differ << '\n';
-    return differ || !lines || !inputs || taken < most / 8 || refused < most / 8 || cut_off < most / 50 || chunked < most / 50;
+    std::cout << "lines " << lines << ", inputs " << inputs << ", random messages " << most << ", taken " << taken
+              << ", refused " << refused << ", cut off " << cut_off << ", in chunks " << chunked << ", comparisons "
+              << compared << ", differ " << differ << '\n';
+    return differ || !lines || !inputs || taken < most / 8 || refused < most / 8 || cut_off < most / 50 ||
+           chunked < most / 50;
 }

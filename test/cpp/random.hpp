@@ -1,5 +1,5 @@
-// Random messages, the same in each run: records of every type that the standards define, with ids and in chunks; whole ones, and
-// others with one change.
+// Random messages, the same in each run: records of every type that the standards define, with ids and in chunks; whole
+// ones, and others with one change.
 #ifndef RANDOM_HPP
 #define RANDOM_HPP
 
@@ -41,7 +41,8 @@ public:
     std::string text() {
         std::string made;
         for (std::size_t left = below(12); left; left--)
-            made += one_of<std::string>({"a", "Z", " ", "\xc3\xa9", "\xe2\x82\xac", "\xf0\x9f\x98\x80", "\xef\xbb\xbf"});
+            made +=
+                one_of<std::string>({"a", "Z", " ", "\xc3\xa9", "\xe2\x82\xac", "\xf0\x9f\x98\x80", "\xef\xbb\xbf"});
         return made;
     }
 
@@ -62,8 +63,10 @@ inline octets joined(octets front, const octets &rest) {
 }
 inline octets of_text(const std::string &text) { return {text.begin(), text.end()}; }
 
-/// Appends a record or a chunk, as NDEF 1.0, 3.2 lays it out: its flags, its type, its id if it has one, and its payload.
-inline void put(octets &out, std::size_t flags, const std::string &type, const octets *id, const octets &payload, bool is_short) {
+/// Appends a record or a chunk, as NDEF 1.0, 3.2 lays it out: its flags, its type, its id if it has one, and its
+/// payload.
+inline void put(octets &out, std::size_t flags, const std::string &type, const octets *id, const octets &payload,
+                bool is_short) {
     is_short = is_short && payload.size() < 256;
     out.push_back(static_cast<std::uint8_t>(flags | (is_short ? 0x10 : 0) | (id ? 8 : 0)));
     out.push_back(static_cast<std::uint8_t>(type.size()));
@@ -92,7 +95,8 @@ inline octets message_of(const std::vector<content> &records, bool may_chunk, di
         const auto left = [&] { return static_cast<std::size_t>(one.payload.end() - at); };
         for (std::size_t chunks = dice.below(4), first = 1; chunks + first; first ? first = 0 : chunks--) {
             const octets piece = part(dice.below(left() + 1));
-            put(out, first ? begins | 0x20 | one.tnf : 0x26, first ? one.type : "", first ? given : nullptr, piece, is_short);
+            put(out, first ? begins | 0x20 | one.tnf : 0x26, first ? one.type : "", first ? given : nullptr, piece,
+                is_short);
             at += static_cast<std::ptrdiff_t>(piece.size());
         }
         put(out, ends | 6, "", nullptr, part(left()), is_short);
@@ -130,11 +134,13 @@ inline octets random_carrier(dice &dice) {
 /// A record that stands within a poster or a handover.
 inline content inner(dice &dice) {
     switch (dice.below(11)) {
-    case 0: case 1: return {1, "T", random_text(dice)};
+    case 0:
+    case 1: return {1, "T", random_text(dice)};
     case 2: return {1, "act", {dice.octet(5)}};
     case 3: return {1, "s", {dice.octet(), dice.octet(), dice.octet(), dice.octet()}};
     case 4: return {1, "t", of_text(dice.text())};
-    case 5: case 6: return {1, "ac", random_carrier(dice)};
+    case 5:
+    case 6: return {1, "ac", random_carrier(dice)};
     case 7: return {1, "err", dice.one_of<octets>({{1, 7}, {2, 0, 0, 1, 0}, {3, 9}, {4}, {200, 1, 2}, {1, 7, 7}})};
     case 8: return {1, "cr", dice.bytes(3)};
     case 9: return {2, "image/png", dice.bytes(5)};
@@ -153,13 +159,21 @@ inline octets nested(const content &first, dice &dice) {
 /// A record of a message.
 inline content outer(dice &dice) {
     switch (dice.below(11)) {
-    case 0: case 1: return {1, "T", random_text(dice)};
+    case 0:
+    case 1: return {1, "T", random_text(dice)};
     case 2: return {1, "U", random_uri(dice)};
-    case 3: case 4: return {1, "Sp", nested({1, "U", random_uri(dice)}, dice)};
-    case 5: return {1, "Hr", joined({static_cast<std::uint8_t>(0x10 + dice.below(16))}, nested({1, "cr", {dice.octet(), dice.octet()}}, dice))};
-    case 6: return {1, "Hs", dice.below(4) ? joined({0x13}, nested({1, "ac", random_carrier(dice)}, dice)) : octets{0x13}};
+    case 3:
+    case 4: return {1, "Sp", nested({1, "U", random_uri(dice)}, dice)};
+    case 5:
+        return {1, "Hr",
+                joined({static_cast<std::uint8_t>(0x10 + dice.below(16))},
+                       nested({1, "cr", {dice.octet(), dice.octet()}}, dice))};
+    case 6:
+        return {1, "Hs", dice.below(4) ? joined({0x13}, nested({1, "ac", random_carrier(dice)}, dice)) : octets{0x13}};
     case 7: return {1, "Hc", joined({dice.octet(), 2}, dice.bytes(6))};
-    case 8: return dice.one_of<content>({{0, "", {}}, {5, "", {1, 2}}, {7, "", {3}}, {1, "x", {4}}, {3, "a:b", {}}, {4, "a:b", {5}}});
+    case 8:
+        return dice.one_of<content>(
+            {{0, "", {}}, {5, "", {1, 2}}, {7, "", {3}}, {1, "x", {4}}, {3, "a:b", {}}, {4, "a:b", {5}}});
     default: return {2, "text/plain", dice.bytes(dice.below(9) ? 20 : 400)};
     }
 }
