@@ -126,8 +126,8 @@ fn values_print() {
     );
     let name = FieldName::TypeLength;
     assert_eq!((format!("{name:>13}"), Reason::Utf8.to_string()), ("  TYPE_LENGTH".into(), "17 Utf8".into()));
-    let message = Message::parse(b"\xBA\x03\x02\x01a/bixy\x36\0\x01z\x56\0\0").unwrap();
-    let debug = r#"[Record { tnf: Media, kind: b"a/b", id: b"i", payload_len: 3, pieces: 3, .. }]"#;
+    let message = Message::parse(b"\xBA\x03\x02\x01a/bixy\x36\0\x02zw\x56\0\0").unwrap();
+    let debug = r#"[Record { tnf: Media, kind: b"a/b", id: b"i", payload_len: 4, pieces: 3, .. }]"#;
     assert_eq!((format!("{message:?}"), format!("{:?}", message.records())), (debug.into(), debug.into()));
 }
 
