@@ -52,6 +52,8 @@ function showsValues() {
     look("a URI", values("D1010255 0161"), ["URI: http://www.a"]);
     look("a reserved URI", values("D1010255 FF61", { profile: "standard" }), ["URI: a"]);
     look("a poster", values("D1020D5370 910102550061 510301616374 00"), ["Smart poster: aAction: 0, do it", "URI: a", ""]);
+    look("the other actions", ["01", "02"].map((action) => values(`D1020D5370 910102550061 510301616374 ${action}`)[0]),
+        ["Smart poster: aAction: 1, save it", "Smart poster: aAction: 2, open it"]);
     look("a reserved action", values("D1020D5370 910102550061 510301616374 03")[0], "Smart poster: aAction: 3");
     look("a size of one byte", values("D1020E5370 910102550061 51010473 00000001")[0], "Smart poster: aSize: 1 byte");
     look("a large size", values("D1020E5370 910102550061 51010473 00010203")[0], "Smart poster: aSize: 66051 bytes");
@@ -85,7 +87,14 @@ function showsPayloads() {
         "Byte 7: 02, record 1.1, PAYLOAD_LENGTH", 'Byte 8: 55 "U", record 1.1, TYPE', "Byte 9: 00, record 1.1, identifier code",
         'Byte 10: 61 "a", record 1.1, URI',
     ]);
-    look("where records begin", spans().filter((span) => span.classList.contains("begin")).map((span) => span.dataset.at), ["0", "5"]);
+    const begins = () => spans().filter((span) => span.classList.contains("begin")).map((span) => span.dataset.at);
+    look("where records begin", begins(), ["0", "5"]);
+    const names = () => spans().map((span) => /record ([0-9.]+)/.exec(span.getAttribute("aria-label"))[1]).join(" ");
+    enter("D1020B4872 12 910202637212 34 500000");
+    look("where the records of a handover begin", [begins(), names()], [["0", "6", "13"], "1 1 1 1 1 1 1.1 1.1 1.1 1.1 1.1 1.1 1.1 1.2 1.2 1.2"]);
+    enter("B102015370 D1 560005 0102550061");
+    look("a poster in chunks", [begins(), names(), rows(true).map((row) => row[0])], [["0"], "1 1 1 1 1 1 1 1 1 1 1 1 1 1", ["1", "1.1"]]);
+    enter("D102065370 D10102550061");
     look("the columns", [...document.querySelectorAll("th")].map((cell) => cell.textContent),
         ["Record", "Place", "Type name format", "Type", "Id", "Payload", "Value"]);
     look("their names in the cells", [...document.querySelector("tbody tr").children].map((cell) => [cell.dataset.name, cell.className])[4], ["Id", "none"]);
@@ -197,15 +206,22 @@ const later = (holds) => new Promise((done) => {
 });
 
 async function takesFiles() {
-    const file = (bytes) => new File([Uint8Array.from(bytes)], "tag.bin"), given = new DataTransfer();
+    // The browser's clock runs ahead while a file is read, so these are read at once.
+    const contents = new Map(), given = new DataTransfer();
+    File.prototype.arrayBuffer = async function () { return contents.get(this.name).buffer; };
+    const file = (...bytes) => {
+        const name = `tag${contents.size}`;
+        contents.set(name, Uint8Array.from(bytes));
+        return new File([Uint8Array.from(bytes)], name);
+    };
     enter("");
-    given.items.add(file([0xd0, 0, 0]));
+    given.items.add(file(0xd0, 0, 0));
     find("file").files = given.files;
     find("file").dispatchEvent(new Event("change"));
     await later(() => find("hex").value !== "");
     look("a file", [find("hex").value, textOf("verdict")], ["D0 00 00", "1 message, 1 record, 3 bytes"]);
     const other = new DataTransfer(), over = new DragEvent("dragover", { cancelable: true });
-    other.items.add(file([0xd5, 0, 1, 7]));
+    other.items.add(file(0xd5, 0, 1, 7));
     document.dispatchEvent(over);
     look("something above the page", [over.defaultPrevented, document.body.classList.contains("drop")], [true, true]);
     document.dispatchEvent(new DragEvent("dragleave"));
