@@ -39,6 +39,13 @@ fn iterators_say_how_many_follow() {
         select.alternatives().for_each(|carrier| exact(carrier.auxiliaries(), count));
         assert_eq!((select.alternative_count(), select.alternatives().count()), (count, count));
     }
+    let (two, mut hints) = (select(2), Vec::new());
+    let mut records = two.records();
+    while !hints.contains(&(0, Some(0))) {
+        hints.push(records.size_hint());
+        assert_eq!(records.next().is_some(), hints.len() < 3);
+    }
+    assert_eq!(hints, [(1, None), (1, None), (0, Some(0))]);
     let chunked = b"\xB2\x03\x01a/bx\x36\0\x01y\x36\0\x01z\x56\0\0";
     let message = Message::parse(chunked).unwrap();
     let record = message.records().next().unwrap();
