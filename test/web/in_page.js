@@ -182,12 +182,21 @@ function moves() {
     look("a click moves there", document.activeElement.dataset.at, "5");
 }
 
-// The samples, by their names: what the standards say of their bytes.
+// The samples, by their names: what the standards say of their bytes, and what their records hold.
+const LINK = "http://www.example.com", GREETING = "Text: GrüßeLanguage: de";
 const SAMPLES = {
-    "text": "1 message, 1 record, 12 bytes", "URI": "1 message, 1 record, 16 bytes", "smart poster": "1 message, 1 record, 42 bytes",
-    "two records": "1 message, 2 records, 30 bytes", "chunks": "1 message, 1 record, 18 bytes", "handover": "1 message, 2 records, 34 bytes",
-    "not UTF-8": "Refused at byte 24, reason 17: Utf8", "reserved": "Refused at byte 0, reason 1: Reserved tnf",
-    "cut off": "Refused at byte 9 (the end of the input), reason 24: End of input",
+    "text": ["1 message, 1 record, 12 bytes", "Text: HelloLanguage: en"],
+    "URI": ["1 message, 1 record, 16 bytes", `URI: ${LINK}`],
+    "smart poster": ["1 message, 1 record, 42 bytes", `Smart poster: ${LINK}Action: 0, do it`, `URI: ${LINK}`, GREETING, ""],
+    "two records": ["1 message, 2 records, 30 bytes", `URI: ${LINK}`, GREETING],
+    "chunks": ["1 message, 1 record, 18 bytes", "Text: HelloLanguage: en"],
+    "handover": [
+        "1 message, 2 records, 34 bytes", "Handover request 1.2, random number 4660Carrier 1: record 2, power state active", "",
+        'Alternative carrier, power state active, references "0"', "",
+    ],
+    "not UTF-8": ["Refused at byte 24, reason 17: Utf8"],
+    "reserved": ["Refused at byte 0, reason 1: Reserved tnf"],
+    "cut off": ["Refused at byte 9 (the end of the input), reason 24: End of input"],
 };
 
 function hasSamples() {
@@ -195,8 +204,10 @@ function hasSamples() {
     look("the samples", buttons.map((button) => button.textContent), Object.keys(SAMPLES));
     enter("");
     buttons.forEach((button) => {
+        const [verdict, ...held] = SAMPLES[button.textContent] ?? [];
         button.click();
-        look(`the sample ${button.textContent}`, textOf("verdict"), SAMPLES[button.textContent]);
+        look(`the sample ${button.textContent}`, textOf("verdict"), verdict);
+        if (held.length) look(`what the sample ${button.textContent} holds`, rows(true).map((row) => row[6]), held);
     });
 }
 
@@ -271,7 +282,7 @@ async function run() {
     await later(() => textOf("verdict") !== "");
     if (textOf("verdict") === "") return;
     look("what is shown first", [textOf("verdict"), LIMITS.map((name) => Number(find(name).value)), Number(textOf("size")) > 10000],
-        [SAMPLES["two records"], Object.values(USUAL), true]);
+        [SAMPLES["two records"][0], Object.values(USUAL), true]);
     [showsCases, showsValues, showsPayloads, showsMessages, takesDigits, moves, hasSamples].forEach((test) => test());
     await takesFiles();
     await takesAddresses();
