@@ -26,10 +26,12 @@ using status = ::ndef_status;
 using reason = ::ndef_reason;
 using tnf = ::ndef_tnf;
 
-/// The name of a status.
+/// The name of a status, as ndef_status_name writes it; "" for a number that is none.
 constexpr std::string_view to_string(status value) noexcept {
-    constexpr std::string_view names[] = {"Ok", "Refused", "NoRoom", "BadArgument", "End", "More"};
-    return value <= NDEF_MORE ? names[value] : std::string_view();
+#define NDEF_STATUS_TEXT(number, name, text) case NDEF_##name: return text;
+    switch (value) { NDEF_STATUSES(NDEF_STATUS_TEXT) }
+#undef NDEF_STATUS_TEXT
+    return "";
 }
 
 /// The name of a reason, as ndef_reason_name writes it; "" for a number that is none.
@@ -40,12 +42,23 @@ constexpr std::string_view to_string(reason value) noexcept {
     return "";
 }
 
+/// What a reason means, in a sentence of English, as ndef_reason_sentence writes it; "" for a number that is none.
+constexpr std::string_view sentence(reason value) noexcept {
+#define NDEF_SENTENCE_TEXT(number, name, text) case NDEF_REASON_##name: return text;
+    switch (value) { NDEF_SENTENCES(NDEF_SENTENCE_TEXT) }
+#undef NDEF_SENTENCE_TEXT
+    return "";
+}
+
 /// Why there is no value.
 struct error {
     status what = NDEF_BAD_ARGUMENT; ///< never NDEF_OK
     reason why = {};                 ///< with NDEF_REFUSED, the reason; else 0
     std::uint64_t place = 0;         ///< with NDEF_REFUSED, the place of the first refused byte; else 0
     ndef_size needed = 0;            ///< with NDEF_NO_ROOM, the size that the room must have; else 0
+
+    /// With NDEF_REFUSED, what the reason means, in a sentence; else "".
+    constexpr std::string_view sentence() const noexcept { return ndef::sentence(why); }
 };
 
 /// A value, or the error that says why there is none. It is used as std::expected of C++23 is.

@@ -17,6 +17,9 @@ struct limits : ndef_limits {
     limits() noexcept { ndef_usual_limits(this); }
 };
 
+/// What the payload of a record is: NDEF_KIND_OTHER, NDEF_KIND_TEXT, ...
+using kind = ::ndef_kinds;
+
 /// A record of a message: a view of the message's bytes.
 class record {
 public:
@@ -34,6 +37,11 @@ public:
     /// Whether the record has a type of a format; without a format, one that the NFC Forum defines.
     bool is(ndef::tnf wanted, std::string_view name) const noexcept { return format() == wanted && type() == name; }
     bool is(std::string_view name) const noexcept { return is(NDEF_TNF_WELL_KNOWN, name); }
+
+    /// What the payload is, as ndef_kind tells it. For a record of the message within a payload, say of which kind that is.
+    ndef::kind kind(ndef::kind within = NDEF_KIND_OTHER) const noexcept {
+        return static_cast<ndef::kind>(ndef_kind(whole.data(), whole.size(), &told, within));
+    }
 
     /// The payload: in place if the record has one chunk, otherwise joined in the room.
     result<bytes> payload(room &joined) const noexcept {

@@ -130,7 +130,9 @@ mod c {
         pub(super) fn ndef_begin(limits: *const Limits, checker: *mut Checker) -> u32;
         pub(super) fn ndef_feed(checker: *mut Checker, bytes: *const u8, length: Size, out: *mut Checked) -> u32;
         pub(super) fn ndef_reason_name(reason: u32, room: *mut u8, size: Size, count: *mut Size) -> u32;
+        pub(super) fn ndef_reason_sentence(reason: u32, room: *mut u8, size: Size, count: *mut Size) -> u32;
         pub(super) fn ndef_record_at(bytes: *const u8, length: Size, at: Size, out: *mut Record) -> u32;
+        pub(super) fn ndef_kind(bytes: *const u8, length: Size, record: *const Record, within: u32) -> u32;
         pub(super) fn ndef_payload(
             bytes: *const u8, length: Size, at: Size, room: *mut u8, size: Size, count: *mut Size,
         ) -> u32;
@@ -281,6 +283,12 @@ pub(crate) fn record_at(bytes: &[u8], at: Size, out: &mut Record) -> Result<(), 
     }
 }
 
+/// What the payload of a record is that the library told of these bytes.
+pub(crate) fn kind(bytes: &[u8], record: &Record, within: u32) -> u32 {
+    // SAFETY: LEN, ONE, MAX: a slice, and a value of its type. The call writes nothing.
+    unsafe { c::ndef_kind(bytes.as_ptr(), size(bytes), record, within) }
+}
+
 /// The first record with an id, from the one that begins at a place on.
 pub(crate) fn find_id(bytes: &[u8], at: Size, id: &[u8]) -> Option<Record> {
     let mut out = Record::default();
@@ -388,6 +396,7 @@ macro_rules! fills {
 
 fills! {
     reason_name(reason: u32) = ndef_reason_name(reason);
+    reason_sentence(reason: u32) = ndef_reason_sentence(reason);
     field_name(name: u32) = ndef_field_name(name);
     payload(bytes: &[u8], at: Size) = ndef_payload(bytes.as_ptr(), size(bytes), at);
     write_record(kind: &[u8], id: &[u8], payload: &[u8], how: &Writing) = ndef_write_record(

@@ -77,7 +77,7 @@ pub use message::{Message, Records};
 #[cfg(feature = "alloc")]
 pub use message_builder::MessageBuilder;
 pub use new_record::{encode, Form, NewRecord};
-pub use payload::Payload;
+pub use payload::{Payload, PayloadKind};
 pub use poster::{Action, Icon, Icons, SmartPoster, Titles};
 #[cfg(feature = "alloc")]
 pub use poster_builder::SmartPosterBuilder;

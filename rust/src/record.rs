@@ -1,7 +1,7 @@
 //! Records in the bytes of a message.
 use crate::bytes::{Bytes, Quoted};
 use crate::ffi::{self, Size};
-use crate::{promised, Chunks, DecodeError, Part, Payload, Profile, Tnf};
+use crate::{promised, Chunks, DecodeError, Part, Payload, PayloadKind, Profile, Tnf};
 use core::fmt;
 
 #[cfg(feature = "alloc")]
@@ -84,6 +84,23 @@ impl<'a> Record<'a> {
     /// Whether it has this type, and the NFC Forum defines the type.
     pub fn is_well_known(&self, kind: &[u8]) -> bool {
         self.tnf == Tnf::WellKnown && self.kind == kind
+    }
+
+    /// What its payload is. `within` is [`PayloadKind::Other`] for a record of a message itself; for one of the message
+    /// within a payload it is the kind of that payload.
+    ///
+    /// ```
+    /// use simbegyor_ndef::{Message, PayloadKind};
+    ///
+    /// let message = Message::parse(b"\xD1\x01\x08T\x02enHello")?;
+    /// let kind = message.records().next().unwrap().payload_kind(PayloadKind::Other);
+    /// assert_eq!(kind, PayloadKind::Text);
+    /// # Ok::<(), simbegyor_ndef::Refusal>(())
+    /// ```
+    pub fn payload_kind(&self, within: PayloadKind) -> PayloadKind {
+        let mut told = ffi::Record::default();
+        promised(ffi::record_at(self.message, self.at, &mut told));
+        PayloadKind::of(ffi::kind(self.message, &told, within.number()))
     }
 
     /// The number of bytes of its payload, its chunks joined.

@@ -26,6 +26,14 @@ macro_rules! reasons {
                 }
             }
 
+            /// What it means, in a sentence of English, as the command `ndef-explain` prints it.
+            pub const fn sentence(self) -> &'static str {
+                match self {
+                    Self::Unlisted => "Only a newer library knows this reason.",
+                    $(Self::$name => $text,)*
+                }
+            }
+
             /// Its name.
             pub const fn name(self) -> &'static str {
                 match self {
@@ -38,31 +46,31 @@ macro_rules! reasons {
 }
 
 reasons! {
-    1 ReservedTnf "The type name format is 7, which is reserved.",
-    2 BeginMissing "The first record does not say that the message begins.",
-    3 BeginAgain "A later record says that the message begins.",
-    4 UnchangedOutside "The type name format is 6, but no chunked record is open.",
-    5 ChangedInside "A chunk of a chunked record has another type name format than 6.",
-    6 IdInside "A later chunk has an id.",
-    7 ChunkAtEnd "A chunk says that the message ends, and that another chunk follows.",
-    8 ChunkOfEmpty "An empty record is chunked.",
-    9 TooManyPieces "The record has more chunks than the limits allow.",
-    10 TooManyRecords "The message has more records than the limits allow.",
-    11 TypeNotEmpty "The record has a type, but its type name format allows none.",
-    12 TypeEmpty "The record has no type, but its type name format needs one.",
-    13 EmptyNotEmpty "An empty record has a type, an id or a payload.",
-    14 PayloadTooLarge "The payload is longer than the limits allow.",
-    15 TextBit "The reserved bit of a text's status byte is set.",
-    16 Language "The language code of a text is not ASCII.",
-    17 Utf8 "It is not UTF-8.",
-    18 Utf16 "It is not UTF-16.",
-    19 UriCode "The identifier code of a URI is reserved.",
-    20 UriMissing "A smart poster has no URI.",
-    21 UriAgain "A smart poster has a second URI.",
-    22 Version "The major version of a handover is not 1.",
-    23 DoesNotFit "A length leaves no room for what must follow.",
-    24 EndOfInput "The bytes end too early: more must follow.",
-    25 CollisionMissing "A handover request does not begin with a collision resolution.",
+    1 ReservedTnf "The type name format 7 is reserved.",
+    2 BeginMissing "The first record of a message has to have MB set.",
+    3 BeginAgain "MB is set again, though the message has begun.",
+    4 UnchangedOutside "The type name format 6 (unchanged) may only continue a chunked record.",
+    5 ChangedInside "A chunked record goes on with the type name format 6 (unchanged).",
+    6 IdInside "Only the first chunk of a record may have an id.",
+    7 ChunkAtEnd "The last record of a message (ME) has to end: CF must be clear.",
+    8 ChunkOfEmpty "An empty record cannot be chunked.",
+    9 TooManyPieces "The record has more chunks than the limit or a nested message allows.",
+    10 TooManyRecords "The message has more records than the limit allows.",
+    11 TypeNotEmpty "This type name format has no type: TYPE_LENGTH has to be 0.",
+    12 TypeEmpty "This type name format needs a type: TYPE_LENGTH must not be 0.",
+    13 EmptyNotEmpty "An empty record has only lengths of 0.",
+    14 PayloadTooLarge "The payload is longer than the limit allows.",
+    15 TextBit "Bit 6 of the status octet of a text is reserved: it has to be 0.",
+    16 Language "The language code of a text has to be ASCII.",
+    17 Utf8 "The text is not UTF-8.",
+    18 Utf16 "The text is not UTF-16.",
+    19 UriCode "The URI identifier codes from 24 to FF (hexadecimal) are reserved.",
+    20 UriMissing "A smart poster has to have a URI record.",
+    21 UriAgain "A smart poster has only one URI record.",
+    22 Version "The handover has another major version than 1.",
+    23 DoesNotFit "Nothing that may stand here fits the lengths that were given before.",
+    24 EndOfInput "The input ends within a message.",
+    25 CollisionMissing "A handover request has to begin with a collision resolution record.",
 }
 
 impl Reason {
@@ -95,6 +103,11 @@ impl Refusal {
         Self { at: why.place, reason: Reason::from_number(why.reason).unwrap_or(Reason::Unlisted) }
     }
 
+    /// What its reason means, in a sentence of English.
+    pub const fn sentence(&self) -> &'static str {
+        self.reason.sentence()
+    }
+
     /// Whether the bytes begin a message, and only end too early.
     pub fn is_incomplete(&self) -> bool {
         self.reason == Reason::EndOfInput
@@ -120,6 +133,15 @@ mod tests {
             let told = ffi::reason_name(number, &mut room[..]).map(|count| &room[..count]);
             match Reason::from_number(number) {
                 Some(reason) => assert_eq!((told, reason.number()), (Ok(reason.name().as_bytes()), number)),
+                None => assert_eq!(told, Err(ffi::Unfilled::BadArgument)),
+            }
+            let mut room = [0; 70];
+            let told = ffi::reason_sentence(number, &mut room[..]).map(|count| &room[..count]);
+            match Reason::from_number(number) {
+                Some(reason) => {
+                    let refusal = Refusal { at: 0, reason };
+                    assert_eq!((told, refusal.sentence()), (Ok(refusal.sentence().as_bytes()), reason.sentence()));
+                }
                 None => assert_eq!(told, Err(ffi::Unfilled::BadArgument)),
             }
         }

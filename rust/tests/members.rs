@@ -39,6 +39,13 @@ fn iterators_say_how_many_follow() {
         select.alternatives().for_each(|carrier| exact(carrier.auxiliaries(), count));
         assert_eq!((select.alternative_count(), select.alternatives().count()), (count, count));
     }
+    let (two, mut hints) = (select(2), Vec::new());
+    let mut records = two.records();
+    while !hints.contains(&(0, Some(0))) {
+        hints.push(records.size_hint());
+        assert_eq!(records.next().is_some(), hints.len() < 3);
+    }
+    assert_eq!(hints, [(1, None), (1, None), (0, Some(0))]);
     let chunked = b"\xB2\x03\x01a/bx\x36\0\x01y\x36\0\x01z\x56\0\0";
     let message = Message::parse(chunked).unwrap();
     let record = message.records().next().unwrap();
@@ -126,8 +133,8 @@ fn values_print() {
     );
     let name = FieldName::TypeLength;
     assert_eq!((format!("{name:>13}"), Reason::Utf8.to_string()), ("  TYPE_LENGTH".into(), "17 Utf8".into()));
-    let message = Message::parse(b"\xBA\x03\x02\x01a/bixy\x36\0\x01z\x56\0\0").unwrap();
-    let debug = r#"[Record { tnf: Media, kind: b"a/b", id: b"i", payload_len: 3, pieces: 3, .. }]"#;
+    let message = Message::parse(b"\xBA\x03\x02\x01a/bixy\x36\0\x02zw\x56\0\0").unwrap();
+    let debug = r#"[Record { tnf: Media, kind: b"a/b", id: b"i", payload_len: 4, pieces: 3, .. }]"#;
     assert_eq!((format!("{message:?}"), format!("{:?}", message.records())), (debug.into(), debug.into()));
 }
 
@@ -270,4 +277,138 @@ impl BufRead for Failing {
 fn readers_fail() {
     let Err(ReadError::Io(error)) = read_message(&mut Failing(0), &Limits::new()) else { panic!("it didn't fail") };
     assert_eq!((error.kind(), error.to_string()), (io::ErrorKind::BrokenPipe, "gone".into()));
+}
+
+#[test]
+fn kinds_and_sentences_are_told() {
+    let poster =
+        SmartPoster::builder("a").title("en", "b").action(Action::Do).size(1).media_type("a/b").build().unwrap();
+    let bytes = MessageBuilder::new().record(poster.clone()).record(NewRecord::media("a/b", b"")).build().unwrap();
+    let message = Message::parse(&bytes).unwrap();
+    let outer: Vec<_> = message.records().map(|record| record.payload_kind(PayloadKind::Other)).collect();
+    assert_eq!(outer, [PayloadKind::SmartPoster, PayloadKind::Other]);
+    let inner: Vec<_> = poster.records().map(|record| record.payload_kind(PayloadKind::SmartPoster)).collect();
+    let [uri, text, action] = [PayloadKind::Uri, PayloadKind::Text, PayloadKind::Action];
+    assert_eq!(inner, [uri, text, action, PayloadKind::Size, PayloadKind::MediaType]);
+    assert!(PayloadKind::ALL.iter().enumerate().all(|(index, kind)| kind.number() as usize == index));
+    assert_eq!(Refusal { at: 3, reason: Reason::Utf8 }.sentence(), "The text is not UTF-8.");
+    assert_eq!((Reason::ALL.len(), Reason::Unlisted.name(), Reason::Unlisted.number()), (25, "Unlisted", 0));
+}
+
+/// What a caller does with its bytes afterwards changes nothing that owns its own; a builder takes what it is given by value.
+#[test]
+fn values_stay_where_their_bytes_go() {
+    let mut payload = b"\x02enHello".to_vec();
+    let owned = Text::parse(&payload).unwrap().into_owned();
+    let record = Text::parse(&payload).unwrap().into_text().into_owned();
+    let message = MessageBuilder::new().record(Text::parse(&payload).unwrap()).build().unwrap();
+    payload.fill(0);
+    assert_eq!((owned.text().as_ref(), record.as_str(), owned.payload()), ("Hello", "Hello", &b"\x02enHello"[..]));
+    assert_eq!(message, b"\xD1\x01\x08T\x02enHello");
+}
+
+#[test]
+fn a_megabyte_is_read_and_written() {
+    let text = "a".repeat(1048576 - 3);
+    let bytes = MessageBuilder::new()
+        .record(Text::new("en", &text).unwrap())
+        .record(NewRecord::empty())
+        .chunk(NonZeroU32::new(65536).unwrap())
+        .build()
+        .unwrap();
+    let message = Message::parse(&bytes).unwrap();
+    let record = message.records().next().unwrap();
+    assert_eq!((record.pieces(), record.payload_len(), message.record_count()), (16, 1048576, 2));
+    let Ok(Payload::Text(read)) = record.decode() else { panic!("{record:?}") };
+    assert!(read.text() == text && read.into_text() == text);
+    let mut wrong = bytes.clone();
+    let last = wrong.len() - 2;
+    wrong[last] = 1;
+    assert_eq!(check(&wrong, &Limits::new()), Err(Refusal { at: last as u64, reason: Reason::EmptyNotEmpty }));
+    let mut checker = Checker::new(&Limits::new());
+    let fed: Vec<_> = bytes.chunks(999).map(|part| checker.feed(part).unwrap()).collect();
+    assert!(fed[..fed.len() - 1].iter().all(Option::is_none));
+    assert_eq!(fed.last().unwrap().map(|checked| checked.length), Some(bytes.len() as u64));
+}
+
+#[test]
+fn eight_threads_read_and_write() {
+    std::thread::scope(|scope| {
+        for letter in "abcdefgh".chars() {
+            scope.spawn(move || {
+                for count in 1..500 {
+                    let text = letter.to_string().repeat(count % 20);
+                    let bytes = MessageBuilder::new().record(Text::new("en", &text).unwrap()).build().unwrap();
+                    let Payload::Text(read) =
+                        Message::parse(&bytes).unwrap().records().next().unwrap().decode().unwrap()
+                    else {
+                        panic!("{bytes:?}")
+                    };
+                    assert_eq!(read.text(), text);
+                }
+            });
+        }
+    });
+}
+
+/// Two titles in a language, two carriers, two handovers and two messages: which one is told.
+#[test]
+fn two_of_each_are_told_in_order() {
+    let poster = SmartPoster::builder("a").title("en", "1").title("EN", "2").action(Action::Save).action(Action::Open);
+    let poster = poster.size(3).size(4).media_type("a/b").media_type("c/d").icon("image/a", b"5").icon("image/a", b"6");
+    let poster = poster.build().unwrap();
+    assert_eq!((poster.title("En").unwrap().text(), poster.titles().count()), ("1".into(), 2));
+    assert_eq!((poster.action(), poster.size(), poster.media_type()), (Some(Action::Save), Some(3), Some("a/b")));
+    assert_eq!(poster.icons().map(|icon| icon.data).collect::<Vec<_>>(), [b"5", b"6"]);
+    let select = HandoverSelect::builder(3).error(1, 7).error(3, 8).build().unwrap();
+    assert_eq!((select.error().unwrap().reason, select.error().unwrap().number), (1, Some(7)));
+    let first =
+        MessageBuilder::new().record(select).record(HandoverSelect::builder(4).build().unwrap()).build().unwrap();
+    let mut input = [&first[..], b"\xD0\0\0"].concat();
+    let message = Message::parse(&input).unwrap();
+    assert_eq!((message.links().unwrap().count(), message.record_count(), message.rest()), (0, 2, &b"\xD0\0\0"[..]));
+    let mut reader = &input[..];
+    assert_eq!(read_message(&mut reader, &Limits::new()).unwrap().unwrap(), first);
+    assert_eq!(read_message(&mut reader, &Limits::new()).unwrap().unwrap(), b"\xD0\0\0");
+    assert!(read_message(&mut reader, &Limits::new()).unwrap().is_none());
+    input.truncate(3);
+    assert!(Message::parse(&input).unwrap_err().is_incomplete());
+}
+
+#[test]
+fn what_is_debugged_names_its_parts() {
+    let carrier = HandoverCarrier::new(2, b"a/b", b"\0").unwrap();
+    assert_eq!(format!("{carrier:?}"), r#"HandoverCarrier { format: 2, kind: b"a/b", data: b"\x00" }"#);
+    let select = HandoverSelect::builder(2).alternative(PowerState::Active, b"0", &[b"1"]).build().unwrap();
+    let debug = r#"[AlternativeCarrier { power: Active, reference: b"0", auxiliaries: [b"1"] }]"#;
+    assert_eq!(format!("{:?}", select.alternatives()), debug);
+    assert_eq!(format!("{:?}", Text::new("en", "a").unwrap()), r#"Text { payload: b"\x02ena" }"#);
+    assert_eq!(format!("{:?}", Uri::new("tel:1").unwrap()), r#"Uri { payload: b"\x051" }"#);
+    let record = Message::parse(b"\xB2\x01\x01ax\x56\0\x01y").unwrap().records().next().unwrap();
+    assert_eq!(format!("{:?}", record.chunks()), r#"[b"x", b"y"]"#);
+    assert_eq!(
+        format!("{:?}", Fields::of(b"\xD0", &Limits::new())),
+        "[Field { at: 0, bytes: [208], depth: 0, name: Header }]"
+    );
+    assert!(format!("{:?}", Checker::new(&Limits::new())).starts_with("Checker"));
+}
+
+#[test]
+fn values_in_rooms_are_those_in_memory() {
+    let room = &mut [0xA5; 20];
+    let text = Text::new_in("de", "Ja", Encoding::Utf16, room).unwrap();
+    assert_eq!((text.payload(), text.encoding()), (&b"\x82de\xFE\xFF\0J\0a"[..], Encoding::Utf16));
+    let room = &mut [0xA5; 20];
+    let uri = Uri::new_in("https://www.a", room).unwrap();
+    assert_eq!((uri.payload(), uri.uri_len(), uri.to_uri()), (&b"\x02a"[..], 13, "https://www.a".into()));
+    let room = &mut [0xA5; 20];
+    let carrier = HandoverCarrier::new_in(7, b"a/b", b"data", room).unwrap();
+    assert_eq!((carrier.payload(), carrier.format(), carrier.data()), (&b"\x07\x03a/bdata"[..], 7, &b"data"[..]));
+    let records = [NewRecord::from(text), NewRecord::from(uri).with_id(b"i"), NewRecord::from(carrier)];
+    let mut written = [0xA5; 60];
+    let count = encode(&records, Form::default(), &mut written).unwrap();
+    let message = Message::parse(&written[..count]).unwrap();
+    let kinds: Vec<_> = message.records().map(|record| record.payload_kind(PayloadKind::Other)).collect();
+    assert_eq!(kinds, [PayloadKind::Text, PayloadKind::Uri, PayloadKind::HandoverCarrier]);
+    assert_eq!(message.record_with_id(b"i").unwrap().place(), 13);
 }

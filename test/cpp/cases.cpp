@@ -113,7 +113,7 @@ static bool is_field(const ndef::fields &fields, std::size_t at, const ndef::fie
 /// Whether an array of the caller gets the same fields, each with the numbers that ndef_fields writes, and one element
 /// fewer is too few. Nothing is allocated.
 static bool are_in_an_array(const ndef::fields &fields, ndef::bytes input, const ndef_limits &limits) {
-    const auto before = allocations;
+    const unsigned long before = allocations;
     const auto all = ndef::fields::in(told, std::size(told), input, limits);
     if (!all || all->size() != fields.size() || all->after().what != fields.after().what) return false;
     std::size_t index = 0;
@@ -169,7 +169,7 @@ static bool is_answered(const std::vector<std::string> &fields, bool is_standard
     if (is_accepted) wanted = {NDEF_OK, {}, wanted.place, rows.size()};
     if (told[0] == "refused") wanted.why = static_cast<ndef::reason>(std::stoul(told[2]));
 
-    const auto before = allocations;
+    const unsigned long before = allocations;
     bool holds = at_once(input, limits) == wanted;
     for (std::size_t cut = 0; cut <= input.size(); cut += 1 + input.size() / 64)
         holds = holds && in_parts(input, limits, cut) == wanted;

@@ -4,6 +4,7 @@
 
 #include "ndef.hpp"
 
+#include <atomic>
 #include <cstdio>
 #include <cstdlib>
 #include <iostream>
@@ -11,15 +12,15 @@
 #include <string>
 #include <vector>
 
-inline unsigned long allocations;
+inline std::atomic<unsigned long> allocations;
 
-void *operator new(std::size_t size) {
-    allocations++;
+[[gnu::noinline]] void *operator new(std::size_t size) {
+    ++allocations;
     if (void *memory = std::malloc(size ? size : 1)) return memory;
     std::abort();
 }
-void operator delete(void *memory) noexcept { std::free(memory); }
-void operator delete(void *memory, std::size_t) noexcept { std::free(memory); }
+[[gnu::noinline]] void operator delete(void *memory) noexcept { std::free(memory); }
+[[gnu::noinline]] void operator delete(void *memory, std::size_t) noexcept { std::free(memory); }
 
 /// The columns of a case.
 enum column { LANGUAGES = 4, PROFILE, LIMITS, BYTES, ANSWER, RECORDS };

@@ -1,17 +1,15 @@
-// Looks at every member of every answer of ndef.hpp beside what the call of ndef.h tells: over the cases of the suite, a line
-// each, each also with single bytes changed and cut off, and each payload read as every
-// type. Then the short code of the headers themselves. Prints what differs.
-#include "lines.hpp"
+// Looks at every member of every answer of ndef.hpp beside what the call of ndef.h tells: over the cases of the suite,
+// a line each, each also with single bytes changed and cut off; over what the fuzzer found; and over random messages.
+// Each payload is read as every type. Then the calls that write, and the short code of the headers themselves. Prints
+// what differs.
+//
+//     members CORPUS [COUNT] <LINES
+#include "look.hpp"
+#include "random.hpp"
+
+#include <fstream>
 
 static std::uint8_t first_room[1 << 21], second_room[1 << 21];
-static unsigned long compared, differ;
-
-/// Counts a comparison, and prints the line of the source where it doesn't hold.
-static void look(bool holds, int line) {
-    compared++;
-    if (!holds && differ++ < 20) std::cout << "members.cpp:" << line << '\n';
-}
-#define LOOK(holds) look((holds), __LINE__)
 
 /// The flags of a profile, and whether a result is what a call answered.
 static std::uint32_t flags_of(ndef::profile how) { return how == ndef::profile::standard ? NDEF_STANDARD : 0; }
@@ -19,16 +17,9 @@ template <class Result> static bool is_answer(const Result &told, std::uint32_t 
     if (told) return answer == NDEF_OK;
     const ndef::error &error = told.error();
     const bool refused = answer == NDEF_REFUSED;
-    return error.what == static_cast<ndef::status>(answer) && error.why == (refused ? static_cast<int>(why.reason) : 0) &&
-        error.place == (refused ? why.place : 0) && error.needed == 0;
-}
-
-/// Whether bytes are a part of others, in place.
-static bool is_part(ndef::bytes told, ndef::bytes whole, ndef_size at, ndef_size length) {
-    return told.size() == length && told.data() == whole.data() + at;
-}
-static bool is_part(std::string_view told, ndef::bytes whole, ndef_size at, ndef_size length) {
-    return is_part(ndef::bytes(told), whole, at, length);
+    return error.what == static_cast<ndef::status>(answer) &&
+           error.why == (refused ? static_cast<int>(why.reason) : 0) && error.place == (refused ? why.place : 0) &&
+           error.needed == 0;
 }
 
 /// Whether bytes that C++ wrote are those that a call writes: call(room, size, count).
@@ -72,6 +63,21 @@ static void uris(ndef::bytes payload, ndef::profile how) {
     LOOK(utf8 && ndef::bytes(*utf8) == wanted && ndef::bytes(told->str()) == wanted);
 }
 
+/// The records of the message within a payload of a kind: each as ndef_record_at tells it, and what its own payload is
+/// there.
+static void within(const ndef::message &records, ndef::bytes bytes, ndef::kind kind) {
+    ndef_size at = 0, count = 0;
+    ndef_record c = {};
+    for (ndef::record one : records) {
+        LOOK(ndef_record_at(bytes.data(), bytes.size(), at, &c) == NDEF_OK && one.place() == at &&
+             is_part(one.type(), bytes, c.type_at, c.type_length));
+        LOOK(one.kind(kind) ==
+             static_cast<ndef::kind>(ndef_kind(bytes.data(), bytes.size(), &c, static_cast<std::uint32_t>(kind))));
+        at = c.end, count++;
+    }
+    LOOK(records.record_count() == count && (count == 0 || c.last));
+}
+
 static void posters(ndef::bytes payload, ndef::profile how) {
     static ndef_text_parts titles[4096];
     static ndef_icon icons[4096];
@@ -110,7 +116,8 @@ static void posters(ndef::bytes payload, ndef::profile how) {
         LOOK(at < count && is_part(icon.data, payload, icons[at].data.at, icons[at].data.length));
         at++;
     }
-    LOOK(at == count);
+    LOOK(at == count && is_part(told->records().octets(), payload, 0, payload.size()));
+    within(told->records(), payload, NDEF_KIND_SMART_POSTER);
 }
 
 static void carriers(ndef::bytes payload) {
@@ -166,6 +173,9 @@ template <class View> static void links(const View &view, ndef::bytes whole, nde
         LOOK(!one.has_record || link.record->place() == one.record_at);
     }
     LOOK(at == count && view.links(message).size() == count);
+    static ndef_link room[4096];
+    const auto in = view.links(room, 4096, message);
+    LOOK(in ? answer == NDEF_OK && in->size() == count : in.error().what == static_cast<ndef::status>(answer));
     LOOK(is_part(view.records().octets(), payload, 1, payload.size() - 1));
 }
 
@@ -178,15 +188,19 @@ static void handovers(ndef::bytes payload, ndef::profile how, ndef::bytes whole)
         LOOK(request->major_version() == c.major && request->minor_version() == c.minor);
         LOOK(request->collision() == c.collision && request->carrier_count() == c.carriers);
         links(*request, whole, payload);
+        within(request->records(), payload.from(1), NDEF_KIND_REQUEST);
     }
     ndef_select_parts d = {};
     const auto select = ndef::select::read(payload, how);
     LOOK(is_answer(select, ndef_select(payload.data(), payload.size(), flags_of(how), &d, &why), why));
     if (!select) return;
-    LOOK(select->major_version() == d.major && select->minor_version() == d.minor && select->carrier_count() == d.carriers);
-    LOOK(select->error_reason().has_value() == (d.has_error == 1) && (!d.has_error || *select->error_reason() == d.error));
+    LOOK(select->major_version() == d.major && select->minor_version() == d.minor &&
+         select->carrier_count() == d.carriers);
+    LOOK(select->error_reason().has_value() == (d.has_error == 1) &&
+         (!d.has_error || *select->error_reason() == d.error));
     LOOK(is_part(select->error_data(), payload, d.detail_at, d.detail_length));
     links(*select, whole, payload);
+    within(select->records(), payload.from(1), NDEF_KIND_SELECT);
 }
 
 static void payloads(ndef::bytes payload, ndef::bytes whole) {
@@ -201,7 +215,30 @@ static void payloads(ndef::bytes payload, ndef::bytes whole) {
     }
 }
 
-/// A record as ndef_record_at tells it, read as every type and written again in every form.
+/// A record read as a View in each profile: what View::read says of its whole payload, if the record has that type.
+template <class View> static void read_as(const ndef::record &one, ndef::bytes payload) {
+    for (ndef::profile how : {ndef::profile::strict, ndef::profile::standard}) {
+        ndef::room room(first_room);
+        const auto wanted = View::read(payload, how);
+        const auto told = one.as<View>(room, how);
+        const auto in_place = one.as<View>(how);
+        if (!one.is(View::type_name)) {
+            LOOK(!told && told.error().what == NDEF_BAD_ARGUMENT && !in_place &&
+                 in_place.error().what == NDEF_BAD_ARGUMENT);
+            continue;
+        }
+        LOOK(told ? wanted && told->payload() == payload
+                  : !wanted && told.error().place == wanted.error().place && told.error().why == wanted.error().why);
+        if (one.payload()) LOOK(in_place.has_value() == wanted.has_value());
+        else
+            LOOK(!in_place && in_place.error().what == NDEF_NO_ROOM && in_place.error().needed == payload.size());
+    }
+    ndef::room room(first_room);
+    LOOK(one.as<View>(room).has_value() == one.as<View>(room, ndef::profile::strict).has_value());
+    LOOK(one.as<View>().has_value() == one.as<View>(ndef::profile::strict).has_value());
+}
+
+/// A record as ndef_record_at tells it, read as every type.
 static void record(ndef::bytes whole, const ndef::record &one, const ndef_record &c) {
     LOOK(one.place() == c.at && one.parts().end == c.end && one.is_last() == (c.last == 1) && one.chunks() == c.pieces);
     LOOK(one.format() == static_cast<ndef::tnf>(c.tnf) && one.payload_size() == c.payload_length);
@@ -216,9 +253,61 @@ static void record(ndef::bytes whole, const ndef::record &one, const ndef_record
     const auto told = one.payload(room);
     LOOK(told && *told == payload && one.payload_string() == payload.text());
     LOOK(one.payload().has_value() == (c.pieces == 1 || count == 0));
-    LOOK(one.as<ndef::text>(room).has_value() == (one.is("T") && ndef::text::read(payload).has_value()));
-    LOOK(one.as<ndef::uri>(room).has_value() == (one.is("U") && ndef::uri::read(payload).has_value()));
+    LOOK(one.chunks() == 1 ? room.size() == sizeof first_room : room.size() == sizeof first_room - payload.size());
+    LOOK(one.payload() ||
+         (one.payload().error().what == NDEF_NO_ROOM && one.payload().error().needed == payload.size()));
+    for (const ndef::kind kind : {NDEF_KIND_OTHER, NDEF_KIND_SMART_POSTER, NDEF_KIND_SELECT, NDEF_KIND_ERROR})
+        LOOK(one.kind(kind) ==
+             static_cast<ndef::kind>(ndef_kind(whole.data(), whole.size(), &c, static_cast<std::uint32_t>(kind))));
+    LOOK(one.kind() == one.kind(NDEF_KIND_OTHER));
+    read_as<ndef::text>(one, payload);
+    read_as<ndef::uri>(one, payload);
+    read_as<ndef::poster>(one, payload);
+    read_as<ndef::request>(one, payload);
+    read_as<ndef::select>(one, payload);
+    read_as<ndef::carrier>(one, payload);
+    read_as<ndef::alternative>(one, payload);
+    read_as<ndef::handover_error>(one, payload);
     payloads(payload, whole);
+}
+
+/// Whether a record that was found, or why there is none, is what a call answered.
+static bool is_found(const ndef::result<ndef::record> &told, std::uint32_t answer, const ndef_record &c) {
+    return told ? answer == NDEF_OK && told->place() == c.at && told->parts().end == c.end &&
+                      told->parts().type_at == c.type_at
+                : is_answer(told, answer, {});
+}
+
+/// What finds records, by their id and by their type, and at places.
+static void finds(const ndef::message &message, ndef::bytes whole) {
+    ndef_record c = {};
+    for (const std::string_view id : {"0", "12", ""}) {
+        const std::uint32_t answer = ndef_find_id(whole.data(), whole.size(), 0, ndef::bytes(id).data(), id.size(), &c);
+        LOOK(is_found(message.find_id(id), answer, c));
+    }
+    for (const std::string_view type : {"T", "text/plain", ""})
+        for (const ndef::tnf format : {NDEF_TNF_EMPTY, NDEF_TNF_WELL_KNOWN, NDEF_TNF_MEDIA}) {
+            const std::uint32_t answer =
+                ndef_find_type(whole.data(), whole.size(), 0, static_cast<std::uint32_t>(format),
+                               ndef::bytes(type).data(), type.size(), &c);
+            LOOK(is_found(message.find(format, type), answer, c));
+            if (format == NDEF_TNF_WELL_KNOWN) LOOK(is_found(message.find(type), answer, c));
+        }
+    for (const std::size_t place : {std::size_t{0}, std::size_t{1}, whole.size() / 2, whole.size(), whole.size() + 1}) {
+        const std::uint32_t answer = ndef_record_at(whole.data(), whole.size(), place, &c);
+        LOOK(is_found(ndef::record::at(whole, place), answer, c));
+    }
+}
+
+/// The message written again, as ndef_rewrite writes it.
+static void rewrites(const ndef::message &message, ndef::bytes whole) {
+    const auto octets_of = [](const ndef::message &made) { return made.octets(); };
+    for (const std::uint32_t flags : {0, 0 + NDEF_WRITE_LONG}) {
+        ndef::room room(first_room);
+        const auto wanted = [&](auto... to) { return ndef_rewrite(whole.data(), whole.size(), flags, to...); };
+        LOOK(is_written(ndef::rewrite(room, message, flags != 0).transform(octets_of), wanted));
+        if (!flags) LOOK(is_written(ndef::rewrite(room, message).transform(octets_of), wanted));
+    }
 }
 
 static void records(ndef::bytes whole) {
@@ -234,11 +323,8 @@ static void records(ndef::bytes whole) {
     }
     LOOK(index == 0 || c.last || ndef_record_at(whole.data(), whole.size(), at, &c) != NDEF_OK);
     LOOK(message.record_count() == index);
-    for (const char *id : {"0", "a", ""}) {
-        const std::uint32_t answer = ndef_find_id(whole.data(), whole.size(), 0, ndef::bytes(std::string_view(id)).data(), *id != 0, &c);
-        const auto found = message.find_id(id);
-        LOOK(found ? answer == NDEF_OK && found->place() == c.at : found.error().what == static_cast<ndef::status>(answer));
-    }
+    finds(message, whole);
+    rewrites(message, whole);
 }
 
 static void checks(ndef::bytes whole, const ndef_limits &limits) {
@@ -253,55 +339,121 @@ static void checks(ndef::bytes whole, const ndef_limits &limits) {
     for (ndef::bytes part : {whole.part(0, half), whole.from(half), ndef::bytes()}) {
         const auto fed = checker.feed(part);
         const std::uint32_t answer = ndef_feed(&state, part.data(), part.size(), &c);
-        LOOK(fed ? fed->has_value() == (answer == NDEF_OK) : is_answer(fed, answer, c));
+        LOOK(fed ? static_cast<ndef::status>(answer) == (*fed ? NDEF_OK : NDEF_MORE) : is_answer(fed, answer, c));
         LOOK(!fed || !*fed || ((*fed)->size == c.place && (*fed)->records == c.records));
     }
     LOOK(whole.from(half).size() == whole.size() - half && whole.from(half).data() == whole.data() + half);
 }
 
+/// The fields of bytes as ndef_fields tells them, each also found by a place in it, as ndef_field_at finds it.
+static void fields(ndef::bytes whole, const ndef_limits &limits) {
+    static ndef_field wanted[1 << 14];
+    ndef_size count = 0;
+    ndef_checked why = {};
+    const std::uint32_t answer =
+        ndef_fields(whole.data(), whole.size(), &limits, wanted, std::size(wanted), &count, &why);
+    const ndef::fields told(whole, limits);
+    const ndef::error &after = told.after();
+    LOOK(after.what == static_cast<ndef::status>(answer == NDEF_OK ? static_cast<std::uint32_t>(NDEF_END) : answer));
+    LOOK(after.why == (answer == NDEF_REFUSED ? static_cast<int>(why.reason) : 0) &&
+         after.place == (answer == NDEF_REFUSED ? why.place : 0));
+    LOOK(after.needed == 0);
+    if (answer != NDEF_OK && answer != NDEF_REFUSED) count = 0;
+    ndef_size index = 0;
+    for (ndef::field one : told) {
+        if (index == count) break;
+        const ndef_field &c = wanted[index++];
+        LOOK(one.at == c.at && one.depth == c.depth && one.name == static_cast<ndef::field_name>(c.name));
+        LOOK(is_part(one.octets, whole, c.at, c.length));
+        const auto first = told.at(c.at), last = told.at(c.at + c.length - 1);
+        LOOK(first && first->at == c.at && last && last->at == c.at && last->name == one.name);
+    }
+    LOOK(index == count && told.size() == count);
+    for (const std::size_t place : {std::size_t{0}, whole.size() / 2, whole.size(), whole.size() + 7}) {
+        ndef_field c = {};
+        const std::uint32_t found = ndef_field_at(whole.data(), whole.size(), &limits, place, &c, &why);
+        const auto at = told.at(place);
+        LOOK(at ? found == NDEF_OK && at->at == c.at && at->octets.size() == c.length
+                : at.error().what == static_cast<ndef::status>(found));
+    }
+}
+
+/// How the messages were answered that were looked at.
+static unsigned long taken, refused, cut_off, chunked;
+
+static void message(ndef::bytes whole, const ndef_limits &limits) {
+    const auto told = ndef::message::check(whole, limits);
+    taken += told.has_value();
+    refused += !told && told.error().what == NDEF_REFUSED;
+    cut_off += !told && told.error().why == NDEF_REASON_END_OF_INPUT;
+    if (told)
+        for (ndef::record one : *told)
+            if (one.chunks() > 1) {
+                chunked++;
+                break;
+            }
+    checks(whole, limits);
+    fields(whole, limits);
+    records(whole);
+}
+
 /// The bytes of a line, and the same with a byte changed or cut off.
-static void line(const std::vector<std::uint8_t> &bytes) {
-    static std::uint32_t random = 1;
-    std::vector<std::uint8_t> changed = bytes;
+static void line(const octets &bytes) {
+    static dice dice(1);
+    octets changed = bytes;
     for (int round = 0; round < 12; round++) {
         ndef::limits limits;
         limits.flags = round % 3 == 1 ? NDEF_STANDARD : round % 3 == 2 ? NDEF_OPAQUE : 0;
         if (round % 4 == 3) limits.records = 2, limits.pieces = 2, limits.payload = 9;
-        checks(changed, limits);
-        records(changed);
+        message(changed, limits);
         if (bytes.empty() || bytes.size() > 4096) return;
         changed = bytes;
-        random = random * 1664525 + 1013904223;
-        if (round % 3) changed[(random >> 8) % bytes.size()] = static_cast<std::uint8_t>(random >> 24);
-        else changed.resize((random >> 8) % bytes.size());
+        if (round % 3) changed[dice.below(bytes.size())] = dice.octet();
+        else
+            changed.resize(dice.below(bytes.size()));
     }
+}
+
+/// An input of the fuzzer: two bytes that choose how it is read, and the message.
+static void input(const octets &bytes) {
+    if (bytes.size() < 2) return;
+    ndef::limits limits;
+    limits.flags = bytes[0] & 3u;
+    if (bytes[0] & 4) limits.records = 2, limits.pieces = 2, limits.payload = 16;
+    message(ndef::bytes(bytes).from(2), limits);
 }
 
 /// Each call that writes, with numbers and bytes of its whole range and beyond.
 static void writers() {
     const ndef::bytes data = std::string_view("data"), parts_of = std::string_view("referenceaux");
     const ndef_part parts[] = {{0, 9}, {9, 3}};
-    for (std::uint32_t number : {0u, 1u, 2u, 3u, 4u, 7u, 8u, 15u, 16u, 255u, 256u, 1000u, 65535u, 65536u, 0x12345678u, 0xffffffffu}) {
+    for (std::uint32_t number :
+         {0u, 1u, 2u, 3u, 4u, 7u, 8u, 15u, 16u, 255u, 256u, 1000u, 65535u, 65536u, 0x12345678u, 0xffffffffu}) {
         ndef::room room(first_room);
-        LOOK(is_written(ndef::write_action(room, static_cast<ndef::action>(number)), [=](auto... to) { return ndef_write_action(number, to...); }));
+        LOOK(is_written(ndef::write_action(room, static_cast<ndef::action>(number)),
+                        [=](auto... to) { return ndef_write_action(number, to...); }));
         LOOK(is_written(ndef::write_size(room, number), [=](auto... to) { return ndef_write_size(number, to...); }));
-        LOOK(is_written(ndef::write_collision(room, number), [=](auto... to) { return ndef_write_collision(number, to...); }));
-        LOOK(is_written(ndef::write_error(room, number, data), [=](auto... to) { return ndef_write_error(number, data.data(), 4, to...); }));
-        LOOK(is_written(ndef::write_error_number(room, number, 7), [=](auto... to) { return ndef_write_error_number(number, 7, to...); }));
-        LOOK(is_written(ndef::write_error_number(room, 2, number), [=](auto... to) { return ndef_write_error_number(2, number, to...); }));
+        LOOK(is_written(ndef::write_collision(room, number),
+                        [=](auto... to) { return ndef_write_collision(number, to...); }));
+        LOOK(is_written(ndef::write_error(room, number, data),
+                        [=](auto... to) { return ndef_write_error(number, data.data(), 4, to...); }));
+        LOOK(is_written(ndef::write_error_number(room, number, 7),
+                        [=](auto... to) { return ndef_write_error_number(number, 7, to...); }));
+        LOOK(is_written(ndef::write_error_number(room, 2, number),
+                        [=](auto... to) { return ndef_write_error_number(2, number, to...); }));
         LOOK(is_written(ndef::write_carrier(room, number, "a/b", data), [=](auto... to) {
             return ndef_write_carrier(number, ndef::bytes(std::string_view("a/b")).data(), 3, data.data(), 4, to...);
         }));
-        LOOK(is_written(ndef::write_alternative(room, static_cast<ndef::power>(number), parts_of, parts, 2), [&](auto... to) {
-            return ndef_write_alternative(number, parts_of.data(), parts_of.size(), parts, 2, to...);
-        }));
+        LOOK(is_written(ndef::write_alternative(room, static_cast<ndef::power>(number), parts_of, parts, 2),
+                        [&](auto... to) {
+                            return ndef_write_alternative(number, parts_of.data(), parts_of.size(), parts, 2, to...);
+                        }));
         for (ndef::handover which : {ndef::handover::request, ndef::handover::select})
             LOOK(is_written(ndef::write_handover(room, which, 1, number, ndef::bytes()), [=](auto... to) {
                 return ndef_write_handover(static_cast<std::uint32_t>(which), 1, number, nullptr, 0, to...);
             }));
-        LOOK(is_written(ndef::write_handover(room, ndef::handover::select, number, 2, ndef::bytes()), [=](auto... to) {
-            return ndef_write_handover(NDEF_SELECT, number, 2, nullptr, 0, to...);
-        }));
+        LOOK(is_written(ndef::write_handover(room, ndef::handover::select, number, 2, ndef::bytes()),
+                        [=](auto... to) { return ndef_write_handover(NDEF_SELECT, number, 2, nullptr, 0, to...); }));
     }
     const ndef_poster_writing poster = {{0, 9}, {9, 3}, 1, 1, 200, 1, 0x12345678};
     const ndef_title_writing titles[] = {{{9, 2}, {0, 4}, 0}, {{9, 3}, {0, 9}, 1}};
@@ -327,8 +479,8 @@ static void built() {
             const std::uint32_t form = is_long ? NDEF_WRITE_LONG : 0, ends = NDEF_WRITE_FIRST | NDEF_WRITE_LAST;
             const ndef_writing how = {NDEF_TNF_EXTERNAL, ends | form, chunk};
             const auto wanted = [&](auto... to) {
-                return ndef_write_record(ndef::bytes(std::string_view("a:b")).data(), 3, ndef::bytes(id).data(), 2, ndef::bytes(data).data(),
-                                         data.size(), &how, to...);
+                return ndef_write_record(ndef::bytes(std::string_view("a:b")).data(), 3, ndef::bytes(id).data(), 2,
+                                         ndef::bytes(data).data(), data.size(), &how, to...);
             };
             LOOK(made && is_written(made->octets(), wanted));
             static std::uint8_t other[256];
@@ -346,7 +498,8 @@ static void built() {
     LOOK(ndef::well_known("T", {}).format == NDEF_TNF_WELL_KNOWN && ndef::media("a/b", {}).format == NDEF_TNF_MEDIA);
     LOOK(ndef::external("a:b", {}).format == NDEF_TNF_EXTERNAL);
     const auto media = ndef::write_message(room, {ndef::media("T", std::string_view("\2enHi"))});
-    LOOK(media && !media->begin()->as<ndef::text>() && media->begin()->as<ndef::text>().error().what == NDEF_BAD_ARGUMENT);
+    LOOK(media && !media->begin()->as<ndef::text>() &&
+         media->begin()->as<ndef::text>().error().what == NDEF_BAD_ARGUMENT);
 }
 
 /// Results, bytes, rooms and names.
@@ -361,34 +514,52 @@ static void basics() {
         LOOK(error.what == NDEF_REFUSED && error.why == NDEF_REASON_UTF8 && error.place == 7 && error.needed == 0);
     const std::string many(1000, 'x');
     const ndef::bytes all(many);
-    LOOK(all == ndef::bytes(many) && all != all.part(0, 999) && all != ndef::bytes(std::string_view("x")) && !(all == all.from(1)));
-    LOOK(ndef::bytes(std::string_view("ab")) != ndef::bytes(std::string_view("ac")) && ndef::bytes() == ndef::bytes(std::string_view("")));
+    LOOK(all == ndef::bytes(many) && all != all.part(0, 999) && all != ndef::bytes(std::string_view("x")) &&
+         !(all == all.from(1)));
+    LOOK(ndef::bytes(std::string_view("ab")) != ndef::bytes(std::string_view("ac")) &&
+         ndef::bytes() == ndef::bytes(std::string_view("")));
     LOOK(all.from(999).size() == 1 && all.from(1000).empty() && all.from(1001).empty() && all.part(998, 5).size() == 2);
     ndef::room room(first_room, 5);
-    LOOK(room.take(3).size() == 3 && room.size() == 2 && room.data() == first_room + 3 && room.take(9).size() == 2 && room.size() == 0);
-    char text[64];
+    LOOK(room.take(3).size() == 3 && room.size() == 2 && room.data() == first_room + 3 && room.take(9).size() == 2 &&
+         room.size() == 0);
+    char text[80];
     ndef_size count = 0;
-    const auto named = [&](std::uint32_t answer) { return answer == NDEF_OK ? std::string(text, static_cast<std::size_t>(count)) : std::string(); };
+    const auto named = [&](std::uint32_t answer) {
+        return answer == NDEF_OK ? std::string(text, static_cast<std::size_t>(count)) : std::string();
+    };
     std::uint8_t *memory = reinterpret_cast<std::uint8_t *>(text);
     for (std::uint32_t value = 0; value < 32; value++) {
         const auto status = static_cast<ndef::status>(value % 8);
-        LOOK(ndef::to_string(status) == named(ndef_status_name(status, memory, 64, &count)));
-        LOOK(ndef::to_string(static_cast<ndef::reason>(value)) == named(ndef_reason_name(value, memory, 64, &count)));
-        LOOK(ndef::to_string(static_cast<ndef::field_name>(value)) == named(ndef_field_name(value, memory, 64, &count)));
+        LOOK(ndef::to_string(status) == named(ndef_status_name(status, memory, sizeof text, &count)));
+        LOOK(ndef::to_string(static_cast<ndef::reason>(value)) ==
+             named(ndef_reason_name(value, memory, sizeof text, &count)));
+        LOOK(ndef::sentence(static_cast<ndef::reason>(value)) ==
+             named(ndef_reason_sentence(value, memory, sizeof text, &count)));
+        LOOK(ndef::error{NDEF_REFUSED, static_cast<ndef::reason>(value), 0, 0}.sentence() ==
+             ndef::sentence(static_cast<ndef::reason>(value)));
+        LOOK(ndef::to_string(static_cast<ndef::field_name>(value)) ==
+             named(ndef_field_name(value, memory, sizeof text, &count)));
     }
 }
 
-int main() {
+int main(int count, char **words) {
     std::string text;
-    unsigned long lines = 0;
+    unsigned long lines = 0, inputs = 0;
     while (std::getline(std::cin, text)) {
         if (text.empty() || text[0] == '#') continue;
         line(from_hex(split(text, '|')[BYTES]));
         lines++;
     }
+    for (std::ifstream corpus(count > 1 ? words[1] : ""); std::getline(corpus, text); inputs++) input(from_hex(text));
+    dice dice(88172645463325252u);
+    const unsigned long most = count > 2 ? std::stoul(words[2]) : 100000;
+    for (unsigned long made = 0; made < most; made++) message(random_message(dice), random_limits(dice));
     writers();
     built();
     basics();
-    std::cout << "lines " << lines << ", comparisons " << compared << ", differ " << differ << '\n';
-    return differ || !lines;
+    std::cout << "lines " << lines << ", inputs " << inputs << ", random messages " << most << ", taken " << taken
+              << ", refused " << refused << ", cut off " << cut_off << ", in chunks " << chunked << ", comparisons "
+              << compared << ", differ " << differ << '\n';
+    return differ || !lines || !inputs || taken < most / 8 || refused < most / 8 || cut_off < most / 50 ||
+           chunked < most / 50;
 }

@@ -137,7 +137,7 @@ static bool has_rest(const std::string &type, const std::string &value) {
 
 template <class View> bool is_told(const std::vector<std::string> &fields) {
     const auto payload = from_hex(fields[PAYLOAD]);
-    const auto before = allocations;
+    const unsigned long before = allocations;
     const auto view = View::read(payload, profile);
     if (allocations != before) return false;
     if (!view) {
@@ -191,7 +191,7 @@ static bool are_linked() {
     const auto message = ndef::write_message(room, {ndef::well_known("Hr", *payload), ndef::media("a/b", data, "a"),
                                                     ndef::media("a/b", data.substr(0, 7), "b")});
     if (!message || message->record_count() != 3) return false;
-    const auto before = allocations;
+    const unsigned long before = allocations;
     const auto request = message->begin()->as<ndef::request>();
     if (!request || request->carrier_count() != 2 || request->collision() != 4660) return false;
     ndef_link array[2];
@@ -286,7 +286,7 @@ static bool has_icons_and_titles() {
     const auto made = ndef::write_message(room, {ndef::well_known("U", uri), ndef::well_known("T", german),
                                                  ndef::media("image/png", image), ndef::well_known("T", english),
                                                  ndef::external("a:b", image), ndef::media("video/x", ndef::bytes())});
-    const auto before = allocations;
+    const unsigned long before = allocations;
     const auto poster = ndef::poster::read(made->octets());
     if (!poster) return false;
     const auto yes = poster->title("EN"), ja = poster->title("de"), none = poster->title("fr");

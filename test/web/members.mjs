@@ -1,8 +1,10 @@
-// node test/web/members.mjs: every member of every answer of ndef.js beside what the calls of ndef.wasm tell, whose structs are
-// read here anew by include/ndef.h: over the cases of the suite, given as lines on standard input, each also with bytes changed
-// and cut off, and each payload read as every type. Prints 'N passed, M failed'.
+// node test/web/members.mjs [COUNT]: every member of every answer of ndef.js beside what the calls of ndef.wasm tell, whose
+// structs are read here anew by include/ndef.h: over the cases of the suite, given as lines on standard input, each also with
+// bytes changed and cut off; over what the fuzzer found; and over this many random messages. Each payload is read as every type.
+// Prints 'N passed, M failed'.
 import { readFileSync } from "node:fs";
 import { Ndef } from "../../out/web/ndef.js";
+import { below, randomLimits, randomMessage } from "./random.mjs";
 
 const code = readFileSync(new URL("../../out/web/ndef.wasm", import.meta.url));
 const ndef = await Ndef.load(code);
@@ -11,22 +13,36 @@ const base = (Number(c.__heap_base.value) + 15) & ~15;
 const OUT = 64, WHY = 256, COUNT = 320, ARRAY = 8192, INPUT = 1 << 20, ROOM = 3 << 20;
 c.memory.grow(128);
 
-const view = () => new DataView(c.memory.buffer);
-const u32 = (at) => view().getUint32(base + at, true);
-const u64 = (at) => Number(view().getBigUint64(base + at, true));
-const bytesAt = (at, length) => new Uint8Array(c.memory.buffer, base + at, length).slice();
+const view = new DataView(c.memory.buffer), memory = new Uint8Array(c.memory.buffer);
+const u32 = (at) => view.getUint32(base + at, true);
+const u64 = (at) => view.getUint32(base + at, true) + 2 ** 32 * view.getUint32(base + at + 4, true);
+const bytesAt = (at, length) => memory.slice(base + at, base + at + length);
 const textAt = (at, length) => Buffer.from(bytesAt(at, length)).toString("utf8");
 const fromHex = (text) => Uint8Array.from(Buffer.from(text.replaceAll(" ", ""), "hex"));
 
 // Lays bytes where calls take them, and others after them.
 function put(bytes, at = INPUT) {
-    new Uint8Array(c.memory.buffer).set(bytes, base + at);
+    memory.set(bytes, base + at);
     return [base + at, BigInt(bytes.length)];
+}
+
+// Whether two answers have the same members, lists the same elements, and bytes the same octets.
+function same(one, other) {
+    if (typeof one !== "object" || typeof other !== "object" || one === null || other === null) return Object.is(one, other);
+    if (one.constructor !== other.constructor) return false;
+    if (one.length !== undefined) {
+        let at = one.length;
+        if (at !== other.length) return false;
+        while (at-- > 0) if (!same(one[at], other[at])) return false;
+        return true;
+    }
+    const names = Object.keys(one);
+    return names.length === Object.keys(other).length && names.every((name) => name in other && same(one[name], other[name]));
 }
 
 let passed = 0, failed = 0;
 function look(name, told, wanted, bytes) {
-    if (JSON.stringify(told) === JSON.stringify(wanted)) { passed++; return; }
+    if (same(told, wanted)) { passed++; return; }
     if (failed++ < 20) console.log(`FAILED: ${name} of ${Buffer.from(bytes).toString("hex")}\n ${JSON.stringify(told)}\n ${JSON.stringify(wanted)}`);
 }
 
@@ -88,61 +104,69 @@ function links(bytes, payload) {
     return told;
 }
 
-function payloads(bytes) {
+function payloads(bytes, profiles) {
     look("text", ndef.text(bytes), texts(bytes), bytes);
     look("carrier", ndef.carrier(bytes), carriers(bytes), bytes);
     look("error", ndef.error(bytes), errors(bytes), bytes);
     look("alternative", ndef.alternative(bytes), alternatives(bytes), bytes);
-    for (const flags of [0, 1, 2]) {
+    for (const flags of profiles) {
         look(`uri with ${flags}`, ndef.uri(bytes, flags), uris(bytes, flags), bytes);
         look(`poster with ${flags}`, ndef.poster(bytes, flags), posters(bytes, flags), bytes);
         look(`request with ${flags}`, ndef.request(bytes, flags), requests(bytes, flags), bytes);
         look(`select with ${flags}`, ndef.select(bytes, flags), selects(bytes, flags), bytes);
     }
+    if (profiles.length === 1) return;
     look("uri", ndef.uri(bytes), uris(bytes, 0), bytes);
     look("poster", ndef.poster(bytes), posters(bytes, 0), bytes);
     look("request", ndef.request(bytes), requests(bytes, 0), bytes);
     look("select", ndef.select(bytes), selects(bytes, 0), bytes);
 }
 
-// A record in plain numbers and arrays, as ndef_record_at and ndef_payload tell it.
+// A record, as ndef_record_at and ndef_payload tell it.
 const RECORD = ["at", "end", "typeAt", "typeLength", "idAt", "idLength", "payloadAt", "partLength", "payloadLength", "pieces"];
-function record(bytes, at) {
+function record(bytes, at, within) {
     const input = put(bytes), status = c.ndef_record_at(...input, BigInt(at), base + OUT);
     if (status !== 0) return { status };
-    const told = { status, tnf: u32(OUT + 80), last: u32(OUT + 84) === 1 };
+    const told = { status, tnf: u32(OUT + 80), last: u32(OUT + 84) === 1, kind: c.ndef_kind(...input, base + OUT, within) };
     RECORD.forEach((name, index) => { told[name] = u64(OUT + 8 * index); });
     c.ndef_payload(...input, BigInt(at), base + ROOM, BigInt(1 << 21), base + COUNT);
-    const payload = [...bytesAt(ROOM, u64(COUNT))];
-    const part = (from, length) => [...bytes.subarray(from, from + length)];
+    const payload = bytesAt(ROOM, u64(COUNT));
+    const part = (from, length) => bytes.slice(from, from + length);
     return { ...told, payload, type: part(told.typeAt, told.typeLength), id: part(told.idAt, told.idLength) };
 }
-const plain = (told) => (told.status === 0 ? { ...told, payload: [...told.payload], type: [...told.type], id: [...told.id] } : told);
 
-function records(bytes) {
+function recordsOf(bytes, within) {
     const wanted = [];
     for (let at = 0; ;) {
-        const told = record(bytes, at);
-        if (told.status !== 0) break;
+        const told = record(bytes, at, within);
+        if (told.status !== 0) return wanted;
         wanted.push(told);
-        if (told.last) break;
+        if (told.last) return wanted;
         at = told.end;
     }
-    look("records", ndef.records(bytes).map(plain), wanted, bytes);
-    wanted.slice(0, 20).forEach((told) => {
-        look(`recordAt ${told.at}`, plain(ndef.recordAt(bytes, told.at)), told, bytes);
-        const payload = Uint8Array.from(told.payload);
-        look("links", ndef.links(bytes, payload), links(bytes, payload), bytes);
-        if (payload.length < 5000) payloads(payload);
-    });
-    for (const at of [1, bytes.length, bytes.length + 1]) look(`recordAt ${at}`, plain(ndef.recordAt(bytes, at)), record(bytes, at), bytes);
 }
 
-const named = (call, value) => (c[call](value, base + ROOM, 64n, base + COUNT) === 0 ? textAt(ROOM, u64(COUNT)) : null);
+// The records of a message, and the payloads of those whose place `chosen` takes, read as every type with each of the flags.
+function records(bytes, profiles, chosen) {
+    const wanted = recordsOf(bytes, 0);
+    look("records", ndef.records(bytes), wanted, bytes);
+    wanted.slice(0, 20).filter(chosen).forEach((told) => {
+        look(`recordAt ${told.at}`, ndef.recordAt(bytes, told.at), told, bytes);
+        const { payload } = told, inner = payload.subarray(told.kind === 3 ? 0 : 1);
+        look("links", ndef.links(bytes, payload), links(bytes, payload), bytes);
+        look(`records within ${told.kind}`, ndef.records(inner, told.kind), recordsOf(inner, told.kind), inner);
+        look(`recordAt 0 within ${told.kind}`, ndef.recordAt(inner, 0, told.kind), record(inner, 0, told.kind), inner);
+        if (payload.length < 5000) payloads(payload, profiles);
+    });
+    for (const at of [1, bytes.length, bytes.length + 1]) look(`recordAt ${at}`, ndef.recordAt(bytes, at), record(bytes, at, 0), bytes);
+}
+
+const named = (call, value) => (c[call](value, base + ROOM, 80n, base + COUNT) === 0 ? textAt(ROOM, u64(COUNT)) : null);
+const FIELD_NAMES = Array.from({ length: 64 }, (_, value) => named("ndef_field_name", value));
 
 function checks(bytes, options, flags) {
     const limits = [options.payload ?? 1048576, options.records ?? 1024, options.pieces ?? 4096, flags];
-    limits.forEach((value, index) => view().setUint32(base + 4 * index, value, true));
+    limits.forEach((value, index) => view.setUint32(base + 4 * index, value, true));
     const input = put(bytes), status = c.ndef_check(...input, base, base + OUT);
     const checked = (at) => ({ place: u64(at), records: u32(at + 8), reason: u32(at + 12) });
     look(`check with ${flags}`, ndef.check(bytes, { ...options, flags }), { status, ...checked(OUT) }, bytes);
@@ -153,27 +177,46 @@ function checks(bytes, options, flags) {
         const at = ARRAY + 24 * index;
         return { at: u64(at), length: u64(at + 8), depth: u32(at + 16), name: u32(at + 20) };
     });
-    const answer = { status: ended, ...checked(WHY), fields: wanted.map((field) => ({ ...field, name: named("ndef_field_name", field.name) })) };
+    const answer = { status: ended, ...checked(WHY), fields: wanted.map((field) => ({ ...field, name: FIELD_NAMES[field.name] })) };
     look(`fields with ${flags}`, ndef.fields(bytes, { ...options, flags }), answer, bytes);
 }
 
-const BYTES = 7; // the column of a case that has its bytes
+// How the messages were answered that were looked at.
+const answered = { taken: 0, refused: 0, cut: 0, chunked: 0 };
 
-let random = 1;
-const next = (most) => { random = (Math.imul(random, 1664525) + 1013904223) >>> 0; return (random >>> 8) % most; };
+const BYTES = 7; // the column of a case that has its bytes
+const SMALL = { payload: 9, records: 2, pieces: 2 }, ALL = [0, 1, 2, 3];
 for (const line of readFileSync(0, "utf8").split("\n").filter(Boolean)) {
     const hex = line.split("|")[BYTES].trim(), bytes = fromHex(hex === "-" ? "" : hex);
     if (bytes.length > 20000) continue;
     for (let round = 0; round < 4; round++) {
-        const given = bytes.slice(0, round === 3 ? next(bytes.length + 1) : bytes.length);
-        if (round === 1 || round === 2) if (given.length) given[next(given.length)] = next(256);
-        const options = round === 2 ? { payload: 9, records: 2, pieces: 2 } : {};
-        for (const flags of [0, 1, 2, 3]) checks(given, options, flags);
-        records(given);
+        const given = bytes.slice(0, round === 3 ? below(bytes.length + 1) : bytes.length);
+        if (round === 1 || round === 2) if (given.length) given[below(given.length)] = below(256);
+        for (const flags of ALL) checks(given, round === 2 ? SMALL : {}, flags);
+        records(given, [0, 1, 2], () => true);
     }
+}
+// An input of the fuzzer: two bytes that choose how it is read, and the message.
+for (const line of readFileSync(new URL("../fuzz/corpus.txt", import.meta.url), "utf8").split("\n").filter((digits) => digits.length >= 4)) {
+    const given = fromHex(line), bytes = given.subarray(2);
+    checks(bytes, given[0] & 4 ? { payload: 16, records: 2, pieces: 2 } : {}, given[0] & 3);
+    records(bytes, [given[0] & 1], () => true);
+}
+const most = Number(process.argv[2] ?? 100000);
+for (let made = 0; made < most; made++) {
+    const bytes = randomMessage(), options = randomLimits(), flags = ALL[below(4)], looked = below(4);
+    const { status, reason, place } = ndef.check(bytes, { ...options, flags });
+    answered.taken += status === Ndef.OK;
+    answered.refused += status === Ndef.REFUSED;
+    answered.cut += reason === 24 && place === bytes.length;
+    checks(bytes, options, flags);
+    records(bytes, [flags & 1], (_, index) => index === looked);
+    answered.chunked += ndef.recordAt(bytes, 0).pieces > 1;
 }
 for (let value = 0; value < 64; value++) {
     look("reasonName", ndef.reasonName(value), named("ndef_reason_name", value), []);
+    look("reasonSentence", ndef.reasonSentence(value), named("ndef_reason_sentence", value), []);
+    look("statusName", ndef.statusName(value), named("ndef_status_name", value), []);
     look("fieldName", ndef.fieldName(value), named("ndef_field_name", value), []);
 }
 c.ndef_usual_limits(base);
@@ -184,5 +227,8 @@ look("text", ndef.text(fromHex("02656EEFBBBF61")).text, "\ufeffa", []);
 const large = new Uint8Array(3000006), fresh = await Ndef.load(code);
 large.set([0xc5, 0, 0, 45, 0xc6, 0xc0]);
 look("a message of 3 MB", [fresh.check(large, { payload: 3000000 }).place, fresh.records(large)[0].payload.length], [3000006, 3000000], []);
+const { taken, refused, cut, chunked } = answered;
+console.log(`random messages ${most}, taken ${taken}, refused ${refused}, cut off ${cut}, in chunks ${chunked}`);
+look("how many were answered so", [taken > most / 8, refused > most / 8, cut > most / 50, chunked > most / 50], [true, true, true, true], []);
 console.log(`${passed} passed, ${failed} failed`);
 process.exit(failed || !passed ? 1 : 0);

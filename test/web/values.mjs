@@ -124,5 +124,12 @@ test("two links are told, and the second refers to no record", () => {
         && ndef.links(message, EMPTY).length === 0;
 });
 
+test("kinds, statuses and flags have the numbers of the header", () => {
+    const header = readFileSync(new URL("../../include/ndef.h", import.meta.url), "utf8");
+    const kinds = [...header.matchAll(/NDEF_KIND_(\w+) = (\d+)/g)].map(([, name, number]) => [name, Number(number)]);
+    return same(Ndef.KIND, Object.fromEntries(kinds)) && ["OK", "REFUSED", "NO_ROOM", "BAD_ARGUMENT", "END", "MORE", "STANDARD", "OPAQUE"].every(
+        (name) => new RegExp(`NDEF_${name} = ${Ndef[name]}\\b`).test(header));
+});
+
 console.log(`${passed} passed, ${failed} failed`);
 process.exit(failed || !passed ? 1 : 0);

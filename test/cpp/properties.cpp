@@ -1,0 +1,308 @@
+// What ndef.hpp has of its own: results, views of bytes, rooms, iterators, copies, defaults, large inputs, threads, and
+// memory that the caller changes afterwards. Expected bytes are those of the standards. Prints what differs.
+#include "look.hpp"
+#include "random.hpp"
+
+#include <array>
+#include <cstring>
+#include <memory>
+#include <thread>
+
+static std::uint8_t memory[1 << 21];
+
+/// Whether a range gives these values, however it is walked: by a loop, by both ways to step, from copies, and twice.
+template <class Range, class Key>
+static void walk(const Range &range, const std::vector<std::string> &wanted, Key key) {
+    std::vector<std::string> told, by_steps, by_copies;
+    for (const auto &one : range) told.push_back(key(one));
+    LOOK(told == wanted);
+    auto before = range.begin();
+    for (auto at = range.begin(); at != range.end(); ++at) {
+        by_steps.push_back(key(*at));
+        LOOK(key(*at.operator->()) == by_steps.back() && at == at && !(at != at) && at != range.end() &&
+             !(at == range.end()));
+        auto copy = at;
+        const auto same = copy++;
+        by_copies.push_back(key(*same));
+        LOOK(same == at && copy != at && (copy == range.end()) == (by_copies.size() == wanted.size()));
+        before = at;
+    }
+    LOOK(by_steps == wanted && by_copies == wanted &&
+         std::distance(range.begin(), range.end()) == static_cast<std::ptrdiff_t>(wanted.size()));
+    LOOK(wanted.empty() || key(*before) == wanted.back());
+    LOOK((range.begin() == range.end()) == wanted.empty() && range.begin() == range.begin() &&
+         range.end() == range.end());
+    LOOK(wanted.size() < 2 || std::next(range.begin()) != range.begin());
+    LOOK(&++(before = range.begin(), before) == &before || wanted.empty());
+}
+
+static const auto letters = [](const ndef::record &one) { return one.payload_string(); };
+
+/// Three records, the second in chunks: NDEF 1.0, 3.2.
+static const octets three = {0x92, 3,   1,    'a', '/', 'b', 'x',  0x32, 3, 1,   'a', '/',
+                             'b',  'y', 0x16, 0,   1,   'z', 0x52, 3,    0, 'a', '/', 'b'};
+
+static void ranges() {
+    const auto message = *ndef::message::check(three);
+    walk(message, {"x", "yz", ""}, letters);
+    walk(ndef::message(), {}, letters);
+    const octets poster = {0x91, 1,   2,   'U', 0,   'a', 0x11, 1,    4,    'T', 2,   'e', 'n', 'A', 0x12, 7,    1, 'i',
+                           'm',  'a', 'g', 'e', '/', 'a', '1',  0x11, 1,    4,   'T', 2,   'e', 'n', 'B',  0x12, 7, 1,
+                           'v',  'i', 'd', 'e', 'o', '/', 'b',  '2',  0x51, 1,   4,   'T', 2,   'd', 'e',  'C'};
+    const auto read = *ndef::poster::read(poster);
+    walk(read.titles(), {"A", "B", "C"}, [](const ndef::text &one) { return one.str(); });
+    walk(read.icons(), {"image/a1", "video/b2"},
+         [](const ndef::icon &one) { return std::string(one.media_type) + std::string(one.data.text()); });
+    walk(ndef::views<ndef::uri>(read.records()), {"a"}, [](const ndef::uri &one) { return one.str(); });
+    walk(ndef::views<ndef::text>(), {}, [](const ndef::text &one) { return one.str(); });
+    walk(ndef::icons(), {}, [](const ndef::icon &) { return std::string(); });
+    LOOK(read.title("en")->str() == "A" && read.title("EN")->str() == "A" && read.title("De")->str() == "C" &&
+         read.title("fr").error().what == NDEF_END);
+    const octets empty = {0xd1, 1, 3, 'T', 2, 'e', 'n'};
+    const auto name = [](const ndef::field &one) {
+        return std::to_string(one.at) + std::string(ndef::to_string(one.name));
+    };
+    const std::vector<std::string> wanted = {"0header", "1TYPE_LENGTH", "2PAYLOAD_LENGTH",
+                                             "3TYPE",   "4status",      "5language code"};
+    static ndef_field array[6];
+    walk(ndef::fields(empty), wanted, name);
+    walk(*ndef::fields::in(array, 6, empty), wanted, name);
+    walk(ndef::fields(), {}, name);
+    LOOK(ndef::fields().after().what == NDEF_END && ndef::fields().size() == 0 && !ndef::fields().at(0));
+}
+
+/// A request whose first carrier refers to the second record, whose second to none, and whose third to that record
+/// again.
+static const octets linked = {0x91, 2,   35, 'H', 'r', 0x12, 0x91, 2, 2,   'c', 'r', 0x12, 0x34, 0x11, 2,    4, 'a',
+                              'c',  1,   1,  '0', 0,   0x11, 2,    4, 'a', 'c', 3,   1,    '1',  0,    0x51, 2, 4,
+                              'a',  'c', 0,  1,   '0', 0,    0x5a, 3, 1,   1,   'a', '/',  'b',  '0',  9};
+
+static void copies() {
+    const auto message = *ndef::message::check(linked);
+    const auto request = *message.begin()->as<ndef::request>();
+    const auto key = [](const ndef::link &one) {
+        return std::to_string(static_cast<unsigned>(one.alternative.power())) +
+               (one.record ? std::to_string(one.record->place()) : "none");
+    };
+    const std::vector<std::string> wanted = {"140", "3none", "040"};
+    static ndef_link array[3];
+    ndef::links made = request.links(message), copied = made;
+    walk(made, wanted, key);
+    walk(copied, wanted, key);
+    const ndef::links moved = std::move(made);
+    walk(moved, wanted, key);
+    copied = ndef::links();
+    walk(copied, {}, key);
+    walk(*request.links(array, 3, message), wanted, key);
+    LOOK(request.links(array, 2, message).error().needed == 3 &&
+         request.links(array, 0, message).error().what == NDEF_NO_ROOM);
+    LOOK(request.links(message).size() == 3 && request.carrier_count() == 3 && request.records().record_count() == 4);
+    LOOK(std::next(request.links(message).begin())->record_index == 0 &&
+         request.links(message).begin()->record_index == 1);
+    LOOK(ndef::links::in(array, 3, message, ndef::bytes()).error().what == NDEF_BAD_ARGUMENT);
+    auto fields = std::make_unique<ndef::fields>(linked);
+    const ndef::fields again = *fields, taken = std::move(*fields);
+    fields.reset();
+    LOOK(again.size() == taken.size() && again.at(4)->at == 3 && taken.at(4)->at == 3 &&
+         taken.begin()->name == NDEF_FIELD_HEADER);
+    ndef::record one = *message.begin(), other;
+    other = one;
+    LOOK(other.place() == 0 && other.type() == "Hr" && other.as<ndef::request>()->collision() == 0x1234 &&
+         ndef::record().type().empty());
+}
+
+/// Two handovers and two messages, one after another, and what is found first.
+static void two_of_each() {
+    const octets two = {0x91, 2,   1,   'H', 's', 0x13, 0x19, 1, 2,   1,   'U',  'i',  0, 'a', 0x19, 1, 2,
+                        1,    'U', 'i', 0,   'b', 0x51, 2,    1, 'H', 's', 0x14, 0xd1, 1, 2,   'U',  0, 'c'};
+    const auto first = *ndef::message::check(two);
+    const auto second = *ndef::message::check(ndef::bytes(two).from(first.octets().size()));
+    LOOK(first.record_count() == 4 && first.octets().size() == 28 && second.record_count() == 1);
+    LOOK(first.find("U")->as<ndef::uri>()->str() == "a" && first.find_id("i")->place() == 6 &&
+         second.find("U")->as<ndef::uri>()->str() == "c");
+    LOOK(first.find("Hs")->as<ndef::select>()->minor_version() == 3 && !second.find_id("i") &&
+         second.find_id("i").error().what == NDEF_END);
+    ndef::checker checker;
+    LOOK((*checker.feed(two))->size == 28 && (*checker.feed(two))->records == 4);
+    ndef::checker again;
+    LOOK(!*again.feed(ndef::bytes(two).part(0, 27)) && (*again.feed(ndef::bytes(two).from(27)))->size == 28);
+    const octets wrong = {0xd7};
+    ndef::checker refused;
+    LOOK(refused.feed(wrong).error().why == NDEF_REASON_RESERVED_TNF && refused.feed(two).error().place == 0);
+    ndef_limits none = {};
+    ndef::checker bad(none);
+    LOOK(bad.feed(two).error().what == NDEF_BAD_ARGUMENT &&
+         ndef::message::check(two, none).error().what == NDEF_BAD_ARGUMENT);
+}
+
+struct counted {
+    explicit counted(int number) : value(std::make_unique<int>(number)) {}
+    std::unique_ptr<int> value;
+};
+
+static void results() {
+    using number = ndef::result<int>;
+    number good = 3;
+    const number bad = ndef::error{NDEF_NO_ROOM, {}, 0, 7};
+    LOOK(good && good.has_value() && *good == 3 && good.value_or(9) == 3 && !bad && !bad.has_value() &&
+         bad.value_or(9) == 9);
+    *good = 5;
+    LOOK(*good == 5 && good.transform([](int value) { return value + 0.5; }).value_or(0) == 5.5);
+    LOOK(bad.error().what == NDEF_NO_ROOM && bad.error().needed == 7 &&
+         bad.transform([](int value) { return value; }).error().needed == 7);
+    LOOK(bad.and_then([](int value) { return number(value); }).error().needed == 7);
+    LOOK(!good.and_then([](int) { return number(ndef::error{}); }) &&
+         good.and_then([](int value) { return number(value * 2); }).value_or(0) == 10);
+    ndef::result<counted> held = counted(4);
+    LOOK(*held->value == 4 && *std::move(*held).value == 4);
+    const ndef::error none;
+    LOOK(none.what == NDEF_BAD_ARGUMENT && none.why == 0 && none.place == 0 && none.needed == 0 &&
+         none.sentence().empty());
+    LOOK(ndef::message::check(octets{0xd7}).error().sentence() == "The type name format 7 is reserved.");
+    const ndef::result<std::string> text = std::string("kept");
+    LOOK(text->size() == 4 && *text == "kept");
+}
+
+static void views_of_bytes() {
+    std::array<std::uint8_t, 3> numbers = {1, 2, 3};
+    const std::array<std::byte, 2> raw = {std::byte{1}, std::byte{2}};
+    const std::uint8_t plain[] = {1, 2, 3, 4};
+    const std::string text = "abc";
+    LOOK(ndef::bytes(numbers).size() == 3 && ndef::bytes(numbers).data() == numbers.data() &&
+         ndef::bytes(raw).size() == 2 && ndef::bytes(plain).size() == 4);
+    const ndef::bytes all(plain, 4);
+    LOOK(all[0] == 1 && all[3] == 4 && !all.empty() && ndef::bytes().empty() && ndef::bytes().data() == nullptr &&
+         all.end() - all.begin() == 4);
+    LOOK(all.part(1, 2).data() == plain + 1 && all.part(1, 2).size() == 2 && all.part(4, 1).empty() &&
+         all.part(5, 0).empty() && all.part(4, 0).data() == plain + 4);
+    LOOK(all.part(0, 4).size() == 4 && all.part(0, 5).size() == 4 && all.part(3, ~ndef_size{0}).size() == 1 &&
+         all.from(4).empty() && all.from(2)[0] == 3);
+    LOOK(ndef::bytes(text).text() == "abc" && ndef::bytes(text) == ndef::bytes(std::string("abc")) &&
+         ndef::bytes(text) != ndef::bytes(std::string("abd")));
+    LOOK(!(ndef::bytes(text) != ndef::bytes(text)) && !(ndef::bytes(text) == ndef::bytes(std::string("ab"))));
+    ndef::room room(numbers), none;
+    LOOK(room.data() == numbers.data() && room.size() == 3 && none.size() == 0 && none.data() == nullptr &&
+         none.take(4).empty());
+    LOOK(room.take(0).empty() && room.size() == 3 && room.take(1).data() == numbers.data() &&
+         room.data() == numbers.data() + 1 && room.size() == 2);
+    LOOK(room.take(2).size() == 2 && room.size() == 0 && room.take(1).empty());
+    ndef::room again(memory, 4), larger(memory, 12);
+    LOOK(ndef::write_text(again, "en", "Hi").error().needed == 5 && again.size() == 4 && again.data() == memory);
+    LOOK(ndef::write_text(larger, "en", "Hi")->data() == memory && larger.data() == memory + 5 &&
+         ndef::write_uri(larger, "tel:1")->data() == memory + 5);
+}
+
+/// What is left out: no titles and no icons of a poster, no id, no chunks, the strict profile and UTF-8.
+static void defaults() {
+    ndef::room room(memory);
+    const ndef_poster_writing how = {{0, 1}, {}, 0, 0, 0, 0, 0};
+    const auto poster = ndef::write_poster(room, std::string_view("a"), how);
+    LOOK(poster && hex(*poster) == "D10102550061");
+    LOOK(hex(*ndef::write_text(room, "en", "A")) == "02656E41" &&
+         hex(*ndef::write_text(room, "en", "A", ndef::encoding::utf16)) == "82656EFEFF0041");
+    const auto type = std::string_view("x");
+    LOOK(hex(ndef::write_message(room, {ndef::well_known(type, type)})->octets()) == "D101017878");
+    LOOK(hex(ndef::write_message(room, {ndef::media(type, type)})->octets()) == "D201017878");
+    LOOK(hex(ndef::write_message(room, {ndef::external(type, type, "i")})->octets()) == "DC010101786978");
+    LOOK(hex(ndef::write_message(room, {ndef::new_record()})->octets()) == "D00000");
+    const octets reserved = {0xd1, 1, 2, 'U', 0x24, 'a'};
+    LOOK(ndef::message::check(reserved).error().why == NDEF_REASON_URI_CODE &&
+         !ndef::uri::read(ndef::bytes(reserved).from(4)));
+    ndef::limits limits;
+    LOOK(limits.payload == 1048576 && limits.records == 1024 && limits.pieces == 4096 && limits.flags == 0);
+    limits.flags = NDEF_STANDARD;
+    const auto message = *ndef::message::check(reserved, limits);
+    LOOK(!message.begin()->as<ndef::uri>() && message.begin()->as<ndef::uri>(ndef::profile::standard)->str() == "a");
+    LOOK(static_cast<int>(ndef::action::do_it) == 0 && static_cast<int>(ndef::action::save) == 1 &&
+         static_cast<int>(ndef::action::open) == 2);
+    LOOK(static_cast<int>(ndef::power::inactive) == 0 && static_cast<int>(ndef::power::active) == 1);
+    LOOK(static_cast<int>(ndef::power::activating) == 2 && static_cast<int>(ndef::power::unknown) == 3);
+    const ndef::field field;
+    LOOK(field.octets.empty() && field.at == 0 && field.depth == 0 && field.name == 0 && ndef::uri().code() == 0 &&
+         ndef::text().str().empty());
+    std::uint8_t few[6];
+    ndef::builder builder{ndef::room(few)};
+    LOOK(builder.made().octets().empty() && builder.add_uri("tel:1")->octets().size() == 6 &&
+         builder.add_text("", "").error().needed == 11);
+    LOOK(hex(builder.made().octets()) == "D101025505"
+                                         "31" &&
+         builder.add(ndef::new_record()).error().needed == 9);
+}
+
+/// Views show what the caller's memory holds now; strings, and what a room holds, stay.
+static void aliasing() {
+    octets bytes = {0xd1, 1, 8, 'T', 2, 'e', 'n', 'H', 'e', 'l', 'l', 'o'};
+    const auto text = *ndef::message::check(bytes)->begin()->as<ndef::text>();
+    const std::string kept = text.str();
+    ndef::room room(memory);
+    const auto written = ndef::write_text(room, "en", text.utf8(room).value_or(""));
+    bytes[7] = 'J';
+    LOOK(text.str() == "Jello" && kept == "Hello" && written->text() == std::string_view("\2enHello"));
+    std::string type = "a/b", payload = "x";
+    ndef::builder builder{ndef::room(memory)};
+    const auto made = builder.add(ndef::media(type, payload));
+    type[0] = payload[0] = '?';
+    LOOK(hex(made->octets()) == "D20301612F6278");
+}
+
+/// A message of 1 MB of payload, read, checked in parts, and written; and one of 1024 records.
+static void large() {
+    const std::string payload(1048576 - 3, 'a');
+    static std::uint8_t room_of_2_mb[1 << 21];
+    ndef::room room(room_of_2_mb);
+    const auto text = ndef::write_text(room, "en", payload);
+    const auto message =
+        ndef::write_message(room, {{NDEF_TNF_WELL_KNOWN, "T", *text, "", 65536, false}, ndef::new_record()})
+            .value_or(ndef::message());
+    LOOK(message.octets().size() == 0);
+    static std::uint8_t room_of_3_mb[3 << 20];
+    ndef::room larger(room_of_3_mb);
+    const auto whole =
+        *ndef::write_message(larger, {{NDEF_TNF_WELL_KNOWN, "T", *text, "", 65536, false}, ndef::new_record()});
+    LOOK(whole.begin()->chunks() == 16 && whole.begin()->payload_size() == 1048576 && whole.record_count() == 2);
+    LOOK(ndef::message::check(whole.octets())->octets() == whole.octets() &&
+         whole.begin()->payload_string() == text->text());
+    LOOK(whole.begin()->as<ndef::text>(larger)->str() == payload && whole.begin()->payload().error().needed == 1048576);
+    ndef::checker checker;
+    for (ndef_size at = 0; at < whole.octets().size(); at += 999) {
+        const auto fed = checker.feed(whole.octets().part(at, 999));
+        LOOK(fed && fed->has_value() == (at + 999 >= whole.octets().size()));
+    }
+    octets wrong(whole.octets().begin(), whole.octets().end());
+    wrong[wrong.size() - 2] = 1;
+    LOOK(ndef::message::check(wrong).error().place == wrong.size() - 2 &&
+         ndef::message::check(wrong).error().why == NDEF_REASON_EMPTY_NOT_EMPTY);
+    LOOK(ndef::message::check(whole.octets().part(0, 1048000)).error().place == 1048000);
+    const std::vector<ndef::new_record> records(1024, ndef::media("a/b", std::string_view("x")));
+    ndef::room other(memory);
+    const auto many = ndef::write_message(other, records);
+    LOOK(many && many->record_count() == 1024 && ndef::message::check(many->octets()) &&
+         ndef::fields(many->octets()).size() == 5 * 1024);
+}
+
+/// Eight threads read and write at once.
+static void threads() {
+    std::array<bool, 8> held = {};
+    std::vector<std::thread> all;
+    for (std::size_t index = 0; index < held.size(); index++)
+        all.emplace_back([&held, index] {
+            std::vector<std::uint8_t> own(64);
+            bool holds = true;
+            for (int round = 0; round < 2000; round++) {
+                ndef::builder builder{ndef::room(own)};
+                const std::string text(index + 1, static_cast<char>('a' + index));
+                const auto made = builder.add_text("en", text);
+                holds = holds && made && ndef::message::check(made->octets())->begin()->as<ndef::text>()->str() == text;
+            }
+            held[index] = holds;
+        });
+    for (auto &one : all) one.join();
+    for (const bool holds : held) LOOK(holds);
+}
+
+int main() {
+    for (const auto test : {ranges, copies, two_of_each, results, views_of_bytes, defaults, aliasing, large, threads})
+        test();
+    std::cout << "comparisons " << compared << ", differ " << differ << '\n';
+    return differ || !compared;
+}

@@ -1,0 +1,82 @@
+// node test/web/page.mjs OUT <LINES: writes OUT, the page with a script that tests it (in_page.js) and with what it has to show: for each
+// case of the suite, given as lines on standard input, the verdict and the records of the case, and the fields of its bytes as
+// the library tells them.
+import { readFileSync, writeFileSync } from "node:fs";
+import { Ndef } from "../../out/web/ndef.js";
+
+const at = (path) => new URL(path, import.meta.url);
+const ndef = await Ndef.load(readFileSync(at("../../out/web/ndef.wasm")));
+const fromHex = (text) => Uint8Array.from(Buffer.from(text.replace(/[ -]/g, ""), "hex"));
+const plural = (count, word) => `${count} ${word}${count === 1 ? "" : "s"}`;
+const inWords = (name) => name[0] + name.slice(1).replace(/[A-Z]/g, (letter) => ` ${letter.toLowerCase()}`);
+const ascii = (octet) => (octet >= 0x20 && octet <= 0x7e ? String.fromCharCode(octet) : null);
+const quoted = (octets) => [...octets].map((octet) => ascii(octet) ?? "\\x" + octet.toString(16).padStart(2, "0")).join("");
+const upper = (octets) => [...octets].map((octet) => octet.toString(16).padStart(2, "0").toUpperCase()).join(" ");
+
+// NDEF 1.0, table 1.
+const FORMATS = ["0 empty", "1 well-known", "2 media type", "3 absolute URI", "4 external", "5 unknown"];
+// What colours there are, and the fields that have them.
+const COLOURS = {
+    head: ["header", "TYPE_LENGTH", "PAYLOAD_LENGTH", "ID_LENGTH"], type: ["TYPE", "carrier type"], id: ["ID"], language: ["language code"],
+    value: ["text", "URI", "media type", "carrier data reference", "auxiliary data reference", "error data", "carrier data"],
+};
+const colourOf = (name) => Object.keys(COLOURS).find((colour) => COLOURS[colour].includes(name)) ?? "payload";
+const shown = (bytes, place) => {
+    const character = ascii(bytes[place]);
+    return `Byte ${place}: ${upper([bytes[place]])}${character === null ? "" : ` "${character}"`}`;
+};
+
+// The bytes, each as [how its label begins, how it ends, its colour].
+function spansOf(bytes, options, refused) {
+    const names = [], records = refused === null ? ndef.records(bytes) : [];
+    for (const field of ndef.fields(bytes, options).fields)
+        for (let place = field.at; place < field.at + field.length; place++) names[place] = field.name;
+    const spans = Array.from(bytes, (_, place) => {
+        const index = records.findIndex((record) => place < record.end), record = index < 0 ? "" : `, record ${index + 1}`;
+        if (place === refused) return [shown(bytes, place), ", refused", "refused"];
+        if (refused !== null && place > refused) return [shown(bytes, place), ", not looked at", "rest"];
+        return [shown(bytes, place) + record, `, ${names[place]}`, colourOf(names[place])];
+    });
+    return refused === bytes.length ? [...spans, [`Byte ${refused}: the end of the input`, "", "refused"]] : spans;
+}
+
+// The cells of a record of a case: TNF TYPE ID PAYLOAD.
+function rowOf(text, index, record) {
+    const [tnf, type, id, payload] = text.trim().split(" ");
+    const bytes = fromHex(payload), chunks = record.pieces > 1 ? ` in ${record.pieces} chunks` : "", more = bytes.length > 32 ? " …" : "";
+    return [
+        `${index + 1}`, `${record.at}`, FORMATS[tnf], quoted(fromHex(type)), quoted(fromHex(id)),
+        plural(bytes.length, "byte") + chunks + upper(bytes.slice(0, 32)) + more,
+    ];
+}
+
+function caseOf(fields, profile, opaque) {
+    const [, , , , , , limits, hex, answer, records] = fields, bytes = fromHex(hex), words = limits.split(" ");
+    const flags = (profile === "standard" ? Ndef.STANDARD : 0) | (opaque ? Ndef.OPAQUE : 0), options = ndef.usualLimits();
+    for (const name of ["payload", "records", "pieces"]) if (words.includes(name)) options[name] = Number(words[words.indexOf(name) + 1]);
+    const [word, place, number] = answer.split(" "), told = { hex: upper(bytes), profile, payloads: opaque ? "opaque" : "typed", options };
+    if (word === "accepted") {
+        const rows = records.split(","), all = ndef.records(bytes);
+        if (Number(place) !== bytes.length) return null;
+        return {
+            ...told, verdict: `1 message, ${plural(rows.length, "record")}, ${plural(bytes.length, "byte")}`, color: "good",
+            rows: rows.map((row, index) => rowOf(row, index, all[index])), spans: opaque ? null : spansOf(bytes, { ...options, flags }, null),
+        };
+    }
+    const reason = word === "more" ? 24 : Number(number), end = Number(place) === bytes.length ? " (the end of the input)" : "";
+    const verdict = `Refused at byte ${place}${end}, reason ${reason}: ${inWords(ndef.reasonName(reason))}`;
+    return { ...told, verdict, color: "bad", rows: null, spans: opaque ? null : spansOf(bytes, { ...options, flags }, Number(place)) };
+}
+
+const cases = [];
+for (const line of readFileSync(0, "utf8").split("\n").filter(Boolean)) {
+    const fields = line.split("|").map((field) => field.trim());
+    if (fields[7].length > 1200) continue;
+    for (const language of ["typed", "opaque"].filter((name) => fields[4].split(" ").includes(name)))
+        for (const profile of fields[5] === "both" ? ["strict", "standard"] : [fields[5]]) cases.push(caseOf(fields, profile, language === "opaque"));
+}
+const page = readFileSync(at("../../out/web/index.html"), "utf8"), script = readFileSync(at("./in_page.js"), "utf8");
+const data = JSON.stringify(cases.filter(Boolean)).replaceAll("<", "\\u003c");
+const readers = `<script>window.NDEFReader = class extends EventTarget { constructor() { super(); window.reader = this; } async scan() { await window.scanned; } };</script>`;
+writeFileSync(process.argv[2], page.replace("<body>", () => `<body>${readers}`)
+    .replace("</body>", () => `<script>const CASES = ${data};\n${script}</script></body>`));
