@@ -38,22 +38,24 @@ def message_decoder(stream_or_bytes: Union[bytes, bytearray, memoryview, BinaryI
         told, flags, known = None, library.OPAQUE, {parts_of(spelled): record_class for spelled, record_class in known_types.items()}
     limits = library.limits(Record.MAX_PAYLOAD_SIZE, flags)
     if isinstance(stream_or_bytes, (bytes, bytearray, memoryview)):
-        if not stream_or_bytes:
-            return
-        octets, checked = bytes(stream_or_bytes), library.Checked()
-        status = library.check(octets, library.SIZES[len(octets)], limits, library.byref(checked))
-        if whole and status != library.OK:
-            raise library.refused(checked)
-        # A message goes on with each octet before the place; so each record that ends there is given.
-        records = records_of(octets, 0, checked.place, known, told)
-        yield from list(records) if whole else records
-        if status != library.OK:
-            raise library.refused(checked)
+        records = _from_octets(bytes(stream_or_bytes), limits, known, told)
     elif hasattr(stream_or_bytes, 'read') and not isinstance(stream_or_bytes, io.TextIOBase):
         records = _from_stream(stream_or_bytes, limits, known, told)
-        yield from list(records) if whole else records
     else:
         raise TypeError('octets or a stream of octets is needed, not %s' % type(stream_or_bytes).__name__)
+    yield from list(records) if whole else records
+
+
+def _from_octets(octets: bytes, limits: Any, known: _Known, told: _Told) -> Iterator[Record]:
+    """The records of the message with which the octets begin."""
+    if not octets:
+        return
+    checked = library.Checked()
+    status = library.check(octets, library.SIZES[len(octets)], limits, library.byref(checked))
+    # A message goes on with each octet before the place; so each record that ends there is given.
+    yield from records_of(octets, 0, checked.place, known, told)
+    if status != library.OK:
+        raise library.refused(checked)
 
 
 def _read(stream: BinaryIO, size: int) -> bytes:
