@@ -162,7 +162,7 @@ def _record(octets: bytes, fields: Tuple[int, ...], known: _Known, before: int, 
     if pieces == 1:
         data = octets[payload_at:payload_at + part_length]
     else:
-        _, data = library.put(library.payload, length, octets, library.SIZES[end], library.SIZES[at])
+        _, data = library.put(library.payload, octets, library.SIZES[end], library.SIZES[at], given=length)
     record_class = known.get(kind)
     if record_class is None:
         made = Record._made(kind, data)

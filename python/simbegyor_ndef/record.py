@@ -45,14 +45,14 @@ def _checked_parts(spelled: str) -> Parts:
 def _write(tnf: int, kind: bytes, name: bytes, data: bytes, flags: int, what: str, raised: type) -> bytes:
     """The octets of a record."""
     sizes, lengths = library.SIZES, (len(kind), len(name), len(data))
-    return library.written(what, library.write_record, sum(lengths) + 32, kind, sizes[lengths[0]], name, sizes[lengths[1]],
-                           data, sizes[lengths[2]], library.writing(tnf, flags), raised=raised)
+    return library.written(what, library.write_record, kind, sizes[lengths[0]], name, sizes[lengths[1]], data,
+                           sizes[lengths[2]], library.writing(tnf, flags), given=sum(lengths), raised=raised)
 
 
-parts_of = functools.lru_cache(maxsize=256)(_checked_parts)
+parts_of = functools.lru_cache(_checked_parts)
 
 
-@functools.lru_cache(maxsize=256)
+@functools.lru_cache
 def spelled_of(tnf: int, octets: bytes) -> str:
     """How a type is spelled."""
     return _SPELLED[tnf] + octets.decode('latin-1')
