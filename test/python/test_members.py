@@ -1,6 +1,7 @@
 """What the module has of its own: properties set, read, unset and written, what the caller changes afterwards, streams, threads
 and the command line."""
 import io
+import itertools
 import json
 import os
 import pathlib
@@ -9,11 +10,12 @@ import sys
 import tempfile
 import threading
 import unittest
+from unittest import mock
 
 import simbegyor_ndef as ndef
 from simbegyor_ndef import _library as library
-from simbegyor_ndef.handover import AlternativeCarrierRecord
-from simbegyor_ndef.smartposter import ActionRecord
+from simbegyor_ndef.handover import AlternativeCarrierRecord, CollisionResolutionRecord, ErrorRecord
+from simbegyor_ndef.smartposter import ActionRecord, SizeRecord, TypeRecord
 
 HELLO = bytes.fromhex('d101085402656e48656c6c6f')
 
@@ -105,6 +107,51 @@ class Handovers(unittest.TestCase):
         for power in ('off', 'Active', '', None, 1):
             self.assertRaisesRegex(ValueError, 'a power state is', setattr, carrier, 'carrier_power_state', power)
 
+    def test_two_of_everything(self):
+        given = [('active', 'a', 'x', 'y'), ('inactive', 'a'), ('unknown', '', '')]
+        told = [('active', 'a', ['x', 'y']), ('inactive', 'a', []), ('unknown', '', [''])]
+        request = ndef.HandoverRequestRecord('1.2', 7, *given)
+        select = ndef.HandoverSelectRecord('1.3', (1, 5), *given)
+        read = decoded(octets(request, select, select, request))
+        self.assertEqual(read, [request, select, select, request])
+        for handover in (request, select, *read):
+            self.assertEqual(handover.alternative_carriers, told)
+        select.add_alternative_carrier('activating', 'z', *(255 * ['b']))
+        self.assertEqual(back(select).alternative_carriers, told + [('activating', 'z', 255 * ['b'])])
+        self.assertEqual([type(part) for part in select.records], 4 * [AlternativeCarrierRecord] + [ErrorRecord])
+
+    def test_errors(self):
+        select = ndef.HandoverSelectRecord('1.2')
+        for error in ((1, 0), (1, 255), (2, 2 ** 32 - 1), (3, 7), (0, b''), (4, b'ab'), (255, b'\0')):
+            select.set_error(*error)
+            self.assertEqual((select.error, back(select).error, len(select.records)), (error, error, 1))
+
+    def test_what_is_changed_within(self):
+        request = ndef.HandoverRequestRecord('1.3', 1, ('active', '0'))
+        listed = request.records
+        listed[1].carrier_data_reference, listed[1].auxiliary_data_reference = 'n', ['m']
+        listed[0].random_number = 65535
+        listed.clear()
+        self.assertEqual(back(request).alternative_carriers, [('active', 'n', ['m'])])
+        self.assertEqual((back(request).collision_resolution_number, len(request.records)), (65535, 2))
+        request.alternative_carriers[0].auxiliary_data_reference.append('x')
+        self.assertEqual(request.alternative_carriers, [('active', 'n', ['m'])])
+        carrier = AlternativeCarrierRecord('active', '0', adr := ['a'])
+        adr.append('b')
+        self.assertEqual(carrier.auxiliary_data_reference, ['a'])
+        carrier.auxiliary_data_reference = [256 * 'x']
+        self.assertRaises(ndef.EncodeError, carrier._encode_payload)
+
+    def test_parts_alone(self):
+        """Records within payloads, which are read as if they stood alone."""
+        for record in (CollisionResolutionRecord(65535), ErrorRecord(2, 1000), ErrorRecord(9, b'x'), ActionRecord('edit'), ActionRecord(3),
+                       SizeRecord(2 ** 32 - 1), TypeRecord('a/b'), AlternativeCarrierRecord('unknown', 'a', ['b', 'c'])):
+            (read,) = decoded(octets(record), known_types={record.type: type(record)})
+            self.assertEqual((type(read), read, str(read)), (type(record), record, str(record)))
+        for kind, size in ((CollisionResolutionRecord, 1), (CollisionResolutionRecord, 3), (SizeRecord, 3), (SizeRecord, 5), (ErrorRecord, 0),
+                           (AlternativeCarrierRecord, 0), (ActionRecord, 0)):
+            self.assertRaises(ndef.DecodeError, decoded, octets(ndef.Record(kind._type, '', bytes(size))), known_types={kind._type: kind})
+
     def test_carriers(self):
         for kind in ('a/b', 'urn:nfc:wkt:x', 'urn:nfc:ext:a:b', 'http://www.example.com'):
             carrier = back(ndef.HandoverCarrierRecord(kind, b'data', 'n'))
@@ -135,6 +182,29 @@ class Records(unittest.TestCase):
         for spelled in ('UNKNOWN', 'Unknown', 'empty', 'plain', 'Unchanged'):
             self.assertRaises(ValueError, ndef.Record, spelled)
 
+    def test_names(self):
+        for record in (ndef.Record('a/b', 'n'), ndef.TextRecord('a'), ndef.SmartposterRecord('a'), ndef.HandoverCarrierRecord('a/b', b'', 'n')):
+            for name, read in (('a', 'a'), (b'b\xe9', 'b\xe9'), (bytearray(b'c'), 'c'), (255 * 'x', 255 * 'x'), ('', ''), (None, '')):
+                record.name = name
+                self.assertEqual((record.name, back(record).name), (read, read))
+        self.assertEqual((ndef.Record('a/b', None).name, ndef.Record('a/b', '', None).data, ndef.Record(None).type), ('', b'', ''))
+
+    def test_a_class_derived_from_any_record(self):
+        class Counted(ndef.Record):
+            _type = 'urn:nfc:ext:example.com:counted'
+
+            @classmethod
+            def _decode_payload(cls, given, errors):
+                return cls(cls._type, '', bytes([len(given)]) if errors == 'strict' else b'')
+
+        known = dict(ndef.Record._known_parts)
+        try:
+            ndef.Record.register_type(Counted)
+            self.assertEqual([bytes(record.data) for record in decoded(octets(*(2 * [ndef.Record(Counted._type, '', b'abc')])))], 2 * [b'\3'])
+        finally:
+            ndef.Record._known_parts.clear()
+            ndef.Record._known_parts.update(known)
+
     def test_no_record_is_hashed(self):
         for record in (ndef.Record(), ndef.TextRecord('a'), ndef.SmartposterRecord('a')):
             self.assertRaises(TypeError, hash, record)
@@ -149,6 +219,128 @@ class Records(unittest.TestCase):
             with self.assertRaises(ndef.EncodeError) as caught:
                 octets(*(count * [good]), bad)
             self.assertEqual(caught.exception.place, count * len(HELLO))
+
+
+class Texts(unittest.TestCase):
+    """Each refusal of a value names what it may be, as python/README.md and the documentation of the classes have it, and the value."""
+
+    def test_of_errors(self):
+        long, select, poster = 256 * 'x', ndef.HandoverSelectRecord, ndef.SmartposterRecord('a')
+        for text, make in ((r"no record type is spelled 'plain'", lambda: ndef.Record('plain')),
+                           ('a record type has 1 to 255 octets', lambda: ndef.Record('urn:nfc:wkt:')),
+                           ('a record name has at most 255 octets', lambda: ndef.Record('a/b', long)),
+                           ("a language is at most 63 characters of ASCII, not 'x{64}'", lambda: ndef.TextRecord('', 64 * 'x')),
+                           ("the encoding is UTF-8 or UTF-16, not 'UTF-32'", lambda: ndef.TextRecord('', 'en', 'UTF-32')),
+                           ("a power state is inactive, active, activating or unknown, not 'off'", lambda: select('1.3', None, ('off', 'a'))),
+                           ('references of at most 255 octets, and at most 255 auxiliary ones', lambda: select('1.3', None, ('active', long))),
+                           ('is 0 to 65535, not 65536', lambda: ndef.HandoverRequestRecord('1.3', 65536)),
+                           ('is 0 to 65535, not -1', lambda: ndef.HandoverRequestRecord('1.3', -1)),
+                           ("no error has the reason 256 and the data b'x'", lambda: select('1.3', (256, b'x'))),
+                           ('no error has the reason 1 and the data 256', lambda: select('1.3', (1, 256))),
+                           ("handover is 1.0 to 1.15, not '2.0'", lambda: select('2.0')), ("handover is 1.0 to 1.15, not 'a.b'", lambda: select('a.b')),
+                           ("handover is 1.0 to 1.15, not '1'", lambda: select('1')), ('handover is 1.0 to 1.15, not 32', lambda: select(32)),
+                           ('an action is a number of 0 to 255, not 256', lambda: setattr(poster, 'action', 256)),
+                           ("an action is 'exec', 'save', 'edit' or a number, not 'run'", lambda: setattr(poster, 'action', 'run')),
+                           ('a resource is 0 to 4294967295, not -1', lambda: setattr(poster, 'resource_size', -1)),
+                           ('a type image/.. or video/.., not text/plain', lambda: poster.add_icon('text/plain', b'')),
+                           ("profile is 'strict' or 'standard', not 'lax'", lambda: ndef.fields(b'a', 'lax')),
+                           ("errors is 'strict', not 'lenient'", lambda: decoded(b'a', errors='lenient'))):
+            with self.subTest(text):
+                self.assertRaisesRegex(ValueError, text.replace('..', r'\.\.').replace('text/plain', "'text/plain'"), make)
+
+    def test_of_types(self):
+        poster, select = ndef.SmartposterRecord('a'), ndef.HandoverSelectRecord
+        for text, make in (('a record type is a str, not int', lambda: ndef.Record(5)), ('a text is a str, not bytes', lambda: ndef.TextRecord(b'a')),
+                           ('a URI is a str, not int', lambda: ndef.UriRecord(5)), ('data is octets, not int', lambda: ndef.Record('a/b', '', 5)),
+                           ('data is octets, not str', lambda: ndef.Record('a/b', '', 'x')), ('name is a str, not float', lambda: ndef.Record('a/b', 1.5)),
+                           ('carrier data is octets, not str', lambda: ndef.HandoverCarrierRecord('a/b', 'x')),
+                           ('an action is a number, not float', lambda: setattr(poster, 'action', 1.5)),
+                           ('the size of a resource is a number, not str', lambda: setattr(poster, 'resource_size', '1')),
+                           ('a media type is a str, not bytes', lambda: setattr(poster, 'resource_type', b'a/b')),
+                           ('the type of an icon is a str, not int', lambda: poster.add_icon(5, b'')),
+                           ('a version is a str, not NoneType', lambda: select(None)),
+                           ('the reason of an error is a number, not str', lambda: select('1.3', ('1', 1))),
+                           ('the data of an error is octets, not str', lambda: select('1.3', (1, '1'))),
+                           ('a reference is a str, not int', lambda: select('1.3', None, ('active', 0))),
+                           ('octets are needed, not str', lambda: ndef.fields('a')), ('a Record is needed, not str', lambda: octets('a')),
+                           ('octets or a stream of octets is needed, not str', lambda: decoded('a')),
+                           ('a record class is needed, not 5', lambda: ndef.Record.register_type(5))):
+            with self.subTest(text):
+                self.assertRaisesRegex(TypeError, text, make)
+
+    def test_of_records_that_cannot_be_written(self):
+        for text, record in (('a payload of 1048577 octets is more than MAX_PAYLOAD_SIZE, 1048576, at 12: PayloadTooLarge',
+                              ndef.Record('a/b', '', bytes(1048577))), ('no handover has these parts, at 12: BadArgument', ndef.HandoverRequestRecord())):
+            self.assertRaisesRegex(ndef.EncodeError, text, octets, ndef.TextRecord('Hello'), record)
+        self.assertEqual(str(ndef.EncodeError('a\nb')), 'a b, at 0: BadArgument')
+        for most in (0, 2 ** 32):
+            self.assertRaisesRegex(ValueError, 'MAX_PAYLOAD_SIZE is 1 to 4294967295, not %d' % most, library.limits, most, 0)
+
+
+class Large(unittest.TestCase):
+    """Payloads of a megabyte, which is the most that is taken."""
+
+    def test_there_and_back(self):
+        size = 1048576
+        letters = 'ab\xe9\u4e00\U0001f600' * (size // 30)
+        for record in (ndef.Record('a/b', 'n', bytes(range(256)) * (size // 256)), ndef.TextRecord((size - 3) * 'a'), ndef.TextRecord(letters),
+                       ndef.TextRecord(letters, encoding='UTF-16'), ndef.UriRecord('http://www.' + (size - 1) * 'a'),
+                       ndef.HandoverCarrierRecord('a/b', bytes(size - 5)), ndef.SmartposterRecord('tel:1', letters, icon=bytes(size // 2))):
+            written = octets(record, ndef.TextRecord('Hello'))
+            for given in (written, io.BytesIO(written), io.BufferedReader(io.BytesIO(written))):
+                read = decoded(given)
+                self.assertEqual(read, [record, ndef.TextRecord('Hello')])
+                self.assertEqual(vars(read[0]).get('_text'), vars(record).get('_text'))
+            told = ndef.fields(written)
+            self.assertEqual((told[-1].at + told[-1].length, told[-1].octets), (len(written), b'Hello'))
+
+    def test_one_octet_more(self):
+        for record in (ndef.TextRecord(1048574 * 'a'), ndef.Record('a/b', '', bytes(1048577)), ndef.UriRecord(1048576 * 'a')):
+            self.assertRaisesRegex(ndef.EncodeError, 'PayloadTooLarge', octets, record)
+        head = b'\xc2\3\0\x10\0\1a/b'
+        with self.assertRaises(ndef.DecodeError) as caught:
+            decoded(head + bytes(1048577))
+        self.assertEqual((caught.exception.reason, caught.exception.place), ('PayloadTooLarge', 5))
+
+
+class Walks(unittest.TestCase):
+    """Each way to walk over records gives the same ones."""
+
+    def messages(self):
+        yield []
+        yield [ndef.Record()]
+        yield [ndef.TextRecord('Hello'), ndef.UriRecord('tel:1')]
+        yield [ndef.Record('a/b', str(number), bytes(number)) for number in range(300)]
+
+    def test_encoders(self):
+        for message in self.messages():
+            parts, stream = list(ndef.message_encoder(message)), io.BytesIO()
+            self.assertEqual(list(ndef.message_encoder(iter(message))), parts)
+            self.assertEqual(list(ndef.message_encoder(message, stream)), [len(part) for part in parts])
+            self.assertEqual((stream.getvalue(), len(parts)), (b''.join(parts), len(message)))
+            for stream in (None, io.BytesIO()):
+                encoder = ndef.message_encoder(stream=stream)
+                encoder.send(None)
+                sent = [encoder.send(record) for record in (*message, None)] if message else []
+                self.assertEqual(sent[1:], parts if stream is None else [len(part) for part in parts])
+                self.assertEqual(sent[:1], [None] if message else [])
+
+    def test_decoders(self):
+        for message in self.messages():
+            given = octets(*message)
+            for form in (bytes, bytearray, memoryview, io.BytesIO, lambda part: io.BufferedReader(io.BytesIO(part))):
+                for words in ({}, {'whole': True}, {'errors': 'strict'}):
+                    decoder = ndef.message_decoder(form(given), **words)
+                    read = [next(decoder) for _ in message]
+                    self.assertEqual((read, list(decoder)), (message, []))
+            two = io.BytesIO(2 * given)
+            self.assertEqual((decoded(two), decoded(two), decoded(two)), (message, message, []))
+
+    def test_an_encoder_that_is_wrong_ends(self):
+        encoder = ndef.message_encoder()
+        encoder.send(None)
+        self.assertRaises(TypeError, encoder.send, b'octets')
+        self.assertRaises(StopIteration, encoder.send, ndef.Record())
 
 
 class Fields(unittest.TestCase):
@@ -177,19 +369,72 @@ class Fields(unittest.TestCase):
 
 
 class Short:
-    """A stream that gives fewer octets than it is asked for."""
+    """A stream that gives fewer octets than it is asked for, each time as many as these sizes say in turn; whether it can seek."""
 
-    def __init__(self, given):
-        stream = io.BytesIO(given)
-        self.seek, self.tell, self.seekable = stream.seek, stream.tell, stream.seekable
-        self.read = lambda size: stream.read(min(size, 3))
+    def __init__(self, given, sizes=(3,), can_seek=True):
+        stream, sizes = io.BytesIO(given), itertools.cycle(sizes)
+        self.seek, self.tell, self.seekable = stream.seek, stream.tell, lambda: can_seek
+        self.read = lambda size: stream.read(min(size, next(sizes)))
+
+
+class Peeking:
+    """A stream that shows more than it is asked for, or less, and counts the octets that are taken."""
+
+    def __init__(self, given, most):
+        self.stream, self.most = io.BytesIO(given), most
+
+    def peek(self, size):
+        at = self.stream.tell()
+        return self.stream.getvalue()[at:at + self.most]
+
+    def read(self, size):
+        return self.stream.read(size)
 
 
 class Streams(unittest.TestCase):
     def test_short_reads(self):
         message = [ndef.Record('a/b', 'n', bytes(300)), ndef.TextRecord('Hello'), ndef.UriRecord('tel:1')]
-        stream = Short(octets(*message) + b'rest')
-        self.assertEqual((decoded(stream), stream.read(3)), (message, b'res'))
+        for sizes, can_seek in itertools.product(((3,), (1,), (64, 5, 1), (1000, 1), (1, 1000), (7, 100, 2, 50)), (True, False)):
+            stream = Short(octets(*message) + b'rest', sizes, can_seek)
+            self.assertEqual((decoded(stream), stream.seek(-4, 2), stream.tell()), (message, len(octets(*message)), len(octets(*message))))
+
+    def test_peeks(self):
+        message = [ndef.Record('a/b', 'n', bytes(300)), ndef.TextRecord('Hello'), ndef.UriRecord('tel:1')]
+        for most in (1, 2, 63, 64, 65, 1000):
+            stream = Peeking(octets(*message) + b'rest', most)
+            self.assertEqual((decoded(stream), stream.stream.read()), (message, b'rest'))
+
+    def test_what_is_shown_is_not_looked_at_again(self):
+        """Of a long buffer no more is looked at for each record than the record's own octets and a few more."""
+        given, looked = octets(*(500 * [ndef.TextRecord('Hello')])), []
+        feed = library.feed
+
+        def counted(checker, part, size, checked):
+            looked.append(len(part))
+            return feed(checker, part, size, checked)
+
+        for stream in (io.BufferedReader(io.BytesIO(given), 1 << 20), io.BytesIO(given), Peeking(given, len(given))):
+            with mock.patch.object(library, 'feed', counted):
+                self.assertEqual(len(decoded(stream)), 500)
+            self.assertLess(sum(looked), 100 * 500)
+            looked.clear()
+
+    def test_where_a_refused_message_leaves_a_stream(self):
+        """At most at the refused octet, and not in front of the last record that was given."""
+        given = octets(ndef.TextRecord('Hello'), ndef.TextRecord(300 * 'a'))
+        for place in (12, 13, 40, 200, 310):
+            broken = given[:place] + b'\xff' + given[place + 1:]
+            for stream in (io.BytesIO(broken), io.BufferedReader(io.BytesIO(broken))):
+                with self.assertRaises(ndef.DecodeError) as caught:
+                    decoded(stream)
+                self.assertTrue(12 <= stream.tell() <= caught.exception.place)
+
+    def test_streams_of_text(self):
+        class Text:
+            def __init__(self):
+                self.read = io.StringIO('text').read
+
+        self.assertRaisesRegex(TypeError, 'a stream of octets is needed, not of str', decoded, Text())
 
     def test_threads_share_no_room(self):
         """Payloads in pieces are joined in rooms that threads take in turn."""
@@ -217,16 +462,19 @@ class Streams(unittest.TestCase):
 
 
 class CommandLine(unittest.TestCase):
-    def run_with(self, *words, files=()):
+    def run_in(self, folder, words, **more):
+        environment = {**os.environ, 'PYTHONPATH': os.path.dirname(ndef.__path__[0])}
+        return subprocess.run([sys.executable, '-m', 'simbegyor_ndef', *words], stderr=subprocess.PIPE, env=environment, cwd=folder,
+                              **{'stdout': subprocess.PIPE, **more})
+
+    def run_with(self, *words, files=(), given=b''):
+        """The status and the lines of a run with these files, whose names are 0.bin, 1.bin and so on."""
         with tempfile.TemporaryDirectory() as folder:
-            names = []
-            for number, given in enumerate(files):
-                names.append(os.path.join(folder, '%d.bin' % number))
-                pathlib.Path(names[-1]).write_bytes(given)
-            environment = {**os.environ, 'PYTHONPATH': os.path.dirname(ndef.__path__[0])}
-            done = subprocess.run([sys.executable, '-m', 'simbegyor_ndef', *words, *names], stdout=subprocess.PIPE, stderr=subprocess.PIPE,
-                                  env=environment)
-            return done.returncode, [line.replace(folder + os.sep, '') for line in done.stdout.decode().splitlines()]
+            for number, content in enumerate(files):
+                pathlib.Path(folder, '%d.bin' % number).write_bytes(content)
+            done = self.run_in(folder, [*words, *('%d.bin' % number for number in range(len(files)))], input=given)
+            self.assertEqual(done.stderr, b'')
+            return done.returncode, done.stdout.decode().splitlines()
 
     def test_several_files(self):
         hello = "NDEF Text Record ID '' Text 'Hello' Language 'en' Encoding 'UTF-8'"
@@ -244,6 +492,75 @@ class CommandLine(unittest.TestCase):
         self.assertEqual((told[1]['message'], told[1]['at'], told[1]['iri'], told[1]['titles'], told[1]['action']),
                          (2, 12, 'http://www.example.com', {'en': 'Title'}, 'save'))
         self.assertEqual(told[2], {'refused': {'place': 12 + len(poster), 'number': 1, 'reason': 'ReservedTnf'}})
+
+    def test_json_of_each_attribute(self):
+        """What an object has is what the record has: octets in digits, named tuples as objects."""
+        poster = ndef.SmartposterRecord('tel:1', {'en': 'a', 'de': 'b'}, 7, None, 5, 'a/b')
+        request = ndef.HandoverRequestRecord('1.3', 9, ('active', 'a', 'b'), ('inactive', 'c'))
+        select, carrier = ndef.HandoverSelectRecord('1.2', (9, b'x')), ndef.HandoverCarrierRecord('a/b', b'xy', 'n')
+        status, lines = self.run_with('--json', files=[octets(poster, request, select, carrier, ndef.Record('a/b', 'm', b'\xff'))])
+        wanted = [{'type': 'urn:nfc:wkt:Sp', 'name': '', 'iri': 'tel:1', 'titles': {'en': 'a', 'de': 'b'}, 'action': 7, 'resource_size': 5,
+                   'resource_type': 'a/b', 'data': poster.data.hex()},
+                  {'type': 'urn:nfc:wkt:Hr', 'name': '', 'version_string': '1.3', 'collision_resolution_number': 9, 'data': request.data.hex(),
+                   'alternative_carriers': [
+                       {'carrier_power_state': 'active', 'carrier_data_reference': 'a', 'auxiliary_data_reference': ['b']},
+                       {'carrier_power_state': 'inactive', 'carrier_data_reference': 'c', 'auxiliary_data_reference': []}]},
+                  {'type': 'urn:nfc:wkt:Hs', 'name': '', 'version_string': '1.2', 'error': {'error_reason': 9, 'error_data': '78'},
+                   'alternative_carriers': [], 'data': select.data.hex()},
+                  {'type': 'urn:nfc:wkt:Hc', 'name': 'n', 'carrier_type': 'a/b', 'carrier_data': '7879', 'data': carrier.data.hex()},
+                  {'type': 'a/b', 'name': 'm', 'data': 'ff'}]
+        self.assertEqual((status, [json.loads(line) for line in lines]), (0, [{'message': 1, 'at': 0, **part} for part in wanted]))
+
+    def test_json_of_several_files(self):
+        """Each file's messages are counted from 1, and places from its front."""
+        status, lines = self.run_with('--json', files=[HELLO + HELLO, b'\xff', HELLO + HELLO[:5], b'', HELLO])
+        told = [json.loads(line) for line in lines]
+        self.assertEqual([part.get('refused') or (part['message'], part['at']) for part in told],
+                         [(1, 0), (2, 12), {'place': 0, 'number': 1, 'reason': 'ReservedTnf'}, (1, 0),
+                          {'place': 17, 'number': 24, 'reason': 'EndOfInput'}, (1, 0)])
+        self.assertEqual(status, 1)
+        self.assertEqual(self.run_with('--json', '--hex', files=[b'0']), (1, ['{"refused": {"reason": "hex: odd number of digits"}}']))
+
+    def test_hexadecimal_digits(self):
+        digits = HELLO.hex().encode()
+        hello = "NDEF Text Record ID '' Text 'Hello' Language 'en' Encoding 'UTF-8'"
+        for given, answer in ((digits.upper(), (0, [hello])), (b' ' + digits[:3] + b'\t\r\n ' + digits[3:], (0, [hello])),
+                              (digits[:-1], (1, ['hex: odd number of digits'])), (digits + b'\f', (1, ['hex: bad digit at 24'])),
+                              (b'd0 x', (1, ['hex: bad digit at 3'])), (b'\n\xff', (1, ['hex: bad digit at 1'])), (b' \n', (0, []))):
+            self.assertEqual(self.run_with('--hex', given=given), answer)
+            self.assertEqual(self.run_with('--hex', '-', given=given), answer)
+        self.assertEqual(self.run_with('--hex', files=[b'zz', digits]), (1, ['0.bin: hex: bad digit at 0', '1.bin: ' + hello]))
+
+    def test_characters_that_are_not_printed(self):
+        status, lines = self.run_with(files=[octets(ndef.TextRecord('a\n\x1b[1m\u202e\U000e0001z'))])
+        self.assertEqual((status, lines), (0, [r"NDEF Text Record ID '' Text 'a\n\x1b[1m\u202e\U000e0001z' Language 'en' Encoding 'UTF-8'"]))
+
+    def test_words(self):
+        """The exit status that is said is that of docs/COMMAND.md."""
+        done = self.run_in(None, ['--help'])
+        said = ' '.join(done.stdout.decode().split())
+        self.assertIn('Exit status: 0 all are messages, 1 one is refused, 2 bad words, 3 reading or writing failed.', said)
+        self.assertEqual(done.returncode, 0)
+        self.assertEqual((self.run_in(None, ['--version']).stdout.decode().strip(), self.run_in(None, ['--none']).returncode),
+                         (ndef.__version__, 2))
+
+    def test_faults(self):
+        """What goes to standard error is one line, and the status is 3."""
+        with tempfile.TemporaryDirectory() as folder:
+            pathlib.Path(folder, 'hello').write_bytes(HELLO)
+            pathlib.Path(folder, 'long').write_bytes(5000 * HELLO)
+            for words in (['nowhere'], ['hello', 'nowhere'], ['nowhere', 'hello']):
+                done = self.run_in(folder, words)
+                self.assertEqual((done.returncode, done.stderr), (3, b"fault: [Errno 2] No such file or directory: 'nowhere'\n"))
+            for name in ('hello', 'long'):
+                with open('/dev/full', 'wb') as full:
+                    done = self.run_in(folder, [name], stdout=full)
+                self.assertEqual((done.returncode, done.stderr), (3, b'fault: [Errno 28] No space left on device\n'))
+                reading, writing = os.pipe()
+                os.close(reading)
+                done = self.run_in(folder, [name], stdout=writing)
+                os.close(writing)
+                self.assertEqual((done.returncode, done.stderr), (3, b'fault: [Errno 32] Broken pipe\n'))
 
 
 if __name__ == '__main__':
