@@ -189,6 +189,35 @@ class Records(unittest.TestCase):
                 self.assertEqual((record.name, back(record).name), (read, read))
         self.assertEqual((ndef.Record('a/b', None).name, ndef.Record('a/b', '', None).data, ndef.Record(None).type), ('', b'', ''))
 
+    def test_values_that_are_not_given(self):
+        """As the documentation of the classes has them."""
+        self.assertEqual(ErrorRecord().error, (1, 0))
+        self.assertEqual(AlternativeCarrierRecord().told(), ('active', '', []))
+        self.assertEqual((CollisionResolutionRecord().random_number, SizeRecord().resource_size, TypeRecord().resource_type), (0, 0, ''))
+        self.assertEqual((ActionRecord().action, ndef.UriRecord().iri, ndef.HandoverCarrierRecord('a/b').carrier_data), ('exec', '', b''))
+        for text in (ndef.TextRecord(), ndef.TextRecord(None, None, None)):
+            self.assertEqual((text.text, text.language, text.encoding), ('', 'en', 'UTF-8'))
+        poster = ndef.SmartposterRecord('a')
+        self.assertEqual((poster.titles, poster.title, poster.action, poster.icons, poster.icon, poster.resource_size, poster.resource_type),
+                         ({}, None, None, {}, None, None, None))
+        for handover in (ndef.HandoverRequestRecord(), ndef.HandoverSelectRecord()):
+            self.assertEqual((handover.version_string, handover.alternative_carriers, handover.records), ('1.3', [], []))
+        self.assertEqual((ndef.HandoverRequestRecord().collision_resolution_number, ndef.HandoverSelectRecord().error), (None, None))
+
+    def test_what_is_set_first_of_a_record_that_was_read(self):
+        """No attribute that is set is read anew of the octets afterwards."""
+        given = octets(ndef.TextRecord('a', 'de', 'UTF-16'), ndef.UriRecord('tel:1'))
+        for name, value, others in (('text', 'b', {'language': 'de', 'encoding': 'UTF-16'}), ('language', 'en', {'text': 'a', 'encoding': 'UTF-16'}),
+                                    ('encoding', 'UTF-8', {'text': 'a', 'language': 'de'})):
+            text, _ = decoded(given)
+            setattr(text, name, value)
+            self.assertEqual({part: getattr(text, part) for part in (name, *others)}, {name: value, **others})
+            self.assertEqual(back(text), ndef.TextRecord(**{name: value, **others}))
+        for name in ('iri', 'uri'):
+            _, uri = decoded(given)
+            setattr(uri, name, 'tel:2')
+            self.assertEqual((uri.iri, back(uri).iri), ('tel:2', 'tel:2'))
+
     def test_a_class_derived_from_any_record(self):
         class Counted(ndef.Record):
             _type = 'urn:nfc:ext:example.com:counted'
