@@ -149,7 +149,7 @@ def records_of(octets: bytes, start: int, end: int, known: _Known, told: _Told) 
     looked into; else it has, for classes of which the library told the first record's value with the whole, what it told."""
     parts, size, at = library.RecordParts(), library.SIZES[end], start
     out, sizes, record_at, record_fields = library.byref(parts), library.SIZES, library.record_at, library.record_fields
-    while at < end and record_at(octets, size, sizes[at], out) == library.OK:
+    while record_at(octets, size, sizes[at], out) == library.OK:
         fields = record_fields(parts)
         yield _record(octets, fields, known, 0, at == start, told)
         at = fields[1]

@@ -8,12 +8,13 @@ import io
 import os
 import pathlib
 import random
+import re
 import struct
 import unittest
 
 import simbegyor_ndef as ndef
-from cases import cases, field_names, reasons, values
-from simbegyor_ndef import handover, smartposter
+from cases import TOP, cases, field_names, reasons, values
+from simbegyor_ndef import _library as library, handover, smartposter
 from wild import Wild, corpus
 
 C = ctypes.CDLL(str(pathlib.Path(ndef.__path__[0], 'libndef.so')))
@@ -31,6 +32,12 @@ IN_POSTER = {b'T': ndef.TextRecord, b'U': ndef.UriRecord, b'act': smartposter.Ac
 IN_REQUEST = {b'cr': handover.CollisionResolutionRecord, b'ac': handover.AlternativeCarrierRecord}
 IN_SELECT = {b'err': handover.ErrorRecord, b'ac': handover.AlternativeCarrierRecord}
 
+# The module's structs, and their names in ndef.h.
+STRUCTS = {library.Limits: 'ndef_limits', library.Checked: 'ndef_checked', library.Checker: 'ndef_checker', library.RecordParts: 'ndef_record',
+           library.Writing: 'ndef_writing', library.TextParts: 'ndef_text_parts', library.PosterParts: 'ndef_poster_parts',
+           library.CarrierParts: 'ndef_carrier_parts', library.AlternativeParts: 'ndef_alternative_parts', library.ErrorParts: 'ndef_error_parts',
+           library.RequestParts: 'ndef_request_parts', library.SelectParts: 'ndef_select_parts', library.Part: 'ndef_part',
+           library.FieldParts: 'ndef_field'}
 # The calls that read payloads, but URIs, and their flags.
 READS = {b'T': ('ndef_text',), b'Sp': ('ndef_poster', 0), b'Hr': ('ndef_request', 0), b'Hs': ('ndef_select', 0), b'Hc': ('ndef_carrier',)}
 
@@ -384,6 +391,15 @@ class Calls(unittest.TestCase):
                         self.fields(octets, number // 3 % 2, most)
         finally:
             ndef.Record.MAX_PAYLOAD_SIZE = USUAL
+
+    def test_structs(self):
+        """The module's structs have the members of those in ndef.h, in their order and size."""
+        header, sizes = (TOP / 'include/ndef.h').read_text(), {'ndef_size': 8, 'uint64_t': 8, 'uint32_t': 4}
+        for kind, name in STRUCTS.items():
+            body = re.sub(r'/\*.*?\*/', '', re.search(r'typedef struct %s {(.*?)}' % name, header, re.S)[1], flags=re.S)
+            wanted = [(part, sizes[words] * int(count or 1)) for words, parts in re.findall(r'(\w+) ([^;]+);', body)
+                      for part, count in re.findall(r'(\w+)(?:\[(\d+)\])?', parts)]
+            self.assertEqual([(part, ctypes.sizeof(form)) for part, form in kind._fields_], wanted)
 
     def test_cases(self):
         chance, seen = random.Random(3), set()

@@ -126,6 +126,14 @@ class Handovers(unittest.TestCase):
             select.set_error(*error)
             self.assertEqual((select.error, back(select).error, len(select.records)), (error, error, 1))
 
+    def test_an_error_among_others(self):
+        """Of several the first is set, and what stands behind it stays."""
+        inner = octets(AlternativeCarrierRecord('active', '0'), ErrorRecord(1, 1), ndef.Record('a/b', '', b'x'), ErrorRecord(9, b'y'))
+        (select,) = decoded(octets(ndef.Record('urn:nfc:wkt:Hs', '', b'\x12' + inner)))
+        select.set_error(2, 5)
+        self.assertEqual([(part.type, getattr(part, 'error', None)) for part in back(select).records],
+                         [('urn:nfc:wkt:ac', None), ('urn:nfc:wkt:err', (2, 5)), ('a/b', None), ('urn:nfc:wkt:err', (9, b'y'))])
+
     def test_what_is_changed_within(self):
         request = ndef.HandoverRequestRecord('1.3', 1, ('active', '0'))
         listed = request.records
@@ -181,6 +189,21 @@ class Records(unittest.TestCase):
         self.assertEqual(ndef.Record(b'urn:nfc:ext:a:\xe9'), ndef.Record('urn:nfc:ext:a:\xe9'))
         for spelled in ('UNKNOWN', 'Unknown', 'empty', 'plain', 'Unchanged'):
             self.assertRaises(ValueError, ndef.Record, spelled)
+
+    def test_every_octet_of_names_and_types(self):
+        """Latin-1 has a character for each octet."""
+        high = bytes(range(128, 256))
+        letters = ''.join(map(chr, high))
+        for spelled in (letters, high):
+            self.assertEqual(octets(ndef.Record('unknown', spelled)), b'\xdd\0\0\x80' + high)
+        self.assertEqual(decoded(b'\xdd\0\0\x80' + high)[0].name, letters)
+        for spelled in ('urn:nfc:ext:a:' + letters, b'urn:nfc:ext:a:' + high):
+            self.assertEqual(octets(ndef.Record(spelled)), b'\xd4\x82\0a:' + high)
+        self.assertEqual(decoded(b'\xd4\x82\0a:' + high)[0].type, 'urn:nfc:ext:a:' + letters)
+        carrier = AlternativeCarrierRecord('active', letters, [letters])
+        self.assertEqual(carrier.data, b'\1\x80' + high + b'\1\x80' + high)
+        select = ndef.HandoverSelectRecord('1.2', None, ('active', letters, letters))
+        self.assertEqual(back(select).alternative_carriers, [('active', letters, [letters])])
 
     def test_names(self):
         for record in (ndef.Record('a/b', 'n'), ndef.TextRecord('a'), ndef.SmartposterRecord('a'), ndef.HandoverCarrierRecord('a/b', b'', 'n')):
@@ -301,6 +324,8 @@ class Texts(unittest.TestCase):
         for text, record in (('a payload of 1048577 octets is more than MAX_PAYLOAD_SIZE, 1048576, at 12: PayloadTooLarge',
                               ndef.Record('a/b', '', bytes(1048577))), ('no handover has these parts, at 12: BadArgument', ndef.HandoverRequestRecord())):
             self.assertRaisesRegex(ndef.EncodeError, text, octets, ndef.TextRecord('Hello'), record)
+        for error in (ndef.EncodeError('a\nb'), ndef.DecodeError()):
+            self.assertEqual((error.place, error.number), (0, 0))
         self.assertEqual(str(ndef.EncodeError('a\nb')), 'a b, at 0: BadArgument')
         for most in (0, 2 ** 32):
             self.assertRaisesRegex(ValueError, 'MAX_PAYLOAD_SIZE is 1 to 4294967295, not %d' % most, library.limits, most, 0)
@@ -491,8 +516,8 @@ class Streams(unittest.TestCase):
 
 
 class CommandLine(unittest.TestCase):
-    def run_in(self, folder, words, **more):
-        environment = {**os.environ, 'PYTHONPATH': os.path.dirname(ndef.__path__[0])}
+    def run_in(self, folder, words, encoding='utf-8', **more):
+        environment = {**os.environ, 'PYTHONPATH': os.path.dirname(ndef.__path__[0]), 'PYTHONIOENCODING': encoding}
         return subprocess.run([sys.executable, '-m', 'simbegyor_ndef', *words], stderr=subprocess.PIPE, env=environment, cwd=folder,
                               **{'stdout': subprocess.PIPE, **more})
 
@@ -564,11 +589,18 @@ class CommandLine(unittest.TestCase):
         status, lines = self.run_with(files=[octets(ndef.TextRecord('a\n\x1b[1m\u202e\U000e0001z'))])
         self.assertEqual((status, lines), (0, [r"NDEF Text Record ID '' Text 'a\n\x1b[1m\u202e\U000e0001z' Language 'en' Encoding 'UTF-8'"]))
 
+    def test_characters_that_the_output_has_not(self):
+        given = octets(ndef.TextRecord('\xe9\u4e00'))
+        for encoding, printed in (('ascii', br'\xe9\u4e00'), ('latin-1', b'\xe9\\u4e00'), ('utf-8', '\xe9\u4e00'.encode())):
+            done = self.run_in(None, [], encoding, input=given)
+            self.assertEqual((done.returncode, done.stdout), (0, b"NDEF Text Record ID '' Text '%s' Language 'en' Encoding 'UTF-8'\n" % printed))
+
     def test_words(self):
         """The exit status that is said is that of docs/COMMAND.md."""
         done = self.run_in(None, ['--help'])
         said = ' '.join(done.stdout.decode().split())
         self.assertIn('Exit status: 0 all are messages, 1 one is refused, 2 bad words, 3 reading or writing failed.', said)
+        self.assertIn('a file, or - for standard input, which is the default', said)
         self.assertEqual(done.returncode, 0)
         self.assertEqual((self.run_in(None, ['--version']).stdout.decode().strip(), self.run_in(None, ['--none']).returncode),
                          (ndef.__version__, 2))
