@@ -351,6 +351,37 @@ class Large(unittest.TestCase):
         self.assertEqual((caught.exception.reason, caught.exception.place), ('PayloadTooLarge', 5))
 
 
+class Rooms(unittest.TestCase):
+    """Time alone: no call is made twice for want of room, and the usual rooms are used again."""
+
+    def calls_of(self, name, work):
+        """How often a call of the library is made."""
+        made, call = [], getattr(library, name)
+        with mock.patch.object(library, name, lambda *words: made.append(name) or call(*words)):
+            work()
+        return len(made)
+
+    def test_one_call_for_each_payload(self):
+        size, long = 9000, 9000 * 'a'
+        carrier, select = AlternativeCarrierRecord('active', 255 * 'x', 255 * [255 * 'y']), ndef.HandoverSelectRecord('1.2', (9, bytes(size)))
+        record, pieces = ndef.Record('unknown', '', bytes(size)), b'\xa5\0\0\0\x10\0' + bytes(4096) + b'\x46\0\0\0\x10\0\0' + bytes(4096)
+        text, wide = ndef.TextRecord(long), ndef.TextRecord(long, encoding='UTF-16')
+        for name, work in (('write_text', lambda: text.data), ('write_text', lambda: wide.data),
+                           ('write_uri', lambda: ndef.UriRecord(long).data), ('uri', lambda: decoded(octets(ndef.UriRecord(long)))[0].iri),
+                           ('text_in_utf8', lambda: decoded(octets(ndef.TextRecord(size * '\u4e00', encoding='UTF-16')))[0].text),
+                           ('write_carrier', lambda: ndef.HandoverCarrierRecord('a/b', bytes(size)).data), ('write_alternative', lambda: carrier.data),
+                           ('write_error', lambda: ErrorRecord(9, bytes(size))), ('write_handover', lambda: select.data),
+                           ('write_record', lambda: octets(record)), ('payload', lambda: decoded(pieces))):
+            with self.subTest(name):
+                self.assertEqual(self.calls_of(name, work), 1)
+
+    def test_rooms_are_used_again(self):
+        text = ndef.TextRecord('a')
+        self.assertEqual(text.data, b'\2ena')
+        with mock.patch.object(library, '_Room', side_effect=AssertionError):
+            self.assertEqual([text.data for _ in range(100)], 100 * [b'\2ena'])
+
+
 class Walks(unittest.TestCase):
     """Each way to walk over records gives the same ones."""
 
