@@ -111,9 +111,10 @@ class CommandLine(unittest.TestCase):
         with tempfile.TemporaryDirectory() as folder:
             pathlib.Path(folder, 'hello').write_bytes(HELLO)
             pathlib.Path(folder, 'long').write_bytes(5000 * HELLO)
-            for words in (['nowhere'], ['hello', 'nowhere'], ['nowhere', 'hello']):
+            hello = b"hello: NDEF Text Record ID '' Text 'Hello' Language 'en' Encoding 'UTF-8'\n"
+            for words, printed in ((['nowhere'], b''), (['hello', 'nowhere'], hello), (['nowhere', 'hello'], b'')):
                 done = self.run_in(folder, words)
-                self.assertEqual((done.returncode, done.stderr), (3, b"fault: [Errno 2] No such file or directory: 'nowhere'\n"))
+                self.assertEqual((done.returncode, done.stdout, done.stderr), (3, printed, b"fault: [Errno 2] No such file or directory: 'nowhere'\n"))
             for name in ('hello', 'long'):
                 with open('/dev/full', 'wb') as full:
                     done = self.run_in(folder, [name], stdout=full)
