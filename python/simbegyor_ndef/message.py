@@ -190,7 +190,7 @@ def _place_in_pieces(octets: bytes, is_first: bool, error: DecodeError, payload_
     status = library.REFUSED
     for part in (before, octets):
         status = library.feed(library.byref(checker), part, library.SIZES[len(part)], library.byref(checked))
-    if error.number and status == library.REFUSED and checked.reason == error.number:
+    if status == library.REFUSED and checked.reason == error.number:
         return int(checked.place) - len(before)
     return payload_at
 

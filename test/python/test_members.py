@@ -184,6 +184,17 @@ class Records(unittest.TestCase):
         for spelled in ('UNKNOWN', 'Unknown', 'empty', 'plain', 'Unchanged'):
             self.assertRaises(ValueError, ndef.Record, spelled)
 
+    def test_places_in_pieces_for_other_classes(self):
+        """Where a class refuses what the library takes, or refuses for another reason, the place is that of the payload."""
+        known = {'urn:nfc:wkt:T': ndef.UriRecord}
+        for text in (b'\x24' + 36 * b'a' + b'x', b'\x24' + 35 * b'a' + b'\xff' + b'x', b'\x24' + 36 * b'a' + b'\xff'):
+            given = b'\xb1\1\x10T' + text[:16] + b'\x56\0' + bytes([len(text) - 16]) + text[16:]
+            for before in (b'', b'\x90\0\0'):
+                octets_of = before + (bytes([given[0] & 0x7f]) if before else given[:1]) + given[1:]
+                with self.assertRaises(ndef.DecodeError) as caught:
+                    decoded(octets_of, known_types=known)
+                self.assertEqual((caught.exception.reason, caught.exception.place), ('UriCode', len(before) + 4))
+
     def test_every_octet_of_names_and_types(self):
         """Latin-1 has a character for each octet."""
         high = bytes(range(128, 256))
