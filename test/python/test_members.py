@@ -534,7 +534,7 @@ class Streams(unittest.TestCase):
             letter = b'%d' % number
             given = b'\xb5\0\1' + letter + b'\x36\0\1' + letter + b'\x56\0' + bytes([200]) + 200 * letter
             text = ndef.TextRecord(chr(0x4e00 + number) * 100, encoding='UTF-16')
-            for _ in range(2000):
+            for _ in range(1000):
                 (record,) = decoded(given)
                 if record.data != 202 * letter or back(text).text != text.text:
                     wrong.append(number)

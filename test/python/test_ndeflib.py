@@ -312,22 +312,22 @@ class Processes(unittest.TestCase):
                 self.assertEqual([pickle.loads(pickle.dumps(made)), copy.deepcopy(made)], [made, made])
 
     def test_a_pool_of_processes(self):
-        message = [BROKEN if number % 10 == 0 else octets(ndef.TextRecord(str(number))) for number in range(10000)]
+        message = [BROKEN if number % 10 == 0 else octets(ndef.TextRecord(str(number))) for number in range(3000)]
         with concurrent.futures.ProcessPoolExecutor(4) as pool:
-            answers = list(pool.map(told, message, chunksize=500))
+            answers = list(pool.map(told, message, chunksize=150))
             broken = [pool.submit(list_of, BROKEN).exception(), pool.submit(octets, ndef.HandoverRequestRecord()).exception()]
-        self.assertEqual(answers, [16 if number % 10 == 0 else [str(number)] for number in range(10000)])
+        self.assertEqual(answers, [16 if number % 10 == 0 else [str(number)] for number in range(3000)])
         self.assertEqual([str(error) for error in broken], ['refused at 16: TextBit', 'no handover has these parts, at 0: BadArgument'])
 
     def test_a_pool_of_threads(self):
-        message = [BROKEN if number % 10 == 0 else octets(ndef.TextRecord(str(number))) for number in range(10000)]
+        message = [BROKEN if number % 10 == 0 else octets(ndef.TextRecord(str(number))) for number in range(3000)]
         with concurrent.futures.ThreadPoolExecutor(4) as pool:
             answers = list(pool.map(told, message))
             for _ in range(500):
                 (text,) = ndef.message_decoder(HELLO)
                 self.assertEqual(list(pool.map(lambda name, text=text: getattr(text, name), ('text', 'language', 'encoding', 'text'))),
                                  ['Hello', 'en', 'UTF-8', 'Hello'])
-        self.assertEqual(answers, [16 if number % 10 == 0 else [str(number)] for number in range(10000)])
+        self.assertEqual(answers, [16 if number % 10 == 0 else [str(number)] for number in range(3000)])
 
 
 def list_of(given):
