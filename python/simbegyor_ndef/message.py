@@ -59,15 +59,10 @@ def _from_octets(octets: bytes, limits: Any, known: _Known, told: _Told) -> Iter
 
 
 def _read(stream: BinaryIO, size: int) -> bytes:
-    """So many octets of the stream, or fewer where it ends."""
+    """At most so many octets of the stream; none where it ends."""
     octets = stream.read(size) or b''
     if not isinstance(octets, (bytes, bytearray)):
         raise TypeError('a stream of octets is needed, not of %s' % type(octets).__name__)
-    while 0 < len(octets) < size:
-        more = stream.read(size - len(octets))
-        if not more:
-            break
-        octets += more
     return bytes(octets)
 
 
