@@ -120,7 +120,10 @@ def main(arguments: Optional[List[str]] = None) -> int:
         return status
     except (OSError, MemoryError) as error:
         print('fault: %s' % error, file=sys.stderr)
-        if isinstance(error, BrokenPipeError):
+        try:
+            sys.stdout.flush()
+        except OSError:
+            # Python flushes once more at its end, and would complain of that.
             os.dup2(os.open(os.devnull, os.O_WRONLY), sys.stdout.fileno())
         return 3
 

@@ -6,8 +6,6 @@ from typing import List, NamedTuple, Union
 from . import _library as library
 from .record import Record
 
-__all__ = ['Field', 'fields']
-
 
 class Field(NamedTuple):
     """Octets of a message that stand in one field.

@@ -149,7 +149,7 @@ write_error_number = _call('ndef_write_error_number')
 write_handover = _call('ndef_write_handover')
 
 
-@functools.lru_cache(maxsize=64)
+@functools.lru_cache
 def limits(payload_size: int, flags: int) -> Any:
     """A reference to the limits for usual tags, but with this limit of a payload, 1 to 4294967295, and these flags."""
     if not isinstance(payload_size, int) or not 1 <= payload_size < U32_END:
@@ -160,7 +160,7 @@ def limits(payload_size: int, flags: int) -> Any:
     return byref(out)
 
 
-@functools.lru_cache(maxsize=64)
+@functools.lru_cache(maxsize=None)
 def writing(tnf: int, flags: int) -> Any:
     """A reference to how a record is written: its type name format and these flags."""
     return byref(Writing(tnf, flags, 0))
@@ -177,6 +177,8 @@ class _Room:
 
 # Rooms that no call uses now. A call takes one out and puts it back, so that no two threads share one.
 _USUAL = 1024
+# What is written beside the octets that a call is given: the head of a record, or a language code.
+_MORE = 128
 _rooms: List[_Room] = []
 
 
@@ -189,23 +191,24 @@ def _room(size: int) -> _Room:
         return _Room(_USUAL)
 
 
-def put(call: Callable[..., int], guess: int, *arguments: Any, behind: Tuple[Any, ...] = ()) -> Tuple[int, bytes]:
-    """The status of the call, and what it writes to its room. A room of at least `guess` octets is tried first."""
+def put(call: Callable[..., int], *arguments: Any, given: int = 0, behind: Tuple[Any, ...] = ()) -> Tuple[int, bytes]:
+    """The status of the call, and what it writes to its room. A room for the octets that the call is given is tried first."""
+    size = given + _MORE
     while True:
-        room = _room(guess)
+        room = _room(size)
         status = call(*arguments, room.octets, room.size, room.told, *behind)
         count = room.count.value
         octets: bytes = room.octets[:count] if status == OK else b''
-        if guess <= _USUAL:
+        if size <= _USUAL:
             _rooms.append(room)
         if status != NO_ROOM:
             return status, octets
-        guess = max(count, _USUAL + 1)
+        size = count
 
 
-def written(what: str, call: Callable[..., int], guess: int, *arguments: Any, raised: type = ValueError) -> bytes:
+def written(what: str, call: Callable[..., int], *arguments: Any, given: int = 0, raised: type = ValueError) -> bytes:
     """What the call writes to its room; where it refuses, `raised` says what."""
-    status, octets = put(call, guess, *arguments)
+    status, octets = put(call, *arguments, given=given)
     if status != OK:
         raise raised(what)
     return octets
@@ -218,16 +221,16 @@ def number(value: int, what: str) -> ctypes.c_uint32:
     return u32(value)
 
 
-@functools.lru_cache(maxsize=64)
+@functools.lru_cache(maxsize=None)
 def reason_name(reason: int) -> str:
     """The name of a reason."""
-    return put(_reason_name, 16, u32(reason))[1].decode('ascii')
+    return put(_reason_name, u32(reason))[1].decode('ascii')
 
 
-@functools.lru_cache(maxsize=64)
+@functools.lru_cache(maxsize=None)
 def field_name(name: int) -> str:
     """The name of a field."""
-    return put(_field_name, 31, u32(name))[1].decode('ascii')
+    return put(_field_name, u32(name))[1].decode('ascii')
 
 
 def fields(octets: bytes, within: Any) -> Tuple[Checked, List[Any]]:

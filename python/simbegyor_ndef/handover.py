@@ -84,8 +84,8 @@ class AlternativeCarrierRecord(LocalRecord):
         for part, name in zip(parts, names):
             part.at, part.length = at, len(name)
             at += len(name)
-        return library.written(_NO_CARRIER, library.write_alternative, 2 * len(octets) + 32, self._power, octets,
-                               library.SIZES[len(octets)], parts, library.SIZES[len(parts)], raised=raised)
+        return library.written(_NO_CARRIER, library.write_alternative, self._power, octets, library.SIZES[len(octets)], parts,
+                               library.SIZES[len(parts)], given=len(octets) + len(parts), raised=raised)
 
     def _encode_payload(self) -> bytes:
         try:
@@ -138,17 +138,17 @@ class CollisionResolutionRecord(LocalRecord):
     def random_number(self, value: int) -> None:
         what = 'a number that resolves a collision is 0 to 65535, not %r' % (value,)
         number = library.number(number_of(value, 'a number that resolves a collision'), what)
-        library.written(what, library.write_collision, 2, number)
+        library.written(what, library.write_collision, number)
         self._random_number = int(value)
 
     def _encode_payload(self) -> bytes:
-        return library.written('no collision is resolved by this number', library.write_collision, 2, self._random_number)
+        return library.written('no collision is resolved by this number', library.write_collision, self._random_number)
 
     @classmethod
     def _decode_payload(cls, octets: bytes, errors: str) -> CollisionResolutionRecord:
         # The library tells the number of a request alone.
         record = Record(cls._type, '', octets)._written(library.FIRST | library.LAST, 0)
-        status, request = library.put(library.write_handover, len(record) + 1, library.REQUEST, 1, 2, record, library.SIZES[len(record)])
+        status, request = library.put(library.write_handover, library.REQUEST, 1, 2, record, library.SIZES[len(record)], given=len(record))
         parts, why = library.RequestParts(), library.Checked()
         if status != library.OK or library.request(request, library.SIZES[len(request)], 0, library.byref(parts),
                                                    library.byref(why)) != library.OK:
@@ -180,10 +180,10 @@ class ErrorRecord(LocalRecord):
         what = 'no error has the reason %r and the data %r' % (error_reason, error_data)
         reason = library.number(number_of(error_reason, 'the reason of an error'), what)
         if isinstance(error_data, int):
-            octets = library.written(what, library.write_error_number, 8, reason, library.number(error_data, what))
+            octets = library.written(what, library.write_error_number, reason, library.number(error_data, what))
         else:
             data = bytes(octets_of(error_data, 'the data of an error'))
-            octets = library.written(what, library.write_error, len(data) + 8, reason, data, library.SIZES[len(data)])
+            octets = library.written(what, library.write_error, reason, data, library.SIZES[len(data)], given=len(data))
         self._take(octets)
 
     def _take(self, octets: bytes) -> None:
@@ -232,12 +232,12 @@ def _version_of(value: Union[str, int]) -> Version:
     if isinstance(value, int):
         version = Version(*divmod(value, 16))
     else:
-        major, dot, minor = text_of(value, 'a version').partition('.')
-        if not (dot and major.isdecimal() and minor.isdecimal()):
+        major, _, minor = text_of(value, 'a version').partition('.')
+        if not (major.isdecimal() and minor.isdecimal()):
             raise ValueError(what)
         version = Version(int(major), int(minor))
     # A select may have no message; so the library refuses no more than the version.
-    library.written(what, library.write_handover, 8, library.SELECT, library.number(version.major, what),
+    library.written(what, library.write_handover, library.SELECT, library.number(version.major, what),
                     library.number(version.minor, what), b'', library.SIZES[0])
     return version
 
@@ -293,8 +293,8 @@ class _Handover(GlobalRecord):
 
     def _encode_payload(self) -> bytes:
         message = b''.join(message_encoder(self._records))
-        return library.written('no handover has these parts', library.write_handover, len(message) + 1, self._number, *self._version,
-                               message, library.SIZES[len(message)], raised=EncodeError)
+        return library.written('no handover has these parts', library.write_handover, self._number, *self._version, message,
+                               library.SIZES[len(message)], given=len(message), raised=EncodeError)
 
     @classmethod
     def _decode_payload(cls, octets: bytes, errors: str) -> Any:
@@ -428,8 +428,8 @@ class HandoverCarrierRecord(GlobalRecord):
     def _encode_payload(self) -> bytes:
         form, kind = self._carrier
         data = bytes(self.carrier_data)
-        return library.written('no carrier has these parts', library.write_carrier, len(kind) + len(data) + 8, form, kind,
-                               library.SIZES[len(kind)], data, library.SIZES[len(data)], raised=EncodeError)
+        return library.written('no carrier has these parts', library.write_carrier, form, kind, library.SIZES[len(kind)], data,
+                               library.SIZES[len(data)], given=len(kind) + len(data), raised=EncodeError)
 
     @classmethod
     def _decode_payload(cls, octets: bytes, errors: str) -> HandoverCarrierRecord:

@@ -38,34 +38,31 @@ def message_decoder(stream_or_bytes: Union[bytes, bytearray, memoryview, BinaryI
         told, flags, known = None, library.OPAQUE, {parts_of(spelled): record_class for spelled, record_class in known_types.items()}
     limits = library.limits(Record.MAX_PAYLOAD_SIZE, flags)
     if isinstance(stream_or_bytes, (bytes, bytearray, memoryview)):
-        if not stream_or_bytes:
-            return
-        octets, checked = bytes(stream_or_bytes), library.Checked()
-        status = library.check(octets, library.SIZES[len(octets)], limits, library.byref(checked))
-        if whole and status != library.OK:
-            raise library.refused(checked)
-        # A message goes on with each octet before the place; so each record that ends there is given.
-        records = records_of(octets, 0, checked.place, known, told)
-        yield from list(records) if whole else records
-        if status != library.OK:
-            raise library.refused(checked)
+        records = _from_octets(bytes(stream_or_bytes), limits, known, told)
     elif hasattr(stream_or_bytes, 'read') and not isinstance(stream_or_bytes, io.TextIOBase):
         records = _from_stream(stream_or_bytes, limits, known, told)
-        yield from list(records) if whole else records
     else:
         raise TypeError('octets or a stream of octets is needed, not %s' % type(stream_or_bytes).__name__)
+    yield from list(records) if whole else records
+
+
+def _from_octets(octets: bytes, limits: Any, known: _Known, told: _Told) -> Iterator[Record]:
+    """The records of the message with which the octets begin."""
+    if not octets:
+        return
+    checked = library.Checked()
+    status = library.check(octets, library.SIZES[len(octets)], limits, library.byref(checked))
+    # A message goes on with each octet before the place; so each record that ends there is given.
+    yield from records_of(octets, 0, checked.place, known, told)
+    if status != library.OK:
+        raise library.refused(checked)
 
 
 def _read(stream: BinaryIO, size: int) -> bytes:
-    """So many octets of the stream, or fewer where it ends."""
+    """At most so many octets of the stream; none where it ends."""
     octets = stream.read(size) or b''
     if not isinstance(octets, (bytes, bytearray)):
         raise TypeError('a stream of octets is needed, not of %s' % type(octets).__name__)
-    while 0 < len(octets) < size:
-        more = stream.read(size - len(octets))
-        if not more:
-            break
-        octets += more
     return bytes(octets)
 
 
@@ -147,7 +144,7 @@ def records_of(octets: bytes, start: int, end: int, known: _Known, told: _Told) 
     looked into; else it has, for classes of which the library told the first record's value with the whole, what it told."""
     parts, size, at = library.RecordParts(), library.SIZES[end], start
     out, sizes, record_at, record_fields = library.byref(parts), library.SIZES, library.record_at, library.record_fields
-    while at < end and record_at(octets, size, sizes[at], out) == library.OK:
+    while record_at(octets, size, sizes[at], out) == library.OK:
         fields = record_fields(parts)
         yield _record(octets, fields, known, 0, at == start, told)
         at = fields[1]
@@ -160,7 +157,7 @@ def _record(octets: bytes, fields: Tuple[int, ...], known: _Known, before: int, 
     if pieces == 1:
         data = octets[payload_at:payload_at + part_length]
     else:
-        _, data = library.put(library.payload, length, octets, library.SIZES[end], library.SIZES[at])
+        _, data = library.put(library.payload, octets, library.SIZES[end], library.SIZES[at], given=length)
     record_class = known.get(kind)
     if record_class is None:
         made = Record._made(kind, data)
@@ -188,7 +185,7 @@ def _place_in_pieces(octets: bytes, is_first: bool, error: DecodeError, payload_
     status = library.REFUSED
     for part in (before, octets):
         status = library.feed(library.byref(checker), part, library.SIZES[len(part)], library.byref(checked))
-    if error.number and status == library.REFUSED and checked.reason == error.number:
+    if status == library.REFUSED and checked.reason == error.number:
         return int(checked.place) - len(before)
     return payload_at
 

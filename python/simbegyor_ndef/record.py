@@ -38,21 +38,21 @@ def _checked_parts(spelled: str) -> Parts:
         tnf = 3
     else:
         raise ValueError('no record type is spelled %r' % spelled)
-    _write(tnf, octets, b'', b'', 0, 'a record type has 1 to 255 octets', ValueError)
+    _write(tnf, octets, b'', b'', 'a record type has 1 to 255 octets', ValueError)
     return tnf, octets
 
 
-def _write(tnf: int, kind: bytes, name: bytes, data: bytes, flags: int, what: str, raised: type) -> bytes:
+def _write(tnf: int, kind: bytes, name: bytes, data: bytes, what: str, raised: type, flags: int = 0) -> bytes:
     """The octets of a record."""
     sizes, lengths = library.SIZES, (len(kind), len(name), len(data))
-    return library.written(what, library.write_record, sum(lengths) + 32, kind, sizes[lengths[0]], name, sizes[lengths[1]],
-                           data, sizes[lengths[2]], library.writing(tnf, flags), raised=raised)
+    return library.written(what, library.write_record, kind, sizes[lengths[0]], name, sizes[lengths[1]], data,
+                           sizes[lengths[2]], library.writing(tnf, flags), given=sum(lengths), raised=raised)
 
 
-parts_of = functools.lru_cache(maxsize=256)(_checked_parts)
+parts_of = functools.lru_cache(_checked_parts)
 
 
-@functools.lru_cache(maxsize=256)
+@functools.lru_cache
 def spelled_of(tnf: int, octets: bytes) -> str:
     """How a type is spelled."""
     return _SPELLED[tnf] + octets.decode('latin-1')
@@ -179,7 +179,7 @@ class Record:
         else:
             raise self._type_error('name is a str, not {}', type(value).__name__)
         if octets:
-            _write(library.UNKNOWN, b'', octets, b'', 0, _NO_NAME, ValueError)
+            _write(library.UNKNOWN, b'', octets, b'', _NO_NAME, ValueError)
         self._name = octets
 
     @property
@@ -203,7 +203,7 @@ class Record:
             name, data = (b'', b'') if tnf == library.EMPTY else (self._name, self._payload())
             if len(data) > self.MAX_PAYLOAD_SIZE:
                 raise library.too_large(len(data), self.MAX_PAYLOAD_SIZE)
-            return _write(tnf, kind, name, data, flags, 'no record has these parts', EncodeError)
+            return _write(tnf, kind, name, data, 'no record has these parts', EncodeError, flags)
         except EncodeError as error:
             raise EncodeError(error.what, place, error.reason, error.number) from None
 

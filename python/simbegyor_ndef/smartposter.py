@@ -58,11 +58,11 @@ class ActionRecord(LocalRecord):
                 raise ValueError("an action is 'exec', 'save', 'edit' or a number, not %r" % value)
             value = _ACTIONS.index(value)
         what = 'an action is a number of 0 to 255, not %r' % value
-        library.written(what, library.write_action, 1, library.number(number_of(value, 'an action'), what))
+        library.written(what, library.write_action, library.number(number_of(value, 'an action'), what))
         self._number = int(value)
 
     def _encode_payload(self) -> bytes:
-        return library.written('no action has this number', library.write_action, 1, self._number)
+        return library.written('no action has this number', library.write_action, self._number)
 
     @classmethod
     def _decode_payload(cls, octets: bytes, errors: str) -> ActionRecord:
@@ -105,7 +105,7 @@ class SizeRecord(LocalRecord):
         self._size = int(value)
 
     def _encode_payload(self) -> bytes:
-        return library.written('no resource has this size', library.write_size, 4, library.u32(self._size))
+        return library.written('no resource has this size', library.write_size, library.u32(self._size))
 
     @classmethod
     def _decode_payload(cls, octets: bytes, errors: str) -> SizeRecord:

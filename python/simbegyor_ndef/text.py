@@ -15,11 +15,11 @@ _ENCODINGS = ('UTF-8', 'UTF-16')
 
 def _write(language: bytes, text: bytes, flags: int, raised: type) -> bytes:
     """The payload of a text."""
-    return library.written('no text has these parts', library.write_text, len(language) + 2 * len(text) + 8, language,
-                           library.SIZES[len(language)], text, library.SIZES[len(text)], flags, raised=raised)
+    return library.written('no text has these parts', library.write_text, language, library.SIZES[len(language)], text,
+                           library.SIZES[len(text)], flags, given=2 * len(text), raised=raised)
 
 
-@functools.lru_cache(maxsize=256)
+@functools.lru_cache
 def _language_of(value: str) -> str:
     """The language code, if a text has it."""
     try:
@@ -103,7 +103,7 @@ class TextRecord(GlobalRecord):
         at = parts.text_at
         text, self._encoding = octets[at:at + parts.text_length], _ENCODINGS[parts.utf16]
         if parts.utf16:
-            _, text = library.put(library.text_in_utf8, 2 * len(octets), octets, size, behind=(library.byref(why),))
+            _, text = library.put(library.text_in_utf8, octets, size, given=2 * len(octets), behind=(library.byref(why),))
         self._text = text.decode('utf-8')
 
     def __format__(self, form: str) -> str:

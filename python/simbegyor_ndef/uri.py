@@ -65,8 +65,8 @@ class UriRecord(GlobalRecord):
 
     def _encode_payload(self) -> bytes:
         octets = self.iri.encode('utf-8')
-        return library.written('no URI is spelled so', library.write_uri, len(octets) + 8, octets, library.SIZES[len(octets)],
-                               raised=EncodeError)
+        return library.written('no URI is spelled so', library.write_uri, octets, library.SIZES[len(octets)],
+                               given=len(octets), raised=EncodeError)
 
     @classmethod
     def _decode_payload(cls, octets: bytes, errors: str) -> UriRecord:
@@ -76,7 +76,7 @@ class UriRecord(GlobalRecord):
 
     def _read(self, octets: bytes) -> None:
         why = library.Checked()
-        status, spelled = library.put(library.uri, len(octets) + 32, octets, library.SIZES[len(octets)], 0, behind=(library.byref(why),))
+        status, spelled = library.put(library.uri, octets, library.SIZES[len(octets)], 0, given=len(octets), behind=(library.byref(why),))
         if status != library.OK:
             raise library.refused(why)
         self._iri = spelled.decode('utf-8')

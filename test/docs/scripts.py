@@ -6,6 +6,7 @@ import pty
 import shutil
 import signal
 import subprocess
+import sys
 import tempfile
 import time
 
@@ -44,6 +45,9 @@ int main(int count, char **words) {
 }
 '''
 
+# The library in dist/.
+LIBRARY = '#include "ndef.h"\nint answer(void) {\n#ifdef OTHER\n    return OTHER;\n#else\n    return 5;\n#endif\n}\n'
+
 SCRIPTS = ('ndef', 'ndef-make', 'ndef-explain')
 
 
@@ -59,14 +63,23 @@ class Copy:
             (self.folder / 'crates' / crate / 'src').mkdir(parents=True)
             (self.folder / 'crates' / crate / 'src/main.rt').write_text('')
         (self.folder / 'dist').mkdir()
-        texts = {'commands.c': COMMANDS, 'runtime.c': 'extern int no_calls;\n'}
-        for name, text in texts.items():
-            (self.folder / 'dist' / name).write_text(text)
-        sums = ''.join('%s  %s\n' % (hashlib.sha256(text.encode()).hexdigest(), name) for name, text in texts.items())
-        (self.folder / 'dist/SOURCE').write_text('version 9.8.7\n' + sums)
+        self.release({'commands.c': COMMANDS, 'runtime.c': 'extern int no_calls;\n', 'ndef.c': LIBRARY, 'ndef.h': 'int answer(void);\n'}, '9.8.7')
         (self.folder / 'bin').mkdir()
         (self.folder / 'bin/rt').write_text(STAND_IN)
         (self.folder / 'bin/rt').chmod(0o755)
+
+    def release(self, texts, version):
+        """Puts files in dist/, with their sums."""
+        dist = self.folder / 'dist'
+        for name, text in texts.items():
+            (dist / name).write_text(text)
+        sums = ''.join('%s  %s\n' % (hashlib.sha256(path.read_bytes()).hexdigest(), path.name) for path in dist.iterdir() if path.name != 'SOURCE')
+        (dist / 'SOURCE').write_text('version %s\n' % version + sums)
+
+    def program(self, name, text):
+        """Puts a program on the path."""
+        (self.folder / 'bin' / name).write_text('#!/bin/sh\n' + text)
+        (self.folder / 'bin' / name).chmod(0o755)
 
     def environment(self, has_rt=True):
         tools = os.pathsep.join(folder for folder in os.environ['PATH'].split(os.pathsep)
@@ -103,6 +116,81 @@ def from_dist(copy):
         run = copy.run(name, 'a', 'b c')
         yield from expect(run, 0, f'dist {name} a b c\n')
         yield from says_only(run, f'{name}: running release 9.8.7 of dist/')
+
+
+def from_another_dist(copy):
+    """Where a file of dist/ or a command is newer or missing, the commands are compiled anew."""
+    copy.run('ndef', 'show')
+    said = 'ndef: compiling release %s of dist/, once'
+    copy.release({'commands.c': COMMANDS.replace('dist %s', 'other %s')}, '9.8.8')
+    os.utime(copy.folder / 'dist/SOURCE', (0, 0))
+    os.utime(copy.folder / 'dist/commands.c', (time.time() + 5, time.time() + 5))
+    run = copy.run('ndef', 'show')
+    yield from expect(run, 0, 'other ndef show\n')
+    yield from says_only(run, said % '9.8.8')
+    for name, at in (('commands.c', 0), ('runtime.c', time.time() + 5)):
+        os.utime(copy.folder / 'dist' / name, (at, at))
+    yield from says_only(copy.run('ndef', 'show'), said % '9.8.8')
+    os.utime(copy.folder / 'dist/runtime.c', (0, 0))
+    yield from says_only(copy.run('ndef', 'show'), 'ndef: running release 9.8.8 of dist/')
+    for name in SCRIPTS:
+        (copy.folder / 'out/dist' / name).unlink()
+        run = copy.run('ndef', 'show')
+        yield from expect(run, 0, 'other ndef show\n')
+        yield from says_only(run, said % '9.8.8')
+        yield from says_only(copy.run('ndef', 'show'), 'ndef: running release 9.8.8 of dist/')
+    left = sorted(path.name for path in (copy.folder / 'out/dist').iterdir())
+    if left != sorted(SCRIPTS):
+        yield f'out/dist has {left}'
+
+
+def with_compilers(copy):
+    """CC names the compiler and its flags, else cc, gcc or clang is it; CFLAGS and LDFLAGS are given to it."""
+    copy.program('noting', 'echo "$@" >>noted\nexec cc "$@"\n')
+    copy.program('broken', 'echo no >&2\nexit 1\n')
+    noted = copy.folder / 'noted'
+    for words, wanted in ((dict(CC='noting -DONE'), '-DONE -O2 '), (dict(CC='noting', CFLAGS='-O1 -DTWO'), '-O1 -DTWO '), (dict(CC='noting', LDFLAGS='-lm'), ' -lm ')):
+        shutil.rmtree(copy.folder / 'out', ignore_errors=True)
+        yield from expect(copy.run('ndef', 'show', **words), 0, 'dist ndef show\n')
+        if wanted not in noted.read_text():
+            yield f'{words}: the compiler was given {noted.read_text()!r}'
+        noted.unlink()
+    shutil.rmtree(copy.folder / 'out')
+    run = copy.run('ndef', 'show', CC='broken')
+    yield from expect(run, 3, '', 'no', "ndef: broken doesn't compile dist/, as it says above: name another C compiler with CC")
+    if any((copy.folder / 'out/dist').iterdir()):
+        yield 'a compiler that fails leaves a file'
+    for name in ('gcc', 'clang'):
+        folder = copy.folder / ('with_' + name)
+        folder.mkdir()
+        for tool in ('sh', 'dirname', 'readlink', 'sha256sum', 'cut', 'mkdir', 'mv', 'ln', 'rm', 'uname'):
+            (folder / tool).symlink_to(shutil.which(tool))
+        (folder / name).write_text(f'#!/bin/sh\nPATH={os.environ["PATH"]} exec cc "$@"\n')
+        (folder / name).chmod(0o755)
+        shutil.rmtree(copy.folder / 'out')
+        yield from expect(copy.run('ndef', 'show', PATH=str(folder)), 0, 'dist ndef show\n')
+
+
+def library_from_dist(copy):
+    """packaging/from_dist compiles the library to an archive, with the flags, and says what it doesn't know."""
+    program = copy.folder / 'answer.c'
+    program.write_text('#include "dist/ndef.h"\nint main(void) { return answer(); }\n')
+    for flags, answer in (([], 5), (['-DOTHER=7'], 7)):
+        run = copy.run('packaging/from_dist', 'library', copy.folder / 'out/made/libndef.a', *flags)
+        yield from expect(run, 0, '')
+        subprocess.run(['cc', program, copy.folder / 'out/made/libndef.a', '-o', copy.folder / 'answer'], cwd=copy.folder)
+        if subprocess.run([copy.folder / 'answer']).returncode != answer:
+            yield f'{flags}: another answer'
+        if [path.name for path in (copy.folder / 'out/made').iterdir()] != ['libndef.a']:
+            yield 'other files are left beside the archive'
+    yield from expect(copy.run('packaging/from_dist', 'version'), 0, '9.8.7\n')
+    yield from expect(copy.run('packaging/from_dist', 'check', 'ndef.h', 'runtime.c'), 0, '')
+    (copy.folder / 'dist/ndef.h').write_text('int answer(int);\n')
+    for words in (['check', 'runtime.c', 'ndef.h'], ['check', 'ndef.h', 'runtime.c'], ['library', copy.folder / 'out/other.a']):
+        yield from expect(copy.run('packaging/from_dist', *words), 3, '', "from_dist: dist/ndef.h isn't the file whose SHA-256 is in dist/SOURCE: "
+                          "take dist/ from the release again, as by 'git checkout dist'")
+    yield from expect(copy.run('packaging/from_dist', 'check', 'none.c'), 3, '')
+    yield from expect(copy.run('packaging/from_dist'), 3, '', 'from_dist: say what to make: commands, library FILE FLAG.., version, or check FILE..')
 
 
 def not_from_dist(copy):
@@ -168,6 +256,7 @@ def built_once(copy):
     changed = copy.run('ndef', 'show', has_rt=False)
     yield from expect(changed, 0, 'dist ndef show\n')
     yield from says_only(changed, 'ndef: crates/ has changed since it was proved here; compiling release 9.8.7 of dist/, once')
+    yield from says_only(copy.run('ndef', 'show'), 'ndef: crates/ has changed since it was proved here; running release 9.8.7 of dist/')
 
 
 def built_anew(copy):
@@ -180,6 +269,7 @@ def built_anew(copy):
             path.write_text('')
             # A file system may keep no more than whole ticks of the clock.
             os.utime(path, (time.time() + 5, time.time() + 5))
+            yield from expect(copy.run(script), 0, f'dist {script}\n')
             run = copy.run(script, '--prove')
             yield from expect(run, 0, 'built\n')
             if 'processor minutes' not in run.stderr and 'a minute or two' not in run.stderr:
@@ -210,6 +300,15 @@ def cost_is_said(copy):
     second = copy.run('ndef', '--prove').stderr
     if f'(crates to prove: {count - 1} of {count})' not in second or f'some {minutes - 10} processor minutes' not in second:
         yield f'with one crate proved: {second!r}'
+    # As README.md and docs/DECISIONS.md have them.
+    for seconds, minutes in ((1446, 'some 25 processor minutes (12 minutes on 4 cores)'), (2529, 'some 43 processor minutes (20 minutes on 4 cores)'),
+                             (181, 'some 4 processor minutes'), (180, 'a minute or two')):
+        table = ''.join('%s %d\n' % (crate, seconds if crate == 'ndef' else 0) for crate in crates_of(copy, 'ndef'))
+        (copy.folder / 'packaging/processor_seconds').write_text(table)
+        (copy.folder / 'crates/ndef/out/ndef').unlink()
+        said = copy.run('ndef', '--prove').stderr
+        if f'ndef: this takes {minutes}' not in said or ('5 GB of disk' in said) != ('some' in minutes):
+            yield f'{seconds} seconds: {said!r}'
     said = subprocess.run(['packaging/cost', 'ndef', 'ndef_c'], cwd=copy.folder, capture_output=True, text=True).stderr
     if 'make: proving and building the programs and the libraries, once' not in said:
         yield f'packaging/cost says {said!r}'
@@ -269,6 +368,9 @@ def on_a_terminal(copy):
 def all_tests(top):
     """The name of each test, and what is wrong."""
     tests = {'the scripts compile dist/ once, and say that they run it': from_dist,
+             'the scripts compile dist/ anew where a file of it is newer or a command is missing': from_another_dist,
+             'the scripts compile dist/ with the compiler that CC names, or the first that is there': with_compilers,
+             'packaging/from_dist compiles the library and looks at sums': library_from_dist,
              './ndef says why it does not compile dist/, with status 3': not_from_dist,
              'the scripts say what is missing without rt': without_rt,
              '--try runs the programs unproved, with their status': unproved,
@@ -283,3 +385,9 @@ def all_tests(top):
     for name, run in tests.items():
         with tempfile.TemporaryDirectory() as folder:
             yield name, list(run(Copy(top, folder)))
+
+
+if __name__ == '__main__':
+    for test, found in all_tests(pathlib.Path(__file__).resolve().parents[2]):
+        if found:
+            sys.exit('\n'.join([test, *found]))

@@ -1,19 +1,15 @@
-"""What the module has of its own: properties set, read, unset and written, what the caller changes afterwards, streams, threads
-and the command line."""
+"""What the module has of its own: properties set, read, unset and written, what the caller changes afterwards, streams and threads."""
 import io
-import json
-import os
-import pathlib
-import subprocess
+import itertools
 import sys
-import tempfile
 import threading
 import unittest
+from unittest import mock
 
 import simbegyor_ndef as ndef
 from simbegyor_ndef import _library as library
-from simbegyor_ndef.handover import AlternativeCarrierRecord
-from simbegyor_ndef.smartposter import ActionRecord
+from simbegyor_ndef.handover import AlternativeCarrierRecord, CollisionResolutionRecord, ErrorRecord
+from simbegyor_ndef.smartposter import ActionRecord, SizeRecord, TypeRecord
 
 HELLO = bytes.fromhex('d101085402656e48656c6c6f')
 
@@ -105,6 +101,59 @@ class Handovers(unittest.TestCase):
         for power in ('off', 'Active', '', None, 1):
             self.assertRaisesRegex(ValueError, 'a power state is', setattr, carrier, 'carrier_power_state', power)
 
+    def test_two_of_everything(self):
+        given = [('active', 'a', 'x', 'y'), ('inactive', 'a'), ('unknown', '', '')]
+        told = [('active', 'a', ['x', 'y']), ('inactive', 'a', []), ('unknown', '', [''])]
+        request = ndef.HandoverRequestRecord('1.2', 7, *given)
+        select = ndef.HandoverSelectRecord('1.3', (1, 5), *given)
+        read = decoded(octets(request, select, select, request))
+        self.assertEqual(read, [request, select, select, request])
+        for handover in (request, select, *read):
+            self.assertEqual(handover.alternative_carriers, told)
+        select.add_alternative_carrier('activating', 'z', *(255 * ['b']))
+        self.assertEqual(back(select).alternative_carriers, told + [('activating', 'z', 255 * ['b'])])
+        self.assertEqual([type(part) for part in select.records], 4 * [AlternativeCarrierRecord] + [ErrorRecord])
+
+    def test_errors(self):
+        select = ndef.HandoverSelectRecord('1.2')
+        for error in ((1, 0), (1, 255), (2, 2 ** 32 - 1), (3, 7), (0, b''), (4, b'ab'), (255, b'\0')):
+            select.set_error(*error)
+            self.assertEqual((select.error, back(select).error, len(select.records)), (error, error, 1))
+
+    def test_an_error_among_others(self):
+        """Of several the first is set, and what stands behind it stays."""
+        inner = octets(AlternativeCarrierRecord('active', '0'), ErrorRecord(1, 1), ndef.Record('a/b', '', b'x'), ErrorRecord(9, b'y'))
+        (select,) = decoded(octets(ndef.Record('urn:nfc:wkt:Hs', '', b'\x12' + inner)))
+        select.set_error(2, 5)
+        self.assertEqual([(part.type, getattr(part, 'error', None)) for part in back(select).records],
+                         [('urn:nfc:wkt:ac', None), ('urn:nfc:wkt:err', (2, 5)), ('a/b', None), ('urn:nfc:wkt:err', (9, b'y'))])
+
+    def test_what_is_changed_within(self):
+        request = ndef.HandoverRequestRecord('1.3', 1, ('active', '0'))
+        listed = request.records
+        listed[1].carrier_data_reference, listed[1].auxiliary_data_reference = 'n', ['m']
+        listed[0].random_number = 65535
+        listed.clear()
+        self.assertEqual(back(request).alternative_carriers, [('active', 'n', ['m'])])
+        self.assertEqual((back(request).collision_resolution_number, len(request.records)), (65535, 2))
+        request.alternative_carriers[0].auxiliary_data_reference.append('x')
+        self.assertEqual(request.alternative_carriers, [('active', 'n', ['m'])])
+        carrier = AlternativeCarrierRecord('active', '0', adr := ['a'])
+        adr.append('b')
+        self.assertEqual(carrier.auxiliary_data_reference, ['a'])
+        carrier.auxiliary_data_reference = [256 * 'x']
+        self.assertRaises(ndef.EncodeError, carrier._encode_payload)
+
+    def test_parts_alone(self):
+        """Records within payloads, which are read as if they stood alone."""
+        for record in (CollisionResolutionRecord(65535), ErrorRecord(2, 1000), ErrorRecord(9, b'x'), ActionRecord('edit'), ActionRecord(3),
+                       SizeRecord(2 ** 32 - 1), TypeRecord('a/b'), AlternativeCarrierRecord('unknown', 'a', ['b', 'c'])):
+            (read,) = decoded(octets(record), known_types={record.type: type(record)})
+            self.assertEqual((type(read), read, str(read)), (type(record), record, str(record)))
+        for kind, size in ((CollisionResolutionRecord, 1), (CollisionResolutionRecord, 3), (SizeRecord, 3), (SizeRecord, 5), (ErrorRecord, 0),
+                           (AlternativeCarrierRecord, 0), (ActionRecord, 0)):
+            self.assertRaises(ndef.DecodeError, decoded, octets(ndef.Record(kind._type, '', bytes(size))), known_types={kind._type: kind})
+
     def test_carriers(self):
         for kind in ('a/b', 'urn:nfc:wkt:x', 'urn:nfc:ext:a:b', 'http://www.example.com'):
             carrier = back(ndef.HandoverCarrierRecord(kind, b'data', 'n'))
@@ -135,6 +184,84 @@ class Records(unittest.TestCase):
         for spelled in ('UNKNOWN', 'Unknown', 'empty', 'plain', 'Unchanged'):
             self.assertRaises(ValueError, ndef.Record, spelled)
 
+    def test_places_in_pieces_for_other_classes(self):
+        """Where a class refuses what the library takes, or refuses for another reason, the place is that of the payload."""
+        known = {'urn:nfc:wkt:T': ndef.UriRecord}
+        for text in (b'\x24' + 36 * b'a' + b'x', b'\x24' + 35 * b'a' + b'\xff' + b'x', b'\x24' + 36 * b'a' + b'\xff'):
+            given = b'\xb1\1\x10T' + text[:16] + b'\x56\0' + bytes([len(text) - 16]) + text[16:]
+            for before in (b'', b'\x90\0\0'):
+                octets_of = before + (bytes([given[0] & 0x7f]) if before else given[:1]) + given[1:]
+                with self.assertRaises(ndef.DecodeError) as caught:
+                    decoded(octets_of, known_types=known)
+                self.assertEqual((caught.exception.reason, caught.exception.place), ('UriCode', len(before) + 4))
+
+    def test_every_octet_of_names_and_types(self):
+        """Latin-1 has a character for each octet."""
+        high = bytes(range(128, 256))
+        letters = ''.join(map(chr, high))
+        for spelled in (letters, high):
+            self.assertEqual(octets(ndef.Record('unknown', spelled)), b'\xdd\0\0\x80' + high)
+        self.assertEqual(decoded(b'\xdd\0\0\x80' + high)[0].name, letters)
+        for spelled in ('urn:nfc:ext:a:' + letters, b'urn:nfc:ext:a:' + high):
+            self.assertEqual(octets(ndef.Record(spelled)), b'\xd4\x82\0a:' + high)
+        self.assertEqual(decoded(b'\xd4\x82\0a:' + high)[0].type, 'urn:nfc:ext:a:' + letters)
+        carrier = AlternativeCarrierRecord('active', letters, [letters])
+        self.assertEqual(carrier.data, b'\1\x80' + high + b'\1\x80' + high)
+        select = ndef.HandoverSelectRecord('1.2', None, ('active', letters, letters))
+        self.assertEqual(back(select).alternative_carriers, [('active', letters, [letters])])
+
+    def test_names(self):
+        for record in (ndef.Record('a/b', 'n'), ndef.TextRecord('a'), ndef.SmartposterRecord('a'), ndef.HandoverCarrierRecord('a/b', b'', 'n')):
+            for name, read in (('a', 'a'), (b'b\xe9', 'b\xe9'), (bytearray(b'c'), 'c'), (255 * 'x', 255 * 'x'), ('', ''), (None, '')):
+                record.name = name
+                self.assertEqual((record.name, back(record).name), (read, read))
+        self.assertEqual((ndef.Record('a/b', None).name, ndef.Record('a/b', '', None).data, ndef.Record(None).type), ('', b'', ''))
+
+    def test_values_that_are_not_given(self):
+        """As the documentation of the classes has them."""
+        self.assertEqual(ErrorRecord().error, (1, 0))
+        self.assertEqual(AlternativeCarrierRecord().told(), ('active', '', []))
+        self.assertEqual((CollisionResolutionRecord().random_number, SizeRecord().resource_size, TypeRecord().resource_type), (0, 0, ''))
+        self.assertEqual((ActionRecord().action, ndef.UriRecord().iri, ndef.HandoverCarrierRecord('a/b').carrier_data), ('exec', '', b''))
+        for text in (ndef.TextRecord(), ndef.TextRecord(None, None, None)):
+            self.assertEqual((text.text, text.language, text.encoding), ('', 'en', 'UTF-8'))
+        poster = ndef.SmartposterRecord('a')
+        self.assertEqual((poster.titles, poster.title, poster.action, poster.icons, poster.icon, poster.resource_size, poster.resource_type),
+                         ({}, None, None, {}, None, None, None))
+        for handover in (ndef.HandoverRequestRecord(), ndef.HandoverSelectRecord()):
+            self.assertEqual((handover.version_string, handover.alternative_carriers, handover.records), ('1.3', [], []))
+        self.assertEqual((ndef.HandoverRequestRecord().collision_resolution_number, ndef.HandoverSelectRecord().error), (None, None))
+
+    def test_what_is_set_first_of_a_record_that_was_read(self):
+        """No attribute that is set is read anew of the octets afterwards."""
+        given = octets(ndef.TextRecord('a', 'de', 'UTF-16'), ndef.UriRecord('tel:1'))
+        for name, value, others in (('text', 'b', {'language': 'de', 'encoding': 'UTF-16'}), ('language', 'en', {'text': 'a', 'encoding': 'UTF-16'}),
+                                    ('encoding', 'UTF-8', {'text': 'a', 'language': 'de'})):
+            text, _ = decoded(given)
+            setattr(text, name, value)
+            self.assertEqual({part: getattr(text, part) for part in (name, *others)}, {name: value, **others})
+            self.assertEqual(back(text), ndef.TextRecord(**{name: value, **others}))
+        for name in ('iri', 'uri'):
+            _, uri = decoded(given)
+            setattr(uri, name, 'tel:2')
+            self.assertEqual((uri.iri, back(uri).iri), ('tel:2', 'tel:2'))
+
+    def test_a_class_derived_from_any_record(self):
+        class Counted(ndef.Record):
+            _type = 'urn:nfc:ext:example.com:counted'
+
+            @classmethod
+            def _decode_payload(cls, given, errors):
+                return cls(cls._type, '', bytes([len(given)]) if errors == 'strict' else b'')
+
+        known = dict(ndef.Record._known_parts)
+        try:
+            ndef.Record.register_type(Counted)
+            self.assertEqual([bytes(record.data) for record in decoded(octets(*(2 * [ndef.Record(Counted._type, '', b'abc')])))], 2 * [b'\3'])
+        finally:
+            ndef.Record._known_parts.clear()
+            ndef.Record._known_parts.update(known)
+
     def test_no_record_is_hashed(self):
         for record in (ndef.Record(), ndef.TextRecord('a'), ndef.SmartposterRecord('a')):
             self.assertRaises(TypeError, hash, record)
@@ -149,6 +276,161 @@ class Records(unittest.TestCase):
             with self.assertRaises(ndef.EncodeError) as caught:
                 octets(*(count * [good]), bad)
             self.assertEqual(caught.exception.place, count * len(HELLO))
+
+
+class Texts(unittest.TestCase):
+    """Each refusal of a value names what it may be, as python/README.md and the documentation of the classes have it, and the value."""
+
+    def test_of_errors(self):
+        long, select, poster = 256 * 'x', ndef.HandoverSelectRecord, ndef.SmartposterRecord('a')
+        for text, make in ((r"no record type is spelled 'plain'", lambda: ndef.Record('plain')),
+                           ('a record type has 1 to 255 octets', lambda: ndef.Record('urn:nfc:wkt:')),
+                           ('a record name has at most 255 octets', lambda: ndef.Record('a/b', long)),
+                           ("a language is at most 63 characters of ASCII, not 'x{64}'", lambda: ndef.TextRecord('', 64 * 'x')),
+                           ("the encoding is UTF-8 or UTF-16, not 'UTF-32'", lambda: ndef.TextRecord('', 'en', 'UTF-32')),
+                           ("a power state is inactive, active, activating or unknown, not 'off'", lambda: select('1.3', None, ('off', 'a'))),
+                           ('references of at most 255 octets, and at most 255 auxiliary ones', lambda: select('1.3', None, ('active', long))),
+                           ('is 0 to 65535, not 65536', lambda: ndef.HandoverRequestRecord('1.3', 65536)),
+                           ('is 0 to 65535, not -1', lambda: ndef.HandoverRequestRecord('1.3', -1)),
+                           ("no error has the reason 256 and the data b'x'", lambda: select('1.3', (256, b'x'))),
+                           ('no error has the reason 1 and the data 256', lambda: select('1.3', (1, 256))),
+                           ("handover is 1.0 to 1.15, not '2.0'", lambda: select('2.0')), ("handover is 1.0 to 1.15, not 'a.b'", lambda: select('a.b')),
+                           ("handover is 1.0 to 1.15, not '1'", lambda: select('1')), ('handover is 1.0 to 1.15, not 32', lambda: select(32)),
+                           ('an action is a number of 0 to 255, not 256', lambda: setattr(poster, 'action', 256)),
+                           ("an action is 'exec', 'save', 'edit' or a number, not 'run'", lambda: setattr(poster, 'action', 'run')),
+                           ('a resource is 0 to 4294967295, not -1', lambda: setattr(poster, 'resource_size', -1)),
+                           ('a type image/.. or video/.., not text/plain', lambda: poster.add_icon('text/plain', b'')),
+                           ("profile is 'strict' or 'standard', not 'lax'", lambda: ndef.fields(b'a', 'lax')),
+                           ("errors is 'strict', not 'lenient'", lambda: decoded(b'a', errors='lenient'))):
+            with self.subTest(text):
+                self.assertRaisesRegex(ValueError, text.replace('..', r'\.\.').replace('text/plain', "'text/plain'"), make)
+
+    def test_of_types(self):
+        poster, select = ndef.SmartposterRecord('a'), ndef.HandoverSelectRecord
+        for text, make in (('a record type is a str, not int', lambda: ndef.Record(5)), ('a text is a str, not bytes', lambda: ndef.TextRecord(b'a')),
+                           ('a URI is a str, not int', lambda: ndef.UriRecord(5)), ('data is octets, not int', lambda: ndef.Record('a/b', '', 5)),
+                           ('data is octets, not str', lambda: ndef.Record('a/b', '', 'x')), ('name is a str, not float', lambda: ndef.Record('a/b', 1.5)),
+                           ('carrier data is octets, not str', lambda: ndef.HandoverCarrierRecord('a/b', 'x')),
+                           ('an action is a number, not float', lambda: setattr(poster, 'action', 1.5)),
+                           ('the size of a resource is a number, not str', lambda: setattr(poster, 'resource_size', '1')),
+                           ('a media type is a str, not bytes', lambda: setattr(poster, 'resource_type', b'a/b')),
+                           ('the type of an icon is a str, not int', lambda: poster.add_icon(5, b'')),
+                           ('a version is a str, not NoneType', lambda: select(None)),
+                           ('the reason of an error is a number, not str', lambda: select('1.3', ('1', 1))),
+                           ('the data of an error is octets, not str', lambda: select('1.3', (1, '1'))),
+                           ('a reference is a str, not int', lambda: select('1.3', None, ('active', 0))),
+                           ('octets are needed, not str', lambda: ndef.fields('a')), ('a Record is needed, not str', lambda: octets('a')),
+                           ('octets or a stream of octets is needed, not str', lambda: decoded('a')),
+                           ('a record class is needed, not 5', lambda: ndef.Record.register_type(5))):
+            with self.subTest(text):
+                self.assertRaisesRegex(TypeError, text, make)
+
+    def test_of_records_that_cannot_be_written(self):
+        for text, record in (('a payload of 1048577 octets is more than MAX_PAYLOAD_SIZE, 1048576, at 12: PayloadTooLarge',
+                              ndef.Record('a/b', '', bytes(1048577))), ('no handover has these parts, at 12: BadArgument', ndef.HandoverRequestRecord())):
+            self.assertRaisesRegex(ndef.EncodeError, text, octets, ndef.TextRecord('Hello'), record)
+        for error in (ndef.EncodeError('a\nb'), ndef.DecodeError()):
+            self.assertEqual((error.place, error.number), (0, 0))
+        self.assertEqual(str(ndef.EncodeError('a\nb')), 'a b, at 0: BadArgument')
+        for most in (0, 2 ** 32):
+            self.assertRaisesRegex(ValueError, 'MAX_PAYLOAD_SIZE is 1 to 4294967295, not %d' % most, library.limits, most, 0)
+
+
+class Large(unittest.TestCase):
+    """Payloads of a megabyte, which is the most that is taken."""
+
+    def test_there_and_back(self):
+        size = 1048576
+        letters = 'ab\xe9\u4e00\U0001f600' * (size // 30)
+        for record in (ndef.Record('a/b', 'n', bytes(range(256)) * (size // 256)), ndef.TextRecord((size - 3) * 'a'), ndef.TextRecord(letters),
+                       ndef.TextRecord(letters, encoding='UTF-16'), ndef.UriRecord('http://www.' + (size - 1) * 'a'),
+                       ndef.HandoverCarrierRecord('a/b', bytes(size - 5)), ndef.SmartposterRecord('tel:1', letters, icon=bytes(size // 2))):
+            written = octets(record, ndef.TextRecord('Hello'))
+            for given in (written, io.BytesIO(written), io.BufferedReader(io.BytesIO(written))):
+                read = decoded(given)
+                self.assertEqual(read, [record, ndef.TextRecord('Hello')])
+                self.assertEqual(vars(read[0]).get('_text'), vars(record).get('_text'))
+            told = ndef.fields(written)
+            self.assertEqual((told[-1].at + told[-1].length, told[-1].octets), (len(written), b'Hello'))
+
+    def test_one_octet_more(self):
+        for record in (ndef.TextRecord(1048574 * 'a'), ndef.Record('a/b', '', bytes(1048577)), ndef.UriRecord(1048576 * 'a')):
+            self.assertRaisesRegex(ndef.EncodeError, 'PayloadTooLarge', octets, record)
+        head = b'\xc2\3\0\x10\0\1a/b'
+        with self.assertRaises(ndef.DecodeError) as caught:
+            decoded(head + bytes(1048577))
+        self.assertEqual((caught.exception.reason, caught.exception.place), ('PayloadTooLarge', 5))
+
+
+class Rooms(unittest.TestCase):
+    """Time alone: no call is made twice for want of room, and the usual rooms are used again."""
+
+    def calls_of(self, name, work):
+        """How often a call of the library is made."""
+        made, call = [], getattr(library, name)
+        with mock.patch.object(library, name, lambda *words: made.append(name) or call(*words)):
+            work()
+        return len(made)
+
+    def test_one_call_for_each_payload(self):
+        size, long = 9000, 9000 * 'a'
+        carrier, select = AlternativeCarrierRecord('active', 255 * 'x', 255 * [255 * 'y']), ndef.HandoverSelectRecord('1.2', (9, bytes(size)))
+        record, pieces = ndef.Record('unknown', '', bytes(size)), b'\xa5\0\0\0\x10\0' + bytes(4096) + b'\x46\0\0\0\x10\0\0' + bytes(4096)
+        text, wide = ndef.TextRecord(long), ndef.TextRecord(long, encoding='UTF-16')
+        for name, work in (('write_text', lambda: text.data), ('write_text', lambda: wide.data),
+                           ('write_uri', lambda: ndef.UriRecord(long).data), ('uri', lambda: decoded(octets(ndef.UriRecord(long)))[0].iri),
+                           ('text_in_utf8', lambda: decoded(octets(ndef.TextRecord(size * '\u4e00', encoding='UTF-16')))[0].text),
+                           ('write_carrier', lambda: ndef.HandoverCarrierRecord('a/b', bytes(size)).data), ('write_alternative', lambda: carrier.data),
+                           ('write_error', lambda: ErrorRecord(9, bytes(size))), ('write_handover', lambda: select.data),
+                           ('write_record', lambda: octets(record)), ('payload', lambda: decoded(pieces))):
+            with self.subTest(name):
+                self.assertEqual(self.calls_of(name, work), 1)
+
+    def test_rooms_are_used_again(self):
+        text = ndef.TextRecord('a')
+        self.assertEqual(text.data, b'\2ena')
+        with mock.patch.object(library, '_Room', side_effect=AssertionError):
+            self.assertEqual([text.data for _ in range(100)], 100 * [b'\2ena'])
+
+
+class Walks(unittest.TestCase):
+    """Each way to walk over records gives the same ones."""
+
+    def messages(self):
+        yield []
+        yield [ndef.Record()]
+        yield [ndef.TextRecord('Hello'), ndef.UriRecord('tel:1')]
+        yield [ndef.Record('a/b', str(number), bytes(number)) for number in range(300)]
+
+    def test_encoders(self):
+        for message in self.messages():
+            parts, stream = list(ndef.message_encoder(message)), io.BytesIO()
+            self.assertEqual(list(ndef.message_encoder(iter(message))), parts)
+            self.assertEqual(list(ndef.message_encoder(message, stream)), [len(part) for part in parts])
+            self.assertEqual((stream.getvalue(), len(parts)), (b''.join(parts), len(message)))
+            for stream in (None, io.BytesIO()):
+                encoder = ndef.message_encoder(stream=stream)
+                encoder.send(None)
+                sent = [encoder.send(record) for record in (*message, None)] if message else []
+                self.assertEqual(sent[1:], parts if stream is None else [len(part) for part in parts])
+                self.assertEqual(sent[:1], [None] if message else [])
+
+    def test_decoders(self):
+        for message in self.messages():
+            given = octets(*message)
+            for form in (bytes, bytearray, memoryview, io.BytesIO, lambda part: io.BufferedReader(io.BytesIO(part))):
+                for words in ({}, {'whole': True}, {'errors': 'strict'}):
+                    decoder = ndef.message_decoder(form(given), **words)
+                    read = [next(decoder) for _ in message]
+                    self.assertEqual((read, list(decoder)), (message, []))
+            two = io.BytesIO(2 * given)
+            self.assertEqual((decoded(two), decoded(two), decoded(two)), (message, message, []))
+
+    def test_an_encoder_that_is_wrong_ends(self):
+        encoder = ndef.message_encoder()
+        encoder.send(None)
+        self.assertRaises(TypeError, encoder.send, b'octets')
+        self.assertRaises(StopIteration, encoder.send, ndef.Record())
 
 
 class Fields(unittest.TestCase):
@@ -177,19 +459,72 @@ class Fields(unittest.TestCase):
 
 
 class Short:
-    """A stream that gives fewer octets than it is asked for."""
+    """A stream that gives fewer octets than it is asked for, each time as many as these sizes say in turn; whether it can seek."""
 
-    def __init__(self, given):
-        stream = io.BytesIO(given)
-        self.seek, self.tell, self.seekable = stream.seek, stream.tell, stream.seekable
-        self.read = lambda size: stream.read(min(size, 3))
+    def __init__(self, given, sizes=(3,), can_seek=True):
+        stream, sizes = io.BytesIO(given), itertools.cycle(sizes)
+        self.seek, self.tell, self.seekable = stream.seek, stream.tell, lambda: can_seek
+        self.read = lambda size: stream.read(min(size, next(sizes)))
+
+
+class Peeking:
+    """A stream that shows more than it is asked for, or less, and counts the octets that are taken."""
+
+    def __init__(self, given, most):
+        self.stream, self.most = io.BytesIO(given), most
+
+    def peek(self, size):
+        at = self.stream.tell()
+        return self.stream.getvalue()[at:at + self.most]
+
+    def read(self, size):
+        return self.stream.read(size)
 
 
 class Streams(unittest.TestCase):
     def test_short_reads(self):
         message = [ndef.Record('a/b', 'n', bytes(300)), ndef.TextRecord('Hello'), ndef.UriRecord('tel:1')]
-        stream = Short(octets(*message) + b'rest')
-        self.assertEqual((decoded(stream), stream.read(3)), (message, b'res'))
+        for sizes, can_seek in itertools.product(((3,), (1,), (64, 5, 1), (1000, 1), (1, 1000), (7, 100, 2, 50)), (True, False)):
+            stream = Short(octets(*message) + b'rest', sizes, can_seek)
+            self.assertEqual((decoded(stream), stream.seek(-4, 2), stream.tell()), (message, len(octets(*message)), len(octets(*message))))
+
+    def test_peeks(self):
+        message = [ndef.Record('a/b', 'n', bytes(300)), ndef.TextRecord('Hello'), ndef.UriRecord('tel:1')]
+        for most in (1, 2, 63, 64, 65, 1000):
+            stream = Peeking(octets(*message) + b'rest', most)
+            self.assertEqual((decoded(stream), stream.stream.read()), (message, b'rest'))
+
+    def test_what_is_shown_is_not_looked_at_again(self):
+        """Of a long buffer no more is looked at for each record than the record's own octets and a few more."""
+        given, looked = octets(*(500 * [ndef.TextRecord('Hello')])), []
+        feed = library.feed
+
+        def counted(checker, part, size, checked):
+            looked.append(len(part))
+            return feed(checker, part, size, checked)
+
+        for stream in (io.BufferedReader(io.BytesIO(given), 1 << 20), io.BytesIO(given), Peeking(given, len(given))):
+            with mock.patch.object(library, 'feed', counted):
+                self.assertEqual(len(decoded(stream)), 500)
+            self.assertLess(sum(looked), 100 * 500)
+            looked.clear()
+
+    def test_where_a_refused_message_leaves_a_stream(self):
+        """At most at the refused octet, and not in front of the last record that was given."""
+        given = octets(ndef.TextRecord('Hello'), ndef.TextRecord(300 * 'a'))
+        for place in (12, 13, 40, 200, 310):
+            broken = given[:place] + b'\xff' + given[place + 1:]
+            for stream in (io.BytesIO(broken), io.BufferedReader(io.BytesIO(broken))):
+                with self.assertRaises(ndef.DecodeError) as caught:
+                    decoded(stream)
+                self.assertTrue(12 <= stream.tell() <= caught.exception.place)
+
+    def test_streams_of_text(self):
+        class Text:
+            def __init__(self):
+                self.read = io.StringIO('text').read
+
+        self.assertRaisesRegex(TypeError, 'a stream of octets is needed, not of str', decoded, Text())
 
     def test_threads_share_no_room(self):
         """Payloads in pieces are joined in rooms that threads take in turn."""
@@ -199,7 +534,7 @@ class Streams(unittest.TestCase):
             letter = b'%d' % number
             given = b'\xb5\0\1' + letter + b'\x36\0\1' + letter + b'\x56\0' + bytes([200]) + 200 * letter
             text = ndef.TextRecord(chr(0x4e00 + number) * 100, encoding='UTF-16')
-            for _ in range(2000):
+            for _ in range(1000):
                 (record,) = decoded(given)
                 if record.data != 202 * letter or back(text).text != text.text:
                     wrong.append(number)
@@ -214,36 +549,6 @@ class Streams(unittest.TestCase):
         finally:
             sys.setswitchinterval(before)
         self.assertEqual(wrong, [])
-
-
-class CommandLine(unittest.TestCase):
-    def run_with(self, *words, files=()):
-        with tempfile.TemporaryDirectory() as folder:
-            names = []
-            for number, given in enumerate(files):
-                names.append(os.path.join(folder, '%d.bin' % number))
-                pathlib.Path(names[-1]).write_bytes(given)
-            environment = {**os.environ, 'PYTHONPATH': os.path.dirname(ndef.__path__[0])}
-            done = subprocess.run([sys.executable, '-m', 'simbegyor_ndef', *words, *names], stdout=subprocess.PIPE, stderr=subprocess.PIPE,
-                                  env=environment)
-            return done.returncode, [line.replace(folder + os.sep, '') for line in done.stdout.decode().splitlines()]
-
-    def test_several_files(self):
-        hello = "NDEF Text Record ID '' Text 'Hello' Language 'en' Encoding 'UTF-8'"
-        self.assertEqual(self.run_with(files=[HELLO]), (0, [hello]))
-        self.assertEqual(self.run_with(files=[HELLO + HELLO, HELLO]), (0, ['0.bin: ' + hello, '0.bin: ' + hello, '1.bin: ' + hello]))
-        status, lines = self.run_with(files=[HELLO + b'\xff', HELLO])
-        self.assertEqual((status, lines), (1, ['0.bin: ' + hello, '0.bin: refused at 12: 1 ReservedTnf', '1.bin: ' + hello]))
-
-    def test_json(self):
-        poster = octets(ndef.SmartposterRecord('http://www.example.com', 'Title', 'save'))
-        status, lines = self.run_with('--json', files=[HELLO + poster + b'\xff'])
-        told = [json.loads(line) for line in lines]
-        self.assertEqual((status, len(told)), (1, 3))
-        self.assertEqual((told[0]['message'], told[0]['at'], told[0]['text']), (1, 0, 'Hello'))
-        self.assertEqual((told[1]['message'], told[1]['at'], told[1]['iri'], told[1]['titles'], told[1]['action']),
-                         (2, 12, 'http://www.example.com', {'en': 'Title'}, 'save'))
-        self.assertEqual(told[2], {'refused': {'place': 12 + len(poster), 'number': 1, 'reason': 'ReservedTnf'}})
 
 
 if __name__ == '__main__':

@@ -165,7 +165,7 @@ class Records(unittest.TestCase):
     def test_random_records_there_and_back(self):
         chance = random.Random(1)
         types = ['unknown', 'text/plain', 'urn:nfc:ext:a:b', 'urn:nfc:wkt:x', 'urn:nfc:wkt:T', 'urn:nfc:wkt:Hc', 'http://x.y/', '']
-        for _ in range(5000):
+        for _ in range(1000):
             message = []
             for _ in range(chance.randint(1, 5)):
                 kind = chance.choice(types)
@@ -389,7 +389,7 @@ class Refusals(unittest.TestCase):
         chance = random.Random(2)
         select = bytes.fromhex('910211487312d1020b616301013002013103313233425a03010161 2f623001')
         message = octets(ndef.SmartposterRecord('tel:1', 'One'), ndef.HandoverCarrierRecord('a/b', b'x'), ndef.TextRecord('a'))
-        for _ in range(20000):
+        for _ in range(4000):
             given = bytearray(chance.choice([message, select]))
             given[chance.randrange(len(given))] = chance.randrange(256)
             known = chance.choice([None, {known._type: known for known in KNOWN}])

@@ -1,0 +1,133 @@
+"""The module as a program, `python3 -m simbegyor_ndef`: its files, what it prints, its status and what goes to standard error."""
+import json
+import os
+import pathlib
+import subprocess
+import sys
+import tempfile
+import unittest
+
+import simbegyor_ndef as ndef
+
+HELLO = bytes.fromhex('d101085402656e48656c6c6f')
+
+
+def octets(*records):
+    return b''.join(ndef.message_encoder(records))
+
+
+class CommandLine(unittest.TestCase):
+    def run_in(self, folder, words, encoding='utf-8', **more):
+        environment = {**os.environ, 'PYTHONPATH': os.path.dirname(ndef.__path__[0]), 'PYTHONIOENCODING': encoding}
+        return subprocess.run([sys.executable, '-m', 'simbegyor_ndef', *words], stderr=subprocess.PIPE, env=environment, cwd=folder,
+                              **{'stdout': subprocess.PIPE, **more})
+
+    def run_with(self, *words, files=(), given=b''):
+        """The status and the lines of a run with these files, whose names are 0.bin, 1.bin and so on."""
+        with tempfile.TemporaryDirectory() as folder:
+            for number, content in enumerate(files):
+                pathlib.Path(folder, '%d.bin' % number).write_bytes(content)
+            done = self.run_in(folder, [*words, *('%d.bin' % number for number in range(len(files)))], input=given)
+            self.assertEqual(done.stderr, b'')
+            return done.returncode, done.stdout.decode().splitlines()
+
+    def test_several_files(self):
+        hello = "NDEF Text Record ID '' Text 'Hello' Language 'en' Encoding 'UTF-8'"
+        self.assertEqual(self.run_with(files=[HELLO]), (0, [hello]))
+        self.assertEqual(self.run_with(files=[HELLO + HELLO, HELLO]), (0, ['0.bin: ' + hello, '0.bin: ' + hello, '1.bin: ' + hello]))
+        status, lines = self.run_with(files=[HELLO + b'\xff', HELLO])
+        self.assertEqual((status, lines), (1, ['0.bin: ' + hello, '0.bin: refused at 12: 1 ReservedTnf', '1.bin: ' + hello]))
+
+    def test_json(self):
+        poster = octets(ndef.SmartposterRecord('http://www.example.com', 'Title', 'save'))
+        status, lines = self.run_with('--json', files=[HELLO + poster + b'\xff'])
+        told = [json.loads(line) for line in lines]
+        self.assertEqual((status, len(told)), (1, 3))
+        self.assertEqual((told[0]['message'], told[0]['at'], told[0]['text']), (1, 0, 'Hello'))
+        self.assertEqual((told[1]['message'], told[1]['at'], told[1]['iri'], told[1]['titles'], told[1]['action']),
+                         (2, 12, 'http://www.example.com', {'en': 'Title'}, 'save'))
+        self.assertEqual(told[2], {'refused': {'place': 12 + len(poster), 'number': 1, 'reason': 'ReservedTnf'}})
+
+    def test_json_of_each_attribute(self):
+        """What an object has is what the record has: octets in digits, named tuples as objects."""
+        poster = ndef.SmartposterRecord('tel:1', {'en': 'a', 'de': 'b'}, 7, None, 5, 'a/b')
+        request = ndef.HandoverRequestRecord('1.3', 9, ('active', 'a', 'b'), ('inactive', 'c'))
+        select, carrier = ndef.HandoverSelectRecord('1.2', (9, b'x')), ndef.HandoverCarrierRecord('a/b', b'xy', 'n')
+        status, lines = self.run_with('--json', files=[octets(poster, request, select, carrier, ndef.Record('a/b', 'm', b'\xff'))])
+        wanted = [{'type': 'urn:nfc:wkt:Sp', 'name': '', 'iri': 'tel:1', 'titles': {'en': 'a', 'de': 'b'}, 'action': 7, 'resource_size': 5,
+                   'resource_type': 'a/b', 'data': poster.data.hex()},
+                  {'type': 'urn:nfc:wkt:Hr', 'name': '', 'version_string': '1.3', 'collision_resolution_number': 9, 'data': request.data.hex(),
+                   'alternative_carriers': [
+                       {'carrier_power_state': 'active', 'carrier_data_reference': 'a', 'auxiliary_data_reference': ['b']},
+                       {'carrier_power_state': 'inactive', 'carrier_data_reference': 'c', 'auxiliary_data_reference': []}]},
+                  {'type': 'urn:nfc:wkt:Hs', 'name': '', 'version_string': '1.2', 'error': {'error_reason': 9, 'error_data': '78'},
+                   'alternative_carriers': [], 'data': select.data.hex()},
+                  {'type': 'urn:nfc:wkt:Hc', 'name': 'n', 'carrier_type': 'a/b', 'carrier_data': '7879', 'data': carrier.data.hex()},
+                  {'type': 'a/b', 'name': 'm', 'data': 'ff'}]
+        self.assertEqual((status, [json.loads(line) for line in lines]), (0, [{'message': 1, 'at': 0, **part} for part in wanted]))
+
+    def test_json_of_several_files(self):
+        """Each file's messages are counted from 1, and places from its front."""
+        status, lines = self.run_with('--json', files=[HELLO + HELLO, b'\xff', HELLO + HELLO[:5], b'', HELLO])
+        told = [json.loads(line) for line in lines]
+        self.assertEqual([part.get('refused') or (part['message'], part['at']) for part in told],
+                         [(1, 0), (2, 12), {'place': 0, 'number': 1, 'reason': 'ReservedTnf'}, (1, 0),
+                          {'place': 17, 'number': 24, 'reason': 'EndOfInput'}, (1, 0)])
+        self.assertEqual(status, 1)
+        self.assertEqual(self.run_with('--json', '--hex', files=[b'0']), (1, ['{"refused": {"reason": "hex: odd number of digits"}}']))
+
+    def test_hexadecimal_digits(self):
+        digits = HELLO.hex().encode()
+        hello = "NDEF Text Record ID '' Text 'Hello' Language 'en' Encoding 'UTF-8'"
+        for given, answer in ((digits.upper(), (0, [hello])), (b' ' + digits[:3] + b'\t\r\n ' + digits[3:], (0, [hello])),
+                              (digits[:-1], (1, ['hex: odd number of digits'])), (digits + b'\f', (1, ['hex: bad digit at 24'])),
+                              (b'd0 x', (1, ['hex: bad digit at 3'])), (b'\n\xff', (1, ['hex: bad digit at 1'])), (b' \n', (0, []))):
+            self.assertEqual(self.run_with('--hex', given=given), answer)
+            self.assertEqual(self.run_with('--hex', '-', given=given), answer)
+        self.assertEqual(self.run_with('--hex', files=[b'zz', digits]), (1, ['0.bin: hex: bad digit at 0', '1.bin: ' + hello]))
+
+    def test_characters_that_are_not_printed(self):
+        status, lines = self.run_with(files=[octets(ndef.TextRecord('a\n\x1b[1m\u202e\U000e0001z'))])
+        self.assertEqual((status, lines), (0, [r"NDEF Text Record ID '' Text 'a\n\x1b[1m\u202e\U000e0001z' Language 'en' Encoding 'UTF-8'"]))
+
+    def test_characters_that_the_output_has_not(self):
+        given = octets(ndef.TextRecord('\xe9\u4e00'))
+        for encoding, printed in (('ascii', br'\xe9\u4e00'), ('latin-1', b'\xe9\\u4e00'), ('utf-8', '\xe9\u4e00'.encode())):
+            done = self.run_in(None, [], encoding, input=given)
+            self.assertEqual((done.returncode, done.stdout), (0, b"NDEF Text Record ID '' Text '%s' Language 'en' Encoding 'UTF-8'\n" % printed))
+
+    def test_words(self):
+        """The exit status that is said is that of docs/COMMAND.md."""
+        done = self.run_in(None, ['--help'])
+        said = ' '.join(done.stdout.decode().split())
+        self.assertIn('Exit status: 0 all are messages, 1 one is refused, 2 bad words, 3 reading or writing failed.', said)
+        self.assertIn('a file, or - for standard input, which is the default', said)
+        self.assertEqual(done.returncode, 0)
+        self.assertEqual((self.run_in(None, ['--version']).stdout.decode().strip(), self.run_in(None, ['--none']).returncode),
+                         (ndef.__version__, 2))
+
+    def test_faults(self):
+        """What goes to standard error is one line, and the status is 3."""
+        with tempfile.TemporaryDirectory() as folder:
+            pathlib.Path(folder, 'hello').write_bytes(HELLO)
+            pathlib.Path(folder, 'long').write_bytes(5000 * HELLO)
+            hello = b"hello: NDEF Text Record ID '' Text 'Hello' Language 'en' Encoding 'UTF-8'\n"
+            for words, printed in ((['nowhere'], b''), (['hello', 'nowhere'], hello), (['nowhere', 'hello'], b'')):
+                done = self.run_in(folder, words)
+                self.assertEqual((done.returncode, done.stdout, done.stderr), (3, printed, b"fault: [Errno 2] No such file or directory: 'nowhere'\n"))
+            for name in ('hello', 'long'):
+                with open('/dev/full', 'wb') as full:
+                    done = self.run_in(folder, [name], stdout=full)
+                self.assertEqual((done.returncode, done.stderr), (3, b'fault: [Errno 28] No space left on device\n'))
+                reading, writing = os.pipe()
+                os.close(reading)
+                done = self.run_in(folder, [name], stdout=writing)
+                os.close(writing)
+                self.assertEqual((done.returncode, done.stderr), (3, b'fault: [Errno 32] Broken pipe\n'))
+
+
+if __name__ == '__main__':
+    result = unittest.main(exit=False, verbosity=2).result
+    broken = {getattr(test, 'test_case', test).id() for test, _ in result.failures + result.errors}
+    print('%d passed, %d failed' % (result.testsRun - len(broken), len(broken)), flush=True)
+    raise SystemExit(bool(broken))
