@@ -1,0 +1,284 @@
+/// ndef_building.hpp: smart posters, handovers and messages that are put together part by part in memory of their own,
+/// filters of records, and what prints answers. Include ndef.hpp.
+#ifndef NDEF_BUILDING_HPP
+#define NDEF_BUILDING_HPP
+
+#include "ndef_writing.hpp"
+
+#include <ostream>
+#if __has_include(<version>)
+#include <version>
+#endif
+#ifdef __cpp_lib_format
+#include <format>
+#endif
+
+namespace ndef {
+
+namespace detail {
+/// The bytes of parts, one after another, for calls that take places.
+class shelf {
+public:
+    /// Puts bytes on the shelf, and returns where they lie.
+    ndef_part put(bytes part) {
+        const ndef_part place = {held.size(), part.size()};
+        held.insert(held.end(), part.begin(), part.end());
+        return place;
+    }
+    ndef_part put(std::string_view part) { return put(bytes(part)); }
+    bytes all() const noexcept { return held; }
+
+private:
+    std::vector<std::uint8_t> held;
+};
+
+/// What a call writes to a room, in memory of its own: write(room) is called with a room of the size that it needs.
+template <class Write> result<std::vector<std::uint8_t>> in_memory(Write write) {
+    room none;
+    const result<bytes> asked = write(none);
+    std::vector<std::uint8_t> made;
+    if (asked) return made;
+    if (asked.error().what != NDEF_NO_ROOM) return asked.error();
+    made.resize(static_cast<std::size_t>(asked.error().needed));
+    room exact(made);
+    const result<bytes> written = write(exact);
+    if (!written) return written.error();
+    return made;
+}
+} // namespace detail
+
+/// A smart poster that is put together. It copies what it is given.
+///
+///     auto payload = ndef::poster_builder("https://example.com").title("en", "Hello").payload();
+class poster_builder {
+public:
+    explicit poster_builder(std::string_view uri) { how.uri = shelf.put(uri); }
+
+    /// Adds a title. Give each title a language of its own.
+    poster_builder &title(std::string_view language, std::string_view text, encoding in = encoding::utf8) {
+        titles.push_back({shelf.put(language), shelf.put(text), in == encoding::utf16 ? 1u : 0u});
+        return *this;
+    }
+    poster_builder &action(ndef::action what) {
+        how.has_action = 1;
+        how.action = static_cast<std::uint32_t>(what);
+        return *this;
+    }
+    /// The size in bytes of what the URI leads to.
+    poster_builder &size(std::uint32_t size_in_bytes) {
+        how.has_size = 1;
+        how.size = size_in_bytes;
+        return *this;
+    }
+    /// The media type of what the URI leads to.
+    poster_builder &media_type(std::string_view type) {
+        how.has_media_type = 1;
+        how.media_type = shelf.put(type);
+        return *this;
+    }
+    /// Adds an icon, of a media type that begins with "image/" or "video/".
+    poster_builder &icon(std::string_view type, bytes data) {
+        icons.push_back({shelf.put(type), shelf.put(data)});
+        return *this;
+    }
+
+    /// Writes the payload, as ndef_write_poster does.
+    result<bytes> write(room &to) const noexcept {
+        return write_poster(to, shelf.all(), how, titles.data(), titles.size(), icons.data(), icons.size());
+    }
+    result<std::vector<std::uint8_t>> payload() const {
+        return detail::in_memory([this](room &to) { return write(to); });
+    }
+
+private:
+    detail::shelf shelf;
+    ndef_poster_writing how = {};
+    std::vector<ndef_title_writing> titles;
+    std::vector<ndef_icon_writing> icons;
+};
+
+/// What requests and selects that are put together have in common: their alternative carriers. `Builder` is either.
+template <class Builder> class handover_builder {
+public:
+    /// Adds an alternative carrier: its power state, the id of the record that describes it, and auxiliary references.
+    Builder &carrier(power state, std::string_view reference, const std::vector<std::string_view> &auxiliary = {}) {
+        const ndef_size first = references.size();
+        references.push_back(shelf.put(reference));
+        for (const std::string_view other : auxiliary) references.push_back(shelf.put(other));
+        alternatives.push_back({first, references.size() - first, static_cast<std::uint32_t>(state)});
+        return static_cast<Builder &>(*this);
+    }
+    result<std::vector<std::uint8_t>> payload() const {
+        return detail::in_memory([this](room &to) { return static_cast<const Builder &>(*this).write(to); });
+    }
+
+protected:
+    detail::shelf shelf;
+    std::vector<ndef_part> references;
+    std::vector<ndef_alternative_writing> alternatives;
+};
+
+/// A handover request of version 1.2 that is put together, or of another minor version. It copies what it is given.
+class request_builder : public handover_builder<request_builder> {
+public:
+    explicit request_builder(std::uint32_t collision, std::uint32_t minor_version = 2) noexcept
+        : number(collision), minor(minor_version) {}
+
+    /// Writes the payload, as ndef_write_request does.
+    result<bytes> write(room &to) const noexcept {
+        return write_request(to, minor, number, shelf.all(), references.data(), references.size(), alternatives.data(),
+                             alternatives.size());
+    }
+
+private:
+    std::uint32_t number, minor;
+};
+
+/// A handover select of version 1.2 that is put together, or of another minor version. It copies what it is given.
+class select_builder : public handover_builder<select_builder> {
+public:
+    explicit select_builder(std::uint32_t minor_version = 2) noexcept { how.minor = minor_version; }
+
+    /// The error of the select: its reason and its data.
+    select_builder &error(std::uint32_t error_reason, bytes data) {
+        how.has_error = 1;
+        how.reason = error_reason;
+        how.data = shelf.put(data);
+        return *this;
+    }
+
+    /// Writes the payload, as ndef_write_select does.
+    result<bytes> write(room &to) const noexcept {
+        return write_select(to, how, shelf.all(), references.data(), references.size(), alternatives.data(),
+                            alternatives.size());
+    }
+
+private:
+    ndef_select_writing how = {};
+};
+
+/// A message that owns its bytes.
+class owned_message {
+public:
+    using iterator = message::iterator;
+
+    /// A message of no bytes and no records.
+    owned_message() noexcept = default;
+    /// A copy of a message.
+    explicit owned_message(const message &of) : held(of.octets().begin(), of.octets().end()) {}
+
+    /// A copy of the message with which the bytes begin, as message::check finds it.
+    static result<owned_message> check(bytes input, const ndef_limits &within = limits()) {
+        const auto found = message::check(input, within);
+        if (!found) return found.error();
+        return owned_message(*found);
+    }
+    /// The message of some records, as write_message writes it.
+    template <class Records> static result<owned_message> write(const Records &records) {
+        auto made = detail::in_memory([&](room &to) { return octets_of(write_message(to, records)); });
+        if (!made) return made.error();
+        return owned_message(std::move(*made));
+    }
+    static result<owned_message> write(std::initializer_list<new_record> records) {
+        return write<std::initializer_list<new_record>>(records);
+    }
+
+    /// A view of the message, valid as long as this one lives and stays as it is.
+    message view() const noexcept { return message::unchecked(held); }
+    bytes octets() const noexcept { return held; }
+    iterator begin() const noexcept { return view().begin(); }
+    iterator end() const noexcept { return {}; }
+    friend bool operator==(const owned_message &left, const owned_message &right) noexcept {
+        return left.held == right.held;
+    }
+    friend bool operator!=(const owned_message &left, const owned_message &right) noexcept { return !(left == right); }
+
+private:
+    explicit owned_message(std::vector<std::uint8_t> bytes_of) noexcept : held(std::move(bytes_of)) {}
+    static result<bytes> octets_of(const result<message> &made) noexcept {
+        return made.transform([](const message &whole) { return whole.octets(); });
+    }
+
+    std::vector<std::uint8_t> held;
+};
+
+/// Whether the records of a message have to stand in the order in which a filter has their types.
+enum class order { any, given };
+
+/// Which records a message has to have, and how many of each type. A message with a record of another type doesn't
+/// match. A filter of nothing matches the message of no records alone.
+class filter {
+public:
+    explicit filter(order how = order::any) noexcept : is_ordered(how == order::given) {}
+
+    /// Adds a type: at least and at most so many records of it. To add a type again adds to its numbers; in a given
+    /// order, where no other type was added in between. In a given order a type takes as many of the records that
+    /// follow as it may.
+    filter &record(tnf format, std::string_view type, std::size_t least = 1, std::size_t most = 1) {
+        for (std::size_t index = is_ordered && !wanted.empty() ? wanted.size() - 1 : 0; index < wanted.size(); index++)
+            if (wanted[index].format == format && wanted[index].type == type) {
+                wanted[index].least += least;
+                wanted[index].most += most;
+                return *this;
+            }
+        wanted.push_back({format, std::string(type), least, most});
+        return *this;
+    }
+
+    bool matches(const message &of) const {
+        std::vector<std::size_t> counts(wanted.size(), 0);
+        std::size_t from = 0;
+        for (const ndef::record &one : of) {
+            const std::size_t index = index_of(one, from, counts);
+            if (index == wanted.size()) return false;
+            counts[index]++;
+            if (is_ordered) from = index;
+        }
+        for (std::size_t index = 0; index < wanted.size(); index++)
+            if (counts[index] < wanted[index].least) return false;
+        return true;
+    }
+
+private:
+    struct wanted_type {
+        tnf format;
+        std::string type;
+        std::size_t least, most;
+    };
+
+    /// The first of the types from one on that a record has and that takes one record more, or their number.
+    std::size_t index_of(const ndef::record &one, std::size_t from, const std::vector<std::size_t> &counts) const {
+        std::size_t index = from;
+        while (index < wanted.size() &&
+               !(one.is(wanted[index].format, wanted[index].type) && counts[index] < wanted[index].most))
+            index++;
+        return index;
+    }
+
+    std::vector<wanted_type> wanted;
+    bool is_ordered;
+};
+
+// ---- printing
+
+/// Prints an error: "refused at 4: 15 TextBit" as the commands do, or the name of the status.
+inline std::string to_string(const error &why) {
+    if (why.what != NDEF_REFUSED) return std::string(to_string(why.what));
+    const auto number = static_cast<std::uint32_t>(why.why);
+    return "refused at " + std::to_string(why.place) + ": " + std::to_string(number) + " " +
+        std::string(to_string(why.why));
+}
+inline std::ostream &operator<<(std::ostream &to, const error &why) { return to << to_string(why); }
+
+} // namespace ndef
+
+#ifdef __cpp_lib_format
+/// std::format prints an error as operator<< does.
+template <> struct std::formatter<ndef::error> : std::formatter<std::string> {
+    auto format(const ndef::error &why, std::format_context &context) const {
+        return std::formatter<std::string>::format(ndef::to_string(why), context);
+    }
+};
+#endif
+
+#endif

@@ -1,0 +1,137 @@
+// What ndef_building.hpp has: builders of posters and handovers, messages that own their bytes, filters, and what
+// prints errors. Prints what fails. The octets are laid out by hand, as the standards say.
+#include "ndef.hpp"
+
+#include <cstdio>
+#include <sstream>
+
+static int passed, failed;
+
+static void test(const char *name, bool is_true) {
+    is_true ? passed++ : failed++;
+    if (!is_true) std::printf("FAILED: %s\n", name);
+}
+
+static bool is(const ndef::result<std::vector<std::uint8_t>> &made, std::string_view octets) {
+    return made && ndef::bytes(*made) == ndef::bytes(octets);
+}
+
+static void posters() {
+    using namespace std::literals;
+    test("a poster of a URI alone", is(ndef::poster_builder("a").payload(), "\xD1\1\2U\0a"sv));
+    std::string icon = "\1\2";
+    ndef::poster_builder builder("http://www.a");
+    builder.title("en", "B").title("de", "C", ndef::encoding::utf16).action(ndef::action::save).size(258);
+    builder.media_type("t/u").icon("image/x", icon).icon("video/y", ndef::bytes());
+    icon = "99";
+    test("a poster of everything, two of what there are several",
+         is(builder.payload(), "\x91\1\2U\1a\x11\1\4T\2enB\x11\1\7T\x82""de\xFE\xFF\0C\x11\3\1act\1"
+                               "\x11\1\4s\0\0\1\2\x11\1\3tt/u\x12\7\2image/x\1\2\x52\7\0video/y"sv));
+    std::uint8_t small[5];
+    ndef::room room(small);
+    const auto refused = ndef::poster_builder("a").write(room);
+    test("a poster that has no room", !refused && refused.error().what == NDEF_NO_ROOM && refused.error().needed == 6);
+    test("nothing is taken of the room", room.size() == 5);
+    const auto wrong = ndef::poster_builder("\xFF").payload();
+    test("a URI that isn't UTF-8", !wrong && wrong.error().what == NDEF_BAD_ARGUMENT);
+}
+
+static void handovers() {
+    using namespace std::literals;
+    test("a request of two carriers",
+         is(ndef::request_builder(0x1234)
+                .carrier(ndef::power::active, "a", {"b", "cd"})
+                .carrier(ndef::power::unknown, "e")
+                .payload(),
+            "\x12\x91\2\2cr\x12\x34\x11\2\x09""ac\1\1a\2\1b\2cd\x51\2\4ac\3\1e\0"sv));
+    test("a request of another minor version", is(ndef::request_builder(1, 3).payload(), "\x13\xD1\2\2cr\0\1"sv));
+    test("a select of nothing", is(ndef::select_builder().payload(), "\x12"sv));
+    const std::string data = "\7";
+    test("a select with a carrier and an error",
+         is(ndef::select_builder(5).carrier(ndef::power::inactive, "a").error(1, data).payload(),
+            "\x15\x91\2\4ac\0\1a\0\x51\3\2err\1\7"sv));
+    test("a random number above 65535", !ndef::request_builder(65536).payload());
+}
+
+static ndef::new_record text_of(const char *payload) { return ndef::well_known("T", std::string_view(payload)); }
+
+static void messages() {
+    using namespace std::literals;
+    const auto made = ndef::owned_message::write({text_of("\2enA"), ndef::media("a/b", std::string_view("1"))});
+    test("a message is written", made && made->octets() == ndef::bytes("\x91\1\4T\2enA\x52\3\1a/b1"sv));
+    if (!made) return;
+    ndef::owned_message kept;
+    test("a message of nothing", kept.octets().empty() && kept.begin() == kept.end() && kept != *made);
+    {
+        std::string input = "\xD1\1\4T\2enBmore";
+        const auto read = ndef::owned_message::check(input);
+        test("a message is read", bool(read));
+        if (read) kept = *read;
+        input.assign(input.size(), '\0');
+    }
+    test("it owns its octets", kept.octets() == ndef::bytes("\xD1\1\4T\2enB"sv));
+    ndef::owned_message copy(kept.view()), moved = std::move(kept);
+    test("copies and moved ones are equal", copy == moved && !(copy != moved));
+    for (const ndef::record &record : moved) test("its records", record.as<ndef::text>()->str() == "B");
+    const auto refused = ndef::owned_message::check("\xD0\0"sv);
+    test("no message", !refused && refused.error().why == NDEF_REASON_END_OF_INPUT && refused.error().place == 2);
+    test("no records", !ndef::owned_message::write(std::vector<ndef::new_record>()));
+    std::ostringstream printed;
+    printed << refused.error() << "; " << ndef::error{NDEF_NO_ROOM, {}, 0, 5};
+    test("errors are printed", printed.str() == "refused at 2: 24 EndOfInput; NoRoom");
+#ifdef __cpp_lib_format
+    test("errors are formatted", std::format("{}", refused.error()) == "refused at 2: 24 EndOfInput");
+#endif
+}
+
+/// A message of a record for each letter: a text for T, a URI for U, an external type for others.
+static ndef::owned_message of(std::string_view letters) {
+    std::vector<ndef::new_record> records;
+    for (std::size_t at = 0; at < letters.size(); at++) {
+        const std::string_view type = letters.substr(at, 1);
+        const bool is_known = type == "T" || type == "U";
+        records.push_back(is_known ? ndef::well_known(type, std::string_view("\0a", 2)) : ndef::external(type, {}));
+    }
+    return *ndef::owned_message::write(records);
+}
+
+static void filters() {
+    const auto text = [](ndef::filter &to, std::size_t least, std::size_t most) {
+        to.record(NDEF_TNF_WELL_KNOWN, "T", least, most);
+    };
+    ndef::filter any, given(ndef::order::given), none, twice, again(ndef::order::given);
+    text(any, 1, 2);
+    any.record(NDEF_TNF_WELL_KNOWN, "U", 0, 1);
+    text(given, 1, 2);
+    given.record(NDEF_TNF_WELL_KNOWN, "U", 0, 1);
+    text(twice, 0, 2);
+    twice.record(NDEF_TNF_EXTERNAL, "x");
+    text(twice, 1, 1);
+    text(again, 0, 1);
+    again.record(NDEF_TNF_WELL_KNOWN, "U", 1, 1);
+    text(again, 1, 1);
+    struct { const char *letters; bool any, given, twice, again; } const rows[] = {
+        {"T", true, true, false, false}, {"TT", true, true, false, false}, {"TTT", false, false, false, false},
+        {"U", false, false, false, false}, {"TU", true, true, false, false}, {"UT", true, false, false, true},
+        {"TUT", true, false, false, true}, {"TUU", false, false, false, false}, {"Tx", false, false, true, false},
+        {"TTxT", false, false, true, false}, {"x", false, false, false, false}, {"TxTTT", false, false, false, false}};
+    for (const auto &row : rows) {
+        const auto message = of(row.letters);
+        test(row.letters, any.matches(message.view()) == row.any && given.matches(message.view()) == row.given &&
+                              twice.matches(message.view()) == row.twice && again.matches(message.view()) == row.again);
+    }
+    test("a filter of nothing", none.matches(ndef::message()) && !none.matches(of("T").view()));
+    test("a message of nothing", !any.matches(ndef::message()));
+    ndef::filter external;
+    external.record(NDEF_TNF_EXTERNAL, "T");
+    test("another type name format", !external.matches(of("T").view()));
+}
+
+int main() {
+    posters();
+    handovers();
+    messages();
+    filters();
+    std::printf("%d passed, %d failed\n", passed, failed);
+    return failed != 0;
+}
