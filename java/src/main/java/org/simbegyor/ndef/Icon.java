@@ -14,7 +14,8 @@ public final class Icon {
     }
 
     /**
-     * The media type. The standard asks for one that begins with image/ or video/, and nothing looks at that.
+     * The media type, a character for each byte. The standard asks for one that begins with image/ or video/, and nothing
+     * looks at that.
      *
      * @return a type such as image/png
      */

@@ -143,18 +143,18 @@ public final class NdefMessage {
      * @param hasLongLengths true, if each payload length is to be written in four bytes
      * @param chunk the payload bytes of each chunk but the last of a record; 0 writes each record in one chunk
      * @return the bytes
-     * @throws IllegalArgumentException if {@code chunk} is below 0
+     * @throws IllegalArgumentException if {@code chunk} is not 0 to 4294967295
      */
-    public byte[] toByteArray(boolean hasLongLengths, int chunk) {
-        if (chunk < 0) {
-            throw new IllegalArgumentException("a chunk of " + chunk + " bytes");
+    public byte[] toByteArray(boolean hasLongLengths, long chunk) {
+        if (chunk != (chunk & 0xffffffffL)) {
+            throw new IllegalArgumentException("a chunk has 1 to 4294967295 bytes");
         }
         int form = hasLongLengths ? Library.LONG : 0;
-        byte[] bytes = new byte[length(form, chunk)];
+        byte[] bytes = new byte[length(form, (int) chunk)];
         int at = 0;
         for (int i = 0; i < records.length; i++) {
             int flags = form | (i == 0 ? Library.FIRST : 0) | (i + 1 == records.length ? Library.LAST : 0);
-            at += (int) records[i].write(flags, chunk, bytes, at);
+            at += (int) records[i].write(flags, (int) chunk, bytes, at);
         }
         return bytes;
     }

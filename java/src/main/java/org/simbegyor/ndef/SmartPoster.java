@@ -1,5 +1,6 @@
 package org.simbegyor.ndef;
 
+import java.nio.charset.StandardCharsets;
 import java.util.ArrayList;
 import java.util.Arrays;
 import java.util.Collections;
@@ -134,7 +135,8 @@ public final class SmartPoster extends Payload {
         int[] rows = Library.list(Library.ICONS, payload(), null);
         List<Icon> icons = new ArrayList<>();
         for (int row = 0; row < rows.length; row += 4) {
-            icons.add(new Icon(Strings.ofUtf8(part(rows[row], rows[row + 1])), part(rows[row + 2], rows[row + 3])));
+            String mediaType = new String(part(rows[row], rows[row + 1]), StandardCharsets.ISO_8859_1);
+            icons.add(new Icon(mediaType, part(rows[row + 2], rows[row + 3])));
         }
         return Collections.unmodifiableList(icons);
     }
@@ -221,7 +223,7 @@ public final class SmartPoster extends Payload {
          */
         public Builder icon(String mediaType, byte[] data) {
             Objects.requireNonNull(data, "the image is null");
-            return record(new NdefRecord(NdefRecord.TNF_MIME_MEDIA, Strings.utf8(mediaType), null, data));
+            return record(new NdefRecord(NdefRecord.TNF_MIME_MEDIA, Strings.latin1(mediaType), null, data));
         }
 
         /**

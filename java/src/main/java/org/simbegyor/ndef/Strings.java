@@ -18,6 +18,11 @@ final class Strings {
         return encoded(text, StandardCharsets.UTF_8);
     }
 
+    /** The text in Latin-1, a byte for each character. */
+    static byte[] latin1(String text) {
+        return encoded(text, StandardCharsets.ISO_8859_1);
+    }
+
     /** The text in ASCII. */
     static byte[] ascii(String text) {
         return encoded(text, StandardCharsets.US_ASCII);
