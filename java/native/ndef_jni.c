@@ -45,7 +45,7 @@ typedef struct span {
 
 /* Some bytes of an array. Where the array hasn't them, it raises an exception and answers 0. */
 static int find_part(JNIEnv *env, span *to, jbyteArray array, jint at, jint length) {
-    jsize all = (*env)->GetArrayLength(env, array);
+    jsize all = array != NULL ? (*env)->GetArrayLength(env, array) : 0;
     if (at < 0 || length < 0 || at > all || length > all - at) {
         raise(env, "java/lang/IndexOutOfBoundsException", "the array has fewer bytes");
         return 0;

@@ -1,5 +1,6 @@
 package org.simbegyor.ndef;
 
+import java.util.Objects;
 import java.util.OptionalLong;
 
 /** The error of a handover select ({@code err}, Connection Handover 1.2). */
@@ -31,6 +32,7 @@ public final class HandoverError extends Payload {
      * @throws IllegalArgumentException if the reason has no such data
      */
     public static HandoverError of(int reason, byte[] data) {
+        Objects.requireNonNull(data, "the data are null");
         return ofPayload(Library.written("there is no such error", Library.WRITE_ERROR, data, null, reason, 0));
     }
 

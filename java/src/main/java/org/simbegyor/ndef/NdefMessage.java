@@ -85,6 +85,7 @@ public final class NdefMessage {
      */
     public static Prefix parsePrefix(byte[] bytes, int at, int length, Limits limits, Profile profile)
             throws FormatException {
+        Objects.requireNonNull(bytes, "the bytes are null");
         long[] told = new long[3];
         int[] rows = Library.list(Library.MESSAGE, bytes, null, at, length, limits.words(profile), told);
         if (rows == null) {
