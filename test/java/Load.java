@@ -1,4 +1,8 @@
+import java.lang.management.ManagementFactory;
+import java.lang.management.ThreadMXBean;
 import java.nio.ByteBuffer;
+import java.nio.file.Files;
+import java.nio.file.Path;
 import java.util.ArrayList;
 import java.util.Arrays;
 import java.util.List;
@@ -6,12 +10,9 @@ import java.util.concurrent.Callable;
 import java.util.concurrent.ExecutorService;
 import java.util.concurrent.Executors;
 import java.util.concurrent.Future;
-import java.lang.management.ManagementFactory;
-import java.nio.file.Files;
-import java.nio.file.Path;
 import org.simbegyor.ndef.*;
 
-/** Threads, memory, large messages, and how time grows: Load ROUNDS [growth]. */
+/** Threads, memory, large messages, and how time grows: Load ROUNDS. */
 final class Load {
     private static final int THREADS = 8;
 
@@ -27,9 +28,7 @@ final class Load {
         Cases.check("many records", () -> manyRecords(60000));
         Cases.check("many links", () -> manyLinks(300));
         Cases.check("many titles and icons", () -> manyTitles(400));
-        if (words.length > 1) {
-            Cases.check("growth", Load::timeGrows);
-        }
+        Cases.check("growth", Load::timeGrows);
         Cases.finish("loads");
     }
 
@@ -211,12 +210,14 @@ final class Load {
         }
     }
 
+    /** The least microseconds of processor time of some runs. */
     private static double least(Walk walk) throws Exception {
+        ThreadMXBean clock = ManagementFactory.getThreadMXBean();
         double least = Double.MAX_VALUE;
-        for (int i = 0; i < 8; i++) {
-            long begun = System.nanoTime();
+        for (int i = 0; i < 12; i++) {
+            long begun = clock.getCurrentThreadCpuTime();
             walk.run();
-            least = Math.min(least, (System.nanoTime() - begun) / 1000.0);
+            least = Math.min(least, (clock.getCurrentThreadCpuTime() - begun) / 1000.0);
         }
         return least;
     }
