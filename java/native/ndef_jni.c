@@ -7,7 +7,6 @@
 #include <jni.h>
 #include <limits.h>
 #include <stdlib.h>
-#include <string.h>
 
 #include "ndef.h"
 
@@ -160,7 +159,7 @@ static uint32_t list_items(const question *what, const span *in, void *items, nd
     }
 }
 
-/* The size of an item in memory. */
+/* The size of an item in memory, at most that of a record. */
 static size_t item_size(jint call) {
     switch (call) {
         case MESSAGE: case RECORDS: return sizeof(ndef_record);
@@ -171,7 +170,7 @@ static size_t item_size(jint call) {
     }
 }
 
-enum { MOST_COLUMNS = 7 };
+enum { MOST_COLUMNS = 7, FEW = 24 };
 
 /* How many numbers an item has for Java. */
 static int columns(jint call) {
@@ -217,7 +216,7 @@ static void item_row(jint call, const void *items, ndef_size index, ndef_size ba
 static jintArray give_rows(JNIEnv *env, jint call, const void *items, ndef_size count, ndef_size base) {
     jint row[MOST_COLUMNS];
     int width = columns(call);
-    if (count > (ndef_size)(INT_MAX / width)) {
+    if (count > INT_MAX / MOST_COLUMNS) {
         raise_no_memory(env);
         return NULL;
     }
@@ -240,7 +239,7 @@ static uint32_t ask(JNIEnv *env, const question *what, span *in, void **items, n
         release(env, in, 2, JNI_ABORT);
         if (status != NDEF_NO_ROOM || *items != few) return status;
         size = *count;
-        *items = size > SIZE_MAX / item_size(what->call) ? NULL : malloc((size_t)size * item_size(what->call));
+        *items = size > SIZE_MAX / sizeof(ndef_record) ? NULL : malloc((size_t)size * item_size(what->call));
         if (*items == NULL) {
             raise_no_memory(env);
             return NDEF_BAD_ARGUMENT;
@@ -250,7 +249,7 @@ static uint32_t ask(JNIEnv *env, const question *what, span *in, void **items, n
 
 METHOD(jintArray, list)(JNIEnv *env, jclass type, jint call, jbyteArray one, jbyteArray two, jint at, jint length,
                         jintArray limits, jlongArray why) {
-    ndef_record few[24];
+    ndef_record few[FEW];
     void *items = few;
     question what = { call, { 0, 0, 0, 0 } };
     ndef_checked said = { 0, 0, 0 };
@@ -262,7 +261,7 @@ METHOD(jintArray, list)(JNIEnv *env, jclass type, jint call, jbyteArray one, jby
     if (!find_part(env, &in[0], one, at, length)) return NULL;
     in[1] = find_all(env, two);
     in[0].is_copied = in[1].is_copied = call == LINKS;
-    uint32_t status = ask(env, &what, in, &items, sizeof few / item_size(call), &count, &said);
+    uint32_t status = ask(env, &what, in, &items, FEW, &count, &said);
     if (why != NULL && !(*env)->ExceptionCheck(env)) give_checked(env, why, &said);
     if ((status == NDEF_OK || (status == NDEF_REFUSED && call == FIELDS)) && !(*env)->ExceptionCheck(env))
         rows = give_rows(env, call, items, count, in[0].at);
