@@ -1,5 +1,5 @@
-// The module for Gradle: the jar that java/build makes with javac, jar and cc alone. Run java/build first: from its folder
-// out/java/native this takes the native library.
+// The module for Gradle: the jar that java/build makes with javac, jar and cc alone. Run java/build first: from its
+// folder out/java/native this takes the native library.
 plugins {
     `java-library`
 }

@@ -281,8 +281,8 @@ METHOD(jint, kind)(JNIEnv *env, jclass type, jint tnf, jbyteArray name, jint wit
     return (jint)kind;
 }
 
-/* Writes a record to the room from a place on, and answers the bytes that it has; without a room it asks for them alone.
- * -1: it is no record. */
+/* Writes a record to the room from a place on, and answers the bytes that it has; without a room it asks for them
+ * alone. -1: it is no record. */
 METHOD(jlong, record)(JNIEnv *env, jclass type, jintArray how, jbyteArray name, jbyteArray id, jbyteArray payload,
                       jbyteArray room, jint at) {
     jint words[3];
@@ -497,7 +497,8 @@ static jint feed(JNIEnv *env, jlongArray state, const uint8_t *bytes, ndef_size 
     return (jint)status;
 }
 
-METHOD(jint, feed)(JNIEnv *env, jclass type, jlongArray state, jbyteArray bytes, jint at, jint length, jlongArray told) {
+METHOD(jint, feed)(JNIEnv *env, jclass type, jlongArray state, jbyteArray bytes, jint at, jint length,
+                   jlongArray told) {
     span input;
     (void)type;
     if (!find_part(env, &input, bytes, at, length)) return NDEF_BAD_ARGUMENT;

@@ -24,7 +24,8 @@ final class Lines {
                 PrintWriter out = new PrintWriter(new BufferedWriter(new OutputStreamWriter(System.out,
                         StandardCharsets.US_ASCII), 1 << 16))) {
             Limits usual = Limits.usual();
-            out.println(usual.payload() + " " + usual.records() + " " + usual.pieces() + " " + (usual.isOpaque() ? 2 : 0));
+            int flags = usual.isOpaque() ? 2 : 0;
+            out.println(usual.payload() + " " + usual.records() + " " + usual.pieces() + " " + flags);
             for (String hex = messages.readLine(); hex != null; hex = messages.readLine()) {
                 Lines lines = new Lines();
                 lines.showMessage(Cases.unhex(hex));
@@ -104,7 +105,8 @@ final class Lines {
 
     /** The alternative carriers and the error, in the order of their records. */
     private void showWithin(Handover handover) {
-        HandoverError error = handover instanceof HandoverSelect ? ((HandoverSelect) handover).error().orElse(null) : null;
+        boolean isSelect = handover instanceof HandoverSelect;
+        HandoverError error = isSelect ? ((HandoverSelect) handover).error().orElse(null) : null;
         int carriers = 0;
         for (NdefRecord record : handover.records()) {
             if (error != null && record.equals(error.toRecord().withId(record.getId()))) {
@@ -165,7 +167,8 @@ final class Lines {
     private void showRecords(NdefMessage message) {
         boolean hasHandover = false;
         for (NdefRecord record : message.getRecords()) {
-            show(" | " + record.getTnf()).show(" ", record.getType()).show(" ", record.getId()).show(" ", record.getPayload());
+            show(" | " + record.getTnf()).show(" ", record.getType()).show(" ", record.getId());
+            show(" ", record.getPayload());
             boolean isRead = showPayload(record);
             if (isHandover(record)) {
                 if (isRead && !hasHandover) {

@@ -58,7 +58,8 @@ final class Load {
             String own = "thread " + i + " " + "ü".repeat(i * 100);
             tasks.add(() -> {
                 for (int round = 0; round < rounds; round++) {
-                    byte[] bytes = new NdefMessage(NdefRecord.createTextRecord("en", own), NdefRecord.createUri("tel:" + round))
+                    NdefRecord text = NdefRecord.createTextRecord("en", own);
+                    byte[] bytes = new NdefMessage(text, NdefRecord.createUri("tel:" + round))
                             .toByteArray(false, 1 + round % 50);
                     NdefRecord[] records = new NdefMessage(bytes).getRecords();
                     Cases.same("text", own, ((TextRecord) records[0].decode()).text());

@@ -49,7 +49,8 @@ class RecordTest {
         assertEquals("a/b id x 2", new String(record.getType(), StandardCharsets.UTF_8) + " "
                 + new String(record.getId(), StandardCharsets.UTF_8) + " "
                 + new String(record.getPayload(), StandardCharsets.UTF_8) + " " + record.getTnf());
-        assertEquals(new NdefRecord(NdefRecord.TNF_EMPTY, NONE, NONE, NONE), new NdefRecord((short) 0, null, null, null));
+        NdefRecord empty = new NdefRecord(NdefRecord.TNF_EMPTY, NONE, NONE, NONE);
+        assertEquals(empty, new NdefRecord((short) 0, null, null, null));
     }
 
     @Test
@@ -75,7 +76,8 @@ class RecordTest {
         assertEquals("https://example.com/ü", NdefRecord.createUri("https://example.com/ü").toUri().toString());
         refuses(() -> NdefRecord.createUri(""));
         refuses(() -> NdefRecord.createUri("a:\ud800"));
-        isNull(() -> NdefRecord.createUri((String) null), () -> NdefRecord.createUri((Uri) null), () -> Uri.parse(null));
+        isNull(() -> NdefRecord.createUri((String) null), () -> NdefRecord.createUri((Uri) null),
+                () -> Uri.parse(null));
         assertEquals(UriRecord.of("tel:1"), NdefRecord.createUri("tel:1").decode());
     }
 
@@ -90,11 +92,13 @@ class RecordTest {
         } finally {
             Locale.setDefault(before);
         }
-        assertEquals("x".repeat(63), ((TextRecord) NdefRecord.createTextRecord("x".repeat(63), "").decode()).language());
+        String longest = "x".repeat(63);
+        assertEquals(longest, ((TextRecord) NdefRecord.createTextRecord(longest, "").decode()).language());
         refuses(() -> NdefRecord.createTextRecord("x".repeat(64), ""));
         refuses(() -> NdefRecord.createTextRecord("ü", ""));
         refuses(() -> NdefRecord.createTextRecord("en", "\udc00"));
-        isNull(() -> NdefRecord.createTextRecord("en", null), () -> TextRecord.of(null, ""), () -> TextRecord.parse(null));
+        isNull(() -> NdefRecord.createTextRecord("en", null), () -> TextRecord.of(null, ""),
+                () -> TextRecord.parse(null));
         assertArrayEquals(Cases.unhex("82656EFEFF0041"), TextRecord.ofUtf16("en", "A").toByteArray());
     }
 
@@ -215,8 +219,9 @@ class RecordTest {
         NdefRecord[] records = {record};
         NdefMessage made = new NdefMessage(records);
         Fields fields = Fields.of(given);
-        for (byte[] array : new byte[][] {type, id, payload, given, record.getType(), record.getId(), record.getPayload(),
-            message.toByteArray(), carrier.type(), carrier.data(), carrier.toByteArray(), fields.get(0).bytes()}) {
+        for (byte[] array : new byte[][] {type, id, payload, given, record.getType(), record.getId(),
+            record.getPayload(), message.toByteArray(), carrier.type(), carrier.data(), carrier.toByteArray(),
+            fields.get(0).bytes()}) {
             Arrays.fill(array, (byte) 0);
         }
         records[0] = made.getRecords()[0] = null;
@@ -249,7 +254,8 @@ class RecordTest {
         isNull(() -> new NdefMessage((byte[]) null), () -> new NdefMessage((NdefRecord) null),
                 () -> new NdefMessage((NdefRecord[]) null), () -> new NdefMessage(new NdefRecord[] {record, null}),
                 () -> new NdefMessage(record, (NdefRecord) null), () -> new NdefMessage(record, (NdefRecord[]) null),
-                () -> NdefMessage.parse(NONE, null, Profile.STRICT), () -> NdefMessage.parse(NONE, Limits.usual(), null),
+                () -> NdefMessage.parse(NONE, null, Profile.STRICT),
+                () -> NdefMessage.parse(NONE, Limits.usual(), null),
                 () -> NdefMessage.parse(null, Limits.usual(), Profile.STRICT),
                 () -> NdefMessage.parsePrefix(null, 0, 0, Limits.usual(), Profile.STRICT));
         refuses(() -> new NdefMessage(record).toByteArray(false, -1));
@@ -258,7 +264,8 @@ class RecordTest {
 
     @Test
     void refusals() {
-        FormatException refusal = assertThrows(FormatException.class, () -> new NdefMessage(Cases.unhex("d101035442656e")));
+        byte[] broken = Cases.unhex("d101035442656e");
+        FormatException refusal = assertThrows(FormatException.class, () -> new NdefMessage(broken));
         assertEquals(4, refusal.place());
         assertEquals(Reason.TEXT_BIT, refusal.reason());
         assertEquals("Bit 6 of the status octet of a text is reserved: it has to be 0.", refusal.sentence());
@@ -269,8 +276,8 @@ class RecordTest {
                 + refusal.getMessage());
         assertEquals(refusal.getMessage(), refusal.sentence());
         assertEquals(24, assertThrows(FormatException.class, () -> new NdefMessage(NONE)).reason().number());
-        assertEquals("-1 null Another reason.", new FormatException().place() + " " + new FormatException().getMessage() + " "
-                + new FormatException().sentence());
+        FormatException own = new FormatException();
+        assertEquals("-1 null Another reason.", own.place() + " " + own.getMessage() + " " + own.sentence());
         assertEquals("mine", new FormatException("mine", refusal).sentence());
     }
 
@@ -342,7 +349,8 @@ class RecordTest {
     void handoversThatThereAreNot() {
         byte[][] many = new byte[256][0];
         refuses(() -> AlternativeCarrier.of(PowerState.ACTIVE, NONE, many));
-        assertEquals(255, AlternativeCarrier.of(PowerState.ACTIVE, NONE, Arrays.copyOf(many, 255)).auxiliaries().size());
+        byte[][] most = Arrays.copyOf(many, 255);
+        assertEquals(255, AlternativeCarrier.of(PowerState.ACTIVE, NONE, most).auxiliaries().size());
         refuses(() -> AlternativeCarrier.of(PowerState.ACTIVE, NONE, new byte[1000][0]));
         refuses(() -> AlternativeCarrier.of(PowerState.ACTIVE, new byte[256]));
         refuses(() -> HandoverRequest.builder(2, 65536));
@@ -353,7 +361,8 @@ class RecordTest {
         refuses(() -> HandoverError.ofNumber(2, 1L << 32));
         refuses(() -> Carrier.of(8, NONE, NONE));
         isNull(() -> AlternativeCarrier.of(null, NONE), () -> AlternativeCarrier.of(PowerState.ACTIVE, null),
-                () -> Carrier.of(1, null, NONE), () -> HandoverError.of(1, null), () -> HandoverSelect.builder(2).record(null));
+                () -> Carrier.of(1, null, NONE), () -> HandoverError.of(1, null),
+                () -> HandoverSelect.builder(2).record(null));
         assertEquals(4294967295L, HandoverError.ofNumber(2, 4294967295L).number().getAsLong());
         assertEquals(Profile.values().length, 2);
     }

@@ -22,7 +22,8 @@ final class Suite {
         for (String[] line : Cases.lines(folder, "cases.txt")) {
             for (boolean isOpaque : new boolean[] {false, true}) {
                 if (line[LANGUAGES].contains(isOpaque ? "opaque" : "typed")) {
-                    eachProfile(line, line[PROFILE], profile -> isAnswered(line, limits(line[LIMITS], isOpaque), profile));
+                    Limits limits = limits(line[LIMITS], isOpaque);
+                    eachProfile(line, line[PROFILE], profile -> isAnswered(line, limits, profile));
                 }
             }
         }
@@ -35,7 +36,8 @@ final class Suite {
         for (String[] line : Cases.lines(folder, "encoding.txt")) {
             Cases.check(line[ID], () -> isEncoded(line));
         }
-        namesAreTheHeaders(Files.readString(top.resolve("include/ndef.h")), Files.readString(top.resolve("include/ndef_names.h")));
+        namesAreTheHeaders(Files.readString(top.resolve("include/ndef.h")),
+                Files.readString(top.resolve("include/ndef_names.h")));
         Cases.finish("cases");
     }
 
@@ -82,7 +84,8 @@ final class Suite {
         String whole = isAccepted && place != bytes.length ? "refused " + place + " 0" : expected;
         Cases.same("parse", whole, whole(bytes, limits, profile));
         if (limits.equals(Limits.usual()) && profile == Profile.STRICT) {
-            Cases.same("new NdefMessage", whole, read(() -> new NdefMessage(bytes).getRecords().length > 0 ? place : -1));
+            String read = read(() -> new NdefMessage(bytes).getRecords().length > 0 ? place : -1);
+            Cases.same("new NdefMessage", whole, read);
         }
         isFed(bytes, limits, profile, expected);
         if (!limits.isOpaque()) {
@@ -124,7 +127,8 @@ final class Suite {
     private static String listed(NdefRecord[] records) {
         List<String> listed = new ArrayList<>();
         for (NdefRecord it : records) {
-            listed.add(it.getTnf() + " " + Cases.hex(it.getType()) + " " + Cases.hex(it.getId()) + " " + Cases.hex(it.getPayload()));
+            listed.add(it.getTnf() + " " + Cases.hex(it.getType()) + " " + Cases.hex(it.getId()) + " "
+                    + Cases.hex(it.getPayload()));
         }
         return String.join(",", listed);
     }
@@ -212,17 +216,20 @@ final class Suite {
         StringBuilder reasons = new StringBuilder();
         StringBuilder sentences = new StringBuilder();
         for (Reason reason : Reason.values()) {
-            reasons.append(reason.number()).append(' ').append(reason.name()).append(' ').append(reason).append('\n');
-            sentences.append(reason.number()).append(' ').append(reason.name()).append(' ').append(reason.sentence()).append('\n');
+            String row = reason.number() + " " + reason.name() + " ";
+            reasons.append(row).append(reason).append('\n');
+            sentences.append(row).append(reason.sentence()).append('\n');
         }
         StringBuilder fields = new StringBuilder();
         for (FieldName name : FieldName.values()) {
             fields.append(name.ordinal()).append(' ').append(name.name()).append(' ').append(name).append('\n');
         }
-        Cases.check("reasons", () -> Cases.same("names", "0 OTHER Other\n" + listed(header, "NDEF_REASONS"), reasons.toString()));
-        Cases.check("sentences", () -> Cases.same("names", "0 OTHER Another reason.\n" + listed(names, "NDEF_SENTENCES"),
-                sentences.toString()));
-        Cases.check("fields", () -> Cases.same("names", "0 OTHER other\n" + listed(header, "NDEF_FIELDS"), fields.toString()));
+        String allReasons = "0 OTHER Other\n" + listed(header, "NDEF_REASONS");
+        String allSentences = "0 OTHER Another reason.\n" + listed(names, "NDEF_SENTENCES");
+        String allFields = "0 OTHER other\n" + listed(header, "NDEF_FIELDS");
+        Cases.check("reasons", () -> Cases.same("names", allReasons, reasons.toString()));
+        Cases.check("sentences", () -> Cases.same("names", allSentences, sentences.toString()));
+        Cases.check("fields", () -> Cases.same("names", allFields, fields.toString()));
     }
 
     private static String listed(String header, String list) {

@@ -5,7 +5,9 @@ import android.nfc.NdefRecord;
 import java.nio.charset.StandardCharsets;
 import java.util.Arrays;
 
-/** A program that is written against android.nfc. The test compiles it so, and then with other imports, and runs that. */
+/**
+ * A program that is written against android.nfc. The test compiles it so, and then with other imports, and runs that.
+ */
 public class Tag {
     public static void main(String[] words) throws FormatException {
         NdefRecord plain = new NdefRecord(NdefRecord.TNF_WELL_KNOWN, NdefRecord.RTD_TEXT, new byte[] {'1'},
@@ -38,6 +40,7 @@ public class Tag {
             return;
         }
         Uri uri = record.toUri();
-        System.out.println(tnf + " " + record.toMimeType() + " " + (uri == null ? "none" : uri.getScheme() + " " + uri));
+        String shown = uri == null ? "none" : uri.getScheme() + " " + uri;
+        System.out.println(tnf + " " + record.toMimeType() + " " + shown);
     }
 }

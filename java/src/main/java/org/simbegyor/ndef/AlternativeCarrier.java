@@ -51,7 +51,7 @@ public final class AlternativeCarrier extends Payload {
         }
         byte[] payload = Library.alternative(power.ordinal(), bytes, lengths);
         if (payload == null) {
-            throw new IllegalArgumentException("a carrier has at most 255 auxiliary references, each of at most 255 bytes");
+            throw new IllegalArgumentException("at most 255 auxiliary references, each of at most 255 bytes");
         }
         return promised(() -> new AlternativeCarrier(payload));
     }

@@ -1,6 +1,8 @@
 package org.simbegyor.ndef;
 
-/** A handover carrier ({@code Hc}, Connection Handover 1.2): the kind of a carrier, and what a handover over it needs. */
+/**
+ * A handover carrier ({@code Hc}, Connection Handover 1.2): the kind of a carrier, and what a handover over it needs.
+ */
 public final class Carrier extends Payload {
     private final byte[] type;
     private final byte[] data;
@@ -44,7 +46,8 @@ public final class Carrier extends Payload {
     public static Carrier of(int format, byte[] type, byte[] data) {
         byte[] ownType = type.clone();
         byte[] ownData = data.clone();
-        byte[] payload = Library.written("there is no such carrier", Library.WRITE_CARRIER, ownType, ownData, format, 0);
+        String refusal = "there is no such carrier";
+        byte[] payload = Library.written(refusal, Library.WRITE_CARRIER, ownType, ownData, format, 0);
         return new Carrier(payload, format, ownType, ownData);
     }
 

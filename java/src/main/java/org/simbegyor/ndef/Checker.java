@@ -25,8 +25,8 @@ public final class Checker {
     }
 
     /**
-     * Checks the next bytes: those of the buffer from its position to its limit. The position moves past what belongs to
-     * the message: up to the limit where more must follow, to the end of the message, or to the refused byte.
+     * Checks the next bytes: those of the buffer from its position to its limit. The position moves past what belongs
+     * to the message: up to the limit where more must follow, to the end of the message, or to the refused byte.
      *
      * @param bytes the bytes
      * @return true, if the message is whole; false, if more bytes must follow

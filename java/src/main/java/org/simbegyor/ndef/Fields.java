@@ -5,8 +5,8 @@ import java.util.Optional;
 import java.util.RandomAccess;
 
 /**
- * In which field each byte stands of the message with which some bytes begin. The fields follow one another without a gap.
- * Of bytes that are refused there are the fields before the refused byte.
+ * In which field each byte stands of the message with which some bytes begin. The fields follow one another without a
+ * gap. Of bytes that are refused there are the fields before the refused byte.
  */
 public final class Fields extends AbstractList<Field> implements RandomAccess {
     private static final int COLUMNS = 4;

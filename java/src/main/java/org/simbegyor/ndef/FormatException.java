@@ -2,7 +2,9 @@ package org.simbegyor.ndef;
 
 import java.util.Objects;
 
-/** Bytes are not what they have to be: {@link #place()} tells the first byte that is wrong, and {@link #reason()} why. */
+/**
+ * Bytes are not what they have to be: {@link #place()} tells the first byte that is wrong, and {@link #reason()} why.
+ */
 public class FormatException extends Exception {
     private static final long serialVersionUID = 1;
 
@@ -55,8 +57,8 @@ public class FormatException extends Exception {
     }
 
     /**
-     * The place of the first refused byte, counted from 0. No continuation of the bytes up to and with this one is right.
-     * If the bytes end too early, it is their number.
+     * The place of the first refused byte, counted from 0. No continuation of the bytes up to and with this one is
+     * right. If the bytes end too early, it is their number.
      *
      * @return the place, or -1 where the program made the exception itself
      */

@@ -115,7 +115,8 @@ public abstract class Handover extends Payload {
 
         /** The payload; {@code handover} is 0 for a request and 1 for a select. */
         byte[] payload(int handover) {
-            byte[] message = records.isEmpty() ? new byte[0] : new NdefMessage(records.toArray(new NdefRecord[0])).toByteArray();
+            NdefRecord[] all = records.toArray(new NdefRecord[0]);
+            byte[] message = all.length == 0 ? new byte[0] : new NdefMessage(all).toByteArray();
             return Library.written("there is no such handover", Library.WRITE_HANDOVER, message, null, handover, minor);
         }
     }

@@ -14,8 +14,8 @@ public final class Icon {
     }
 
     /**
-     * The media type, a character for each byte. The standard asks for one that begins with image/ or video/, and nothing
-     * looks at that.
+     * The media type, a character for each byte. The standard asks for one that begins with image/ or video/, and
+     * nothing looks at that.
      *
      * @return a type such as image/png
      */
@@ -34,7 +34,8 @@ public final class Icon {
 
     @Override
     public boolean equals(Object other) {
-        return other instanceof Icon && mediaType.equals(((Icon) other).mediaType) && Arrays.equals(data, ((Icon) other).data);
+        return other instanceof Icon && mediaType.equals(((Icon) other).mediaType)
+                && Arrays.equals(data, ((Icon) other).data);
     }
 
     @Override

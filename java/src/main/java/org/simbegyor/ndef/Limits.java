@@ -135,6 +135,7 @@ public final class Limits {
 
     @Override
     public String toString() {
-        return "Limits payload=" + payload + " records=" + records + " pieces=" + pieces + (isOpaque() ? " opaque" : "");
+        return "Limits payload=" + payload + " records=" + records + " pieces=" + pieces
+                + (isOpaque() ? " opaque" : "");
     }
 }

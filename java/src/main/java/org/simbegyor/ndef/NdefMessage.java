@@ -161,11 +161,12 @@ public final class NdefMessage {
     }
 
     /**
-     * The links of the message: each alternative carrier of its first handover, and the record to which it refers. The time
-     * grows with carriers times records.
+     * The links of the message: each alternative carrier of its first handover, and the record to which it refers.
+     * The time grows with carriers times records.
      *
      * @return the links, in the order of the carriers; none where the message has no handover
-     * @throws FormatException if the payload of the handover is refused, which only a record can have that was not checked
+     * @throws FormatException if the payload of the handover is refused, which only a record can have that was not
+     * checked
      */
     public List<Link> links() throws FormatException {
         for (NdefRecord record : records) {

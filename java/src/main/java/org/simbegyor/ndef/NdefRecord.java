@@ -54,7 +54,8 @@ public final class NdefRecord {
      * @param type the type, or null
      * @param id the id, or null
      * @param payload the payload, or null
-     * @throws IllegalArgumentException if there is no such record: another type name format, a type or an id of more than
+     * @throws IllegalArgumentException if there is no such record: another type name format, a type or an id of more
+     * than
      *     255 bytes, or a type, an id or a payload where the type name format has none, or no type where it has one
      */
     public NdefRecord(short tnf, byte[] type, byte[] id, byte[] payload) {
@@ -116,8 +117,8 @@ public final class NdefRecord {
         if (payload == null) {
             throw new IllegalStateException("another thread changes the bytes");
         }
-        return new NdefRecord(rows[row + 1], part(bytes, typeAt, idAt - typeAt), part(bytes, idAt, payloadAt - idAt), payload,
-                profile);
+        byte[] type = part(bytes, typeAt, idAt - typeAt);
+        return new NdefRecord(rows[row + 1], type, part(bytes, idAt, payloadAt - idAt), payload, profile);
     }
 
     /** Where the payload of each record ends, which lies in one piece. */
@@ -215,7 +216,8 @@ public final class NdefRecord {
      * @param languageCode the language code, such as en; null or none stands for that of the default locale
      * @param text the text
      * @return the record
-     * @throws IllegalArgumentException if the language code has more than 63 characters or is not ASCII, or no UTF-8 spells
+     * @throws IllegalArgumentException if the language code has more than 63 characters or is not ASCII, or no UTF-8
+     * spells
      *     the text
      */
     public static NdefRecord createTextRecord(String languageCode, String text) {
@@ -325,8 +327,8 @@ public final class NdefRecord {
 
     /**
      * What the payload says: a {@link TextRecord}, {@link UriRecord}, {@link SmartPoster}, {@link HandoverRequest},
-     * {@link HandoverSelect}, {@link Carrier}, or {@link Payload.Other} for all other types. Reserved values are read with
-     * the profile with which the message was read.
+     * {@link HandoverSelect}, {@link Carrier}, or {@link Payload.Other} for all other types. Reserved values are read
+     * with the profile with which the message was read.
      *
      * @return the payload
      * @throws FormatException if it is no payload of its type; its place counts from the first byte of the payload

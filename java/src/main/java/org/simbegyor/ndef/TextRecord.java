@@ -38,7 +38,8 @@ public final class TextRecord extends Payload {
      * @param language the language code, such as en
      * @param text the text
      * @return the text
-     * @throws IllegalArgumentException if the language code has more than 63 characters or is not ASCII, or no UTF-8 spells
+     * @throws IllegalArgumentException if the language code has more than 63 characters or is not ASCII, or no UTF-8
+     * spells
      *     the text
      */
     public static TextRecord of(String language, String text) {
