@@ -98,7 +98,7 @@ final class Load {
         readOften(good, bad, rounds / 2);
         long heapGrown = heap() - heapBefore;
         long grown = resident() - before;
-        if (heapGrown > 1 << 20 || grown > 16 << 20) {
+        if (heapGrown > 1 << 20 || grown > 8 << 20) {
             throw new AssertionError("the heap has grown by " + heapGrown + " bytes, and the process by " + grown);
         }
     }
@@ -107,7 +107,7 @@ final class Load {
         byte[] hello = Cases.unhex("d101085402656e48656c6c6f");
         for (int i = 0; i < rounds; i++) {
             Cases.same("text", "Hello", ((TextRecord) new NdefMessage(hello).getRecords()[0].decode()).text());
-            if (i % 200 == 0) {
+            if (i % 40 == 0) {
                 Cases.same("links", 40, new NdefMessage(good).links().size());
                 Cases.same("refused", true, Fields.of(bad).refusal().isPresent());
             }
