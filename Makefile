@@ -186,7 +186,7 @@ $(module)/libndef.so: out/lib/libndef.a packaging/ndef.map
 java: out/java/simbegyor-ndef.jar
 
 out/java/simbegyor-ndef.jar: out/lib/libndef.a java/build VERSION $(shell find java/native java/src -type f)
-	java/build $<
+	java/build $< $(dir $(header))
 
 # What pip and importlib.metadata know of the module.
 out/python/$(module_data)/METADATA: python/METADATA.in python/README.md VERSION

@@ -193,15 +193,37 @@ class RecordTest {
     }
 
     @Test
-    void equalValues() {
+    void equalValues() throws FormatException {
         assertEquals(Limits.usual(), Limits.usual().withRecords(1024));
         assertNotEquals(Limits.usual(), Limits.usual().withPieces(1));
         assertEquals(Fields.of(hello()), Fields.of(hello()));
         assertEquals(TextRecord.of("en", "a").hashCode(), TextRecord.of("en", "a").hashCode());
         assertNotEquals(TextRecord.of("en", "a"), TextRecord.ofUtf16("en", "a"));
+        byte[] id = bytes("1");
+        HandoverSelect chosen = HandoverSelect.builder(2).alternative(PowerState.ACTIVE, id).build();
+        NdefMessage select = new NdefMessage(chosen.toRecord(),
+                NdefRecord.createUri("tel:1").withId(id));
+        Link link = select.links().get(0);
+        assertEquals(link, select.links().get(0));
+        assertEquals(link.hashCode(), select.links().get(0).hashCode());
+        assertNotEquals(link, new NdefMessage(select.getRecords()[0]).links().get(0));
+        Field field = Fields.of(hello()).get(1);
+        assertEquals(field.hashCode(), Fields.of(hello()).get(1).hashCode());
+        for (byte[] other : new byte[][] {Cases.unhex("d100"), Cases.unhex("d900"), Cases.unhex("d101")}) {
+            assertEquals(other[1] == 1, field.equals(Fields.of(other).get(1)));
+            assertNotEquals(Fields.of(other).get(0), field);
+        }
+        assertEquals(Limits.usual().hashCode(), Limits.usual().withRecords(1024).hashCode());
+        assertEquals(Uri.parse("a:b").hashCode(), Uri.parse("a:b").hashCode());
         SmartPoster poster = SmartPoster.builder("a:b").icon("image/png", bytes("x")).build();
         assertEquals(poster.icons(), SmartPoster.builder("a:c").icon("image/png", bytes("x")).build().icons());
         assertNotEquals(poster.icons(), SmartPoster.builder("a:c").icon("image/png", NONE).build().icons());
+        assertNotEquals(poster.icons(), SmartPoster.builder("a:c").icon("image/gif", bytes("x")).build().icons());
+        Icon icon = poster.icons().get(0);
+        for (Object value : new Object[] {field, link, poster, icon, Limits.usual(), Uri.parse("a"), select}) {
+            assertNotEquals(value, "value");
+            assertNotEquals(value, null);
+        }
     }
 
     // ---- arrays are copied

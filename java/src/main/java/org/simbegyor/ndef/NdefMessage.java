@@ -16,7 +16,7 @@ public final class NdefMessage {
      * @throws FormatException if they are refused
      */
     public NdefMessage(byte[] data) throws FormatException {
-        this(parse(data, Limits.usual(), Profile.STRICT).records, 0);
+        records = parse(data, Limits.usual(), Profile.STRICT).records;
     }
 
     /**
@@ -40,7 +40,7 @@ public final class NdefMessage {
      * @throws IllegalArgumentException if there are none
      */
     public NdefMessage(NdefRecord[] records) {
-        this(records.clone(), 0);
+        this.records = records.clone();
         if (records.length == 0) {
             throw new IllegalArgumentException("a message has at least one record");
         }
@@ -49,9 +49,9 @@ public final class NdefMessage {
         }
     }
 
-    /** A message of an array that nobody else changes. */
-    private NdefMessage(NdefRecord[] records, int unused) {
-        this.records = records;
+    /** The message of the records that the library found in the bytes. */
+    private NdefMessage(byte[] bytes, int[] rows, Profile profile) {
+        records = NdefRecord.listOf(bytes, rows, profile);
     }
 
     /**
@@ -91,8 +91,7 @@ public final class NdefMessage {
         if (rows == null) {
             throw FormatException.of(told);
         }
-        NdefMessage message = new NdefMessage(NdefRecord.listOf(bytes, rows, profile), 0);
-        return new Prefix(message, (int) told[0]);
+        return new Prefix(new NdefMessage(bytes, rows, profile), (int) told[0]);
     }
 
     /**

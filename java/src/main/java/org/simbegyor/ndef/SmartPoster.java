@@ -195,10 +195,11 @@ public final class SmartPoster extends Payload {
          * @throws IllegalArgumentException if it is another
          */
         public Builder size(long bytes) {
+            String refusal = "a size is 0 to 4294967295";
             if (bytes != (bytes & 0xffffffffL)) {
-                throw new IllegalArgumentException("a size is 0 to 4294967295");
+                throw new IllegalArgumentException(refusal);
             }
-            byte[] payload = Library.written("", Library.WRITE_SIZE, null, null, (int) bytes, 0);
+            byte[] payload = Library.written(refusal, Library.WRITE_SIZE, null, null, (int) bytes, 0);
             return record(NdefRecord.wellKnown(Types.SIZE, payload));
         }
 
