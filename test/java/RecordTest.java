@@ -196,7 +196,7 @@ class RecordTest {
     void equalValues() throws FormatException {
         assertEquals(Limits.usual(), Limits.usual().withRecords(1024));
         assertNotEquals(Limits.usual(), Limits.usual().withPieces(1));
-        assertEquals(Fields.of(hello()), Fields.of(hello()));
+        assertEquals(Fields.of(hello()), new NdefMessage(NdefRecord.createTextRecord("en", "Hello")).fields());
         assertEquals(TextRecord.of("en", "a").hashCode(), TextRecord.of("en", "a").hashCode());
         assertNotEquals(TextRecord.of("en", "a"), TextRecord.ofUtf16("en", "a"));
         byte[] id = bytes("1");
@@ -209,9 +209,14 @@ class RecordTest {
         assertNotEquals(link, new NdefMessage(select.getRecords()[0]).links().get(0));
         Field field = Fields.of(hello()).get(1);
         assertEquals(field.hashCode(), Fields.of(hello()).get(1).hashCode());
-        for (byte[] other : new byte[][] {Cases.unhex("d100"), Cases.unhex("d900"), Cases.unhex("d101")}) {
-            assertEquals(other[1] == 1, field.equals(Fields.of(other).get(1)));
-            assertNotEquals(Fields.of(other).get(0), field);
+        Fields fields = Fields.of(hello());
+        Fields others = new NdefMessage(NdefRecord.createTextRecord("en", "Hallo")).fields();
+        for (int i = 0; i < 7; i++) {
+            assertEquals(i != 6, fields.get(i).equals(others.get(i)));
+            assertNotEquals(fields.get(i), fields.get((i + 1) % 7));
+        }
+        for (int index : new int[] {-1, 7, Integer.MAX_VALUE, Integer.MIN_VALUE}) {
+            assertThrows(IndexOutOfBoundsException.class, () -> fields.get(index));
         }
         assertEquals(Limits.usual().hashCode(), Limits.usual().withRecords(1024).hashCode());
         assertEquals(Uri.parse("a:b").hashCode(), Uri.parse("a:b").hashCode());
