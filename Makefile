@@ -8,6 +8,7 @@
 #   make programs    makes the commands alone, in out/bin
 #   make library     makes the library for C alone, in out/lib
 #   make python      makes the Python module alone, in out/python
+#   make java        makes the module for Java, in out/java; it needs a JDK
 #   make install     puts all of it below PREFIX, and below DESTDIR where that is given
 #   make uninstall   takes away what make install puts
 #   make check       runs the gate; it needs rt
@@ -182,6 +183,11 @@ $(module)/libndef.so: out/lib/libndef.a packaging/ndef.map
 	mkdir -p $(@D)
 	$(CC) $(LDFLAGS) $(shared) -Wl,--version-script=packaging/ndef.map -o $@ $(whole)
 
+java: out/java/simbegyor-ndef.jar
+
+out/java/simbegyor-ndef.jar: out/lib/libndef.a java/build VERSION $(shell find java/native java/src -type f)
+	java/build $< $(dir $(header))
+
 # What pip and importlib.metadata know of the module.
 out/python/$(module_data)/METADATA: python/METADATA.in python/README.md VERSION
 	rm -rf out/python/simbegyor_ndef-*.dist-info
@@ -253,4 +259,4 @@ dist:
 release:
 	packaging/release
 
-.PHONY: all amalgamation cost dist programs library python prove from-dist install uninstall check deb web release FORCE
+.PHONY: all amalgamation cost dist programs library python java prove from-dist install uninstall check deb web release FORCE

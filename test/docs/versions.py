@@ -33,12 +33,13 @@ def wrong():
     if not re.fullmatch(r'\d+\.\d+\.\d+(\.dev)?\n', version):
         yield f'VERSION holds {version!r}'
     version = version.strip()
-    sources, cargo = of_sources(version), version.replace('.dev', '-dev')
+    sources, cargo, maven = of_sources(version), version.replace('.dev', '-dev'), version.replace('.dev', '-SNAPSHOT')
     man = {f'man/{name}.1': f'\nThis page is of Simbegyor {version},' for name in ('ndef', 'ndef-make', 'ndef-explain')}
     wanted = {'Makefile': '$(shell cat VERSION)', **man,
               'packaging/ndef.pc.in': 'Version: @VERSION@', 'packaging/control.in': 'Version: @VERSION@',
               'python/METADATA.in': 'Version: @VERSION@', 'packaging/npm/package.json.in': '"version": "@VERSION@"',
               'CHANGELOG.md': '\n## Unreleased\n' if version.endswith('.dev') else f'\n## {version} - ',
+              'java/pom.xml': f'\n  <version>{maven}</version>\n', 'java/build.gradle.kts': f'\nversion = "{maven}"\n',
               'rust/Cargo.toml': f'\nversion = "{cargo}"\n', 'rust/sys/Cargo.toml': f'\nversion = "{cargo}"\n',
               'rust/Cargo.lock': f'name = "simbegyor-ndef"\nversion = "{cargo}"\n',
               'crates/ndef_make_tool/src/pages.rt': f'b"ndef-make {sources}\\n"',

@@ -76,7 +76,10 @@ static int show_poster(const uint8_t *payload, ndef_size length, uint32_t flags)
     if (poster.has_size) printf(" size %u", poster.size);
     must(ndef_poster_titles(payload, length, titles, ITEMS, &count));
     for (ndef_size i = 0; i < count; i++) show_title(&titles[i], payload);
-    if (ndef_title(payload, length, (const uint8_t *)"EN", 2, &title) == NDEF_OK) printf(" en"), show_title(&title, payload);
+    if (ndef_title(payload, length, (const uint8_t *)"EN", 2, &title) == NDEF_OK) {
+        printf(" en");
+        show_title(&title, payload);
+    }
     if (ndef_poster_media_type(payload, length, &media_type) == NDEF_OK)
         show(" t ", payload + media_type.at, media_type.length);
     must(ndef_poster_icons(payload, length, icons, ITEMS, &count));

@@ -1,0 +1,28 @@
+// The module for Gradle: the jar that java/build makes with javac, jar and cc alone. Run java/build first: from its
+// folder out/java/native this takes the native library.
+plugins {
+    `java-library`
+}
+
+group = "org.simbegyor"
+version = "0.3.0-SNAPSHOT"
+
+tasks.withType<JavaCompile> {
+    options.release.set(11)
+    options.encoding = "UTF-8"
+    options.compilerArgs.addAll(listOf("-Xlint:all", "-Werror"))
+}
+
+tasks.processResources {
+    from("../out/java/native")
+    from("..") {
+        include("LICENSE-MIT", "LICENSE-APACHE")
+        into("META-INF/licenses")
+    }
+}
+
+tasks.jar {
+    archiveBaseName.set("simbegyor-ndef")
+}
+
+layout.buildDirectory.set(file("../out/java/gradle"))

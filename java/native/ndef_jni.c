@@ -1,0 +1,533 @@
+/* ndef_jni.c: the calls of include/ndef.h as native methods of the class org.simbegyor.ndef.Library.
+ *
+ * It has no rule of the format. Each method takes arrays of Java, calls the library, and answers with an array of Java.
+ * The bounds are those of the Java arrays. While an array is held (GetPrimitiveArrayCritical) nothing but the library
+ * runs: no function of JNI, and no malloc. What it runs looks at each byte a fixed number of times. ndef_links, whose
+ * time may grow faster, gets copies. Each answer of JNI that may be an exception is looked at. */
+#include <jni.h>
+#include <limits.h>
+#include <stdlib.h>
+
+#include "ndef.h"
+
+#define METHOD(answer, name) JNIEXPORT answer JNICALL Java_org_simbegyor_ndef_Library_##name
+
+/* What `bytes` is asked for; the class Library has the same numbers. */
+enum {
+    READ_PAYLOAD, READ_URI, READ_TEXT, WRITE_URI, WRITE_TEXT, WRITE_CARRIER, WRITE_ACTION, WRITE_SIZE, WRITE_COLLISION,
+    WRITE_ERROR, WRITE_ERROR_NUMBER, WRITE_HANDOVER, WRITE_ALTERNATIVE
+};
+/* What `list` and `name` are asked for. */
+enum { MESSAGE, RECORDS, REFERENCES, ICONS, TITLE, MEDIA_TYPE, LINKS, FIELDS };
+enum { REASON_NAME, REASON_SENTENCE, FIELD_NAME };
+enum { CHECKER_WORDS = sizeof(ndef_checker) / sizeof(uint64_t) };
+
+/* ---- exceptions */
+
+static void raise(JNIEnv *env, const char *name, const char *text) {
+    if ((*env)->ExceptionCheck(env)) return;
+    jclass type = (*env)->FindClass(env, name);
+    if (type != NULL) (*env)->ThrowNew(env, type, text);
+}
+
+static void raise_no_memory(JNIEnv *env) { raise(env, "java/lang/OutOfMemoryError", "no memory for NDEF"); }
+
+/* ---- arrays of Java while they are held */
+
+typedef struct span {
+    jbyteArray array;
+    jbyte *held;
+    const uint8_t *bytes;
+    ndef_size at, length;
+    int is_copied; /* whether the bytes are copied instead, so that the array isn't held */
+} span;
+
+/* Some bytes of an array. Where the array hasn't them, it raises an exception and answers 0. */
+static int find_part(JNIEnv *env, span *to, jbyteArray array, jint at, jint length) {
+    jsize all = array != NULL ? (*env)->GetArrayLength(env, array) : 0;
+    if (at < 0 || length < 0 || at > all || length > all - at) {
+        raise(env, "java/lang/IndexOutOfBoundsException", "the array has fewer bytes");
+        return 0;
+    }
+    *to = (span){ array, NULL, NULL, (ndef_size)at, (ndef_size)length, 0 };
+    return 1;
+}
+
+/* All bytes of an array; none, where it is null. */
+static span find_all(JNIEnv *env, jbyteArray array) {
+    return (span){ array, NULL, NULL, 0, array != NULL ? (ndef_size)(*env)->GetArrayLength(env, array) : 0, 0 };
+}
+
+static void release(JNIEnv *env, span *spans, int count, jint mode) {
+    while (count-- > 0) {
+        span *it = &spans[count];
+        if (it->held == NULL) continue;
+        if (it->is_copied) (*env)->ReleaseByteArrayElements(env, it->array, it->held, mode);
+        else (*env)->ReleasePrimitiveArrayCritical(env, it->array, it->held, mode);
+        it->held = NULL;
+    }
+}
+
+/* Holds arrays until they are released. Where that fails it raises an exception and answers 0. */
+static int hold(JNIEnv *env, span *spans, int count) {
+    for (int i = 0; i < count; i++) {
+        span *it = &spans[i];
+        if (it->length == 0) continue;
+        it->held = it->is_copied ? (*env)->GetByteArrayElements(env, it->array, NULL)
+                                 : (*env)->GetPrimitiveArrayCritical(env, it->array, NULL);
+        if (it->held == NULL) {
+            release(env, spans, i, JNI_ABORT);
+            raise_no_memory(env);
+            return 0;
+        }
+        it->bytes = (const uint8_t *)it->held + it->at;
+    }
+    return 1;
+}
+
+/* ---- numbers */
+
+/* Tells the place, the reason and the number of records to an array of Java. */
+static void give_checked(JNIEnv *env, jlongArray to, const ndef_checked *checked) {
+    const jlong told[] = { (jlong)checked->place, (jlong)checked->reason, (jlong)checked->records };
+    (*env)->SetLongArrayRegion(env, to, 0, 3, told);
+}
+
+static int get_limits(JNIEnv *env, jintArray from, ndef_limits *limits) {
+    jint words[4];
+    (*env)->GetIntArrayRegion(env, from, 0, 4, words);
+    *limits = (ndef_limits){ (uint32_t)words[0], (uint32_t)words[1], (uint32_t)words[2], (uint32_t)words[3] };
+    return !(*env)->ExceptionCheck(env);
+}
+
+/* ---- lists: records, references, icons, links and fields */
+
+typedef struct question {
+    jint call;
+    ndef_limits limits;
+} question;
+
+/* The records from the front of the bytes on, up to the last of the message, in an array as calls of the library fill
+ * one. */
+static uint32_t walk(const uint8_t *bytes, ndef_size length, ndef_record *records, ndef_size size, ndef_size *count) {
+    ndef_record record = { .last = length == 0 };
+    for (*count = 0; !record.last; ++*count) {
+        uint32_t status = ndef_record_at(bytes, length, record.end, &record);
+        if (status != NDEF_OK) return NDEF_BAD_ARGUMENT;
+        if (*count < size) records[*count] = record;
+    }
+    return *count > size ? NDEF_NO_ROOM : NDEF_OK;
+}
+
+static uint32_t check_and_walk(const span *in, const ndef_limits *limits, ndef_record *records, ndef_size size,
+                               ndef_size *count, ndef_checked *why) {
+    uint32_t status = ndef_check(in->bytes, in->length, limits, why);
+    if (status != NDEF_OK) return status;
+    *count = why->records;
+    if (*count > size) return NDEF_NO_ROOM;
+    return walk(in->bytes, (ndef_size)why->place, records, size, count);
+}
+
+/* A part, if there is one, as an array. */
+static uint32_t list_part(uint32_t status, ndef_size at, ndef_size length, ndef_part *parts, ndef_size *count) {
+    *count = status == NDEF_OK;
+    if (status == NDEF_OK) *parts = (ndef_part){ at, length };
+    return status == NDEF_END ? (uint32_t)NDEF_OK : status;
+}
+
+static uint32_t list_items(const question *what, const span *in, void *items, ndef_size size, ndef_size *count,
+                           ndef_checked *why) {
+    const uint8_t *bytes = in[0].bytes, *more = in[1].bytes;
+    ndef_size length = in[0].length, more_length = in[1].length;
+    ndef_text_parts title = { 0 };
+    ndef_part part = { 0, 0 };
+    uint32_t status;
+    switch (what->call) {
+        case MESSAGE: return check_and_walk(in, &what->limits, items, size, count, why);
+        case RECORDS: return walk(bytes, length, items, size, count);
+        case REFERENCES: return ndef_references(bytes, length, items, size, count);
+        case ICONS: return ndef_poster_icons(bytes, length, items, size, count);
+        case LINKS: return ndef_links(bytes, length, more, more_length, items, size, count);
+        case FIELDS: return ndef_fields(bytes, length, &what->limits, items, size, count, why);
+        case TITLE:
+            status = ndef_title(bytes, length, more, more_length, &title);
+            return list_part(status, title.text_at, title.text_length, items, count);
+        case MEDIA_TYPE:
+            status = ndef_poster_media_type(bytes, length, &part);
+            return list_part(status, part.at, part.length, items, count);
+        default: return NDEF_BAD_ARGUMENT;
+    }
+}
+
+/* The size of an item in memory, at most that of a record. */
+static size_t item_size(jint call) {
+    switch (call) {
+        case MESSAGE: case RECORDS: return sizeof(ndef_record);
+        case ICONS: return sizeof(ndef_icon);
+        case LINKS: return sizeof(ndef_link);
+        case FIELDS: return sizeof(ndef_field);
+        default: return sizeof(ndef_part);
+    }
+}
+
+enum { MOST_COLUMNS = 7, FEW = 24 };
+
+/* How many numbers an item has for Java. */
+static int columns(jint call) {
+    switch (call) {
+        case MESSAGE: case RECORDS: return MOST_COLUMNS;
+        case ICONS: case LINKS: case FIELDS: return 4;
+        default: return 2;
+    }
+}
+
+static void record_row(const ndef_record *it, ndef_size base, jint *row) {
+    row[0] = (jint)(base + it->at), row[1] = (jint)it->tnf;
+    row[2] = (jint)(base + it->type_at), row[3] = (jint)it->type_length, row[4] = (jint)it->id_length;
+    row[5] = (jint)it->payload_length, row[6] = (jint)it->pieces;
+}
+
+static void part_row(const ndef_part *it, jint *row) { row[0] = (jint)it->at, row[1] = (jint)it->length; }
+
+static void link_row(const ndef_link *it, jint *row) {
+    row[0] = (jint)it->carrier_at, row[1] = (jint)it->carrier_length;
+    row[2] = (jint)it->record_index, row[3] = (jint)it->has_record;
+}
+
+static void field_row(const ndef_field *it, jint *row) {
+    row[0] = (jint)it->at, row[1] = (jint)it->length, row[2] = (jint)it->depth, row[3] = (jint)it->name;
+}
+
+/* The numbers of an item for Java. */
+static void item_row(jint call, const void *items, ndef_size index, ndef_size base, jint *row) {
+    switch (call) {
+        case MESSAGE: case RECORDS: record_row((const ndef_record *)items + index, base, row); break;
+        case ICONS:
+            part_row(&((const ndef_icon *)items)[index].media_type, row);
+            part_row(&((const ndef_icon *)items)[index].data, row + 2);
+            break;
+        case LINKS: link_row((const ndef_link *)items + index, row); break;
+        case FIELDS: field_row((const ndef_field *)items + index, row); break;
+        default: part_row((const ndef_part *)items + index, row); break;
+    }
+}
+
+/* The items as rows of numbers, one after another. */
+static jintArray give_rows(JNIEnv *env, jint call, const void *items, ndef_size count, ndef_size base) {
+    jint row[MOST_COLUMNS];
+    int width = columns(call);
+    if (count > INT_MAX / MOST_COLUMNS) {
+        raise_no_memory(env);
+        return NULL;
+    }
+    jintArray rows = (*env)->NewIntArray(env, (jsize)count * width);
+    for (ndef_size i = 0; rows != NULL && i < count; i++) {
+        item_row(call, items, i, base, row);
+        (*env)->SetIntArrayRegion(env, rows, (jsize)i * width, width, row);
+        if ((*env)->ExceptionCheck(env)) return NULL;
+    }
+    return rows;
+}
+
+/* Asks the library; where the room is too small, once more with memory. The items are then in `*items`. */
+static uint32_t ask(JNIEnv *env, const question *what, span *in, void **items, ndef_size size, ndef_size *count,
+                    ndef_checked *why) {
+    void *few = *items;
+    for (;;) {
+        if (!hold(env, in, 2)) return NDEF_BAD_ARGUMENT;
+        uint32_t status = list_items(what, in, *items, size, count, why);
+        release(env, in, 2, JNI_ABORT);
+        if (status != NDEF_NO_ROOM || *items != few) return status;
+        size = *count;
+        *items = size > SIZE_MAX / sizeof(ndef_record) ? NULL : malloc((size_t)size * item_size(what->call));
+        if (*items == NULL) {
+            raise_no_memory(env);
+            return NDEF_BAD_ARGUMENT;
+        }
+    }
+}
+
+METHOD(jintArray, list)(JNIEnv *env, jclass type, jint call, jbyteArray one, jbyteArray two, jint at, jint length,
+                        jintArray limits, jlongArray why) {
+    ndef_record few[FEW];
+    void *items = few;
+    question what = { call, { 0, 0, 0, 0 } };
+    ndef_checked said = { 0, 0, 0 };
+    ndef_size count = 0;
+    span in[2];
+    jintArray rows = NULL;
+    (void)type;
+    if (limits != NULL && !get_limits(env, limits, &what.limits)) return NULL;
+    if (!find_part(env, &in[0], one, at, length)) return NULL;
+    in[1] = find_all(env, two);
+    in[0].is_copied = in[1].is_copied = call == LINKS;
+    uint32_t status = ask(env, &what, in, &items, FEW, &count, &said);
+    if (why != NULL && !(*env)->ExceptionCheck(env)) give_checked(env, why, &said);
+    if ((status == NDEF_OK || (status == NDEF_REFUSED && call == FIELDS)) && !(*env)->ExceptionCheck(env))
+        rows = give_rows(env, call, items, count, in[0].at);
+    if (items != few) free(items);
+    return rows;
+}
+
+/* ---- records */
+
+METHOD(jint, kind)(JNIEnv *env, jclass type, jint tnf, jbyteArray name, jint within) {
+    span input = find_all(env, name);
+    (void)type;
+    if (!hold(env, &input, 1)) return NDEF_KIND_OTHER;
+    const ndef_record record = { .type_length = input.length, .tnf = (uint32_t)tnf };
+    uint32_t kind = ndef_kind(input.bytes, input.length, &record, (uint32_t)within);
+    release(env, &input, 1, JNI_ABORT);
+    return (jint)kind;
+}
+
+/* Writes a record to the room from a place on, and answers the bytes that it has; without a room it asks for them
+ * alone. -1: it is no record. */
+METHOD(jlong, record)(JNIEnv *env, jclass type, jintArray how, jbyteArray name, jbyteArray id, jbyteArray payload,
+                      jbyteArray room, jint at) {
+    jint words[3];
+    ndef_size count = 0;
+    span in[3] = { find_all(env, name), find_all(env, id), find_all(env, payload) }, to = find_all(env, room);
+    (void)type;
+    if (room != NULL && !find_part(env, &to, room, at, (jint)to.length - at)) return -1;
+    (*env)->GetIntArrayRegion(env, how, 0, 3, words);
+    if ((*env)->ExceptionCheck(env) || !hold(env, in, 3)) return -1;
+    if (!hold(env, &to, 1)) {
+        release(env, in, 3, JNI_ABORT);
+        return -1;
+    }
+    const ndef_writing writing = { (uint32_t)words[0], (uint32_t)words[1], (uint32_t)words[2] };
+    uint32_t status = ndef_write_record(in[0].bytes, in[0].length, in[1].bytes, in[1].length, in[2].bytes, in[2].length,
+                                        &writing, (uint8_t *)(uintptr_t)to.bytes, to.length, &count);
+    release(env, &to, 1, 0);
+    release(env, in, 3, JNI_ABORT);
+    return status == NDEF_OK || status == NDEF_NO_ROOM ? (jlong)count : -1;
+}
+
+/* ---- what is written to a room */
+
+typedef struct asked {
+    jint call;
+    uint32_t first, second;
+    const ndef_part *parts;
+    ndef_size parts_count;
+} asked;
+
+static uint32_t call_library(const asked *what, const span *in, uint8_t *room, ndef_size size, ndef_size *count,
+                             ndef_checked *why) {
+    const uint8_t *bytes = in[0].bytes, *more = in[1].bytes;
+    ndef_size length = in[0].length, more_length = in[1].length;
+    uint32_t first = what->first, second = what->second;
+    switch (what->call) {
+        case READ_PAYLOAD: return ndef_payload(bytes, length, first, room, size, count);
+        case READ_URI: return ndef_uri(bytes, length, first, room, size, count, why);
+        case READ_TEXT: return ndef_text_in_utf8(bytes, length, room, size, count, why);
+        case WRITE_URI: return ndef_write_uri(bytes, length, room, size, count);
+        case WRITE_TEXT: return ndef_write_text(bytes, length, more, more_length, first, room, size, count);
+        case WRITE_CARRIER: return ndef_write_carrier(first, bytes, length, more, more_length, room, size, count);
+        case WRITE_ACTION: return ndef_write_action(first, room, size, count);
+        case WRITE_SIZE: return ndef_write_size(first, room, size, count);
+        case WRITE_COLLISION: return ndef_write_collision(first, room, size, count);
+        case WRITE_ERROR: return ndef_write_error(first, bytes, length, room, size, count);
+        case WRITE_ERROR_NUMBER: return ndef_write_error_number(first, second, room, size, count);
+        case WRITE_HANDOVER: return ndef_write_handover(first, 1, second, bytes, length, room, size, count);
+        case WRITE_ALTERNATIVE:
+            return ndef_write_alternative(first, bytes, length, what->parts, what->parts_count, room, size, count);
+        default: return NDEF_BAD_ARGUMENT;
+    }
+}
+
+/* Calls again with a room of the size that is needed. */
+static jbyteArray make_larger(JNIEnv *env, const asked *what, const span *in, ndef_size count) {
+    ndef_checked why = { 0, 0, 0 };
+    if (count > INT_MAX) {
+        raise_no_memory(env);
+        return NULL;
+    }
+    jbyteArray made = (*env)->NewByteArray(env, (jsize)count);
+    if (made == NULL) return NULL;
+    span all[3] = { in[0], in[1], find_all(env, made) };
+    if (!hold(env, all, 3)) return NULL;
+    uint32_t status = call_library(what, all, (uint8_t *)all[2].held, all[2].length, &count, &why);
+    release(env, all + 2, 1, 0);
+    release(env, all, 2, JNI_ABORT);
+    return status == NDEF_OK ? made : NULL;
+}
+
+/* What the call writes, as an array of Java; NULL where it answers otherwise, and then `why` has what it says. */
+static jbyteArray make(JNIEnv *env, const asked *what, span *in, jlongArray why) {
+    uint8_t room[512];
+    ndef_size count = 0;
+    ndef_checked said = { 0, 0, 0 };
+    if (!hold(env, in, 2)) return NULL;
+    uint32_t status = call_library(what, in, room, sizeof room, &count, &said);
+    release(env, in, 2, JNI_ABORT);
+    if (status == NDEF_NO_ROOM) return make_larger(env, what, in, count);
+    if (status != NDEF_OK) {
+        if (why != NULL) give_checked(env, why, &said);
+        return NULL;
+    }
+    jbyteArray made = (*env)->NewByteArray(env, (jsize)count);
+    if (made != NULL) (*env)->SetByteArrayRegion(env, made, 0, (jsize)count, (const jbyte *)room);
+    return (*env)->ExceptionCheck(env) ? NULL : made;
+}
+
+METHOD(jbyteArray, bytes)(JNIEnv *env, jclass type, jint call, jbyteArray one, jbyteArray two, jint first, jint second,
+                          jlongArray why) {
+    const asked what = { call, (uint32_t)first, (uint32_t)second, NULL, 0 };
+    span in[2] = { find_all(env, one), find_all(env, two) };
+    (void)type;
+    return make(env, &what, in, why);
+}
+
+/* The payload of an alternative carrier, whose references follow one another in the bytes and have these lengths. */
+METHOD(jbyteArray, alternative)(JNIEnv *env, jclass type, jint power, jbyteArray bytes, jintArray lengths) {
+    enum { MOST = 257 }; /* one more than the library takes */
+    ndef_part parts[MOST];
+    jint words[MOST];
+    jsize given = (*env)->GetArrayLength(env, lengths), count = given < MOST ? given : MOST;
+    span in[2] = { find_all(env, bytes), find_all(env, NULL) };
+    (void)type;
+    (*env)->GetIntArrayRegion(env, lengths, 0, count, words);
+    if ((*env)->ExceptionCheck(env)) return NULL;
+    ndef_size at = 0;
+    for (jsize i = 0; i < count; i++) {
+        parts[i] = (ndef_part){ at, (ndef_size)words[i] };
+        at += parts[i].length;
+    }
+    const asked what = { WRITE_ALTERNATIVE, (uint32_t)power, 0, parts, (ndef_size)count };
+    return make(env, &what, in, NULL);
+}
+
+/* ---- what payloads say */
+
+static int tell_simple(jint kind, const span *in, jint *out, uint32_t *status, ndef_checked *why) {
+    ndef_text_parts text = { 0 };
+    ndef_carrier_parts carrier = { 0 };
+    ndef_alternative_parts alternative = { 0 };
+    ndef_error_parts error = { 0 };
+    switch (kind) {
+        case NDEF_KIND_TEXT:
+            *status = ndef_text(in->bytes, in->length, &text, why);
+            out[0] = (jint)text.language_at, out[1] = (jint)text.language_length, out[2] = (jint)text.utf16;
+            return 3;
+        case NDEF_KIND_CARRIER:
+            *status = ndef_carrier(in->bytes, in->length, &carrier, why);
+            out[0] = (jint)carrier.type_at, out[1] = (jint)carrier.type_length;
+            out[2] = (jint)carrier.data_at, out[3] = (jint)carrier.data_length, out[4] = (jint)carrier.format;
+            return 5;
+        case NDEF_KIND_ALTERNATIVE:
+            *status = ndef_alternative(in->bytes, in->length, &alternative, why);
+            out[0] = (jint)alternative.power;
+            return 1;
+        case NDEF_KIND_ERROR:
+            *status = ndef_error(in->bytes, in->length, &error, why);
+            out[0] = (jint)error.data_at, out[1] = (jint)error.data_length, out[2] = (jint)error.reason;
+            out[3] = (jint)error.has_number, out[4] = (jint)error.number;
+            return 5;
+        default: *status = NDEF_BAD_ARGUMENT; return 0;
+    }
+}
+
+static int tell_nested(jint kind, const span *in, uint32_t flags, jint *out, uint32_t *status, ndef_checked *why) {
+    ndef_poster_parts poster = { 0 };
+    ndef_request_parts request = { 0 };
+    ndef_select_parts select = { 0 };
+    switch (kind) {
+        case NDEF_KIND_SMART_POSTER:
+            *status = ndef_poster(in->bytes, in->length, flags, &poster, why);
+            out[0] = (jint)poster.uri_at, out[1] = (jint)poster.uri_length;
+            out[2] = (jint)poster.has_action, out[3] = (jint)poster.action;
+            out[4] = (jint)poster.has_size, out[5] = (jint)poster.size;
+            return 6;
+        case NDEF_KIND_REQUEST:
+            *status = ndef_request(in->bytes, in->length, flags, &request, why);
+            out[0] = (jint)request.major, out[1] = (jint)request.minor, out[2] = (jint)request.collision;
+            return 3;
+        case NDEF_KIND_SELECT:
+            *status = ndef_select(in->bytes, in->length, flags, &select, why);
+            out[0] = (jint)select.major, out[1] = (jint)select.minor;
+            return 2;
+        default: return tell_simple(kind, in, out, status, why);
+    }
+}
+
+METHOD(jintArray, tell)(JNIEnv *env, jclass type, jint kind, jbyteArray payload, jint flags, jlongArray why) {
+    jint out[6];
+    uint32_t status;
+    ndef_checked said = { 0, 0, 0 };
+    span in = find_all(env, payload);
+    (void)type;
+    if (!hold(env, &in, 1)) return NULL;
+    int count = tell_nested(kind, &in, (uint32_t)flags, out, &status, &said);
+    release(env, &in, 1, JNI_ABORT);
+    if (status != NDEF_OK) {
+        give_checked(env, why, &said);
+        return NULL;
+    }
+    jintArray told = (*env)->NewIntArray(env, count);
+    if (told != NULL) (*env)->SetIntArrayRegion(env, told, 0, count, out);
+    return (*env)->ExceptionCheck(env) ? NULL : told;
+}
+
+/* ---- checks of bytes that arrive in parts */
+
+METHOD(jint, begin)(JNIEnv *env, jclass type, jintArray limits, jlongArray state) {
+    ndef_limits within;
+    ndef_checker checker;
+    (void)type;
+    if (!get_limits(env, limits, &within)) return NDEF_BAD_ARGUMENT;
+    uint32_t status = ndef_begin(&within, &checker);
+    (*env)->SetLongArrayRegion(env, state, 0, CHECKER_WORDS, (const jlong *)checker.words);
+    return (jint)status;
+}
+
+/* Feeds bytes that don't move, or those of the span. */
+static jint feed(JNIEnv *env, jlongArray state, const uint8_t *bytes, ndef_size length, span *input, jlongArray told) {
+    ndef_checker checker;
+    ndef_checked out = { 0, 0, 0 };
+    (*env)->GetLongArrayRegion(env, state, 0, CHECKER_WORDS, (jlong *)checker.words);
+    if ((*env)->ExceptionCheck(env)) return NDEF_BAD_ARGUMENT;
+    if (input != NULL && !hold(env, input, 1)) return NDEF_BAD_ARGUMENT;
+    uint32_t status = ndef_feed(&checker, input != NULL ? input->bytes : bytes, length, &out);
+    if (input != NULL) release(env, input, 1, JNI_ABORT);
+    (*env)->SetLongArrayRegion(env, state, 0, CHECKER_WORDS, (const jlong *)checker.words);
+    if ((*env)->ExceptionCheck(env)) return NDEF_BAD_ARGUMENT;
+    give_checked(env, told, &out);
+    return (jint)status;
+}
+
+METHOD(jint, feed)(JNIEnv *env, jclass type, jlongArray state, jbyteArray bytes, jint at, jint length,
+                   jlongArray told) {
+    span input;
+    (void)type;
+    if (!find_part(env, &input, bytes, at, length)) return NDEF_BAD_ARGUMENT;
+    return feed(env, state, NULL, input.length, &input, told);
+}
+
+METHOD(jint, feedDirect)(JNIEnv *env, jclass type, jlongArray state, jobject buffer, jint at, jint length,
+                         jlongArray told) {
+    const uint8_t *bytes = (*env)->GetDirectBufferAddress(env, buffer);
+    jlong capacity = (*env)->GetDirectBufferCapacity(env, buffer);
+    (void)type;
+    if (at < 0 || length < 0 || at > capacity || length > capacity - at || (bytes == NULL && length > 0)) {
+        raise(env, "java/lang/IndexOutOfBoundsException", "the buffer has fewer bytes");
+        return NDEF_BAD_ARGUMENT;
+    }
+    return feed(env, state, bytes != NULL ? bytes + at : NULL, (ndef_size)length, NULL, told);
+}
+
+/* ---- names */
+
+METHOD(jstring, name)(JNIEnv *env, jclass type, jint list, jint number) {
+    uint8_t room[80];
+    ndef_size count = 0;
+    uint32_t status = NDEF_BAD_ARGUMENT, of = (uint32_t)number;
+    (void)type;
+    if (list == REASON_NAME) status = ndef_reason_name(of, room, sizeof room - 1, &count);
+    if (list == REASON_SENTENCE) status = ndef_reason_sentence(of, room, sizeof room - 1, &count);
+    if (list == FIELD_NAME) status = ndef_field_name(of, room, sizeof room - 1, &count);
+    if (status != NDEF_OK) return NULL;
+    room[count] = 0;
+    return (*env)->NewStringUTF(env, (const char *)room);
+}

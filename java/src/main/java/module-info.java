@@ -1,0 +1,4 @@
+/** NDEF messages (NFC Data Exchange Format) of NFC tags and phone taps, over the proved library for C. */
+module org.simbegyor.ndef {
+    exports org.simbegyor.ndef;
+}

@@ -1,0 +1,86 @@
+package org.simbegyor.ndef;
+
+import java.util.Objects;
+
+/**
+ * Bytes are not what they have to be: {@link #place()} tells the first byte that is wrong, and {@link #reason()} why.
+ */
+public class FormatException extends Exception {
+    private static final long serialVersionUID = 1;
+
+    /** The place of the first refused byte, or -1. */
+    private final long place;
+    /** Why it is refused. */
+    private final Reason reason;
+
+    /** Makes an exception of the program's own. It has no place. */
+    public FormatException() {
+        this(null, null);
+    }
+
+    /**
+     * Makes an exception of the program's own. It has no place.
+     *
+     * @param message what {@link #getMessage()} returns, or null
+     */
+    public FormatException(String message) {
+        this(message, null);
+    }
+
+    /**
+     * Makes an exception of the program's own. It has no place.
+     *
+     * @param message what {@link #getMessage()} returns, or null
+     * @param cause what {@link #getCause()} returns, or null
+     */
+    public FormatException(String message, Throwable cause) {
+        super(message, cause);
+        place = -1;
+        reason = Reason.OTHER;
+    }
+
+    private FormatException(long place, Reason reason, String sentence) {
+        super("refused at " + place + ": " + sentence);
+        this.place = place;
+        this.reason = reason;
+    }
+
+    /** What the library refuses: the place, the reason and a count. */
+    static FormatException of(long[] why) {
+        Reason reason = Reason.of(why[1]);
+        return new FormatException(why[0], reason, why[1] + " " + reason + ": " + reason.sentence());
+    }
+
+    /** Bytes follow where none may follow. */
+    static FormatException ofRest(long place) {
+        return new FormatException(place, Reason.OTHER, "bytes follow the message");
+    }
+
+    /**
+     * The place of the first refused byte, counted from 0. No continuation of the bytes up to and with this one is
+     * right. If the bytes end too early, it is their number.
+     *
+     * @return the place, or -1 where the program made the exception itself
+     */
+    public long place() {
+        return place;
+    }
+
+    /**
+     * Why the byte is refused.
+     *
+     * @return the reason; {@link Reason#OTHER}, if bytes follow the message
+     */
+    public Reason reason() {
+        return reason;
+    }
+
+    /**
+     * What is wrong, in a sentence of English.
+     *
+     * @return the sentence of the reason, or the message where the library has no reason
+     */
+    public String sentence() {
+        return reason == Reason.OTHER ? Objects.toString(getMessage(), reason.sentence()) : reason.sentence();
+    }
+}

@@ -1,0 +1,96 @@
+package org.simbegyor.ndef;
+
+import java.nio.ByteBuffer;
+
+/**
+ * The calls of the library for C; {@code native/ndef_jni.c} makes them. Numbers without a sign are ints with their
+ * bits.
+ */
+final class Library {
+    /** What {@link #bytes} is asked for; {@code ndef_jni.c} has the same numbers. */
+    static final int READ_PAYLOAD = 0, READ_URI = 1, READ_TEXT = 2, WRITE_URI = 3, WRITE_TEXT = 4, WRITE_CARRIER = 5,
+            WRITE_ACTION = 6, WRITE_SIZE = 7, WRITE_COLLISION = 8, WRITE_ERROR = 9, WRITE_ERROR_NUMBER = 10,
+            WRITE_HANDOVER = 11;
+    /** What {@link #list} is asked for. */
+    static final int MESSAGE = 0, RECORDS = 1, REFERENCES = 2, ICONS = 3, TITLE = 4, MEDIA_TYPE = 5, LINKS = 6,
+            FIELDS = 7;
+    /** What {@link #name} is asked for. */
+    static final int REASON_NAME = 0, REASON_SENTENCE = 1, FIELD_NAME = 2;
+    /** What a payload is, as {@code ndef_kinds} of {@code ndef.h} numbers it. */
+    static final int OTHER = 0, TEXT = 1, URI = 2, SMART_POSTER = 3, REQUEST = 4, SELECT = 5, CARRIER = 6,
+            ALTERNATIVE = 10, ERROR = 12;
+    /** The answers of {@link #feed}. */
+    static final int OK = 0, MORE = 5;
+    /** How a record is written. */
+    static final int FIRST = 1, LAST = 2, LONG = 4;
+    /** The words of the state of a check. */
+    static final int CHECKER_WORDS = 29;
+
+    static {
+        Loader.load();
+    }
+
+    private Library() {
+    }
+
+    /**
+     * Lists the records of the message with which some of the bytes begin, or what else the call names: rows of
+     * numbers. Null where the library refuses the bytes; then {@code why}, if it is there, has the place, the reason
+     * and a count.
+     */
+    static native int[] list(int call, byte[] one, byte[] two, int at, int length, int[] limits, long[] why);
+
+    /** What a record of this type is; {@code within} is 0 or the kind of the payload that the record stands in. */
+    static native int kind(int tnf, byte[] type, int within);
+
+    /**
+     * Writes a record, and answers its length; without a room that alone. {@code how} is the TNF, flags and the
+     * chunk.
+     */
+    static native long record(int[] how, byte[] type, byte[] id, byte[] payload, byte[] room, int at);
+
+    /** Bytes that the call makes; null where it refuses its arguments. */
+    static native byte[] bytes(int call, byte[] one, byte[] two, int first, int second, long[] why);
+
+    /** The payload of an alternative carrier; null where there is none. */
+    static native byte[] alternative(int power, byte[] references, int[] lengths);
+
+    /** The numbers that a payload of a kind says; null where it is none. */
+    static native int[] tell(int kind, byte[] payload, int flags, long[] why);
+
+    /** Begins a check: the answer is not {@link #OK} where a limit is out of range. */
+    static native int begin(int[] limits, long[] state);
+
+    /** Feeds a check with some bytes of an array. */
+    static native int feed(long[] state, byte[] bytes, int at, int length, long[] told);
+
+    /** Feeds a check with some bytes of a direct buffer. */
+    static native int feedDirect(long[] state, ByteBuffer bytes, int at, int length, long[] told);
+
+    /** A name; null where there is none. */
+    static native String name(int list, int number);
+
+    /** What {@link #list} tells of all bytes of an array. */
+    static int[] list(int call, byte[] bytes, byte[] more) {
+        return list(call, bytes, more, 0, bytes.length, null, null);
+    }
+
+    /** The bytes that the call makes of its arguments. */
+    static byte[] written(String refusal, int call, byte[] one, byte[] two, int first, int second) {
+        byte[] made = bytes(call, one, two, first, second, null);
+        if (made == null) {
+            throw new IllegalArgumentException(refusal);
+        }
+        return made;
+    }
+
+    /** The numbers that a payload says. */
+    static int[] told(int kind, byte[] payload, Profile profile) throws FormatException {
+        long[] why = new long[3];
+        int[] told = tell(kind, payload, profile.flags(), why);
+        if (told == null) {
+            throw FormatException.of(why);
+        }
+        return told;
+    }
+}

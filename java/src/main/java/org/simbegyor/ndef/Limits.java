@@ -1,0 +1,141 @@
+package org.simbegyor.ndef;
+
+import java.util.Arrays;
+
+/** How large a message may be, and whether its payloads are checked. */
+public final class Limits {
+    private static final int OPAQUE = 2;
+    private static final Limits USUAL = new Limits(1048576, 1024, 4096, 0);
+
+    private final long payload;
+    private final int records;
+    private final int pieces;
+    private final int flags;
+
+    private Limits(long payload, int records, int pieces, int flags) {
+        this.payload = payload;
+        this.records = records;
+        this.pieces = pieces;
+        this.flags = flags;
+    }
+
+    /**
+     * Limits that suit usual tags: 1048576 bytes of payload, 1024 records, 4096 pieces; payloads are checked.
+     *
+     * @return these limits
+     */
+    public static Limits usual() {
+        return USUAL;
+    }
+
+    /**
+     * The most bytes of one record's payload, its chunks joined.
+     *
+     * @return 1 to 4294967295
+     */
+    public long payload() {
+        return payload;
+    }
+
+    /**
+     * The most records of the message.
+     *
+     * @return 1 to 65535
+     */
+    public int records() {
+        return records;
+    }
+
+    /**
+     * The most chunks of one record.
+     *
+     * @return 1 to 65535
+     */
+    public int pieces() {
+        return pieces;
+    }
+
+    /**
+     * Whether payloads are not checked.
+     *
+     * @return true, if any bytes will do as a payload
+     */
+    public boolean isOpaque() {
+        return flags != 0;
+    }
+
+    /**
+     * These limits with another payload.
+     *
+     * @param bytes the most bytes of a payload
+     * @return the limits
+     * @throws IllegalArgumentException if it is not 1 to 4294967295
+     */
+    public Limits withPayload(long bytes) {
+        if (bytes != (bytes & 0xffffffffL)) {
+            throw new IllegalArgumentException("a payload has at most 4294967295 bytes");
+        }
+        return new Limits(bytes, records, pieces, flags).checked();
+    }
+
+    /**
+     * These limits with another number of records.
+     *
+     * @param count the most records of a message
+     * @return the limits
+     * @throws IllegalArgumentException if it is not 1 to 65535
+     */
+    public Limits withRecords(int count) {
+        return new Limits(payload, count, pieces, flags).checked();
+    }
+
+    /**
+     * These limits with another number of chunks.
+     *
+     * @param count the most chunks of a record
+     * @return the limits
+     * @throws IllegalArgumentException if it is not 1 to 65535
+     */
+    public Limits withPieces(int count) {
+        return new Limits(payload, records, count, flags).checked();
+    }
+
+    /**
+     * These limits with payloads that are checked, or not.
+     *
+     * @param isOpaque true, if payloads are not to be checked
+     * @return the limits
+     */
+    public Limits withOpaque(boolean isOpaque) {
+        return new Limits(payload, records, pieces, isOpaque ? OPAQUE : 0);
+    }
+
+    private Limits checked() {
+        if (Library.begin(words(Profile.STRICT), new long[Library.CHECKER_WORDS]) != Library.OK) {
+            throw new IllegalArgumentException(this + ": a limit is out of range");
+        }
+        return this;
+    }
+
+    /** The four words of {@code ndef_limits}. */
+    int[] words(Profile profile) {
+        return new int[] {(int) payload, records, pieces, flags | profile.flags()};
+    }
+
+    @Override
+    public boolean equals(Object other) {
+        return other instanceof Limits && payload == ((Limits) other).payload
+                && Arrays.equals(words(Profile.STRICT), ((Limits) other).words(Profile.STRICT));
+    }
+
+    @Override
+    public int hashCode() {
+        return Arrays.hashCode(words(Profile.STRICT));
+    }
+
+    @Override
+    public String toString() {
+        return "Limits payload=" + payload + " records=" + records + " pieces=" + pieces
+                + (isOpaque() ? " opaque" : "");
+    }
+}
