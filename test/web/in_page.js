@@ -61,6 +61,8 @@ function showsValues() {
     look("a request", values("91021148721291020263721234510204616301013000 5A030401612F623001020304"), [
         "Handover request 1.2, random number 4660Carrier 1: record 2, power state active", "", 'Alternative carrier, power state active, references "0"', "",
     ]);
+    look("a carrier of no record", values("D1020A4873 12 D102046163 01 01 30 00")[0],
+        "Handover select 1.2Carrier 1: no record, power state active");
     look("auxiliary references", values("D1020E4873 12 D102086163 02 01 30 02 01 31 01 32")[1], 'Alternative carrier, power state activating, references "0", "1", "2"');
     look("an error", values("D1020C4873 14 D10305657272 02 00000104"), ["Handover select 1.4, error 2", "Error 2, number 260"]);
     look("an error without a number", values("D102094873 14 D10302657272 04 07")[1], "Error 4");
