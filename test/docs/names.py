@@ -1,7 +1,7 @@
 """Links of a page, and the names of files, functions and definitions in it."""
 import re
 
-CODE = ('*.rt', '*.antt', '*.py', '*.h', '*.c', '*.hpp', '*.cpp', '*.rs', '*.java', '*.js', '*.map', 'ndef', 'ndef-make', 'ndef-explain', 'Makefile', '*.sh',
+CODE = ('*.rt', '*.antt', '*.py', '*.h', '*.c', '*.hpp', '*.cpp', '*.rs', '*.go', '*.java', '*.js', '*.map', 'ndef', 'ndef-make', 'ndef-explain', 'Makefile', '*.sh',
         'crates.txt', 'machines.txt', 'run', 'release', 'Cargo.toml')
 # Names of Rust's, of C's, of the kit's, of Debian's packages and of ndeflib's classes that pages use, and placeholders.
 FOREIGN = set('''

@@ -331,8 +331,10 @@ def not_proved(copy):
 
 def interrupted(copy):
     (copy.folder / 'slow').touch()
+    # A job of a shell in the background begins with interrupts ignored.
     run = subprocess.Popen(['./ndef', '--prove', 'show'], cwd=copy.folder, env=copy.environment(), stdin=subprocess.DEVNULL,
-                           stderr=subprocess.PIPE, text=True, start_new_session=True)
+                           stderr=subprocess.PIPE, text=True, start_new_session=True,
+                           preexec_fn=lambda: signal.signal(signal.SIGINT, signal.SIG_DFL))
     begun = run.stderr.readline()
     time.sleep(3)
     os.killpg(run.pid, signal.SIGINT)
