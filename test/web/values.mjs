@@ -76,6 +76,12 @@ test("a limit that is no number is a TypeError", () => everywhere((call, name) =
 test("a limit that the library refuses is a RangeError", () => CHECKS.every((call) =>
     [{ payload: 0 }, { records: 0 }, { pieces: 0 }, { records: 65536 }, { pieces: 65536 }, { flags: 4 }].every((options) =>
         throws(RangeError, () => ndef[call](EMPTY, options)))));
+test("a limit that is refused is named with the others", () => {
+    try { ndef.check(EMPTY, { payload: 258, records: 0, pieces: 772, flags: 1 }); } catch (error) {
+        return error.message.endsWith(': {"payload":258,"records":0,"pieces":772,"flags":1}');
+    }
+    return false;
+});
 test("fields look into payloads", () => throws(RangeError, () => ndef.fields(EMPTY, { flags: Ndef.OPAQUE })));
 test("options are an object", () => CHECKS.every((call) =>
     [5, "records", null, true].every((options) => throws(TypeError, () => ndef[call](EMPTY, options)))
