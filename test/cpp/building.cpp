@@ -120,6 +120,11 @@ static void filters() {
         test(row.letters, any.matches(message.view()) == row.any && given.matches(message.view()) == row.given &&
                               twice.matches(message.view()) == row.twice && again.matches(message.view()) == row.again);
     }
+    ndef::filter row(ndef::order::given);
+    text(row, 0, 1);
+    text(row, 1, 1);
+    test("a type that is added twice in a row",
+         row.matches(of("T").view()) && row.matches(of("TT").view()) && !row.matches(of("TTT").view()));
     test("a filter of nothing", none.matches(ndef::message()) && !none.matches(of("T").view()));
     test("a message of nothing", !any.matches(ndef::message()));
     ndef::filter external;
