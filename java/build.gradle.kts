@@ -5,7 +5,7 @@ plugins {
 }
 
 group = "org.simbegyor"
-version = "0.2.0"
+version = "0.3.0-SNAPSHOT"
 
 tasks.withType<JavaCompile> {
     options.release.set(11)
