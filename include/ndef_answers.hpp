@@ -236,7 +236,7 @@ template <class Element, class Call, class... Words> std::vector<Element> all_of
     return array;
 }
 
-/// What all views of payloads have: the payload, and what a call told of it.
+/// What all views of payloads have: the payload, and what a call says of it.
 template <class Parts> class payload_view {
 public:
     /// The payload itself.

@@ -211,8 +211,8 @@ class filter {
 public:
     explicit filter(order how = order::any) noexcept : is_ordered(how == order::given) {}
 
-    /// Adds a type: at least and at most so many records of it. To add a type again adds to its numbers; in a given
-    /// order, where no other type was added in between. In a given order a type takes as many of the records that
+    /// Adds a type, with the least and the most records of it. To add a type again adds to both numbers; in a given
+    /// order, only where no other type was added in between. In a given order a type takes as many of the records that
     /// follow as it may.
     filter &record(tnf format, std::string_view type, std::size_t least = 1, std::size_t most = 1) {
         for (std::size_t index = is_ordered && !wanted.empty() ? wanted.size() - 1 : 0; index < wanted.size(); index++)

@@ -132,7 +132,7 @@ static bool are_in_an_array(const ndef::fields &fields, ndef::bytes input, const
     return index == all->size() && one == fields.end() && allocations == before;
 }
 
-/// Whether fields follow one another up to the end of the message or the refused byte, and none is behind.
+/// Whether fields follow one another up to the end of the message or the refused byte, and none comes after.
 static bool has_fields(ndef::bytes input, const ndef_limits &limits, const answer &checked) {
     const ndef::fields made(input, limits), fields = made;
     const auto behind = fields.at(checked.place);

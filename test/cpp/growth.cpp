@@ -58,7 +58,7 @@ static ndef::message texts(std::size_t count) {
     return message_of(room, std::vector<ndef::new_record>(count, ndef::well_known("T", std::string_view("\2enHello"))));
 }
 
-/// The payload of a poster with so many titles, or icons.
+/// The payload of a poster with this number of titles, or icons.
 static ndef::poster poster_with(std::size_t count, const ndef::new_record &one) {
     ndef::room room(memory);
     std::vector<ndef::new_record> records(count, one);
@@ -66,7 +66,7 @@ static ndef::poster poster_with(std::size_t count, const ndef::new_record &one) 
     return *ndef::poster::read(message_of(room, records).octets());
 }
 
-/// A request with so many carriers, and as many records to which they refer.
+/// A request with this number of carriers, and as many records to which they refer.
 struct handover {
     explicit handover(std::size_t count) {
         ndef::room room(memory);

@@ -26,7 +26,7 @@ public:
     template <class T> T one_of(std::initializer_list<T> values) { return *(values.begin() + below(values.size())); }
     std::uint8_t octet(std::size_t bound = 256) { return static_cast<std::uint8_t>(below(bound)); }
 
-    /// At most so many bytes.
+    /// Bytes of any number up to this one.
     octets bytes(std::size_t most) {
         octets made(below(most + 1));
         for (auto &one : made) one = octet();

@@ -346,7 +346,7 @@ int main() {
     if (!are_appended()) failed++, std::cout << "texts and URIs are appended otherwise\n";
     if (!is_rewritten()) failed++, std::cout << "a message is written again otherwise\n";
     if (!has_media_type()) failed++, std::cout << "a poster's media type is told otherwise\n";
-    if (!has_icons_and_titles()) failed++, std::cout << "a poster's icons or titles are told otherwise\n";
+    if (!has_icons_and_titles()) failed++, std::cout << "a poster's icons or titles are others\n";
     if (!has_error()) failed++, std::cout << "a select's error is told otherwise\n";
     std::cout << "values " << run << ", failed " << failed << '\n';
     return failed || !run;

@@ -47,7 +47,7 @@ def inputs():
             count('an input of %d %s' % (size, words), run.returncode == 0 and octets_of(text) == message, run)
         run = told(['--json'], message)
         count('the object of %d' % size, run.returncode == 0 and message[-size:].hex() in run.stdout.decode(), run)
-    # Texts of so many digits and blanks.
+    # Texts of these numbers of digits and blanks.
     for size in (length for length in sizes if length > 6):
         run = told(['--hex'], b'd00000' + b' ' * (size - 6))
         count('a text of %d' % size, (run.returncode, run.stdout.count(b'\n')) == (0, 4), run)

@@ -368,7 +368,7 @@ static void look_at_poster(const uint8_t *payload, ndef_size length, uint32_t fl
     if (flags == 0) write_poster(payload, length, &parts);
 }
 
-/* Of a call that begins at the front each time, at most about so many are made for one input. */
+/* Of a call that begins at the front each time, at most about this number are made for one input. */
 enum { STEPS = 64 };
 
 /* The links of a handover that stands in the message: as many as it has carriers. */

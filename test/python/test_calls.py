@@ -330,7 +330,7 @@ class Calls(unittest.TestCase):
         self.assertEqual(b''.join(ndef.message_encoder(decoded)), wanted)
 
     def decoded(self, given, known, whole):
-        """The records that are given, and the error behind them."""
+        """The records that are given, and the error after them."""
         decoded = []
         try:
             for record in ndef.message_decoder(given, known_types=known, whole=whole):

@@ -37,7 +37,7 @@ def texts(count):
 
 
 def pieces(count):
-    """A record in so many pieces of two octets."""
+    """A record in this number of pieces of two octets."""
     return b'\xb2\x03\x02a/bxx' + (count - 2) * b'\x36\x00\x02xx' + b'\x56\x00\x02xx'
 
 
@@ -49,13 +49,13 @@ def poster(count):
 
 
 def select(count):
-    """A select with so many carriers, and the records to which they refer."""
+    """A select with this number of carriers, and the records to which they refer."""
     carriers = (('active', str(number)) for number in range(count))
     return octets(ndef.HandoverSelectRecord('1.2', None, *carriers), *(ndef.Record('a/b', str(number)) for number in range(count)))
 
 
 def carrier(count):
-    """A select whose one carrier has so many references."""
+    """A select whose one carrier has this number of references."""
     return octets(ndef.HandoverSelectRecord('1.2', None, ('active', *(count * ['']))))
 
 

@@ -121,7 +121,7 @@ class Handovers(unittest.TestCase):
             self.assertEqual((select.error, back(select).error, len(select.records)), (error, error, 1))
 
     def test_an_error_among_others(self):
-        """Of several the first is set, and what stands behind it stays."""
+        """Of several the first is set, and what comes after it stays."""
         inner = octets(AlternativeCarrierRecord('active', '0'), ErrorRecord(1, 1), ndef.Record('a/b', '', b'x'), ErrorRecord(9, b'y'))
         (select,) = decoded(octets(ndef.Record('urn:nfc:wkt:Hs', '', b'\x12' + inner)))
         select.set_error(2, 5)

@@ -10,7 +10,7 @@ KINDS = (b'T', b'U', b'Sp', b'Hr', b'Hs', b'Hc')
 
 
 def corpus():
-    """The messages of the fuzzer's inputs, behind the two octets that choose how they are read."""
+    """The messages of the fuzzer's inputs, after the two octets that choose how they are read."""
     return [bytes.fromhex(line)[2:] for line in (TOP / 'test/fuzz/corpus.txt').read_text().split()]
 
 
@@ -84,7 +84,7 @@ class Wild:
         return bytes([chance.choice((0x10, 0x12, 0x13, 0x1f))]) + self.message(self.in_handover(kind == b'Hr'), INNER)
 
     def changed(self, octets):
-        """The octets, of which half have something changed, with what stands behind them."""
+        """The octets, of which half have something changed, with what follows them."""
         chance, octets = self.chance, bytearray(octets)
         at, change = chance.randrange(len(octets)), chance.randrange(8)
         if change == 0:

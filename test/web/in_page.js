@@ -117,7 +117,7 @@ function showsMessages() {
     const many = "D00000".repeat(1000);
     enter(`${many}D7`);
     look("what isn't shown", [...document.querySelectorAll(".gap")].map((gap) => gap.textContent), ["888 bytes not shown"]);
-    look("the refused byte far behind", [spans().length, document.querySelector(".refused").dataset.at], [2048 + 65, "3000"]);
+    look("the refused byte far down", [spans().length, document.querySelector(".refused").dataset.at], [2048 + 65, "3000"]);
     enter(many);
     look("the end that isn't shown", [[...document.querySelectorAll(".gap")].map((gap) => gap.textContent), spans().length], [["952 bytes not shown"], 2048]);
     look("a hundred tables", [document.querySelectorAll("table").length, textOf("verdict")], [100, "1000 messages, 1000 records, 3000 bytes"]);

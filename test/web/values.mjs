@@ -117,7 +117,7 @@ test("records have bytes of their own", () => {
     given.fill(0);
     return Buffer.from(record.payload).toString("latin1") === "\x02enHello" && Buffer.from(record.type).toString() === "T";
 });
-test("all references are told", () => {
+test("all references are given", () => {
     const told = ndef.alternative(CARRIER);
     return told.power === 1 && told.references.map(({ at, length }) => `${at} ${length}`).join() === "2 1,5 1,7 1"
         && same(Object.keys(ndef.alternative(fromHex("00"))), ["status", "place", "records", "reason"]);

@@ -5,7 +5,7 @@ import java.nio.ByteBuffer;
 /** Checks a message whose bytes arrive in parts. It keeps none of them, and looks at each once. */
 public final class Checker {
     private final long[] state = new long[Library.CHECKER_WORDS];
-    /** What the library told last: a place, a reason and the number of records. */
+    /** What the library answered last: a place, a reason and the number of records. */
     private final long[] told = new long[3];
     private long fed;
 
