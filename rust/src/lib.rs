@@ -61,10 +61,11 @@ mod tnf;
 mod uri;
 
 pub use alternative::{AlternativeCarrier, Auxiliaries, PowerState};
+pub use bytes::Bytes;
 pub use carrier::HandoverCarrier;
 pub use check::{check, Checked, Checker};
 pub use chunks::Chunks;
-pub use error::{DecodeError, EncodeError};
+pub use error::{DecodeError, EncodeError, NumberError};
 pub use ffi::{Field as FieldPart, Part};
 pub use field::{Field, FieldName, Fields};
 pub use handover::{Alternatives, HandoverRequest, HandoverSelect};

@@ -147,6 +147,13 @@ impl<'a> TryFrom<&'a [u8]> for Message<'a> {
     }
 }
 
+/// Its bytes.
+impl AsRef<[u8]> for Message<'_> {
+    fn as_ref(&self) -> &[u8] {
+        self.as_bytes()
+    }
+}
+
 impl<'a> IntoIterator for Message<'a> {
     type Item = Record<'a>;
     type IntoIter = Records<'a>;
