@@ -29,6 +29,7 @@ fn each_type_may_go_to_another_thread() {
         SmartPosterBuilder Text Titles Tnf Uri: Send + Sync + Unpin + Debug
     };
     let exported = include_str!("../src/lib.rs").lines().filter_map(|line| line.strip_prefix("pub use "));
+    assert!(exported.clone().all(|line| line.ends_with(';')));
     let words = exported.flat_map(|line| line.split(|letter: char| !letter.is_ascii_alphanumeric() && letter != '_'));
     let types = words.filter(|word| word.starts_with(|letter: char| letter.is_ascii_uppercase()));
     // It is exported as FieldPart.
@@ -48,6 +49,7 @@ fn values_are_copied_compared_and_hashed() {
         Action Checked DecodeError EncodeError Encoding Field FieldName FieldPart Form Limits Message NumberError Part
         PayloadKind Payloads PowerState Profile Reason Record Refusal Tnf: Copy
     };
+    have! { Checker HandoverRequestBuilder HandoverSelectBuilder MessageBuilder SmartPosterBuilder: Clone };
     have! { Encoding FieldPart Form Limits MessageBuilder Part Payloads Profile Bytes: Default };
     have! { DecodeError EncodeError NumberError ReadError Reason Refusal: Error + 'static };
     have! { FieldName PowerState Reason Refusal Text Tnf Uri: Display };
