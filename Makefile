@@ -13,6 +13,7 @@
 #   make uninstall   takes away what make install puts
 #   make check       runs the gate; it needs rt
 #   make deb         makes a Debian package of it in out; MAINTAINER names who distributes it
+#   make debian      makes the folder debian/ in FOLDER, or here: dpkg-buildpackage makes four Debian packages of dist/ with it
 #   make web         makes the web page and the module for JavaScript in out/web
 #   make amalgamation    makes the library for C as one C file, in out/amalgamation; it needs rt
 #   make dist        makes dist/ anew of what is proved; it needs rt (ports/README.md says what comes first)
@@ -250,6 +251,9 @@ check:
 deb: all out/man3/simbegyor-ndef.3
 	packaging/make_deb $(VERSION) '$(MAINTAINER)'
 
+debian:
+	packaging/debian_source '$(or $(FOLDER),.)' '$(MAINTAINER)'
+
 amalgamation:
 	ports/amalgamation out/amalgamation
 
@@ -259,4 +263,4 @@ dist:
 release:
 	packaging/release
 
-.PHONY: all amalgamation cost dist programs library python java prove from-dist install uninstall check deb web release FORCE
+.PHONY: all amalgamation cost dist programs library python java prove from-dist install uninstall check deb debian web release FORCE

@@ -1,7 +1,7 @@
 //! Alternative carriers of handovers.
 use crate::bytes::{Bytes, Quoted};
 use crate::ffi::{self, Size};
-use crate::{promised, Refusal};
+use crate::{promised, NumberError, Refusal};
 use core::fmt;
 use core::iter::FusedIterator;
 
@@ -25,14 +25,41 @@ pub enum PowerState {
 }
 
 impl PowerState {
+    /// The power states, in the order of their numbers.
+    pub const ALL: &'static [PowerState] = &[Self::Inactive, Self::Active, Self::Activating, Self::Unknown];
+
     fn of(number: u32) -> Self {
-        match number {
-            0 => Self::Inactive,
-            1 => Self::Active,
-            2 => Self::Activating,
-            3 => Self::Unknown,
-            _ => promised(Err(number)),
-        }
+        promised(Self::ALL.get(number as usize).copied().ok_or(number))
+    }
+
+    /// Its number.
+    pub const fn number(self) -> u32 {
+        self as u32
+    }
+}
+
+impl TryFrom<u8> for PowerState {
+    type Error = NumberError;
+
+    fn try_from(number: u8) -> Result<Self, NumberError> {
+        Self::ALL.get(usize::from(number)).copied().ok_or(NumberError { number, most: 3 })
+    }
+}
+
+impl From<PowerState> for u8 {
+    fn from(power: PowerState) -> Self {
+        power as u8
+    }
+}
+
+impl fmt::Display for PowerState {
+    fn fmt(&self, to: &mut fmt::Formatter<'_>) -> fmt::Result {
+        to.pad(match self {
+            Self::Inactive => "inactive",
+            Self::Active => "active",
+            Self::Activating => "activating",
+            Self::Unknown => "unknown",
+        })
     }
 }
 

@@ -92,7 +92,7 @@ compare_by_value! { HandoverCarrier }
 
 impl<'a> From<HandoverCarrier<'a>> for NewRecord<'a> {
     fn from(carrier: HandoverCarrier<'a>) -> Self {
-        NewRecord::of(Tnf::WellKnown, b"Hc", carrier.payload)
+        NewRecord::new(Tnf::WellKnown, b"Hc", carrier.payload)
     }
 }
 

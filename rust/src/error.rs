@@ -96,3 +96,21 @@ impl fmt::Display for EncodeError {
 }
 
 impl core::error::Error for EncodeError {}
+
+/// A number that stands for no value of a type.
+#[derive(Clone, Copy, Debug, PartialEq, Eq, Hash)]
+#[non_exhaustive]
+pub struct NumberError {
+    /// The number.
+    pub number: u8,
+    /// The greatest number that stands for a value.
+    pub most: u8,
+}
+
+impl fmt::Display for NumberError {
+    fn fmt(&self, to: &mut fmt::Formatter<'_>) -> fmt::Result {
+        write!(to, "the number is {}, and has to be at most {}", self.number, self.most)
+    }
+}
+
+impl core::error::Error for NumberError {}

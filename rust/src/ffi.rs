@@ -81,8 +81,6 @@ structs! {
     SelectParts (40) {
         carriers: Size, detail_at: Size, detail_length: Size, major: u32, minor: u32, has_error: u32, error: u32
     }
-    /// `ndef_link`
-    Link (40) { carrier_at: Size, carrier_length: Size, record_index: Size, record_at: Size, has_record: u32 }
     /// `ndef_poster_parts`
     PosterParts (32) {
         uri_at: Size, uri_length: Size, has_action: u32, action: u32, has_size: u32, size: u32
@@ -189,13 +187,6 @@ mod c {
         ) -> u32;
         pub(super) fn ndef_select(
             payload: *const u8, length: Size, flags: u32, out: *mut SelectParts, why: *mut Checked,
-        ) -> u32;
-        pub(super) fn ndef_link_at(
-            bytes: *const u8, length: Size, payload: *const u8, payload_length: Size, index: Size, out: *mut Link,
-        ) -> u32;
-        pub(super) fn ndef_links(
-            bytes: *const u8, length: Size, payload: *const u8, payload_length: Size, links: *mut Link, size: Size,
-            count: *mut Size,
         ) -> u32;
         pub(super) fn ndef_poster(
             payload: *const u8, length: Size, flags: u32, out: *mut PosterParts, why: *mut Checked,
@@ -501,25 +492,6 @@ pub(crate) fn references(payload: &[u8], parts: &mut [Part]) -> Result<usize, Un
     let (at, room, mut count) = (parts.as_mut_ptr(), size(parts), 0);
     // SAFETY: LEN, ONE, MAX: slices, and a value of its type. APART: `parts` is a `&mut`, and `count` is a local value.
     let status = unsafe { c::ndef_references(payload.as_ptr(), size(payload), at, room, &mut count) };
-    filled(status, count, Checked::default())
-}
-
-/// The link with an index of a message, whose handover has the payload.
-pub(crate) fn link_at(bytes: &[u8], payload: &[u8], index: Size) -> Option<Link> {
-    let mut out = Link::default();
-    // SAFETY: LEN, ONE, MAX: slices, and a value of its type. APART: `out` is a local value.
-    let status =
-        unsafe { c::ndef_link_at(bytes.as_ptr(), size(bytes), payload.as_ptr(), size(payload), index, &mut out) };
-    (status == OK).then_some(out)
-}
-
-/// The links of a message, whose handover has the payload.
-pub(crate) fn links(bytes: &[u8], payload: &[u8], links: &mut [Link]) -> Result<usize, Unfilled> {
-    let (at, room) = (links.as_mut_ptr(), size(links));
-    let mut count = 0;
-    // SAFETY: LEN, ONE, MAX: slices, and a value of its type. APART: `links` is a `&mut`, and `count` is a local value.
-    let status =
-        unsafe { c::ndef_links(bytes.as_ptr(), size(bytes), payload.as_ptr(), size(payload), at, room, &mut count) };
     filled(status, count, Checked::default())
 }
 

@@ -80,7 +80,7 @@ macro_rules! handovers {
 
         impl<'a> From<$name<'a>> for NewRecord<'a> {
             fn from(handover: $name<'a>) -> Self {
-                NewRecord::of(Tnf::WellKnown, $kind, handover.payload)
+                NewRecord::new(Tnf::WellKnown, $kind, handover.payload)
             }
         }
 

@@ -19,7 +19,7 @@ fn written<'a>(
     let mut payload = Vec::new();
     let records = records?;
     write(&mut payload).map_err(|unfilled| EncodeError::of(unfilled, why))?;
-    Ok(records.record(NewRecord::of(Tnf::WellKnown, kind, Bytes::Owned(payload))))
+    Ok(records.record(NewRecord::new(Tnf::WellKnown, kind, Bytes::Owned(payload))))
 }
 
 /// The records with one more, an alternative carrier.

@@ -61,10 +61,11 @@ mod tnf;
 mod uri;
 
 pub use alternative::{AlternativeCarrier, Auxiliaries, PowerState};
+pub use bytes::Bytes;
 pub use carrier::HandoverCarrier;
 pub use check::{check, Checked, Checker};
 pub use chunks::Chunks;
-pub use error::{DecodeError, EncodeError};
+pub use error::{DecodeError, EncodeError, NumberError};
 pub use ffi::{Field as FieldPart, Part};
 pub use field::{Field, FieldName, Fields};
 pub use handover::{Alternatives, HandoverRequest, HandoverSelect};
@@ -100,15 +101,20 @@ fn promised<T, E>(answer: Result<T, E>) -> T {
 
 #[cfg(test)]
 mod tests {
+    extern crate std;
+
     /// The version that a header of the library names.
     fn named(header: &str) -> u32 {
         let numbers = header.lines().filter_map(|line| line.strip_prefix("#define NDEF_VERSION_")?.split_once(' '));
         numbers.filter_map(|(_, number)| number.parse::<u32>().ok()).fold(0, |version, number| 256 * version + number)
     }
 
+    /// A package of this crate has no header.
     #[test]
     fn the_library_has_the_version_of_its_header() {
-        let headers = [include_str!("../../include/ndef.h"), include_str!("../../dist/ndef.h")];
-        assert!(headers.map(named).contains(&crate::ffi::version()));
+        let folder = concat!(env!("CARGO_MANIFEST_DIR"), "/..");
+        let headers = ["include/ndef.h", "dist/ndef.h"]
+            .map(|name| std::fs::read_to_string(std::format!("{folder}/{name}")).ok().map(|header| named(&header)));
+        assert!(headers == [None, None] || headers.contains(&Some(crate::ffi::version())));
     }
 }

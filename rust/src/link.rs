@@ -6,9 +6,7 @@ use core::fmt;
 use core::iter::FusedIterator;
 
 #[cfg(feature = "alloc")]
-use crate::ffi::Unfilled;
-#[cfg(feature = "alloc")]
-use alloc::{vec, vec::Vec};
+use alloc::collections::BTreeMap;
 
 /// A link of a message: an alternative carrier of its handover, and the record to which that refers.
 #[derive(Clone, Debug)]
@@ -22,48 +20,73 @@ pub struct Link<'a> {
     pub record: Option<Record<'a>>,
 }
 
-/// When the library tells the links.
-#[derive(Clone)]
-enum Told {
-    /// Each one when it is asked for.
-    OneByOne,
-    /// All of them before.
-    #[cfg(feature = "alloc")]
-    Before(Vec<ffi::Link>),
-}
-
 /// The links of a message, one after another.
 #[derive(Clone)]
 #[must_use = "an iterator does nothing unless it is used"]
 pub struct Links<'a> {
     message: Message<'a>,
-    handover: Option<Bytes<'a>>,
-    told: Told,
-    next: usize,
+    /// The payload of the handover: a version octet, alone or with a message behind it.
+    handover: Bytes<'a>,
+    /// Where the next record of that message begins, if there is one.
+    next: Option<Size>,
+    /// Where the first record with each id begins. Without it each id is looked for in the message.
+    #[cfg(feature = "alloc")]
+    ids: Option<BTreeMap<&'a [u8], Size>>,
 }
 
 impl<'a> Links<'a> {
     pub(crate) fn none(message: Message<'a>) -> Self {
-        Self { message, handover: None, told: Told::OneByOne, next: 0 }
+        Self::new(message, Bytes::default())
+    }
+
+    fn new(message: Message<'a>, handover: Bytes<'a>) -> Self {
+        let next = (handover.len() > 1).then_some(0);
+        Self {
+            message,
+            handover,
+            next,
+            #[cfg(feature = "alloc")]
+            ids: None,
+        }
     }
 
     /// The links of a message by its handover, whose whole payload is given.
     pub(crate) fn of(message: Message<'a>, handover: Record<'a>, payload: Bytes<'a>) -> Result<Self, Refusal> {
         Payload::parse(handover.tnf(), handover.kind(), &payload, message.profile())?;
-        Ok(Self { message, handover: Some(payload), told: Told::OneByOne, next: 0 })
+        Ok(Self::new(message, payload))
     }
 
-    /// The same, told in one walk over the message.
+    /// The same, with the place of each id, so that the message is walked once for all of them.
     #[cfg(feature = "alloc")]
-    pub(crate) fn told_before(self) -> Self {
-        let Some(handover) = &self.handover else { return self };
-        let count = match ffi::links(self.message.as_bytes(), handover, &mut []) {
-            Err(Unfilled::NoRoom(count)) => count,
-            answer => promised(answer),
-        };
-        let mut links = vec![ffi::Link::default(); count];
-        promised(ffi::links(self.message.as_bytes(), handover, &mut links));
-        Self { told: Told::Before(links), ..self }
+    pub(crate) fn with_ids(mut self) -> Self {
+        let mut ids = BTreeMap::new();
+        for record in self.message.records().filter(|record| !record.id().is_empty()) {
+            ids.entry(record.id()).or_insert(record.place() as Size);
+        }
+        self.ids = Some(ids);
+        self
+    }
+
+    /// Where the payload of the next alternative carrier lies in the handover, and its length.
+    fn next_carrier(&mut self) -> Option<(Size, Size)> {
+        let records = self.handover.get(1..)?;
+        loop {
+            let mut told = ffi::Record::default();
+            promised(ffi::record_at(records, self.next?, &mut told));
+            self.next = (told.last == 0).then_some(told.end);
+            if Record::of(records, told, self.message.profile()).is_well_known(b"ac") {
+                return Some((1 + told.payload_at, told.part_length));
+            }
+        }
+    }
+
+    /// The first record with an id. No record has the empty id.
+    fn record_with_id(&self, id: &[u8]) -> Option<Record<'a>> {
+        #[cfg(feature = "alloc")]
+        if let Some(ids) = &self.ids {
+            return ids.get(id).map(|at| self.message.record_at(*at));
+        }
+        self.message.record_with_id(id)
     }
 }
 
@@ -71,15 +94,9 @@ impl<'a> Iterator for Links<'a> {
     type Item = Link<'a>;
 
     fn next(&mut self) -> Option<Link<'a>> {
-        let handover = self.handover.as_ref()?;
-        let link = match &self.told {
-            Told::OneByOne => ffi::link_at(self.message.as_bytes(), handover, self.next as Size)?,
-            #[cfg(feature = "alloc")]
-            Told::Before(links) => *links.get(self.next)?,
-        };
-        self.next += 1;
-        let alternative = promised(AlternativeCarrier::of(handover.part(link.carrier_at, link.carrier_length)));
-        let record = (link.has_record != 0).then(|| self.message.record_at(link.record_at));
+        let (at, length) = self.next_carrier()?;
+        let alternative = promised(AlternativeCarrier::of(self.handover.part(at, length)));
+        let record = self.record_with_id(alternative.reference());
         Some(Link { alternative, record })
     }
 }

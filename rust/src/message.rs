@@ -85,7 +85,7 @@ impl<'a> Message<'a> {
     }
 
     /// The links of its first handover request or handover select, or none if it has neither. Each link is an
-    /// alternative carrier and the record to which it refers.
+    /// alternative carrier and the record to which it refers. The message and the handover are walked once.
     ///
     /// # Errors
     ///
@@ -95,12 +95,12 @@ impl<'a> Message<'a> {
     pub fn links(&self) -> Result<Links<'a>, Refusal> {
         match self.handover() {
             None => Ok(Links::none(*self)),
-            Some(record) => Ok(Links::of(*self, record, record.payload_cow().into())?.told_before()),
+            Some(record) => Ok(Links::of(*self, record, record.payload_cow().into())?.with_ids()),
         }
     }
 
-    /// The same. The payload of a handover that lies in several chunks is joined in the room. Each step reads the whole
-    /// handover and the message from its start.
+    /// The same. The payload of a handover that lies in several chunks is joined in the room. Each step reads the message
+    /// from its start, up to the record.
     ///
     /// # Errors
     ///
@@ -115,7 +115,8 @@ impl<'a> Message<'a> {
         }
     }
 
-    /// The record that the library told to begin at a place.
+    /// The record that begins at a place.
+    #[cfg(feature = "alloc")]
     pub(crate) fn record_at(&self, at: Size) -> Record<'a> {
         Record::at(self.bytes, at, self.profile)
     }
@@ -144,6 +145,13 @@ impl<'a> TryFrom<&'a [u8]> for Message<'a> {
 
     fn try_from(bytes: &'a [u8]) -> Result<Self, Refusal> {
         Self::parse(bytes)
+    }
+}
+
+/// Its bytes.
+impl AsRef<[u8]> for Message<'_> {
+    fn as_ref(&self) -> &[u8] {
+        self.as_bytes()
     }
 }
 

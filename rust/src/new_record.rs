@@ -1,8 +1,6 @@
 //! Records to be written.
-use crate::bytes::{Bytes, Quoted};
 use crate::ffi::{self, Room, Unfilled};
-use crate::{EncodeError, Tnf};
-use core::fmt;
+use crate::{Bytes, EncodeError, Tnf};
 use core::num::NonZeroU32;
 
 #[cfg(feature = "alloc")]
@@ -27,7 +25,19 @@ impl Form {
 }
 
 /// A record to be written. Whether there is such a record is checked when it is written.
-#[derive(Clone)]
+///
+/// Its type, its id and its payload are [`Bytes`]: a slice or a string is borrowed, and a `Vec` or a `String` becomes a
+/// part of the record.
+///
+/// ```
+/// use simbegyor_ndef::NewRecord;
+///
+/// fn lines(lines: &[&str]) -> NewRecord<'static> {
+///     NewRecord::media("text/plain", lines.join("\n")).with_id("lines")
+/// }
+/// assert_eq!(lines(&["a", "b"]).payload(), b"a\nb");
+/// ```
+#[derive(Clone, Debug, PartialEq, Eq, Hash)]
 #[must_use]
 pub struct NewRecord<'a> {
     tnf: Tnf,
@@ -38,38 +48,65 @@ pub struct NewRecord<'a> {
 
 impl<'a> NewRecord<'a> {
     /// A record with a type, at most 255 bytes, and a payload.
-    pub fn new(tnf: Tnf, kind: &'a [u8], payload: &'a [u8]) -> Self {
-        Self::of(tnf, kind, payload.into())
-    }
-
-    pub(crate) fn of(tnf: Tnf, kind: &'a [u8], payload: Bytes<'a>) -> Self {
-        Self { tnf, kind: kind.into(), id: Bytes::Borrowed(&[]), payload }
+    pub fn new(tnf: Tnf, kind: impl Into<Bytes<'a>>, payload: impl Into<Bytes<'a>>) -> Self {
+        Self { tnf, kind: kind.into(), id: Bytes::default(), payload: payload.into() }
     }
 
     /// An empty record.
     pub fn empty() -> Self {
-        Self::new(Tnf::Empty, &[], &[])
+        Self::new(Tnf::Empty, b"", b"")
     }
 
     /// A record without a type.
-    pub fn unknown(payload: &'a [u8]) -> Self {
-        Self::new(Tnf::Unknown, &[], payload)
+    pub fn unknown(payload: impl Into<Bytes<'a>>) -> Self {
+        Self::new(Tnf::Unknown, b"", payload)
     }
 
     /// A record with a media type, as `text/plain`.
-    pub fn media(kind: &'a str, payload: &'a [u8]) -> Self {
-        Self::new(Tnf::Media, kind.as_bytes(), payload)
+    pub fn media(kind: impl Into<Bytes<'a>>, payload: impl Into<Bytes<'a>>) -> Self {
+        Self::new(Tnf::Media, kind, payload)
     }
 
     /// A record with an external type, as `example.com:x`.
-    pub fn external(kind: &'a str, payload: &'a [u8]) -> Self {
-        Self::new(Tnf::External, kind.as_bytes(), payload)
+    pub fn external(kind: impl Into<Bytes<'a>>, payload: impl Into<Bytes<'a>>) -> Self {
+        Self::new(Tnf::External, kind, payload)
     }
 
     /// The same record with an id, at most 255 bytes. One with the empty id has none.
-    pub fn with_id(mut self, id: &'a [u8]) -> Self {
+    pub fn with_id(mut self, id: impl Into<Bytes<'a>>) -> Self {
         self.id = id.into();
         self
+    }
+
+    /// Its type name format: what its type is.
+    pub fn tnf(&self) -> Tnf {
+        self.tnf
+    }
+
+    /// Its type.
+    pub fn kind(&self) -> &[u8] {
+        &self.kind
+    }
+
+    /// Its id. It is empty if the record has none.
+    pub fn id(&self) -> &[u8] {
+        &self.id
+    }
+
+    /// Its payload.
+    pub fn payload(&self) -> &[u8] {
+        &self.payload
+    }
+
+    /// The same record, which borrows nothing.
+    #[cfg(feature = "alloc")]
+    pub fn into_owned(self) -> NewRecord<'static> {
+        NewRecord {
+            tnf: self.tnf,
+            kind: self.kind.into_owned(),
+            id: self.id.into_owned(),
+            payload: self.payload.into_owned(),
+        }
     }
 
     /// More bytes than most spellings of it have.
@@ -95,18 +132,7 @@ impl<'a> NewRecord<'a> {
 #[cfg(feature = "alloc")]
 impl<'a> From<Record<'a>> for NewRecord<'a> {
     fn from(record: Record<'a>) -> Self {
-        Self::of(record.tnf(), record.kind(), record.payload_cow().into()).with_id(record.id())
-    }
-}
-
-impl fmt::Debug for NewRecord<'_> {
-    fn fmt(&self, to: &mut fmt::Formatter<'_>) -> fmt::Result {
-        to.debug_struct("NewRecord")
-            .field("tnf", &self.tnf)
-            .field("kind", &Quoted(&self.kind))
-            .field("id", &Quoted(&self.id))
-            .field("payload", &Quoted(&self.payload))
-            .finish()
+        Self::new(record.tnf(), record.kind(), record.payload_cow()).with_id(record.id())
     }
 }
 

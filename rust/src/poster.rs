@@ -43,6 +43,18 @@ impl Action {
     }
 }
 
+impl From<u8> for Action {
+    fn from(number: u8) -> Self {
+        Self::of(number.into())
+    }
+}
+
+impl From<Action> for u8 {
+    fn from(action: Action) -> Self {
+        action.number()
+    }
+}
+
 /// A smart poster (`Sp`, RTD Smart Poster 1.0): a URI with titles, and with what it leads to.
 ///
 /// With the feature `alloc`, posters are equal if their records are.
@@ -153,7 +165,7 @@ compare_by_value! { SmartPoster }
 
 impl<'a> From<SmartPoster<'a>> for NewRecord<'a> {
     fn from(poster: SmartPoster<'a>) -> Self {
-        NewRecord::of(Tnf::WellKnown, b"Sp", poster.payload)
+        NewRecord::new(Tnf::WellKnown, b"Sp", poster.payload)
     }
 }
 

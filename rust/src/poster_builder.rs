@@ -33,13 +33,13 @@ impl<'a> SmartPosterBuilder<'a> {
     }
 
     /// Tells the media type of what the URI leads to.
-    pub fn media_type(self, kind: &'a str) -> Self {
-        self.record(NewRecord::new(Tnf::WellKnown, b"t", kind.as_bytes()))
+    pub fn media_type(self, kind: impl Into<Bytes<'a>>) -> Self {
+        self.record(NewRecord::new(Tnf::WellKnown, b"t", kind))
     }
 
     /// Adds an icon of a media type, such as `image/png`. The standard asks for types that begin with "image/" or
     /// "video/", and the library does not look at that.
-    pub fn icon(self, media_type: &'a str, data: &'a [u8]) -> Self {
+    pub fn icon(self, media_type: impl Into<Bytes<'a>>, data: impl Into<Bytes<'a>>) -> Self {
         self.record(NewRecord::media(media_type, data))
     }
 
@@ -53,7 +53,7 @@ impl<'a> SmartPosterBuilder<'a> {
         self.records = self.records.and_then(|records| {
             let mut payload = Vec::new();
             write(&mut payload).map_err(|unfilled| EncodeError::of(unfilled, EncodeError::Record))?;
-            Ok(records.record(NewRecord::of(Tnf::WellKnown, kind, Bytes::Owned(payload))))
+            Ok(records.record(NewRecord::new(Tnf::WellKnown, kind, Bytes::Owned(payload))))
         });
         self
     }

@@ -151,7 +151,7 @@ compare_by_value! { Text }
 
 impl<'a> From<Text<'a>> for NewRecord<'a> {
     fn from(text: Text<'a>) -> Self {
-        NewRecord::of(Tnf::WellKnown, b"T", text.0.into_bytes())
+        NewRecord::new(Tnf::WellKnown, b"T", text.0.into_bytes())
     }
 }
 

@@ -1,4 +1,6 @@
 //! Type name formats.
+use crate::NumberError;
+use core::fmt;
 
 /// The type name format of a record: what its type is (TNF, NDEF 1.0, 3.2.6).
 #[derive(Clone, Copy, Debug, PartialEq, Eq, Hash, PartialOrd, Ord)]
@@ -19,21 +21,59 @@ pub enum Tnf {
 }
 
 impl Tnf {
+    /// The type name formats, in the order of their numbers.
+    pub const ALL: &'static [Tnf] =
+        &[Self::Empty, Self::WellKnown, Self::Media, Self::AbsoluteUri, Self::External, Self::Unknown];
+
+    /// The type name format with a number.
+    #[inline]
+    pub const fn from_number(number: u32) -> Option<Self> {
+        match number {
+            0 => Some(Self::Empty),
+            1 => Some(Self::WellKnown),
+            2 => Some(Self::Media),
+            3 => Some(Self::AbsoluteUri),
+            4 => Some(Self::External),
+            5 => Some(Self::Unknown),
+            _ => None,
+        }
+    }
+
     #[inline]
     pub(crate) fn of(number: u32) -> Self {
-        match number {
-            0 => Self::Empty,
-            1 => Self::WellKnown,
-            2 => Self::Media,
-            3 => Self::AbsoluteUri,
-            4 => Self::External,
-            5 => Self::Unknown,
-            _ => crate::promised(Err(number)),
-        }
+        crate::promised(Self::from_number(number).ok_or(number))
     }
 
     /// Its number.
     pub const fn number(self) -> u32 {
         self as u32
+    }
+}
+
+/// The number 6 (unchanged) belongs to a chunk, and 7 is reserved: no record has them.
+impl TryFrom<u8> for Tnf {
+    type Error = NumberError;
+
+    fn try_from(number: u8) -> Result<Self, NumberError> {
+        Self::from_number(number.into()).ok_or(NumberError { number, most: 5 })
+    }
+}
+
+impl From<Tnf> for u8 {
+    fn from(tnf: Tnf) -> Self {
+        tnf as u8
+    }
+}
+
+impl fmt::Display for Tnf {
+    fn fmt(&self, to: &mut fmt::Formatter<'_>) -> fmt::Result {
+        to.pad(match self {
+            Self::Empty => "empty",
+            Self::WellKnown => "well-known",
+            Self::Media => "media",
+            Self::AbsoluteUri => "absolute URI",
+            Self::External => "external",
+            Self::Unknown => "unknown",
+        })
     }
 }

@@ -101,7 +101,7 @@ compare_by_value! { Uri }
 
 impl<'a> From<Uri<'a>> for NewRecord<'a> {
     fn from(uri: Uri<'a>) -> Self {
-        NewRecord::of(Tnf::WellKnown, b"U", uri.payload)
+        NewRecord::new(Tnf::WellKnown, b"U", uri.payload)
     }
 }
 

@@ -110,7 +110,11 @@ fn compile(folder: &Path) -> Result<(), String> {
     let words = compiler()?;
     let mut command = Command::new(&words[0]);
     command.args(&words[1..]).args(["-std=c99", "-ffunction-sections", "-fdata-sections", "-c"]);
-    command.arg(if matches!(told("OPT_LEVEL").as_str(), "s" | "z") { "-Os" } else { "-O2" });
+    command.arg(match told("OPT_LEVEL").as_str() {
+        "s" | "z" => "-Os",
+        "3" => "-O3",
+        _ => "-O2",
+    });
     if told("CARGO_CFG_TARGET_OS") != "none" {
         command.arg("-fPIC");
     }
@@ -126,6 +130,15 @@ fn compile(folder: &Path) -> Result<(), String> {
     Ok(())
 }
 
+/// The folder of the bundled source. In the repository that is the one of a release; `dist` beside this file leads to its
+/// files, which a package of this crate has instead.
+fn bundled() -> Option<PathBuf> {
+    let crate_folder = PathBuf::from(told("CARGO_MANIFEST_DIR"));
+    let repository = crate_folder.join("../..");
+    let folder = if repository.join("rust/sys/build.rs").is_file() { repository } else { crate_folder }.join("dist");
+    folder.join("ndef.c").is_file().then_some(folder)
+}
+
 /// Links the library, or says why it doesn't.
 fn find() -> Result<(), String> {
     if let Some(folder) = env::var_os("NDEF_LIB_DIR") {
@@ -135,11 +148,9 @@ fn find() -> Result<(), String> {
     if installed().is_some_and(|folder| link(&folder)) {
         return Ok(());
     }
-    let crate_folder = PathBuf::from(told("CARGO_MANIFEST_DIR"));
-    let folders = [crate_folder.join("dist"), crate_folder.join("../../dist")];
-    let folder = folders.iter().find(|folder| folder.join("ndef.c").is_file()).ok_or("dist/ndef.c is missing.")?;
-    sources(folder).iter().for_each(|name| println!("cargo::rerun-if-changed={}", folder.join(name).display()));
-    compile(folder)
+    let folder = bundled().ok_or("dist/ndef.c is missing.")?;
+    sources(&folder).iter().for_each(|name| println!("cargo::rerun-if-changed={}", folder.join(name).display()));
+    compile(&folder)
 }
 
 fn main() {

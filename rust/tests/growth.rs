@@ -1,6 +1,6 @@
 //! How the time of each walk grows with the records: ten times as many take some ten times as long. Prints microseconds for
-//! 100, 1000 and 10000 of them (`cargo test --release --test growth -- --ignored --nocapture`). The links of a handover are left
-//! out of that: each carrier is looked for among the records.
+//! 100, 1000 and 10000 of them (`cargo test --release --test growth -- --ignored --nocapture`). Without memory the links of a
+//! handover are left out of that: each carrier is looked for among the records.
 #![cfg(feature = "std")]
 
 use simbegyor_ndef::{
@@ -166,16 +166,16 @@ fn of_payloads() {
             black_box(carrier.auxiliaries().map(<[u8]>::len).sum::<usize>());
         },
     );
-    row("links of a handover (carriers times records)", false, handover, |bytes| {
+    row("links of a handover", true, handover, |bytes| {
         let message = Message::parse_within(bytes, &many()).unwrap();
         black_box(message.links().unwrap().filter(|link| link.record.is_some()).count());
     });
 }
 
 #[test]
-#[ignore = "it takes a minute"]
+#[ignore = "it measures time"]
 fn of_links_without_memory() {
-    row("links_in of a handover (carriers times both)", false, handover, |bytes| {
+    row("links_in of a handover (carriers times records)", false, handover, |bytes| {
         let message = Message::parse_within(bytes, &many()).unwrap();
         black_box(message.links_in(&mut []).unwrap().filter(|link| link.record.is_some()).count());
     });

@@ -269,21 +269,3 @@ fn readers_may_fail() {
     let error = read_message(&mut input, &Limits::new()).unwrap_err();
     assert_eq!((error.to_string().as_str(), input), ("refused at 6: 16 Language", &b"\xFFmore"[..]));
 }
-
-#[test]
-fn values_are_sent_and_shared() {
-    fn check<T: Send + Sync + Clone + std::fmt::Debug + 'static>() {}
-    check::<Message<'static>>();
-    check::<Links<'static>>();
-    check::<Payload<'static>>();
-    check::<Checker>();
-    check::<MessageBuilder<'static>>();
-    check::<SmartPosterBuilder<'static>>();
-    check::<HandoverSelectBuilder<'static>>();
-    fn is_error<T: std::error::Error + Send + Sync + 'static>() {}
-    is_error::<Reason>();
-    is_error::<Refusal>();
-    is_error::<DecodeError>();
-    is_error::<EncodeError>();
-    is_error::<ReadError>();
-}

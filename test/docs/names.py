@@ -7,7 +7,7 @@ CODE = ('*.rt', '*.antt', '*.py', '*.h', '*.c', '*.hpp', '*.cpp', '*.rs', '*.go'
 FOREIGN = set('''
     rt git apt make dpkg-dev lintian clang ctypes clap cc strip simdutf8 hex itoa arrayvec smallvec byteorder thiserror anyhow
     FetchContent add_subdirectory npm requires ensures after_borrow Copy Display Eq Hash PartialEq QNdefMessage Sig
-    mandoc pkg-config help ndeflib type nodejs qemu-user cargo rustdoc rustfmt clippy
+    mandoc pkg-config help ndeflib type nodejs qemu-user cargo rustdoc rustfmt clippy serde
     gcc-riscv64-linux-gnu gcc-arm-linux-gnueabihf gcc-arm-none-eabi gcc-mingw-w64-x86-64-win32 gcc-aarch64-linux-gnu
     BluetoothEasyPairingRecord BluetoothLowEnergyRecord WifiSimpleConfigRecord WifiPeerToPeerRecord DeviceInformationRecord
     SignatureRecord HandoverMediationRecord HandoverInitiateRecord

@@ -1,0 +1,1 @@
+../../../dist/ndef_names.h

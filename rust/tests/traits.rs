@@ -1,0 +1,139 @@
+//! The traits that a program in Rust expects of the types of the crate.
+#![cfg(feature = "std")]
+
+use simbegyor_ndef::*;
+use std::collections::{BTreeSet, HashSet};
+use std::error::Error;
+use std::fmt::{Debug, Display};
+use std::hash::Hash;
+use std::iter::FusedIterator;
+use std::panic::{RefUnwindSafe, UnwindSafe};
+
+/// Says of each type that it has the traits, and answers the names.
+macro_rules! have {
+    ($($name:ident)*: $($bound:tt)*) => {{
+        fn has<T: $($bound)*>() {}
+        $(has::<$name>();)*
+        [$(stringify!($name)),*]
+    }};
+}
+
+/// Each public type, by what it may do.
+#[test]
+fn each_type_may_go_to_another_thread() {
+    let told = have! {
+        Action AlternativeCarrier Alternatives Auxiliaries Bytes Checked Checker Chunks DecodeError EncodeError Encoding
+        Field FieldName FieldPart Fields Form HandoverCarrier HandoverError HandoverRequest HandoverRequestBuilder
+        HandoverSelect HandoverSelectBuilder Icon Icons Limits Link Links Message MessageBuilder NewRecord NumberError Part
+        Payload PayloadKind Payloads PowerState Profile ReadError Reason Record Records Refusal SmartPoster
+        SmartPosterBuilder Text Titles Tnf Uri: Send + Sync + Unpin + Debug
+    };
+    let exported = include_str!("../src/lib.rs").lines().filter_map(|line| line.strip_prefix("pub use "));
+    assert!(exported.clone().all(|line| line.ends_with(';')));
+    let words = exported.flat_map(|line| line.split(|letter: char| !letter.is_ascii_alphanumeric() && letter != '_'));
+    let types = words.filter(|word| word.starts_with(|letter: char| letter.is_ascii_uppercase()));
+    // It is exported as FieldPart.
+    let told = told.into_iter().filter(|name| *name != "FieldPart").collect::<BTreeSet<_>>();
+    assert_eq!(types.filter(|name| *name != "FieldPart").collect::<BTreeSet<_>>(), told);
+}
+
+#[test]
+fn values_are_copied_compared_and_hashed() {
+    have! {
+        Action AlternativeCarrier Bytes Checked DecodeError EncodeError Encoding Field FieldName FieldPart Form
+        HandoverCarrier HandoverError HandoverRequest HandoverSelect Icon Limits Link Message NewRecord NumberError Part
+        Payload PayloadKind Payloads PowerState Profile Reason Record Refusal SmartPoster Text Tnf
+        Uri: Clone + Eq + Hash + UnwindSafe + RefUnwindSafe
+    };
+    have! {
+        Action Checked DecodeError EncodeError Encoding Field FieldName FieldPart Form Limits Message NumberError Part
+        PayloadKind Payloads PowerState Profile Reason Record Refusal Tnf: Copy
+    };
+    have! { Checker HandoverRequestBuilder HandoverSelectBuilder MessageBuilder SmartPosterBuilder: Clone };
+    have! { Encoding FieldPart Form Limits MessageBuilder Part Payloads Profile Bytes: Default };
+    have! { DecodeError EncodeError NumberError ReadError Reason Refusal: Error + 'static };
+    have! { FieldName PowerState Reason Refusal Text Tnf Uri: Display };
+    have! { Alternatives Auxiliaries Chunks Fields Icons Links Records Titles: FusedIterator + Clone };
+}
+
+#[test]
+fn numbers_become_values() {
+    for number in 0..=255u8 {
+        match Tnf::try_from(number) {
+            Ok(tnf) => assert_eq!((u8::from(tnf), tnf.number(), number < 6), (number, number.into(), true)),
+            Err(error) => assert_eq!((error.number, error.most, number > 5), (number, 5, true)),
+        }
+        match PowerState::try_from(number) {
+            Ok(power) => assert_eq!((u8::from(power), power.number(), number < 4), (number, number.into(), true)),
+            Err(error) => assert_eq!((error.number, error.most, number > 3), (number, 3, true)),
+        }
+        assert_eq!((u8::from(Action::from(number)), Action::from(number).number()), (number, number));
+    }
+    assert_eq!([0, 1, 2, 3].map(Action::from), [Action::Do, Action::Save, Action::Open, Action::Other(3)]);
+    assert_eq!(Tnf::try_from(7).unwrap_err().to_string(), "the number is 7, and has to be at most 5");
+    // NDEF 1.0, table 1, and Connection Handover 1.2, carrier power state.
+    let names = Tnf::ALL.iter().map(Tnf::to_string).collect::<Vec<_>>().join(", ");
+    assert_eq!(names, "empty, well-known, media, absolute URI, external, unknown");
+    let states = PowerState::ALL.iter().map(PowerState::to_string).collect::<Vec<_>>().join(", ");
+    assert_eq!(
+        (states.as_str(), format!("{:>6}|", Tnf::Media)),
+        ("inactive, active, activating, unknown", " media|".into())
+    );
+}
+
+/// What bytes are made of, all of the same.
+fn same<'a>() -> [Bytes<'a>; 9] {
+    let (text, octets) = ("ab", b"ab");
+    [
+        octets.into(),
+        octets[..].into(),
+        text.into(),
+        octets.to_vec().into(),
+        text.to_string().into(),
+        std::borrow::Cow::Borrowed(&octets[..]).into(),
+        std::borrow::Cow::<[u8]>::Owned(octets.to_vec()).into(),
+        std::borrow::Cow::Borrowed(text).into(),
+        std::borrow::Cow::<str>::Owned(text.to_string()).into(),
+    ]
+}
+
+#[test]
+fn bytes_are_borrowed_or_owned() {
+    let (text, octets) = ("ab".to_string(), b"ab".to_vec());
+    let all = same().into_iter().chain([Bytes::from(&text), Bytes::from(&octets)]).collect::<Vec<_>>();
+    assert_eq!(all.iter().cloned().collect::<HashSet<_>>(), HashSet::from([Bytes::from("ab")]));
+    let owned = all.iter().map(|bytes| matches!(bytes, Bytes::Owned(_))).collect::<Vec<_>>();
+    let wanted = [false, false, false, true, true, false, true, false, true, false, false];
+    assert_eq!(owned, wanted);
+    assert!(all.into_iter().all(|bytes| matches!(bytes.into_owned(), Bytes::Owned(bytes) if bytes == b"ab")));
+    assert_eq!((Bytes::default().as_ref(), Bytes::from("a\0") == Bytes::from("a")), (&b""[..], false));
+    assert_eq!(format!("{:?}", Bytes::from(b"a\"\0")), r#"b"a\"\x00""#);
+}
+
+/// A record whose parts are made here goes where it is written.
+fn made(number: u32) -> NewRecord<'static> {
+    NewRecord::external(format!("example.com:{number}"), number.to_be_bytes().to_vec()).with_id(number.to_string())
+}
+
+#[test]
+fn records_own_what_they_are_given() {
+    let bytes = (0..3).map(made).collect::<MessageBuilder<'_>>().build().unwrap();
+    let message = Message::parse(&bytes).unwrap();
+    assert_eq!((message.record_count(), message.as_ref()), (3, &bytes[..]));
+    let record = message.record_with_id(b"2").unwrap();
+    assert_eq!(
+        (record.tnf(), record.kind(), record.payload()),
+        (Tnf::External, &b"example.com:2"[..], Some(&[0, 0, 0, 2][..]))
+    );
+    let new = NewRecord::from(record).into_owned();
+    assert_eq!(
+        (new.tnf(), new.kind(), new.id(), new.payload()),
+        (Tnf::External, &b"example.com:2"[..], &b"2"[..], &[0, 0, 0, 2][..])
+    );
+    assert_eq!((new == made(2), new == made(1), new == made(2).with_id("")), (true, false, false));
+    let debug = r#"NewRecord { tnf: External, kind: b"example.com:2", id: b"2", payload: b"\x00\x00\x00\x02" }"#;
+    assert_eq!(format!("{new:?}"), debug);
+    let poster = SmartPoster::builder("tel:1").media_type("a/b".to_string()).icon("image/png".to_string(), vec![1, 2]);
+    let poster = poster.build().unwrap();
+    assert_eq!((poster.media_type(), poster.icons().next().unwrap().data), (Some("a/b"), &[1, 2][..]));
+}
