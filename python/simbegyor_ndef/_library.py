@@ -33,14 +33,15 @@ def _sizes(names: str) -> List[Tuple[str, Any]]:
     return [(name, _size) for name in names.split()]
 
 
-class _Sizes(Dict[int, ctypes.c_size_t]):
-    """Lengths and places as a call takes them; the usual ones are made once, and are never changed."""
+class _Sizes(Dict[int, Any]):
+    """Lengths and places as a call takes them, ready for its registers; the usual ones are made once."""
 
-    def __missing__(self, value: int) -> ctypes.c_size_t:
-        return _size(value)
+    def __missing__(self, value: int) -> Any:
+        return _size.from_param(value)
 
 
-SIZES = _Sizes({value: _size(value) for value in range(4096)})
+USUAL_SIZES = 4096
+SIZES = _Sizes({value: _size.from_param(value) for value in range(USUAL_SIZES)})
 
 
 class Limits(ctypes.Structure):
@@ -99,8 +100,16 @@ class FieldParts(ctypes.Structure):
     _fields_ = _sizes('at length') + _numbers('depth name')
 
 
-# The fields of a RecordParts, all of them at once.
+# The fields of a RecordParts, or of the octets that it lies in, all of them at once.
 record_fields = struct.Struct('@10N2I').unpack_from
+
+
+def record_room() -> Tuple[bytearray, Any]:
+    """The octets of a RecordParts, and a reference to it: `record_fields` reads octets faster than the struct itself."""
+    octets = bytearray(ctypes.sizeof(RecordParts))
+    return octets, byref(RecordParts.from_buffer(octets))
+
+
 
 _path = os.path.join(os.path.dirname(os.path.abspath(__file__)), 'libndef.so')
 try:
@@ -122,6 +131,8 @@ _reason_name = _call('ndef_reason_name')
 _field_name = _call('ndef_field_name')
 _fields = _call('ndef_fields', _long)
 check = _call('ndef_check', _long)
+# For octets that are few: no other thread runs meanwhile.
+check_short = _call('ndef_check')
 begin = _call('ndef_begin')
 feed = _call('ndef_feed', _long)
 record_at = _call('ndef_record_at')
@@ -254,6 +265,11 @@ def parts_of_references(payload: bytes, count: int) -> List[Any]:
 def first_of(octets: bytearray) -> Any:
     """A reference to the first of the octets, which may not be resized while it is there."""
     return byref(ctypes.c_char.from_buffer(octets)) if octets else b''
+
+
+def copy(into: Checker, checker: Checker) -> None:
+    """Copies the state of a check."""
+    ctypes.memmove(byref(into), byref(checker), ctypes.sizeof(Checker))
 
 
 def refused(why: Checked, before: int = 0) -> DecodeError:
