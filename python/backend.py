@@ -12,6 +12,7 @@ import io
 import os
 import pathlib
 import re
+import runpy
 import shlex
 import shutil
 import subprocess
@@ -27,6 +28,8 @@ HERE = pathlib.Path(__file__).resolve().parent
 TOP = HERE if (HERE / 'VERSION').exists() else HERE.parent
 LICENSES = ('LICENSE-MIT', 'LICENSE-APACHE')
 GENERATED = ('dist/ndef.c', 'dist/SOURCE')
+# The module looks for the library by this name.
+LIBRARY = runpy.run_path(str(HERE / 'simbegyor_ndef/_platform.py'))['library_name']()
 
 
 def stop(why):
@@ -86,17 +89,27 @@ def compiler():
     return words
 
 
+def linking(platform, archive=None):
+    """The compiler's words that make a shared object on a platform, as sys.platform names it, of a source or of an
+    archive."""
+    words = ['-shared'] if platform in ('win32', 'cygwin') else ['-fPIC', '-shared']
+    if platform == 'linux':
+        words += ['-s', '-Wl,-z,defs', '-Wl,-z,relro', '-Wl,-z,now', '-Wl,--build-id=none']
+    if not archive:
+        return words
+    return words + (['-Wl,-force_load,' + archive] if platform == 'darwin' else
+                    ['-Wl,--whole-archive', archive, '-Wl,--no-whole-archive'])
+
+
 def make_library(file):
     """Compiles the shared object."""
-    words = [*compiler(), '-std=c99', *shlex.split(os.environ.get('CFLAGS', '-O2')), '-fPIC', '-shared']
-    if sys.platform == 'linux':
-        words += ['-s', '-Wl,-z,defs', '-Wl,-z,relro', '-Wl,-z,now', '-Wl,--build-id=none']
+    words = [*compiler(), '-std=c99', *shlex.split(os.environ.get('CFLAGS', '-O2'))]
     folder = os.environ.get('NDEF_LIB_DIR')
     if not folder:
         check_generated()
-        words += [str(TOP / 'dist/ndef.c')]
+        words += [*linking(sys.platform), str(TOP / 'dist/ndef.c')]
     elif (pathlib.Path(folder) / 'libndef.a').exists():
-        words += ['-Wl,--whole-archive', str(pathlib.Path(folder) / 'libndef.a'), '-Wl,--no-whole-archive']
+        words += linking(sys.platform, str(pathlib.Path(folder) / 'libndef.a'))
     else:
         stop('NDEF_LIB_DIR is %s, which has no libndef.a: unset it, and the library is compiled' % folder)
     if subprocess.run([*words, '-o', str(file)]).returncode != 0:
@@ -133,10 +146,10 @@ def record_line(name, content):
 
 def build_wheel(wheel_directory, config_settings=None, metadata_directory=None):
     with tempfile.TemporaryDirectory() as folder:
-        library = pathlib.Path(folder, 'libndef.so')
+        library = pathlib.Path(folder, LIBRARY)
         make_library(library)
         tag, code = platform_tag(library), library.read_bytes()
-    files = dict([*modules(), ('simbegyor_ndef/libndef.so', code), *wheel_data(tag)])
+    files = dict([*modules(), ('simbegyor_ndef/' + LIBRARY, code), *wheel_data(tag)])
     listed = ''.join(record_line(name, files[name]) for name in sorted(files))
     record = NAME + '.dist-info/RECORD'
     wheel = '%s-py3-none-%s.whl' % (NAME, tag)
@@ -144,7 +157,7 @@ def build_wheel(wheel_directory, config_settings=None, metadata_directory=None):
         for name, content in [*sorted(files.items()), (record, (listed + record + ',,\n').encode())]:
             entry = zipfile.ZipInfo(name, time.gmtime(moment())[:6])
             entry.compress_type = zipfile.ZIP_DEFLATED
-            entry.external_attr = (0o755 if name.endswith('.so') else 0o644) << 16
+            entry.external_attr = (0o755 if name.endswith('/' + LIBRARY) else 0o644) << 16
             made.writestr(entry, content)
     return wheel
 

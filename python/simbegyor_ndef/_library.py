@@ -11,6 +11,7 @@ import os
 import struct
 from typing import Any, Callable, Dict, List, Tuple
 
+from ._platform import library_name
 from .errors import DecodeError, EncodeError
 
 OK, REFUSED, NO_ROOM, BAD_ARGUMENT, END, MORE = range(6)
@@ -111,7 +112,7 @@ def record_room() -> Tuple[bytearray, Any]:
 
 
 
-_path = os.path.join(os.path.dirname(os.path.abspath(__file__)), 'libndef.so')
+_path = os.path.join(os.path.dirname(os.path.abspath(__file__)), library_name())
 try:
     # Other threads run while a call looks at a whole message; the other calls are too short for that.
     _long, _short = ctypes.CDLL(_path), ctypes.PyDLL(_path)
