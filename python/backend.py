@@ -30,6 +30,8 @@ LICENSES = ('LICENSE-MIT', 'LICENSE-APACHE')
 GENERATED = ('dist/ndef.c', 'dist/SOURCE')
 # The module looks for the library by this name.
 LIBRARY = runpy.run_path(str(HERE / 'simbegyor_ndef/_platform.py'))['library_name']()
+# The command that pip puts on the path.
+SCRIPTS = '[console_scripts]\nsimbegyor-ndef = simbegyor_ndef.__main__:main\n'
 
 
 def stop(why):
@@ -134,6 +136,7 @@ def wheel_data(tag):
     folder = NAME + '.dist-info/'
     tags = ''.join('Tag: py3-none-%s\n' % platform for platform in tag.split('.'))
     yield folder + 'METADATA', metadata()
+    yield folder + 'entry_points.txt', SCRIPTS.encode()
     yield folder + 'WHEEL', ('Wheel-Version: 1.0\nGenerator: simbegyor-ndef\nRoot-Is-Purelib: false\n' + tags).encode()
     for name in LICENSES:
         yield folder + 'licenses/' + name, (TOP / name).read_bytes()

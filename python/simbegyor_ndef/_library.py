@@ -129,6 +129,7 @@ def _call(name: str, loaded: Any = _short, result: Any = u32) -> Callable[..., i
 
 _usual_limits = _call('ndef_usual_limits', result=None)
 _reason_name = _call('ndef_reason_name')
+_reason_sentence = _call('ndef_reason_sentence')
 _field_name = _call('ndef_field_name')
 _fields = _call('ndef_fields', _long)
 check = _call('ndef_check', _long)
@@ -237,6 +238,12 @@ def number(value: int, what: str) -> ctypes.c_uint32:
 def reason_name(reason: int) -> str:
     """The name of a reason."""
     return put(_reason_name, u32(reason))[1].decode('ascii')
+
+
+@functools.lru_cache(maxsize=None)
+def reason_sentence(reason: int) -> str:
+    """What a reason means, in a sentence."""
+    return put(_reason_sentence, u32(reason))[1].decode('ascii')
 
 
 @functools.lru_cache(maxsize=None)
