@@ -7,10 +7,10 @@ import unittest
 from unittest import mock
 
 import simbegyor_ndef as ndef
-from cases import sentences
 from simbegyor_ndef import _library as library
 from simbegyor_ndef.handover import AlternativeCarrierRecord, CollisionResolutionRecord, ErrorRecord
 from simbegyor_ndef.smartposter import ActionRecord, SizeRecord, TypeRecord
+from cases import sentences
 
 HELLO = bytes.fromhex('d101085402656e48656c6c6f')
 
