@@ -32,9 +32,9 @@ def _answers(messages: Iterable[Octets], limits: Any, known: Known, told: Told) 
         if not isinstance(octets, bytes):
             octets = _bytes_of(octets)
         count = len(octets)
-        check = library.check_short if count < library.USUAL_SIZES else library.check
-        if check(octets, sizes[count], limits, out) == library.OK:
-            yield _records_in(octets, checked.place, known, told, room)
+        size, check = sizes[count], library.check_short if count < library.USUAL_SIZES else library.check
+        if check(octets, size, limits, out) == library.OK:
+            yield _records_in(octets, size, known, told, room)
         else:
             yield library.refused(checked) if octets else []
 
@@ -46,15 +46,15 @@ def _bytes_of(octets: Octets) -> bytes:
     return bytes(octets)
 
 
-def _records_in(octets: bytes, end: int, known: Known, told: Told, room: Any) -> Answer:
+def _records_in(octets: bytes, size: Any, known: Known, told: Told, room: Any) -> Answer:
     """The records of a message that the library has accepted; or the error where a class of one's own refuses one."""
     sizes, record_at, record_fields, (written, out) = library.SIZES, library.record_at, library.record_fields, room
-    size, at, records = sizes[end], 0, []
+    at, is_last, records = 0, 0, []
     try:
-        while at != end and record_at(octets, size, sizes[at], out) == library.OK:
+        while not is_last and record_at(octets, size, sizes[at], out) == library.OK:
             fields = record_fields(written)
             records.append(record_of(octets, fields, known, 0, at == 0, told))
-            at = fields[1]
+            at, is_last = fields[1], fields[11]
     except DecodeError as error:
         return error.with_traceback(None)
     return records

@@ -184,7 +184,8 @@ def record_of(octets: bytes, fields: Tuple[int, ...], known: Known, before: int,
     if record_class is None:
         made = Record._made(kind, data)
     elif told is not None and record_class._looks_late:
-        made = record_class._from_checked(data)
+        made = record_class.__new__(record_class)
+        made._unread = data
     elif told and record_class in told:
         made = record_class._of(told.pop(record_class))  # type: ignore[attr-defined]
     else:

@@ -152,13 +152,6 @@ class Record:
             raise cls._decode_error('{}', error) from None
 
     @classmethod
-    def _from_checked(cls, octets: bytes) -> 'Record':
-        """The same, of a class that looks late, for a payload that the library has checked."""
-        made = cls.__new__(cls)
-        made._unread = octets
-        return made
-
-    @classmethod
     def _decode_payload(cls, octets: bytes, errors: str) -> Any:
         """The record for a payload. A class of one's own has this."""
         raise NotImplementedError('%s has no _decode_payload' % cls.__name__)
