@@ -1,6 +1,7 @@
 """How many steps a record takes from a stream: reads of the stream, calls of the library, and octets that a call looks at. No step
 is counted in seconds."""
 import io
+import os
 import unittest
 from unittest import mock
 
@@ -81,8 +82,10 @@ class Steps(unittest.TestCase):
             self.assertLessEqual(fed, 6 * len(given))
 
     def test_every_case_octet_by_octet(self):
-        """What a stream's records are doesn't depend on what it can show, and no octet behind the message is taken."""
-        for line, typed, given, _, _ in cases():
+        """What a stream's records are doesn't depend on what it can show, and no octet behind the message is taken. Where few
+        random messages are asked for, each tenth case is tried."""
+        few = 10 if 'NDEF_RANDOM' in os.environ else 1
+        for line, typed, given, _, _ in list(cases())[::few]:
             known = None if typed else {}
             wanted, whole = self.answer(io.BytesIO(given), known)
             for stream in (Dripping(given), Showing(given), Showing(given, 7)):
