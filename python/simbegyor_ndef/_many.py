@@ -56,5 +56,6 @@ def _records_in(octets: bytes, size: Any, known: Known, told: Told, room: Any) -
             records.append(record_of(octets, fields, known, 0, at == 0, told))
             at, is_last = fields[1], fields[11]
     except DecodeError as error:
-        return error.with_traceback(None)
+        # Without what the one that was raised holds: its frames.
+        return DecodeError(error.reason, error.place, error.number)
     return records

@@ -83,7 +83,7 @@ class Many(unittest.TestCase):
         messages = [b''.join(ndef.message_encoder([ndef.Record('a/b'), ndef.Record('text/odd', '', data)])) for data in (b'x', b'xy', b'xyz')]
         self.same(messages, {Odd._type: Odd})
         _, error, _ = ndef.decode_many(messages, {Odd._type: Odd})
-        self.assertEqual((error.place, error.number, error.__traceback__), (17, 0, None))
+        self.assertEqual((error.place, error.number, error.__traceback__, error.__context__), (17, 0, None, None))
         self.assertIn('has 2 octets', error.reason)
 
     def test_what_is_no_message_is_no_refusal(self):
