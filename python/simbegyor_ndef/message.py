@@ -10,8 +10,8 @@ from .record import Parts, Record, parts_of
 
 __all__ = ['message_decoder', 'message_encoder']
 
-# How many octets ahead are looked at first; and how many of them are worth a look at all pieces of a long record.
-_LOOK, _WORTH = 64, 512
+# How many octets ahead are looked at first; as many are worth a look at all pieces of a long record.
+_LOOK = 64
 # A record behind which the message ends, so that a checker says whether another record may begin where it stands.
 _ENDING = Record()._written(library.LAST, 0)
 Known = Mapping[Parts, Type[Record]]
@@ -132,12 +132,12 @@ class _Incoming:
 
     def next_record(self) -> Tuple[bytes, int]:
         """Takes the octets of the next record, and tells whether the message goes on behind it. Of a stream that has no octet
-        there is no record. Octets ahead are looked at together where they are many beside those that were taken, so that no
-        piece is looked at more than some times; otherwise octets are taken one by one."""
+        there is no record. Octets ahead are looked at together where they are an eighth of those that were taken, or `_LOOK`
+        of them: a look takes as long as the record has pieces. Fewer are taken one by one."""
         self.taken = bytearray()
         while True:
             seen = _ahead(self.stream, max(_LOOK, len(self.taken)))
-            if len(seen) < min(len(self.taken) // 8, _WORTH):
+            if len(seen) < min(len(self.taken) // 8, _LOOK):
                 seen = seen[:1]
             octet = b'' if seen else _read(self.stream, 1)
             if not (seen or octet or self.before or self.taken):
