@@ -75,7 +75,7 @@ class Steps(unittest.TestCase):
 
     def test_looks_ahead_grow_slowly(self):
         """Where much can be shown, each look is at an eighth more octets at least, or at 64 more of them. One takes two calls."""
-        for most in (63, 64, 512, 4096, 10 ** 6):
+        for most in (2, 20, 63, 64, 512, 4096, 10 ** 6):
             given = pieces(4000)
             looks, fed = self.counted(given, Showing(given, most))
             self.assertLessEqual(looks, 2 * (40 + len(given) // max(64, min(most, 512))))
