@@ -8,6 +8,7 @@
 #   make programs    makes the commands alone, in out/bin
 #   make library     makes the library for C alone, in out/lib
 #   make python      makes the Python module alone, in out/python
+#   make wheel sdist makes the wheel of what is made here, and the source distribution, in out
 #   make java        makes the module for Java, in out/java; it needs a JDK
 #   make install     puts all of it below PREFIX, and below DESTDIR where that is given
 #   make uninstall   takes away what make install puts
@@ -184,6 +185,12 @@ $(module)/libndef.so: out/lib/libndef.a packaging/ndef.map
 	mkdir -p $(@D)
 	$(CC) $(LDFLAGS) $(shared) -Wl,--version-script=packaging/ndef.map -o $@ $(whole)
 
+wheel: library
+	cd python && NDEF_LIB_DIR=../out/lib $(PYTHON) -B -c 'import backend; print("out/" + backend.build_wheel("../out"))'
+
+sdist:
+	cd python && $(PYTHON) -B -c 'import backend; print("out/" + backend.build_sdist("../out"))'
+
 java: out/java/simbegyor-ndef.jar
 
 out/java/simbegyor-ndef.jar: out/lib/libndef.a java/build VERSION $(shell find java/native java/src -type f)
@@ -263,4 +270,4 @@ dist:
 release:
 	packaging/release
 
-.PHONY: all amalgamation cost dist programs library python java prove from-dist install uninstall check deb debian web release FORCE
+.PHONY: all amalgamation cost dist programs library python wheel sdist java prove from-dist install uninstall check deb debian web release FORCE

@@ -12,6 +12,7 @@ import io
 import os
 import pathlib
 import re
+import runpy
 import shlex
 import shutil
 import subprocess
@@ -21,19 +22,28 @@ import tarfile
 import tempfile
 import time
 import zipfile
+from typing import Any, Dict, Iterator, List, NoReturn, Optional, Tuple
+
+# Files by their names in an archive; and what pip is asked for, which this backend has no use for.
+Files = Iterator[Tuple[str, bytes]]
+Settings = Optional[Dict[str, Any]]
 
 HERE = pathlib.Path(__file__).resolve().parent
 # In the source distribution all files lie here; in the repository some lie above.
 TOP = HERE if (HERE / 'VERSION').exists() else HERE.parent
 LICENSES = ('LICENSE-MIT', 'LICENSE-APACHE')
 GENERATED = ('dist/ndef.c', 'dist/SOURCE')
+# The module looks for the library by this name.
+LIBRARY: str = runpy.run_path(str(HERE / 'simbegyor_ndef/_platform.py'))['library_name']()
+# The command that pip puts on the path.
+SCRIPTS = '[console_scripts]\nsimbegyor-ndef = simbegyor_ndef.__main__:main\n'
 
 
-def stop(why):
+def stop(why: str) -> NoReturn:
     sys.exit('simbegyor-ndef: ' + why)
 
 
-def version():
+def version() -> str:
     """The version as Python writes it."""
     if not (TOP / 'VERSION').exists():
         stop('the repository around the folder python/ is missing: use pip 21.3 or newer, which builds there and not '
@@ -45,28 +55,28 @@ def version():
 NAME = 'simbegyor_ndef-' + version()
 
 
-def moment():
+def moment() -> int:
     """The time that files in archives get, in seconds since 1970; a zip file can't tell one before 1980."""
     return max(int(os.environ.get('SOURCE_DATE_EPOCH', 0)), 315532800)
 
 
-def metadata():
+def metadata() -> bytes:
     head = (HERE / 'METADATA.in').read_text(encoding='utf-8').replace('@VERSION@', version())
     return (head + '\n' + (HERE / 'README.md').read_text(encoding='utf-8')).encode()
 
 
-def modules():
+def modules() -> Files:
     """The files of the module by their names in the wheel."""
     for path in sorted((HERE / 'simbegyor_ndef').glob('*')):
         if path.suffix in ('.py', '.typed'):
             yield 'simbegyor_ndef/' + path.name, path.read_bytes().replace(b'@VERSION@', version().encode())
 
 
-def headers():
+def headers() -> List[str]:
     return sorted(path.name for path in (TOP / 'dist').glob('ndef*.h'))
 
 
-def check_generated():
+def check_generated() -> None:
     """Stops where a file of dist/ isn't the one that dist/SOURCE names."""
     if not all((TOP / name).exists() for name in GENERATED):
         stop('dist/ is missing: take it from the release, or set NDEF_LIB_DIR to a folder with libndef.a')
@@ -77,7 +87,7 @@ def check_generated():
                  "'git checkout dist'" % name)
 
 
-def compiler():
+def compiler() -> List[str]:
     usual = [[name] for name in ('cc', 'gcc', 'clang') if shutil.which(name)]
     words = shlex.split(os.environ.get('CC', '')) or (usual + [['cc']])[0]
     if not shutil.which(words[0]):
@@ -86,24 +96,34 @@ def compiler():
     return words
 
 
-def make_library(file):
-    """Compiles the shared object."""
-    words = [*compiler(), '-std=c99', *shlex.split(os.environ.get('CFLAGS', '-O2')), '-fPIC', '-shared']
-    if sys.platform == 'linux':
+def linking(platform: str, archive: Optional[str] = None) -> List[str]:
+    """The compiler's words that make a shared object on a platform, as sys.platform names it, of a source or of an
+    archive."""
+    words = ['-shared'] if platform in ('win32', 'cygwin') else ['-fPIC', '-shared']
+    if platform == 'linux':
         words += ['-s', '-Wl,-z,defs', '-Wl,-z,relro', '-Wl,-z,now', '-Wl,--build-id=none']
+    if not archive:
+        return words
+    return words + (['-Wl,-force_load,' + archive] if platform == 'darwin' else
+                    ['-Wl,--whole-archive', archive, '-Wl,--no-whole-archive'])
+
+
+def make_library(file: pathlib.Path) -> None:
+    """Compiles the shared object."""
+    words = [*compiler(), '-std=c99', *shlex.split(os.environ.get('CFLAGS', '-O2'))]
     folder = os.environ.get('NDEF_LIB_DIR')
     if not folder:
         check_generated()
-        words += [str(TOP / 'dist/ndef.c')]
+        words += [*linking(sys.platform), str(TOP / 'dist/ndef.c')]
     elif (pathlib.Path(folder) / 'libndef.a').exists():
-        words += ['-Wl,--whole-archive', str(pathlib.Path(folder) / 'libndef.a'), '-Wl,--no-whole-archive']
+        words += linking(sys.platform, str(pathlib.Path(folder) / 'libndef.a'))
     else:
         stop('NDEF_LIB_DIR is %s, which has no libndef.a: unset it, and the library is compiled' % folder)
     if subprocess.run([*words, '-o', str(file)]).returncode != 0:
         stop("%s doesn't compile the library, as it says above: name another C compiler with CC" % words[0])
 
 
-def platform_tag(library):
+def platform_tag(library: pathlib.Path) -> str:
     """The platform of a wheel: manylinux2014 where the shared object needs the GNU C library alone, and of that no call
     newer than 2.17."""
     machine = sysconfig.get_platform().replace('-', '_').replace('.', '_')
@@ -116,27 +136,28 @@ def platform_tag(library):
     return machine.replace('linux', 'manylinux2014') + '.' + machine.replace('linux', 'manylinux_2_17')
 
 
-def wheel_data(tag):
+def wheel_data(tag: str) -> Files:
     """The files of the wheel's folder of data, but the list of all files. One tag stands for each platform."""
     folder = NAME + '.dist-info/'
     tags = ''.join('Tag: py3-none-%s\n' % platform for platform in tag.split('.'))
     yield folder + 'METADATA', metadata()
+    yield folder + 'entry_points.txt', SCRIPTS.encode()
     yield folder + 'WHEEL', ('Wheel-Version: 1.0\nGenerator: simbegyor-ndef\nRoot-Is-Purelib: false\n' + tags).encode()
     for name in LICENSES:
         yield folder + 'licenses/' + name, (TOP / name).read_bytes()
 
 
-def record_line(name, content):
+def record_line(name: str, content: bytes) -> str:
     digest = base64.urlsafe_b64encode(hashlib.sha256(content).digest()).rstrip(b'=').decode()
     return '%s,sha256=%s,%d\n' % (name, digest, len(content))
 
 
-def build_wheel(wheel_directory, config_settings=None, metadata_directory=None):
+def build_wheel(wheel_directory: str, config_settings: Settings = None, metadata_directory: Optional[str] = None) -> str:
     with tempfile.TemporaryDirectory() as folder:
-        library = pathlib.Path(folder, 'libndef.so')
+        library = pathlib.Path(folder, LIBRARY)
         make_library(library)
         tag, code = platform_tag(library), library.read_bytes()
-    files = dict([*modules(), ('simbegyor_ndef/libndef.so', code), *wheel_data(tag)])
+    files = dict([*modules(), ('simbegyor_ndef/' + LIBRARY, code), *wheel_data(tag)])
     listed = ''.join(record_line(name, files[name]) for name in sorted(files))
     record = NAME + '.dist-info/RECORD'
     wheel = '%s-py3-none-%s.whl' % (NAME, tag)
@@ -144,12 +165,12 @@ def build_wheel(wheel_directory, config_settings=None, metadata_directory=None):
         for name, content in [*sorted(files.items()), (record, (listed + record + ',,\n').encode())]:
             entry = zipfile.ZipInfo(name, time.gmtime(moment())[:6])
             entry.compress_type = zipfile.ZIP_DEFLATED
-            entry.external_attr = (0o755 if name.endswith('.so') else 0o644) << 16
+            entry.external_attr = (0o755 if name.endswith('/' + LIBRARY) else 0o644) << 16
             made.writestr(entry, content)
     return wheel
 
 
-def prepare_metadata_for_build_wheel(metadata_directory, config_settings=None):
+def prepare_metadata_for_build_wheel(metadata_directory: str, config_settings: Settings = None) -> str:
     for name, content in wheel_data('any'):
         path = pathlib.Path(metadata_directory, name)
         path.parent.mkdir(parents=True, exist_ok=True)
@@ -157,7 +178,7 @@ def prepare_metadata_for_build_wheel(metadata_directory, config_settings=None):
     return NAME + '.dist-info'
 
 
-def sources():
+def sources() -> Files:
     """The files of the source distribution, which make the wheel anywhere."""
     check_generated()
     yield 'PKG-INFO', metadata()
@@ -170,7 +191,7 @@ def sources():
         yield name, (TOP / name).read_bytes()
 
 
-def build_sdist(sdist_directory, config_settings=None):
+def build_sdist(sdist_directory: str, config_settings: Settings = None) -> str:
     packed = io.BytesIO()
     with tarfile.open(fileobj=packed, mode='w', format=tarfile.PAX_FORMAT) as made:
         for name, content in sorted(sources()):

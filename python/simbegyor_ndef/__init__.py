@@ -5,6 +5,8 @@
 """
 from . import handover, message, record, smartposter, text, uri
 from ._fields import Field, fields
+from ._many import decode_many
+from ._ndeflib import install_as_ndef
 from .errors import DecodeError, EncodeError
 from .handover import HandoverCarrierRecord, HandoverRequestRecord, HandoverSelectRecord
 from .message import message_decoder, message_encoder
@@ -16,5 +18,5 @@ from .uri import UriRecord
 __version__ = '@VERSION@'
 
 __all__ = ['DecodeError', 'EncodeError', 'Field', 'GlobalRecord', 'HandoverCarrierRecord', 'HandoverRequestRecord',
-           'HandoverSelectRecord', 'LocalRecord', 'Record', 'SmartposterRecord', 'TextRecord', 'UriRecord', 'fields',
-           'message_decoder', 'message_encoder']
+           'HandoverSelectRecord', 'LocalRecord', 'Record', 'SmartposterRecord', 'TextRecord', 'UriRecord', 'decode_many',
+           'fields', 'install_as_ndef', 'message_decoder', 'message_encoder']

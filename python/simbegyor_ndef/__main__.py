@@ -1,4 +1,7 @@
-"""The records of the messages in files: python3 -m simbegyor_ndef [--hex] [--json] [FILE..]
+"""The messages in files: simbegyor-ndef [show|check|explain] [--hex] [--json] [FILE..]
+
+`show`, which is meant where the first word is none of the three, prints a line for each record; `check` one for each
+message; `explain` one for each field, with its octets. `python3 -m simbegyor_ndef` is the same program.
 
 Exit status: 0, the files hold messages to their end; 1, one doesn't, and a line says where and why; 2, the words don't
 parse; 3, reading or writing failed.
@@ -10,13 +13,18 @@ import io
 import json
 import os
 import sys
-from typing import Any, Dict, Iterator, List, Optional, Tuple, Union
+from typing import Any, Dict, List, Optional
 
-from . import Record, __version__, message_decoder
+from . import __version__
+from ._lines import COMMANDS
 from .errors import DecodeError
 
-_ATTRIBUTES = ('text', 'language', 'encoding', 'iri', 'titles', 'action', 'resource_size', 'resource_type', 'version_string',
-               'collision_resolution_number', 'error', 'alternative_carriers', 'carrier_type', 'carrier_data')
+_COMMANDS = """what is printed:
+  show     a line for each record; this is meant where the first word is none of these
+  check    a line for each message: where it begins, its records and its bytes
+  explain  a line for each field, with its octets, up to the octet that is refused
+
+Exit status: 0 all are messages, 1 one is refused, 2 bad words, 3 reading or writing failed."""
 
 
 class _BadHexadecimal(Exception):
@@ -41,76 +49,45 @@ def _octets(name: str, is_hex: bool) -> bytes:
     return bytes.fromhex(digits.decode('ascii'))
 
 
-def _messages(octets: bytes) -> Iterator[Tuple[int, List[Record]]]:
-    """The messages of the octets, one behind another, each with its place; DecodeError tells a place among all octets."""
-    stream = io.BytesIO(octets)
-    while stream.tell() < len(octets):
-        at = stream.tell()
-        try:
-            yield at, list(message_decoder(stream))
-        except DecodeError as error:
-            raise DecodeError(error.reason, at + error.place, error.number) from None
-
-
-def _plain(value: Any) -> Any:
-    """The value as JSON has it: octets in hexadecimal digits, named tuples as objects."""
-    if isinstance(value, (bytes, bytearray)):
-        return value.hex()
-    if hasattr(value, '_asdict'):
-        return {name: _plain(part) for name, part in value._asdict().items()}
-    if isinstance(value, list):
-        return [_plain(part) for part in value]
-    return value
-
-
-def _object(record: Record) -> Dict[str, Any]:
-    """The record as JSON has it."""
-    known = {name: _plain(getattr(record, name)) for name in _ATTRIBUTES if hasattr(record, name)}
-    resource = getattr(record, 'resource', None)
-    if resource is not None:
-        known['iri'] = resource.iri
-    return {'type': record.type, 'name': record.name, 'data': record.data.hex(), **known}
-
-
-def _one_line(text: str) -> str:
-    """The text with each character that isn't printed as an escape."""
-    return ''.join(char if char.isprintable() else char.encode('unicode_escape', 'surrogatepass').decode('ascii') for char in text)
-
-
-def _lines(octets: bytes, as_json: bool) -> Iterator[str]:
-    """A line for each record."""
-    for count, (at, records) in enumerate(_messages(octets), 1):
-        for record in records:
-            if as_json:
-                yield json.dumps({'message': count, 'at': at, **_object(record)})
-            else:
-                yield _one_line(str(record))
-
-
 def _told_of(name: str, words: argparse.Namespace, before: str) -> int:
-    """Prints the records of a file; the status."""
+    """Prints what is asked of a file; the status."""
     try:
-        for line in _lines(_octets(name, words.hex), words.json):
-            print(line if words.json else before + line)
+        for line in COMMANDS[words.command](_octets(name, words.hex), words.json):
+            print(json.dumps(line) if words.json else before + str(line))
         return 0
     except _BadHexadecimal as error:
-        refusal: Tuple[str, Dict[str, Union[str, int]]] = str(error), {'reason': str(error)}
+        lines: List[str] = [str(error)]
+        refusal: Dict[str, Any] = {'reason': str(error)}
     except DecodeError as error:
-        refusal = ('refused at %d: %d %s' % (error.place, error.number, error.reason),
-                   {'place': error.place, 'number': error.number, 'reason': error.reason})
-    print(json.dumps({'refused': refusal[1]}) if words.json else before + refusal[0])
+        lines = ['refused at %d: %d %s' % (error.place, error.number, error.reason)]
+        refusal = {'place': error.place, 'number': error.number, 'reason': error.reason}
+        if words.command == 'explain':
+            lines.append(error.sentence)
+            refusal['sentence'] = error.sentence
+    print(json.dumps({'refused': refusal}) if words.json else '\n'.join(before + line for line in lines))
     return 1
 
 
-def main(arguments: Optional[List[str]] = None) -> int:
-    """Runs the program with these words; the exit status."""
-    parser = argparse.ArgumentParser(prog='python3 -m simbegyor_ndef', description='Prints the records of NDEF messages.',
-                                     epilog='Exit status: 0 all are messages, 1 one is refused, 2 bad words, 3 reading or writing failed.')
+def _parsed(arguments: List[str]) -> argparse.Namespace:
+    """What the words say."""
+    command = arguments[0] if arguments[:1] and arguments[0] in COMMANDS else None
+    name = os.path.basename(sys.argv[0])
+    name = 'python3 -m simbegyor_ndef' if name == '__main__.py' else name
+    parser = argparse.ArgumentParser(prog=name, usage=name + ' [show|check|explain] [--hex] [--json] [FILE ...]',
+                                     description='Prints what the NDEF messages in files hold, or why they are refused.',
+                                     epilog=_COMMANDS, formatter_class=argparse.RawDescriptionHelpFormatter)
     parser.add_argument('--hex', action='store_true', help='the files are hexadecimal text')
-    parser.add_argument('--json', action='store_true', help='print an object of JSON for each record')
+    parser.add_argument('--json', action='store_true', help='print an object of JSON for each line')
     parser.add_argument('--version', action='version', version=__version__)
     parser.add_argument('files', metavar='FILE', nargs='*', default=['-'], help='a file, or - for standard input, which is the default')
-    words = parser.parse_args(arguments)
+    words = parser.parse_args(arguments[1:] if command else arguments)
+    words.command = command or 'show'
+    return words
+
+
+def main(arguments: Optional[List[str]] = None) -> int:
+    """Runs the program with these words, or those of the command line; the exit status."""
+    words = _parsed(sys.argv[1:] if arguments is None else arguments)
     if isinstance(sys.stdout, io.TextIOWrapper):
         sys.stdout.reconfigure(errors='backslashreplace')
     try:

@@ -11,6 +11,7 @@ import os
 import struct
 from typing import Any, Callable, Dict, List, Tuple
 
+from ._platform import library_name
 from .errors import DecodeError, EncodeError
 
 OK, REFUSED, NO_ROOM, BAD_ARGUMENT, END, MORE = range(6)
@@ -33,14 +34,15 @@ def _sizes(names: str) -> List[Tuple[str, Any]]:
     return [(name, _size) for name in names.split()]
 
 
-class _Sizes(Dict[int, ctypes.c_size_t]):
-    """Lengths and places as a call takes them; the usual ones are made once, and are never changed."""
+class _Sizes(Dict[int, Any]):
+    """Lengths and places as a call takes them, ready for its registers; the usual ones are made once."""
 
-    def __missing__(self, value: int) -> ctypes.c_size_t:
-        return _size(value)
+    def __missing__(self, value: int) -> Any:
+        return _size.from_param(value)
 
 
-SIZES = _Sizes({value: _size(value) for value in range(4096)})
+USUAL_SIZES = 4096
+SIZES = _Sizes({value: _size.from_param(value) for value in range(USUAL_SIZES)})
 
 
 class Limits(ctypes.Structure):
@@ -99,10 +101,18 @@ class FieldParts(ctypes.Structure):
     _fields_ = _sizes('at length') + _numbers('depth name')
 
 
-# The fields of a RecordParts, all of them at once.
+# The fields of a RecordParts, or of the octets that it lies in, all of them at once.
 record_fields = struct.Struct('@10N2I').unpack_from
 
-_path = os.path.join(os.path.dirname(os.path.abspath(__file__)), 'libndef.so')
+
+def record_room() -> Tuple[bytearray, Any]:
+    """The octets of a RecordParts, and a reference to it: `record_fields` reads octets faster than the struct itself."""
+    octets = bytearray(ctypes.sizeof(RecordParts))
+    return octets, byref(RecordParts.from_buffer(octets))
+
+
+
+_path = os.path.join(os.path.dirname(os.path.abspath(__file__)), library_name())
 try:
     # Other threads run while a call looks at a whole message; the other calls are too short for that.
     _long, _short = ctypes.CDLL(_path), ctypes.PyDLL(_path)
@@ -119,9 +129,12 @@ def _call(name: str, loaded: Any = _short, result: Any = u32) -> Callable[..., i
 
 _usual_limits = _call('ndef_usual_limits', result=None)
 _reason_name = _call('ndef_reason_name')
+_reason_sentence = _call('ndef_reason_sentence')
 _field_name = _call('ndef_field_name')
 _fields = _call('ndef_fields', _long)
 check = _call('ndef_check', _long)
+# For octets that are few: no other thread runs meanwhile.
+check_short = _call('ndef_check')
 begin = _call('ndef_begin')
 feed = _call('ndef_feed', _long)
 record_at = _call('ndef_record_at')
@@ -228,6 +241,12 @@ def reason_name(reason: int) -> str:
 
 
 @functools.lru_cache(maxsize=None)
+def reason_sentence(reason: int) -> str:
+    """What a reason means, in a sentence."""
+    return put(_reason_sentence, u32(reason))[1].decode('ascii')
+
+
+@functools.lru_cache(maxsize=None)
 def field_name(name: int) -> str:
     """The name of a field."""
     return put(_field_name, u32(name))[1].decode('ascii')
@@ -254,6 +273,11 @@ def parts_of_references(payload: bytes, count: int) -> List[Any]:
 def first_of(octets: bytearray) -> Any:
     """A reference to the first of the octets, which may not be resized while it is there."""
     return byref(ctypes.c_char.from_buffer(octets)) if octets else b''
+
+
+def copy(into: Checker, checker: Checker) -> None:
+    """Copies the state of a check."""
+    ctypes.memmove(byref(into), byref(checker), ctypes.sizeof(Checker))
 
 
 def refused(why: Checked, before: int = 0) -> DecodeError:

@@ -10,6 +10,7 @@ class DecodeError(Exception):
     reason: the name of the reason, as ndef.h gives it ('EndOfInput'), or the text of a record class of one's own.
     place: the place of the first octet with which no message goes on, counted from 0.
     number: the number of the reason in ndef.h, 1 to 25; 0 where a record class of one's own refuses.
+    sentence: what the reason means, in a sentence of English; the reason itself where its number is 0.
     fields: where `fields` raised it, the fields before that octet; else none.
     """
 
@@ -17,6 +18,12 @@ class DecodeError(Exception):
         super().__init__(reason, place, number)
         self.reason, self.place, self.number = reason, place, number
         self.fields: List[Any] = []
+
+    @property
+    def sentence(self) -> str:
+        """What the reason means, in a sentence of English; the reason itself where its number is 0."""
+        from . import _library
+        return _library.reason_sentence(self.number) if self.number else _one_line(self.reason)
 
     def __str__(self) -> str:
         return 'refused at %d: %s' % (self.place, _one_line(self.reason))

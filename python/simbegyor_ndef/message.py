@@ -10,9 +10,20 @@ from .record import Parts, Record, parts_of
 
 __all__ = ['message_decoder', 'message_encoder']
 
+# How many octets ahead are looked at first; as many are worth a look at all pieces of a long record.
 _LOOK = 64
-_Known = Mapping[Parts, Type[Record]]
-_Told = Optional[Dict[Type[Record], Any]]
+# A record behind which the message ends, so that a checker says whether another record may begin where it stands.
+_ENDING = Record()._written(library.LAST, 0)
+Known = Mapping[Parts, Type[Record]]
+Told = Optional[Dict[Type[Record], Any]]
+
+
+def known_of(known_types: Optional[Mapping[str, Type[Record]]]) -> Tuple[Any, Known, Told]:
+    """How messages are read where these types are known: the limits, the classes, and what `records_of` is to be told."""
+    if known_types is None:
+        return library.limits(Record.MAX_PAYLOAD_SIZE, 0), Record._known_parts, {}
+    known = {parts_of(spelled): record_class for spelled, record_class in known_types.items()}
+    return library.limits(Record.MAX_PAYLOAD_SIZE, library.OPAQUE), known, None
 
 
 def message_decoder(stream_or_bytes: Union[bytes, bytearray, memoryview, BinaryIO], errors: str = 'strict',
@@ -31,12 +42,7 @@ def message_decoder(stream_or_bytes: Union[bytes, bytearray, memoryview, BinaryI
         raise left_out('errors=%r' % errors)
     if errors != 'strict':
         raise ValueError("errors is 'strict', not %r" % (errors,))
-    told: _Told = {}
-    if known_types is None:
-        flags, known = 0, Record._known_parts
-    else:
-        told, flags, known = None, library.OPAQUE, {parts_of(spelled): record_class for spelled, record_class in known_types.items()}
-    limits = library.limits(Record.MAX_PAYLOAD_SIZE, flags)
+    limits, known, told = known_of(known_types)
     if isinstance(stream_or_bytes, (bytes, bytearray, memoryview)):
         records = _from_octets(bytes(stream_or_bytes), limits, known, told)
     elif hasattr(stream_or_bytes, 'read') and not isinstance(stream_or_bytes, io.TextIOBase):
@@ -46,7 +52,7 @@ def message_decoder(stream_or_bytes: Union[bytes, bytearray, memoryview, BinaryI
     yield from list(records) if whole else records
 
 
-def _from_octets(octets: bytes, limits: Any, known: _Known, told: _Told) -> Iterator[Record]:
+def _from_octets(octets: bytes, limits: Any, known: Known, told: Told) -> Iterator[Record]:
     """The records of the message with which the octets begin."""
     if not octets:
         return
@@ -84,6 +90,7 @@ class _Incoming:
     def __init__(self, stream: BinaryIO, limits: Any) -> None:
         self.stream, self.checker, self.checked = stream, library.Checker(), library.Checked()
         self.before, self.taken, self.parts = 0, bytearray(), library.RecordParts()
+        self.trial, self.tried = library.Checker(), library.Checked()
         library.begin(limits, library.byref(self.checker))
 
     def _feed(self, checker: library.Checker, octets: bytes) -> int:
@@ -95,17 +102,29 @@ class _Incoming:
         self.taken += octets
         return self._feed(self.checker, octets)
 
+    def _may_be_whole(self, status: int) -> bool:
+        """Whether the octets at hand may be a whole record. Unlike `_is_whole` this takes as long for many pieces as for
+        one. It says no only where another record may not begin behind the octets; and it says yes of a record that isn't
+        whole only where as many octets are wanting as `_ENDING` has."""
+        if status != library.MORE:
+            return True
+        library.copy(self.trial, self.checker)
+        told = library.feed(library.byref(self.trial), _ENDING, library.SIZES[len(_ENDING)], library.byref(self.tried))
+        place: int = self.tried.place
+        return told == library.OK and place == self.before + len(self.taken) + len(_ENDING)
+
     def _is_whole(self) -> bool:
         """Whether a whole record is among the octets at hand, of those that are accepted."""
         accepted = self.checked.place - self.before
         return library.record_at(library.first_of(self.taken), library.SIZES[accepted], library.SIZES[0], library.byref(self.parts)) == library.OK
 
     def _look(self, seen: bytes) -> int:
-        """Takes of the octets ahead those that belong to the record; none where they are refused."""
-        trial, count = library.Checker.from_buffer_copy(self.checker), len(self.taken)
+        """Takes of the octets ahead those that belong to the record; none where they are refused. One octet does."""
+        library.copy(self.trial, self.checker)
+        count = len(self.taken)
         self.taken += seen
-        status = self._feed(trial, seen)
-        mine = self.parts.end - count if self._is_whole() else len(seen)
+        status = self._feed(self.trial, seen)
+        mine = self.parts.end - count if len(seen) > 1 and self._is_whole() else len(seen)
         if mine == len(seen) and status not in (library.OK, library.MORE):
             return status
         del self.taken[count:]
@@ -113,15 +132,18 @@ class _Incoming:
 
     def next_record(self) -> Tuple[bytes, int]:
         """Takes the octets of the next record, and tells whether the message goes on behind it. Of a stream that has no octet
-        there is no record."""
+        there is no record. Octets ahead are looked at together where they are an eighth of those that were taken, or `_LOOK`
+        of them: a look takes as long as the record has pieces. Fewer are taken one by one."""
         self.taken = bytearray()
         while True:
             seen = _ahead(self.stream, max(_LOOK, len(self.taken)))
+            if len(seen) < min(len(self.taken) // 8, _LOOK):
+                seen = seen[:1]
             octet = b'' if seen else _read(self.stream, 1)
             if not (seen or octet or self.before or self.taken):
                 return b'', library.OK
             status = self._look(seen) if seen else self._take(octet)
-            if self._is_whole():
+            if (len(seen) > 1 or self._may_be_whole(status)) and self._is_whole():
                 octets = bytes(self.taken[:self.parts.end])
                 self.before += len(octets)
                 return octets, status
@@ -129,28 +151,28 @@ class _Incoming:
                 raise library.refused(self.checked)
 
 
-def _from_stream(stream: BinaryIO, limits: Any, known: _Known, told: _Told) -> Iterator[Record]:
+def _from_stream(stream: BinaryIO, limits: Any, known: Known, told: Told) -> Iterator[Record]:
     """The records of the message that the stream gives next. Each octet is taken with its record."""
     incoming, status = _Incoming(stream, limits), library.MORE
     while status == library.MORE:
         before = incoming.before
         octets, status = incoming.next_record()
         if octets:
-            yield _record(octets, library.record_fields(incoming.parts), known, before, not before, told)
+            yield record_of(octets, library.record_fields(incoming.parts), known, before, not before, told)
 
 
-def records_of(octets: bytes, start: int, end: int, known: _Known, told: _Told) -> Iterator[Record]:
+def records_of(octets: bytes, start: int, end: int, known: Known, told: Told) -> Iterator[Record]:
     """The records of a message that has been checked and that lies between two places. `told` is None where payloads weren't
     looked into; else it has, for classes of which the library told the first record's value with the whole, what it told."""
-    parts, size, at = library.RecordParts(), library.SIZES[end], start
-    out, sizes, record_at, record_fields = library.byref(parts), library.SIZES, library.record_at, library.record_fields
-    while record_at(octets, size, sizes[at], out) == library.OK:
-        fields = record_fields(parts)
-        yield _record(octets, fields, known, 0, at == start, told)
+    (room, out), size, at = library.record_room(), library.SIZES[end], start
+    sizes, record_at, record_fields = library.SIZES, library.record_at, library.record_fields
+    while at != end and record_at(octets, size, sizes[at], out) == library.OK:
+        fields = record_fields(room)
+        yield record_of(octets, fields, known, 0, at == start, told)
         at = fields[1]
 
 
-def _record(octets: bytes, fields: Tuple[int, ...], known: _Known, before: int, is_first: bool, told: _Told) -> Record:
+def record_of(octets: bytes, fields: Tuple[int, ...], known: Known, before: int, is_first: bool, told: Told) -> Record:
     """The record with these parts, of octets that lie behind so many others of their message."""
     at, end, type_at, type_length, id_at, id_length, payload_at, part_length, length, pieces, tnf, _ = fields
     kind = tnf, octets[type_at:type_at + type_length]
@@ -161,11 +183,14 @@ def _record(octets: bytes, fields: Tuple[int, ...], known: _Known, before: int, 
     record_class = known.get(kind)
     if record_class is None:
         made = Record._made(kind, data)
+    elif told is not None and record_class._looks_late:
+        made = record_class.__new__(record_class)
+        made._unread = data
     elif told and record_class in told:
         made = record_class._of(told.pop(record_class))  # type: ignore[attr-defined]
     else:
         try:
-            made = record_class._from_payload(data) if told is None else record_class._from_checked(data)
+            made = record_class._from_payload(data)
         except DecodeError as error:
             place = payload_at + error.place
             if pieces > 1:

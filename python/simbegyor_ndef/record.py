@@ -108,6 +108,9 @@ class Record:
     _decode_min_payload_length: int = 0
     _decode_max_payload_length: int = 0xffffffff
     _name: bytes = b''
+    # A checked payload that wasn't looked at yet. A class that has `_read` looks at it where an attribute is first asked for.
+    _looks_late: bool = False
+    _unread: Optional[bytes] = None
     _parts: Parts
     _data: Octets
 
@@ -117,6 +120,10 @@ class Record:
         self._parts = parts_of(text_of('' if type is None else type, 'a record type'))
         self._data = octets_of(data, 'data')
         self._take_name(name)
+
+    def __init_subclass__(cls, **named: Any) -> None:
+        super().__init_subclass__(**named)
+        cls._looks_late = '_read' in cls.__dict__
 
     @classmethod
     def register_type(cls, record_class: Type['Record']) -> None:
@@ -143,11 +150,6 @@ class Record:
             return made
         except struct.error as error:
             raise cls._decode_error('{}', error) from None
-
-    @classmethod
-    def _from_checked(cls, octets: bytes) -> 'Record':
-        """The same for a payload that the library has checked."""
-        return cls._from_payload(octets)
 
     @classmethod
     def _decode_payload(cls, octets: bytes, errors: str) -> Any:
@@ -274,19 +276,9 @@ class _TypedRecord(Record):
     """A record of the type `_type`, with attributes of its own for `data`."""
 
     _type: str
-    # A checked payload that wasn't looked at yet. A class that has `_read` looks at it where an attribute is first asked for.
-    _unread: Optional[bytes] = None
 
     def __init__(self) -> None:
         pass
-
-    @classmethod
-    def _from_checked(cls, octets: bytes) -> Record:
-        if '_read' not in cls.__dict__:
-            return cls._from_payload(octets)
-        made = cls.__new__(cls)
-        made._unread = octets
-        return made
 
     def _read(self, octets: bytes) -> None:
         """Sets the attributes by a payload; of the classes that have this."""

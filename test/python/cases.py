@@ -6,9 +6,9 @@ import re
 TOP = pathlib.Path(__file__).resolve().parents[2]
 
 
-def texts(name):
-    """The texts by their numbers, as a list of ndef.h has them."""
-    header = (TOP / 'include/ndef.h').read_text()
+def texts(name, header='ndef.h'):
+    """The texts by their numbers, as a list of a header has them."""
+    header = (TOP / 'include' / header).read_text()
     found = re.search(r'#define %s\(X\)((?:.*\\\n)*.*)' % name, header)[1]
     return {int(number): text for number, text in re.findall(r'X\((\d+), \w+, "([^"]+)"\)', found)}
 
@@ -16,6 +16,11 @@ def texts(name):
 def reasons():
     """The names of the reasons by their numbers."""
     return texts('NDEF_REASONS')
+
+
+def sentences():
+    """What reasons mean by their numbers."""
+    return texts('NDEF_SENTENCES', 'ndef_names.h')
 
 
 def field_names():

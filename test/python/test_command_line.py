@@ -38,6 +38,53 @@ class CommandLine(unittest.TestCase):
         status, lines = self.run_with(files=[HELLO + b'\xff', HELLO])
         self.assertEqual((status, lines), (1, ['0.bin: ' + hello, '0.bin: refused at 12: 1 ReservedTnf', '1.bin: ' + hello]))
 
+    def test_check(self):
+        """The lines are those of `ndef check` (docs/COMMAND.md)."""
+        self.assertEqual(self.run_with('check', files=[HELLO + HELLO]), (0, ['message 1 at 0: records 1, bytes 12', 'message 2 at 12: records 1, bytes 12']))
+        self.assertEqual(self.run_with('check', files=[HELLO + HELLO[:11], b'', octets(ndef.Record(), ndef.Record())]),
+                         (1, ['0.bin: message 1 at 0: records 1, bytes 12', '0.bin: refused at 23: 24 EndOfInput',
+                              '2.bin: message 1 at 0: records 2, bytes 6']))
+        status, lines = self.run_with('check', '--json', files=[HELLO + b'\xff'])
+        self.assertEqual((status, [json.loads(line) for line in lines]), (1, [{'message': 1, 'at': 0, 'records': 1, 'bytes': 12},
+                         {'refused': {'place': 12, 'number': 1, 'reason': 'ReservedTnf'}}]))
+
+    def test_explain(self):
+        """The lines are those of `ndef-explain` without meanings (docs/EXPLAIN.md)."""
+        poster = octets(ndef.SmartposterRecord('http://www.example.com/')) + bytes.fromhex('d101035442656e')
+        head = ['message 1 at 0: bytes 22', '00000000  d1                       header', '00000001  02                       TYPE_LENGTH',
+                '00000002  11                       PAYLOAD_LENGTH', '00000003  53 70                    TYPE',
+                '00000005    d1                       header', '00000006    01                       TYPE_LENGTH',
+                '00000007    0d                       PAYLOAD_LENGTH', '00000008    55                       TYPE',
+                '00000009    01                       identifier code', '0000000a    65 78 61 6d 70 6c 65 2e  URI', '            63 6f 6d 2f']
+        last = ['00000016  d1                       header', '00000017  01                       TYPE_LENGTH',
+                '00000018  03                       PAYLOAD_LENGTH', '00000019  54                       TYPE']
+        wrong = ['0000001a  42  ^', 'refused at 26: 15 TextBit', 'Bit 6 of the status octet of a text is reserved: it has to be 0.']
+        self.assertEqual(self.run_with('explain', files=[poster]), (1, head + last + wrong))
+        self.assertEqual(self.run_with('explain', files=[poster[:22]]), (0, head))
+        self.assertEqual(self.run_with('explain', files=[poster[:24]]), (1, [*head, *last[:2], 'refused at 24: 24 EndOfInput',
+                                                                            'The input ends within a message.']))
+        self.assertEqual(self.run_with('explain', given=b''), (0, []))
+
+    def test_explain_in_json(self):
+        status, lines = self.run_with('explain', '--json', files=[HELLO + HELLO[:3]])
+        first, second, third = map(json.loads, lines)
+        names = ['header', 'TYPE_LENGTH', 'PAYLOAD_LENGTH', 'TYPE', 'status', 'language code', 'text']
+        self.assertEqual((status, first['message'], first['at'], first['length'], [part['name'] for part in first['fields']]), (1, 1, 0, 12, names))
+        self.assertEqual(first['fields'][6], {'at': 7, 'length': 5, 'depth': 0, 'name': 'text', 'octets': '48656c6c6f'})
+        self.assertEqual((second['message'], second['at'], [(part['at'], part['name']) for part in second['fields']]),
+                         (2, 12, list(zip((12, 13, 14), names))))
+        self.assertEqual(third, {'refused': {'place': 15, 'number': 24, 'reason': 'EndOfInput', 'sentence': 'The input ends within a message.'}})
+
+    def test_the_first_word(self):
+        """Only the first word may be one of the three; `show` is meant without it."""
+        hello = "NDEF Text Record ID '' Text 'Hello' Language 'en' Encoding 'UTF-8'"
+        self.assertEqual(self.run_with('show', files=[HELLO]), (0, [hello]))
+        with tempfile.TemporaryDirectory() as folder:
+            pathlib.Path(folder, 'check').write_bytes(HELLO)
+            for words in (['./check'], ['show', 'check'], ['--', 'check']):
+                done = self.run_in(folder, words)
+                self.assertEqual((done.returncode, done.stdout.decode()), (0, hello + '\n'))
+
     def test_json(self):
         poster = octets(ndef.SmartposterRecord('http://www.example.com', 'Title', 'save'))
         status, lines = self.run_with('--json', files=[HELLO + poster + b'\xff'])

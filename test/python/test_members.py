@@ -10,6 +10,7 @@ import simbegyor_ndef as ndef
 from simbegyor_ndef import _library as library
 from simbegyor_ndef.handover import AlternativeCarrierRecord, CollisionResolutionRecord, ErrorRecord
 from simbegyor_ndef.smartposter import ActionRecord, SizeRecord, TypeRecord
+from cases import sentences
 
 HELLO = bytes.fromhex('d101085402656e48656c6c6f')
 
@@ -304,6 +305,12 @@ class Texts(unittest.TestCase):
                            ("errors is 'strict', not 'lenient'", lambda: decoded(b'a', errors='lenient'))):
             with self.subTest(text):
                 self.assertRaisesRegex(ValueError, text.replace('..', r'\.\.').replace('text/plain', "'text/plain'"), make)
+
+    def test_what_reasons_mean(self):
+        told = sentences()
+        self.assertEqual(len(told), 25)
+        self.assertEqual({number: ndef.DecodeError('', 0, number).sentence for number in told}, told)
+        self.assertEqual(ndef.DecodeError('a class of mine\nrefuses', 5).sentence, 'a class of mine refuses')
 
     def test_of_types(self):
         poster, select = ndef.SmartposterRecord('a'), ndef.HandoverSelectRecord

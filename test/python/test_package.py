@@ -3,14 +3,17 @@ import importlib
 import inspect
 import os
 import pathlib
+import runpy
 import subprocess
 import sys
 import tempfile
 import unittest
 
 import simbegyor_ndef as ndef
+from simbegyor_ndef import _platform
 from cases import TOP
 
+HELLO = bytes.fromhex('d101085402656e48656c6c6f')
 HERE = ('-c', 'import simbegyor_ndef as ndef; print(*ndef.message_decoder(bytes.fromhex("d101085402656e48656c6c6f")), ndef.__version__)')
 
 
@@ -53,6 +56,35 @@ class Package(unittest.TestCase):
                            stdout=subprocess.DEVNULL, stderr=subprocess.DEVNULL)
             said = subprocess.run([sys.executable, *HERE], cwd=folder, env={**os.environ, 'PYTHONPATH': target}, stdout=subprocess.PIPE, check=True)
             self.assertEqual(said.stdout.decode(), "NDEF Text Record ID '' Text 'Hello' Language 'en' Encoding 'UTF-8' %s\n" % ndef.__version__)
+            self.command(target)
+
+    def command(self, target):
+        """The command of the wheel is the module as a program."""
+        for word, printed in (('show', b"NDEF Text Record ID '' Text 'Hello' Language 'en' Encoding 'UTF-8'\n"),
+                              ('check', b'message 1 at 0: records 1, bytes 12\n'), ('explain', b'message 1 at 0: bytes 12\n00000000  d1 ')):
+            said = subprocess.run([sys.executable, target + '/bin/simbegyor-ndef', word], input=HELLO, stdout=subprocess.PIPE,
+                                  env={**os.environ, 'PYTHONPATH': target}, check=True)
+            self.assertEqual(said.stdout[:len(printed)], printed)
+        said = subprocess.run([sys.executable, target + '/bin/simbegyor-ndef', '--help'], stdout=subprocess.PIPE,
+                              env={**os.environ, 'PYTHONPATH': target}, check=True)
+        self.assertIn(b'usage: simbegyor-ndef [show|check|explain]', said.stdout)
+
+    def test_names_on_other_platforms(self):
+        """Nothing is built for them here: these are the names that the loaders of Windows and macOS know."""
+        for platform, name in (('linux', 'libndef.so'), ('freebsd14', 'libndef.so'), ('darwin', 'libndef.dylib'), ('win32', 'ndef.dll'),
+                               ('cygwin', 'ndef.dll')):
+            self.assertEqual(_platform.library_name(platform), name)
+        self.assertTrue(pathlib.Path(ndef.__path__[0], _platform.library_name()).exists())
+
+    def test_the_backend_on_other_platforms(self):
+        made = runpy.run_path(str(TOP / 'python/backend.py'))
+        self.assertEqual(made['LIBRARY'], _platform.library_name())
+        for platform, wanted in (('linux', ('-fPIC', '-shared', '--whole-archive', 'x.a')), ('darwin', ('-fPIC', '-shared', '-force_load,x.a')),
+                                 ('win32', ('-shared', '--whole-archive', 'x.a'))):
+            words = ' '.join(made['linking'](platform, 'x.a'))
+            self.assertEqual([word for word in wanted if word not in words], [])
+            self.assertEqual(('-z,defs' in words, '-fPIC' in words), (platform == 'linux', platform != 'win32'))
+            self.assertNotIn('x.a', ' '.join(made['linking'](platform)))
 
     def test_where_it_goes_is_said(self):
         environment = {name: value for name, value in os.environ.items() if name != 'PYTHONPATH'}

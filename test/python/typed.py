@@ -1,6 +1,6 @@
 """What mypy --strict says of programs that use the module: each `type: ignore` hides an error that has to be there."""
 import io
-from typing import Iterator, List, Optional
+from typing import Iterator, List, Optional, Union
 
 import simbegyor_ndef as ndef
 
@@ -11,6 +11,8 @@ encoder = ndef.message_encoder()
 encoder.send(None)
 sent: Optional[bytes] = encoder.send(ndef.TextRecord('Hello'))
 fields: List[ndef.Field] = ndef.fields(octets, profile='standard')
+answers: List[Union[List[ndef.Record], ndef.DecodeError]] = list(ndef.decode_many([octets, bytearray(octets)], known_types={}))
+meant: List[str] = [answer.sentence for answer in answers if isinstance(answer, ndef.DecodeError)]
 names: Iterator[str] = (field.name for field in fields)
 ndef.Record('text/plain', b'name', bytearray(3)).name = 'a'
 ndef.HandoverCarrierRecord('a/b', b'x', 'a').carrier_data.extend(b'y')
@@ -18,5 +20,7 @@ ndef.HandoverCarrierRecord('a/b', b'x', 'a').carrier_data.extend(b'y')
 wrong_sizes: List[int] = list(ndef.message_encoder(records))  # type: ignore[arg-type]
 wrong_octets: List[bytes] = list(ndef.message_encoder(records, io.BytesIO()))  # type: ignore[arg-type]
 wrong_records: List[bytes] = list(ndef.message_decoder(b''))  # type: ignore[arg-type]
+wrong_answers: List[List[ndef.Record]] = list(ndef.decode_many([octets]))  # type: ignore[arg-type]
+wrong_messages = ndef.decode_many(['text'])  # type: ignore[list-item]
 wrong_sent: bytes = encoder.send(ndef.TextRecord('Hello'))  # type: ignore[assignment]
 encoder.send('text')  # type: ignore[arg-type]

@@ -1,0 +1,127 @@
+"""What the program prints of the messages of a file: lines for people, or objects for JSON."""
+from __future__ import annotations
+
+import io
+from typing import Any, Callable, Dict, Iterator, List, Tuple, Union
+
+from ._fields import Field, fields
+from .errors import DecodeError
+from .message import message_decoder
+from .record import Record
+
+# A line for people, or an object for JSON.
+Line = Union[str, Dict[str, Any]]
+
+_ATTRIBUTES = ('text', 'language', 'encoding', 'iri', 'titles', 'action', 'resource_size', 'resource_type', 'version_string',
+               'collision_resolution_number', 'error', 'alternative_carriers', 'carrier_type', 'carrier_data')
+_IN_A_LINE = 8
+
+
+def _messages(octets: bytes) -> Iterator[Tuple[int, int, List[Record]]]:
+    """The messages of the octets, one behind another: where each begins, where it ends, and its records. DecodeError tells a
+    place among all octets."""
+    stream, at = io.BytesIO(octets), 0
+    while at < len(octets):
+        try:
+            records = list(message_decoder(stream))
+        except DecodeError as error:
+            raise _moved(error, at) from None
+        end = stream.tell()
+        yield at, end, records
+        at = end
+
+
+def _moved(error: DecodeError, at: int) -> DecodeError:
+    """The error for octets that lie behind so many others."""
+    return DecodeError(error.reason, at + error.place, error.number)
+
+
+def _plain(value: Any) -> Any:
+    """The value as JSON has it: octets in hexadecimal digits, named tuples as objects."""
+    if isinstance(value, (bytes, bytearray)):
+        return value.hex()
+    if hasattr(value, '_asdict'):
+        return {name: _plain(part) for name, part in value._asdict().items()}
+    if isinstance(value, list):
+        return [_plain(part) for part in value]
+    return value
+
+
+def _object(record: Record) -> Dict[str, Any]:
+    """The record as JSON has it."""
+    known = {name: _plain(getattr(record, name)) for name in _ATTRIBUTES if hasattr(record, name)}
+    resource = getattr(record, 'resource', None)
+    if resource is not None:
+        known['iri'] = resource.iri
+    return {'type': record.type, 'name': record.name, 'data': record.data.hex(), **known}
+
+
+def _one_line(text: str) -> str:
+    """The text with each character that isn't printed as an escape."""
+    return ''.join(char if char.isprintable() else char.encode('unicode_escape', 'surrogatepass').decode('ascii') for char in text)
+
+
+def shown(octets: bytes, as_json: bool) -> Iterator[Line]:
+    """A line for each record."""
+    for count, (at, _, records) in enumerate(_messages(octets), 1):
+        for record in records:
+            yield {'message': count, 'at': at, **_object(record)} if as_json else _one_line(str(record))
+
+
+def checked(octets: bytes, as_json: bool) -> Iterator[Line]:
+    """A line for each message."""
+    for count, (at, end, records) in enumerate(_messages(octets), 1):
+        if as_json:
+            yield {'message': count, 'at': at, 'records': len(records), 'bytes': end - at}
+        else:
+            yield 'message %d at %d: records %d, bytes %d' % (count, at, len(records), end - at)
+
+
+def _field_lines(at: int, told: List[Field]) -> Iterator[str]:
+    """The lines of the fields of the message that begins at a place."""
+    for field in told:
+        digits = [' '.join('%02x' % octet for octet in field.octets[start:start + _IN_A_LINE])
+                  for start in range(0, field.length, _IN_A_LINE)]
+        indent = 2 * field.depth * ' '
+        yield '%08x  %s%-23s  %s' % (at + field.at, indent, digits[0], field.name)
+        yield from ('          ' + indent + further for further in digits[1:])
+
+
+def _field_objects(at: int, told: List[Field]) -> List[Dict[str, Any]]:
+    """The same as JSON has it."""
+    return [{'at': at + field.at, 'length': field.length, 'depth': field.depth, 'name': field.name, 'octets': field.octets.hex()}
+            for field in told]
+
+
+def explained(octets: bytes, as_json: bool) -> Iterator[Line]:
+    """A line for each field, with its octets; of a message that is refused, for the fields before the refused octet."""
+    count = behind = 0
+    try:
+        for count, (at, behind, _) in enumerate(_messages(octets), 1):
+            told = fields(octets[at:behind])
+            if as_json:
+                yield {'message': count, 'at': at, 'length': behind - at, 'fields': _field_objects(at, told)}
+            else:
+                yield 'message %d at %d: bytes %d' % (count, at, behind - at)
+                yield from _field_lines(at, told)
+    except DecodeError as error:
+        before = _before(octets[behind:])
+        if as_json:
+            yield {'message': count + 1, 'at': behind, 'fields': _field_objects(behind, before)}
+        else:
+            yield from _field_lines(behind, before)
+            yield from ('%08x  %02x  ^' % (error.place, octet) for octet in octets[error.place:error.place + 1])
+        raise
+
+
+def _before(octets: bytes) -> List[Field]:
+    """The fields before the refused octet."""
+    try:
+        return fields(octets)
+    except DecodeError as error:
+        told: List[Field] = error.fields
+        return told
+
+
+# What is printed, by the first word of the program.
+COMMANDS: Dict[str, Callable[[bytes, bool], Iterator[Line]]] = {'show': shown, 'check': checked, 'explain': explained}

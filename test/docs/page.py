@@ -1,0 +1,58 @@
+#!/usr/bin/env python3
+"""page.py PAGE LANGUAGE FOLDER: runs the programs of a page as they are printed.
+
+Each block in the language begins with a comment that names its file. The files are written to the folder, where `include` and `out`
+are those of the repository, and the commands of the page's `console` blocks, lines `$ COMMAND`, run there one after another. Prints
+what is wrong: a command that prints another thing than the page shows or that ends with another status than 0, and a program that no
+command names. The status is 1 where something is."""
+import os
+import pathlib
+import re
+import subprocess
+import sys
+
+TOP = pathlib.Path(__file__).resolve().parents[2]
+
+
+def blocks(text, language):
+    return re.findall(rf'^```{language}\n(.*?)^```$', text, re.M | re.S)
+
+
+def written(text, language, folder):
+    """The names of the programs, which are written to the folder."""
+    for block in blocks(text, language):
+        found = re.match(r'(?://|/\*|#) (\w+\.\w+)\b', block)
+        if not found:
+            raise SystemExit(f'a program has no name: {block.splitlines()[0]}')
+        (folder / found[1]).write_text(block)
+        yield found[1]
+
+
+def wrong(text, language, folder):
+    """What is wrong of the page."""
+    names = list(written(text, language, folder))
+    shown = re.split(r'^\$ ', ''.join(blocks(text, 'console')), flags=re.M)[1:]
+    if not names or not shown:
+        yield 'the page has no program, or no command'
+    for name in names:
+        if not any(name in command.partition('\n')[0] for command in shown):
+            yield f'no command names {name}'
+    for command, _, wanted in (part.partition('\n') for part in shown):
+        run = subprocess.run(['bash', '-c', command], cwd=folder, stdout=subprocess.PIPE, stderr=subprocess.STDOUT, text=True)
+        if run.returncode != 0 or run.stdout.strip('\n') != wanted.strip('\n'):
+            yield f'{command}: status {run.returncode}, prints {run.stdout!r}'
+
+
+def main(page, language, folder):
+    place = pathlib.Path(folder)
+    place.mkdir(parents=True, exist_ok=True)
+    for name in ('include', 'out'):
+        if not (place / name).exists():
+            os.symlink(TOP / name, place / name)
+    lines = list(wrong((TOP / page).read_text(), language, place))
+    print(*lines, sep='\n', end='\n' if lines else '')
+    return 1 if lines else 0
+
+
+if __name__ == '__main__':
+    sys.exit(main(*sys.argv[1:]))
