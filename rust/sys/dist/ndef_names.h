@@ -1,1 +1,0 @@
-../../../dist/ndef_names.h
