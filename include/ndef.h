@@ -35,7 +35,7 @@
 
 /* The version of this header. */
 #define NDEF_VERSION_MAJOR 0
-#define NDEF_VERSION_MINOR 2
+#define NDEF_VERSION_MINOR 3
 #define NDEF_VERSION_PATCH 0
 
 /* A length, or the place of a byte counted from 0. It has 64 bits on every machine, since the library is compiled

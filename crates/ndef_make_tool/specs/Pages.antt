@@ -61,4 +61,4 @@ ndef_make_help =
 -- the text of a page
 abbrev pub ndef_make_page : Page → Text
 ndef_make_page page.Help = ndef_make_help
-ndef_make_page page.Version = codes "ndef-make 0.2.0\n"
+ndef_make_page page.Version = codes "ndef-make 0.3.0.dev\n"

@@ -17,7 +17,7 @@ pub(crate) fn ndef_make_page(page: Page) -> &'static [u8]
 {
     match page {
         Page::Help => ndef_make_help(),
-        Page::Version => b"ndef-make 0.2.0\n",
+        Page::Version => b"ndef-make 0.3.0.dev\n",
     }
 }
 
