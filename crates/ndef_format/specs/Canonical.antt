@@ -1,5 +1,5 @@
 -- The spelling in which messages are written (NFC Forum, NDEF 1.0, record layout).
-use Rattle.std.specs.Prelude.{◌^◌, ◌<◌, length, ◌≤◌, List, ℕ, [], ◌∷◌, Option, Some, None, Bool, false, true, ◌+◌, nat_lt, ◌++◌}
+use Rattle.std.specs.Prelude.{◌^◌, ◌<◌, length, ◌≤◌, List, ℕ, [], ◌∷◌, Option, Some, None, Bool, false, true, nat_lt, ◌++◌}
 use Rattle.std.specs.List.{AllByRecursion, flat_map}
 use Rattle.ndef_format.specs.Messages.{Item, IsShaped}
 use Rattle.ndef_format.specs.Records.{AreOctets, code, Piece, octets, fields, body}

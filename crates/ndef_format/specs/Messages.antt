@@ -1,5 +1,5 @@
 -- What the bytes of a message are (NFC Forum, NDEF 1.0, messages and chunked payloads).
-use Rattle.std.specs.Prelude.{ℕ, List, [], unwrap_or, ◌≢◌, length, ◌≡◌, true, false, ◌∷◌, map, ◌+◌, Bool, ◌++◌}
+use Rattle.std.specs.Prelude.{ℕ, List, [], unwrap_or, ◌≢◌, length, ◌≡◌, true, false, ◌∷◌, map, Bool, ◌++◌}
 use Rattle.std.specs.List.{flat_map, AllByRecursion}
 use Rattle.ndef_format.specs.Records.{Piece, tnf_of, Run, pieces, HasShape, IsRun, SpellsPiece}
 use Rattle.ndef_format.specs.declared.tnf.Tnf.{Tnf}

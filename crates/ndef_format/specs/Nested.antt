@@ -1,5 +1,5 @@
 -- Messages inside a payload, and the payloads of their records (RTD Smart Poster 1.0, Connection Handover 1.2).
-use Rattle.std.specs.Prelude.{ℕ, List, IsUtf8, Bool, true, false, if◌then◌else◌, ◌||◌, ◌≡◌, [], ◌∷◌, ⊤, count_by, ◌≤◌, length, ◌<◌, ◌⊎◌}
+use Rattle.std.specs.Prelude.{ℕ, List, IsUtf8, Bool, Option, Some, None, unwrap_or, true, false, if◌then◌else◌, ◌||◌, ◌≡◌, [], ◌∷◌, ⊤, count_by, ◌≤◌, length, ◌<◌, ◌⊎◌}
 use Rattle.std.specs.List.{AllByRecursion}
 use Rattle.ndef_format.specs.Records.{AreOctets, Run}
 use Rattle.ndef_format.specs.Octets.{AreOctetsOf}
@@ -32,21 +32,25 @@ IsPayload kinds.Request profile s = AreOctets s
 IsPayload kinds.Select profile s = AreOctets s
 IsPayload kinds.Other profile s = AreOctets s
 
--- RTD Smart Poster 1.0 and Connection Handover 1.2: the nested message of a kind of payload; a poster where it has none
+-- RTD Smart Poster 1.0 and Connection Handover 1.2: the nested message that a payload of a kind holds, if it holds one
+abbrev pub table_in : Kind → Option Table
+table_in kinds.SmartPoster = Some SmartPoster
+table_in kinds.Request = Some Request
+table_in kinds.Select = Some Select
+table_in kinds.Text = None
+table_in kinds.Uri = None
+table_in kinds.Carrier = None
+table_in kinds.Action = None
+table_in kinds.Size = None
+table_in kinds.MediaType = None
+table_in kinds.Alternative = None
+table_in kinds.Collision = None
+table_in kinds.Error = None
+table_in kinds.Other = None
+
+-- the same; a poster where it holds none
 abbrev pub table_of : Kind → Table
-table_of kinds.Request = Request
-table_of kinds.Select = Select
-table_of kinds.SmartPoster = SmartPoster
-table_of kinds.Text = SmartPoster
-table_of kinds.Uri = SmartPoster
-table_of kinds.Carrier = SmartPoster
-table_of kinds.Action = SmartPoster
-table_of kinds.Size = SmartPoster
-table_of kinds.MediaType = SmartPoster
-table_of kinds.Alternative = SmartPoster
-table_of kinds.Collision = SmartPoster
-table_of kinds.Error = SmartPoster
-table_of kinds.Other = SmartPoster
+table_of kind = unwrap_or (table_in kind) SmartPoster
 
 -- whether they are the same
 abbrev pub is_table : Table → Table → Bool

@@ -1,9 +1,9 @@
 -- Why an octet is refused in a nested message, and in any payload (RTD Smart Poster 1.0, Connection Handover 1.2).
-use Rattle.std.specs.Prelude.{ℕ, ◌≡◌, List, [], ◌∷◌, ◌⊎◌, ◌≢◌, true, Bool}
+use Rattle.std.specs.Prelude.{ℕ, Option, Some, None, ◌≡◌, List, [], ◌∷◌, ◌⊎◌, ◌≢◌, true, Bool}
 use Rattle.ndef_format.specs.Limits.{LimitValues}
 use Rattle.ndef_format.specs.Records.{Run, tnf_of}
 use Rattle.ndef_format.specs.Kinds.{outer_kind}
-use Rattle.ndef_format.specs.Nested.{kind_in, IsVersion}
+use Rattle.ndef_format.specs.Nested.{kind_in, table_in, IsVersion}
 use Rattle.ndef_format.specs.HeadReasons.{is_set, tnf_number, conditions}
 use Rattle.ndef_format.specs.Positions.{Field, InHead, InType, InPayload, spot_after, IsAt}
 use Rattle.ndef_format.specs.PayloadReasons.{PayloadReason}
@@ -81,9 +81,11 @@ NestReason SmartPoster records profile s b reason = MessageReason SmartPoster re
 NestReason table records profile [] b reason = OneReason reasons.Version (IsVersion b → ⊥) reason
 NestReason table records profile (version ∷ s) b reason = MessageReason table records profile s b reason
 
+-- the same of a payload of a kind, which holds this message or none
+abbrev pub TypedReasonBy : Option Table → Kind → ℕ → Profile → List ℕ → ℕ → Reason → Type 0
+TypedReasonBy (Some table) kind records profile s b = NestReason table records profile s b
+TypedReasonBy None kind records profile s b = PayloadReason (outer_kind kind) profile s b
+
 -- which reasons hold of the octet b after the octets s of the payload of a record of a message
 abbrev pub TypedReason : Kind → ℕ → Profile → List ℕ → ℕ → Reason → Type 0
-TypedReason kinds.SmartPoster records profile s b = NestReason SmartPoster records profile s b
-TypedReason kinds.Request records profile s b = NestReason Request records profile s b
-TypedReason kinds.Select records profile s b = NestReason Select records profile s b
-TypedReason kind records profile s b = PayloadReason (outer_kind kind) profile s b
+TypedReason kind = TypedReasonBy (table_in kind) kind

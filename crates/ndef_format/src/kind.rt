@@ -1,6 +1,6 @@
 //! Which kind of payload the type of a record names.
-ghost use Rattle.std.specs.Prelude.{◌≡◌, [], ◌∷◌};
-ghost use Rattle.ndef_format.specs.Kinds.{kind_of, named, names, outer_kind};
+ghost use Rattle.std.specs.Prelude.{◌≡◌, ◌≤◌, [], ◌∷◌, length};
+ghost use Rattle.ndef_format.specs.Kinds.{kind_name, kind_of, named, names, outer_kind};
 
 use crate::Tnf;
 
@@ -88,6 +88,29 @@ impl Kind {
             [a, b] => of_two(*a, *b),
             [a, b, c] => of_three(*a, *b, *c),
             _ => Kind::Other,
+        }
+    }
+
+    /// The name of the well-known type of this kind (RTD 1.0, well-known types), 1 to 3 octets, as `Sp` for a smart
+    /// poster; empty for Other, which has none.
+    pub fn name(self) -> &'static [u8]
+        ensures value { result.now ≡ kind_name self }
+        ensures bound { length result.now ≤ 3 }
+    {
+        match self {
+            Kind::Other => b"",
+            Kind::Text => b"T",
+            Kind::Uri => b"U",
+            Kind::SmartPoster => b"Sp",
+            Kind::Request => b"Hr",
+            Kind::Select => b"Hs",
+            Kind::Carrier => b"Hc",
+            Kind::Action => b"act",
+            Kind::Size => b"s",
+            Kind::MediaType => b"t",
+            Kind::Alternative => b"ac",
+            Kind::Collision => b"cr",
+            Kind::Error => b"err",
         }
     }
 

@@ -5,11 +5,13 @@
 //!
 //! - `specs/Lib.antt`: the definitions, in the order in which they can be read.
 //! - `tnf.rt`, `kind.rt`, `table.rt`: type name formats, kinds of payloads, nested messages.
+//! - `header.rt`: the bits of the header octet of a piece.
 //! - `profile.rt`: what a reader makes of reserved values. `spot.rt`: where a piece stands.
 //! - `reason.rt`, `refusal.rt`: why and where bytes are refused. `sentence.rt`, `specs/Sentences.antt`: what each
 //!   reason means.
 #![tactic(auto)]
 
+pub mod header;
 mod kind;
 mod profile;
 mod reason;

@@ -7,61 +7,62 @@ use std::fmt;
 
 /// Why the byte at a place can't stand there, or why the input can't end there.
 ///
-/// Of the reasons that hold of a byte the one with the lowest rank is told. `ReservedTnf` to
+/// Of the reasons that hold of a byte the one with the lowest rank is given. `ReservedTnf` to
 /// `PayloadTooLarge` are of heads: broken rules of NDEF 1.0 or of the limits. The others but the last two
-/// are of payloads (RTD Text 1.0, RTD URI 1.0, RTD Smart Poster 1.0 and Connection Handover 1.2).
+/// are of payloads (RTD Text 1.0, RTD URI 1.0, RTD Smart Poster 1.0 and Connection Handover 1.2). The numbers are
+/// those that are printed.
 #[derive(Clone, Copy, Debug, PartialEq, Eq, Hash)]
 pub enum Reason {
     /// TNF is the reserved 7.
-    ReservedTnf,
+    ReservedTnf = 1,
     /// The first piece of a message has MB clear.
-    BeginMissing,
+    BeginMissing = 2,
     /// A later piece of a message has MB set.
-    BeginAgain,
+    BeginAgain = 3,
     /// TNF is that of an unchanged type where no run is open.
-    UnchangedOutside,
+    UnchangedOutside = 4,
     /// TNF is another than that of an unchanged type where a run is open.
-    ChangedInside,
+    ChangedInside = 5,
     /// IL is set where a run is open.
-    IdInside,
+    IdInside = 6,
     /// The last piece of a message, with ME, says by CF that its run goes on.
-    ChunkAtEnd,
+    ChunkAtEnd = 7,
     /// CF is set in the first piece of an empty record.
-    ChunkOfEmpty,
+    ChunkOfEmpty = 8,
     /// CF is set in the last piece that a record may have by the limits; in a nested message, in any.
-    TooManyPieces,
+    TooManyPieces = 9,
     /// ME is clear in the last record that a message may have by the limits.
-    TooManyRecords,
+    TooManyRecords = 10,
     /// TYPE_LENGTH isn't 0 where TNF is Unknown or Unchanged.
-    TypeNotEmpty,
+    TypeNotEmpty = 11,
     /// TYPE_LENGTH is 0 where TNF demands a type.
-    TypeEmpty,
+    TypeEmpty = 12,
     /// A length isn't 0 in an empty record.
-    EmptyNotEmpty,
+    EmptyNotEmpty = 13,
     /// PAYLOAD_LENGTH, with the earlier pieces of the record, is above the limit of a payload.
-    PayloadTooLarge,
+    PayloadTooLarge = 14,
     /// The status octet of a text has its reserved bit 6 set.
-    TextBit,
+    TextBit = 15,
     /// An octet of a text's language code isn't ASCII.
-    Language,
+    Language = 16,
     /// The octets so far begin no UTF-8 text.
-    Utf8,
+    Utf8 = 17,
     /// The octets so far begin no UTF-16 text.
-    Utf16,
+    Utf16 = 18,
     /// The identifier code of a URI is reserved: 24 to FF hexadecimal.
-    UriCode,
+    UriCode = 19,
     /// A smart poster ends without a URI.
-    UriMissing,
+    UriMissing = 20,
     /// A second URI in a smart poster.
-    UriAgain,
+    UriAgain = 21,
     /// A handover request or select of another major version than 1.
-    Version,
+    Version = 22,
     /// A handover request that doesn't begin with a collision record.
-    CollisionMissing,
-    /// No other reason holds, but nothing that may follow fits the lengths that were told.
-    DoesNotFit,
+    CollisionMissing = 25,
+    /// No other reason holds, but nothing that may follow fits the lengths that were given.
+    DoesNotFit = 23,
     /// The input ended within a message, or before one.
-    EndOfInput,
+    EndOfInput = 24,
 }
 
 impl Reason {
@@ -71,33 +72,7 @@ impl Reason {
         ensures value { result ≡ reason_number self }
         ensures bound { result ≤ 25 }
     {
-        match self {
-            Reason::ReservedTnf => 1,
-            Reason::BeginMissing => 2,
-            Reason::BeginAgain => 3,
-            Reason::UnchangedOutside => 4,
-            Reason::ChangedInside => 5,
-            Reason::IdInside => 6,
-            Reason::ChunkAtEnd => 7,
-            Reason::ChunkOfEmpty => 8,
-            Reason::TooManyPieces => 9,
-            Reason::TooManyRecords => 10,
-            Reason::TypeNotEmpty => 11,
-            Reason::TypeEmpty => 12,
-            Reason::EmptyNotEmpty => 13,
-            Reason::PayloadTooLarge => 14,
-            Reason::TextBit => 15,
-            Reason::Language => 16,
-            Reason::Utf8 => 17,
-            Reason::Utf16 => 18,
-            Reason::UriCode => 19,
-            Reason::UriMissing => 20,
-            Reason::UriAgain => 21,
-            Reason::Version => 22,
-            Reason::CollisionMissing => 25,
-            Reason::DoesNotFit => 23,
-            Reason::EndOfInput => 24,
-        }
+        self as u8
     }
 
     /// The place in the order in which the reasons are tried, 1 to 25.

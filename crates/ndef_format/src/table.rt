@@ -1,6 +1,6 @@
 //! Which nested message.
 ghost use Rattle.std.specs.Prelude.{◌≡◌};
-ghost use Rattle.ndef_format.specs.Nested.{checked, is_checked, kind_in, table_of};
+ghost use Rattle.ndef_format.specs.Nested.{checked, is_checked, kind_in, table_in, table_of};
 
 use crate::{Kind, Tnf};
 
@@ -20,21 +20,7 @@ impl Table {
     pub fn of(kind: Kind) -> Self
         ensures { result ≡ table_of kind }
     {
-        match kind {
-            Kind::Request => Table::Request,
-            Kind::Select => Table::Select,
-            Kind::SmartPoster
-            | Kind::Text
-            | Kind::Uri
-            | Kind::Carrier
-            | Kind::Action
-            | Kind::Size
-            | Kind::MediaType
-            | Kind::Alternative
-            | Kind::Collision
-            | Kind::Error
-            | Kind::Other => Table::SmartPoster,
-        }
+        kind.table().unwrap_or(Table::SmartPoster)
     }
 
     /// The kind of a record there, by its type; Other if its payload isn't checked.
@@ -64,5 +50,30 @@ impl Table {
         ensures { result ≡ checked self kind }
     {
         if self.checks(kind) { kind } else { Kind::Other }
+    }
+}
+
+impl Kind {
+    /// The message that a payload of this kind holds (RTD Smart Poster 1.0, Connection Handover 1.2); None for a kind
+    /// whose payloads hold none.
+    #[inline(always)]
+    pub fn table(self) -> Option<Table>
+        ensures { result ≡ table_in self }
+    {
+        match self {
+            Kind::SmartPoster => Some(Table::SmartPoster),
+            Kind::Request => Some(Table::Request),
+            Kind::Select => Some(Table::Select),
+            Kind::Other
+            | Kind::Text
+            | Kind::Uri
+            | Kind::Carrier
+            | Kind::Action
+            | Kind::Size
+            | Kind::MediaType
+            | Kind::Alternative
+            | Kind::Collision
+            | Kind::Error => None,
+        }
     }
 }

@@ -1,5 +1,5 @@
 -- The field of the next octet of a message: it follows from the octets before it.
-use Rattle.std.specs.Prelude.{◌≡◌, ℕ, ◌+◌, true, false, List, [], ◌∷◌, ◌++◌}
+use Rattle.std.specs.Prelude.{◌≡◌, ℕ, true, false, List, [], ◌∷◌, ◌++◌}
 use Rattle.ndef_format.specs.Records.{Piece, Run}
 use Rattle.ndef_format.specs.Limits.{LimitValues}
 use Rattle.ndef_format.specs.Positions.{Stands, Field, spot_after, AreBefore, IsAt}

@@ -4,9 +4,10 @@ ghost use Rattle.ndef_piece.specs.Header.{size};
 ghost use Rattle.ndef_piece.specs.Ranges.{range_of};
 ghost use Rattle.ndef_piece.specs.Bounds.{bounds_at, front_bounds, id_range, kind_range};
 
-use crate::header::{CHUNK, END, ID_THERE, is_set, size, tnf_number, tnf_of, width};
+use crate::header::{size, tnf_of};
 use crate::payload_length::{least_and_greatest, length_front};
 use crate::{Head, Spot};
+use ndef_format::header::{CHUNK, END, ID_THERE, is_set, tnf_number, width};
 use ndef_value::Tnf;
 
 /// What the heads (NDEF 1.0, record layout) that go on after some octets have in common, and the least

@@ -3,8 +3,8 @@ ghost use Rattle.std.specs.Prelude.{◌≡◌, ◌<◌, ◌≤◌, [], ◌∷◌
 ghost use Rattle.ndef_format.specs.HeadReasons.{width, is_strict, reason_for};
 
 use crate::Spot;
-use crate::header::{BEGIN, CHUNK, END, ID_THERE, is_set, tnf_number, width};
 use crate::payload_length::least;
+use ndef_format::header::{BEGIN, CHUNK, END, ID_THERE, is_set, tnf_number, width};
 use ndef_value::{Profile, Reason};
 
 /// Whether what is reserved is refused.

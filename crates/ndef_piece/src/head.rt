@@ -6,8 +6,9 @@ ghost use Rattle.ndef_piece.specs.Header.{size};
 ghost use Rattle.ndef_piece.specs.Heads.{head};
 ghost use Rattle.ndef_format.specs.Positions.{CanBeSpelled};
 
-use crate::header::{BEGIN, CHUNK, END, ID_THERE, SHORT, is_set, tnf_number, tnf_of, width};
+use crate::header::tnf_of;
 use crate::payload_length::{least_and_greatest, length_front};
+use ndef_format::header::{BEGIN, CHUNK, END, ID_THERE, SHORT, is_set, tnf_number, width};
 use ndef_value::Tnf;
 
 /// What the octets of a piece before its TYPE tell (NDEF 1.0, record layout).
@@ -25,10 +26,10 @@ pub struct Head {
     pub tnf: Tnf,
     /// TYPE_LENGTH, in octets.
     pub kind_length: u8,
-    /// PAYLOAD_LENGTH: the payload bytes of this piece alone.
-    pub payload_length: u32,
     /// ID_LENGTH, in octets, there exactly if IL is set.
     pub id_length: Option<u8>,
+    /// PAYLOAD_LENGTH: the payload bytes of this piece alone.
+    pub payload_length: u32,
 }
 
 /// The id length in the octets of a whole head.

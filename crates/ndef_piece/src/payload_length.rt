@@ -3,7 +3,7 @@ ghost use Rattle.std.specs.Prelude.{◌≡◌, ◌<◌, ◌≤◌, [], ◌∷◌
 ghost use Rattle.ndef_format.specs.HeadReasons.{width, least_from};
 ghost use Rattle.ndef_piece.specs.Ranges.{greatest_from, length_front};
 
-use crate::header::{SHORT, is_set, width};
+use ndef_format::header::{SHORT, is_set, width};
 
 /// The least and the greatest number that so many octets can spell, of which these are the front.
 pub(crate) fn least_and_greatest(width: usize, front: &[u8]) -> (u32, u32)

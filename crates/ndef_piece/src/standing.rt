@@ -6,7 +6,7 @@ ghost use Rattle.ndef_format.specs.Positions.{CanBeSpelled, MayStand};
 ghost use Rattle.ndef_piece.specs.Whole.{fields_of};
 
 use crate::Spot;
-use crate::header::{BEGIN, CHUNK, END, ID_THERE, is_set, tnf_number};
+use ndef_format::header::{BEGIN, CHUNK, END, ID_THERE, is_set, tnf_number};
 use ndef_value::Profile;
 
 /// Whether a record in one piece may have this type name format and these lengths.

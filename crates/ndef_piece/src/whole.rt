@@ -5,9 +5,10 @@ ghost use Rattle.ndef_format.specs.HeadReasons.{is_set, tnf_number, width};
 ghost use Rattle.ndef_format.specs.Positions.{Stands};
 ghost use Rattle.ndef_piece.specs.Whole.{BeginWithHead, BeginWithPiece, IsSplit, shown};
 
-use crate::header::{BEGIN, CHUNK, END, ID_THERE, SHORT, header_tnf, is_set, tnf_number};
+use crate::header::header_tnf;
 use crate::standing::{may_stand, opens, suits};
 use crate::{Head, Spot};
+use ndef_format::header::{BEGIN, CHUNK, END, ID_THERE, SHORT, is_set, tnf_number};
 use ndef_value::Tnf;
 
 /// A whole piece (NDEF 1.0, record layout), its parts being slices of the bytes that spell it, and
