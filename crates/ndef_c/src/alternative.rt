@@ -10,7 +10,7 @@ use crate::checking::NdefChecked;
 use crate::part::NdefPart;
 use crate::refusal::refuse;
 use crate::status::{BAD_ARGUMENT, END, OK, REFUSED};
-use ndef_lang::{AcLang, Kind};
+use ndef_lang::{Kind, Leaf};
 use ndef_types::{accept, alternatives_are_exact};
 use ndef_value::Profile;
 
@@ -52,7 +52,7 @@ pub extern "C" fn ndef_alternative(
     ensures kept { result ≡ REFUSED → out.new ≡ out.old }
     ensures kept_why { result ≡ OK → why.new ≡ why.old }
 {
-    match accept::<AcLang>(Kind::Alternative, Profile::Strict, payload) {
+    match accept::<Leaf>(Kind::Alternative, Profile::Strict, payload) {
         Ok(()) => {
             *out = alternative_at(payload);
             OK
@@ -145,7 +145,7 @@ pub extern "C" fn ndef_reference(payload: &[u8], index: usize, out: &mut NdefPar
     ensures end { result ≡ END → HasNoReference payload.now index }
     ensures kept { result ≢ OK → out.new ≡ out.old }
 {
-    match accept::<AcLang>(Kind::Alternative, Profile::Strict, payload) {
+    match accept::<Leaf>(Kind::Alternative, Profile::Strict, payload) {
         Ok(()) => give_reference(payload, index, out),
         Err(_) => BAD_ARGUMENT,
     }

@@ -10,7 +10,7 @@ use crate::checking::NdefChecked;
 use crate::refusal::refuse;
 use crate::room::give_parts;
 use crate::status::{BAD_ARGUMENT, OK, REFUSED};
-use ndef_lang::{HcLang, Kind};
+use ndef_lang::{Kind, Leaf};
 use ndef_types::accept;
 use ndef_value::Profile;
 
@@ -56,7 +56,7 @@ pub extern "C" fn ndef_carrier(payload: &[u8], out: &mut NdefCarrier, why: &mut 
     ensures kept { result ≡ REFUSED → out.new ≡ out.old }
     ensures kept_why { result ≡ OK → why.new ≡ why.old }
 {
-    match accept::<HcLang>(Kind::Carrier, Profile::Strict, payload) {
+    match accept::<Leaf>(Kind::Carrier, Profile::Strict, payload) {
         Ok(()) => {
             *out = carrier_at(payload);
             OK

@@ -9,7 +9,7 @@ use crate::checking::NdefChecked;
 use crate::poster::told;
 use crate::refusal::refuse;
 use crate::status::{OK, REFUSED};
-use ndef_lang::{ErrLang, Kind};
+use ndef_lang::{Kind, Leaf};
 use ndef_types::accept;
 use ndef_value::Profile;
 
@@ -70,7 +70,7 @@ pub extern "C" fn ndef_error(payload: &[u8], out: &mut NdefError, why: &mut Ndef
     ensures kept { result ≡ REFUSED → out.new ≡ out.old }
     ensures kept_why { result ≡ OK → why.new ≡ why.old }
 {
-    match accept::<ErrLang>(Kind::Error, Profile::Strict, payload) {
+    match accept::<Leaf>(Kind::Error, Profile::Strict, payload) {
         Ok(()) => {
             *out = error_at(payload);
             OK

@@ -10,39 +10,7 @@ use ndef_fields::FieldName;
 pub(crate) fn number_of(name: FieldName) -> u32
     ensures { result ≡ field_number name }
 {
-    match name {
-        FieldName::Header => 1,
-        FieldName::KindLength => 2,
-        FieldName::PayloadLength => 3,
-        FieldName::IdLength => 4,
-        FieldName::Kind => 5,
-        FieldName::Id => 6,
-        FieldName::Payload => 7,
-        FieldName::Status => 8,
-        FieldName::Language => 9,
-        FieldName::Mark => 10,
-        FieldName::Text => 11,
-        FieldName::UriCode => 12,
-        FieldName::UriRest => 13,
-        FieldName::Action => 14,
-        FieldName::Size => 15,
-        FieldName::MediaType => 16,
-        FieldName::Version => 17,
-        FieldName::Collision => 18,
-        FieldName::Power => 19,
-        FieldName::ReferenceLength => 20,
-        FieldName::Reference => 21,
-        FieldName::AuxiliaryCount => 22,
-        FieldName::AuxiliaryLength => 23,
-        FieldName::Auxiliary => 24,
-        FieldName::AfterAuxiliary => 25,
-        FieldName::ErrorReason => 26,
-        FieldName::ErrorData => 27,
-        FieldName::CarrierFormat => 28,
-        FieldName::CarrierKindLength => 29,
-        FieldName::CarrierKind => 30,
-        FieldName::CarrierData => 31,
-    }
+    name as u32
 }
 
 /// The name with a number.

@@ -7,11 +7,11 @@ use crate::content::Content;
 use crate::error_writing::may_be_error;
 use crate::handover_parts::NdefAlternativeWriting;
 use crate::part::NdefPart;
-use crate::poster_parts::{content_made, part_in};
+use crate::poster_parts::{known_made, part_in};
 use crate::series::Series;
 use crate::series_writing::give_message;
 use crate::status::BAD_ARGUMENT;
-use ndef_value::Tnf;
+use ndef_lang::Kind;
 
 /// What a handover select that is written says, but for its alternative carriers.
 #[repr(C)]
@@ -62,7 +62,7 @@ pub extern "C" fn ndef_write_request<'a>(
     }
     let number = (collision as u16).to_be_bytes();
     let octets = Content::Octets { octets: &number };
-    let Some(made) = content_made(Tnf::WellKnown, b"cr", &octets) else {
+    let Some(made) = known_made(Kind::Collision, &octets) else {
         unreachable!()
     };
     let several = [
@@ -90,7 +90,7 @@ fn error_series<'a>(how: &NdefSelectWriting, bytes: &'a [u8]) -> Option<Series<'
                 return None;
             }
             let reason = how.reason as u8;
-            let made = content_made(Tnf::WellKnown, b"err", &Content::Error { reason, detail })?;
+            let made = known_made(Kind::Error, &Content::Error { reason, detail })?;
             Some(Series::One { made })
         }
         _ => None,

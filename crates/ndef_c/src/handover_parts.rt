@@ -6,8 +6,8 @@ ghost use Rattle.ndef_c.specs.Made.{IsMade, made_item};
 use crate::alternative_writing::alternative_content;
 use crate::making::Made;
 use crate::part::NdefPart;
-use crate::poster_parts::content_made;
-use ndef_value::Tnf;
+use crate::poster_parts::known_made;
+use ndef_lang::Kind;
 
 /// An alternative carrier of a handover that is written.
 #[repr(C)]
@@ -50,5 +50,5 @@ pub(crate) fn alternative_made<'a>(
 {
     let own = own_references(references, alternative)?;
     let content = alternative_content(alternative.power, bytes, own)?;
-    content_made(Tnf::WellKnown, b"ac", &content)
+    known_made(Kind::Alternative, &content)
 }

@@ -17,21 +17,7 @@ fn number_of(kind: Kind) -> u32
     ensures number { result ≡ kind_number kind }
     ensures bound { result ≤ 12 }
 {
-    match kind {
-        Kind::Other => 0,
-        Kind::Text => 1,
-        Kind::Uri => 2,
-        Kind::SmartPoster => 3,
-        Kind::Request => 4,
-        Kind::Select => 5,
-        Kind::Carrier => 6,
-        Kind::Action => 7,
-        Kind::Size => 8,
-        Kind::MediaType => 9,
-        Kind::Alternative => 10,
-        Kind::Collision => 11,
-        Kind::Error => 12,
-    }
+    kind as u32
 }
 
 /// The kind of a record in a message, by the kind of its type; `within` is the number of the kind of payload that

@@ -1,5 +1,7 @@
 //! What a smart poster is made of, as parts of some bytes (RTD Smart Poster 1.0).
 ghost use Rattle.std.specs.Prelude.{◌≡◌, ◌<◌, ◌≤◌, ◌^◌, ◌⊎◌, [], length, IfNone, IfSome, IsUtf8};
+ghost use Rattle.ndef_format.specs.Kinds.{kind_name};
+ghost use Rattle.ndef_format.specs.declared.tnf.Tnf.TheVariants.{WellKnown};
 ghost use Rattle.ndef_types.specs.Decoding.{IsTooLong};
 ghost use Rattle.ndef_types.specs.Values.{WritesUri};
 ghost use Rattle.ndef_c.specs.AlternativeWrites.{IsPartWithin, part_of};
@@ -11,6 +13,7 @@ use crate::content::{Content, content_length};
 use crate::making::Made;
 use crate::part::NdefPart;
 use crate::text::text_content;
+use ndef_lang::Kind;
 use ndef_types::split;
 use ndef_value::Tnf;
 
@@ -50,7 +53,7 @@ pub(crate) fn part_in<'a>(bytes: &'a [u8], part: &NdefPart) -> Option<&'a [u8]>
 }
 
 /// A record without an id, if a piece can tell the length of its payload.
-pub(crate) fn content_made<'a>(tnf: Tnf, kind: &'a [u8], content: &Content<'a>) -> Option<Made<'a>>
+fn content_made<'a>(tnf: Tnf, kind: &'a [u8], content: &Content<'a>) -> Option<Made<'a>>
     requires content { IsContent content.now }
     requires kind { length kind.now < 256 }
     ensures none { IfNone result (2 ^ 32 ≤ length (content_octets content.now)) }
@@ -68,6 +71,25 @@ pub(crate) fn content_made<'a>(tnf: Tnf, kind: &'a [u8], content: &Content<'a>) 
     })
 }
 
+/// A record of the well-known type of a kind, without an id, if a piece can tell the length of its payload.
+pub(crate) fn known_made<'a>(kind: Kind, content: &Content<'a>) -> Option<Made<'a>>
+    requires { IsContent content.now }
+    ensures none { IfNone result (2 ^ 32 ≤ length (content_octets content.now)) }
+    ensures fits { IfSome result (λ _. length (content_octets content.now) < 2 ^ 32) }
+    ensures made { IfSome result IsMade }
+    ensures item { IfSome result (λ m. made_item m
+        ≡ item_with WellKnown (kind_name kind) [] (content_octets content.now)) }
+{
+    let bytes = content_length(content)?;
+    Some(Made {
+        tnf: Tnf::WellKnown,
+        kind: kind.name(),
+        id: &[],
+        content: *content,
+        bytes,
+    })
+}
+
 /// The record of a URI (RTD URI 1.0), by the longest prefix that begins the URI.
 pub(crate) fn uri_made(uri: &[u8]) -> Option<Made<'_>>
     ensures none { IfNone result ((¬ IsUtf8 uri.now) ⊎ IsTooLong WritesUri uri.now) }
@@ -79,7 +101,7 @@ pub(crate) fn uri_made(uri: &[u8]) -> Option<Made<'_>>
         return None;
     };
     let (code, rest) = split(text);
-    content_made(Tnf::WellKnown, b"U", &Content::Uri { code, rest })
+    known_made(Kind::Uri, &Content::Uri { code, rest })
 }
 
 /// The record of a title (RTD Text 1.0), if it may be written.
@@ -92,7 +114,7 @@ pub(crate) fn title_made<'a>(bytes: &'a [u8], title: &NdefTitleWriting) -> Optio
     let language = part_in(bytes, &title.language)?;
     let text = part_in(bytes, &title.text)?;
     let content = text_content(language, text, title.utf16)?;
-    content_made(Tnf::WellKnown, b"T", &content)
+    known_made(Kind::Text, &content)
 }
 
 /// The record of an icon (RTD Smart Poster 1.0, icon record), if it may be written.

@@ -1,5 +1,6 @@
 //! Writes the payloads of Smart Poster records from what the poster is made of (RTD Smart Poster 1.0).
 ghost use Rattle.std.specs.Prelude.{◌≡◌, ◌≢◌, ◌<◌, ◌≤◌, ◌==◌, ◌⊎◌, ◌↔◌, [], ◌∷◌, length, if◌then◌else◌, IfNone, IfSome, IsTrue, IsUtf8};
+ghost use Rattle.ndef_format.specs.Kinds.{kind_name};
 ghost use Rattle.ndef_format.specs.declared.tnf.Tnf.TheVariants.{WellKnown};
 ghost use Rattle.ndef_c.specs.AlternativeWrites.{IsPartWithin};
 ghost use Rattle.ndef_c.specs.Made.{item_with};
@@ -9,12 +10,12 @@ ghost use Rattle.ndef_c.specs.PosterWrites.{AreNumbers, AreSaid, GivesPoster, Ma
 use crate::content::Content;
 use crate::making::Made;
 use crate::part::NdefPart;
-use crate::poster_parts::{NdefIconWriting, NdefTitleWriting, content_made, part_in, uri_made};
+use crate::poster_parts::{NdefIconWriting, NdefTitleWriting, known_made, part_in, uri_made};
 use crate::series::Series;
 use crate::series_writing::give_message;
 use crate::status::BAD_ARGUMENT;
+use ndef_lang::Kind;
 use ndef_types::uris_are_exact;
-use ndef_value::Tnf;
 
 /// What a smart poster that is written says, but for its titles and icons.
 #[repr(C)]
@@ -72,17 +73,16 @@ fn numbers_of(how: &NdefPosterWriting) -> Numbers
 }
 
 /// The record of some octets where 1 asks for it.
-fn asked_series<'a>(has: u32, kind: &'a [u8], octets: &'a [u8]) -> Option<Series<'a>>
-    requires { length kind.now < 256 }
+fn asked_series<'a>(has: u32, kind: Kind, octets: &'a [u8]) -> Option<Series<'a>>
     ensures none { IfNone result (¬ MayBeAsked has octets.now) }
     ensures may { IfSome result (λ _. MayBeAsked has octets.now) }
     ensures some { IfSome result
-        (AreSeries (if has == 1 then item_with WellKnown kind.now [] octets.now ∷ [] else [])) }
+        (AreSeries (if has == 1 then item_with WellKnown (kind_name kind) [] octets.now ∷ [] else [])) }
 {
     match has {
         0 => Some(Series::Nothing),
         1 => {
-            let made = content_made(Tnf::WellKnown, kind, &Content::Octets { octets })?;
+            let made = known_made(kind, &Content::Octets { octets })?;
             Some(Series::One { made })
         }
         _ => None,
@@ -125,9 +125,9 @@ fn said_of<'a>(poster: &Poster<'a>, numbers: &'a Numbers) -> Option<Said<'a>>
     }
     Some(Said {
         uri: uri_made(part_in(poster.bytes, &how.uri)?)?,
-        action: asked_series(how.has_action, b"act", &numbers.action)?,
-        size: asked_series(how.has_size, b"s", &numbers.size)?,
-        media: asked_series(how.has_media_type, b"t", media_octets(poster)?)?,
+        action: asked_series(how.has_action, Kind::Action, &numbers.action)?,
+        size: asked_series(how.has_size, Kind::Size, &numbers.size)?,
+        media: asked_series(how.has_media_type, Kind::MediaType, media_octets(poster)?)?,
     })
 }
 

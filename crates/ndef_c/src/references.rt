@@ -9,7 +9,7 @@ ghost use Rattle.ndef_c.specs.declared.part.NdefPart.{NdefPart as Part};
 use crate::alternative::counted_at;
 use crate::part::NdefPart;
 use crate::status::{BAD_ARGUMENT, NO_ROOM, OK};
-use ndef_lang::{AcLang, Kind};
+use ndef_lang::{Kind, Leaf};
 use ndef_types::{accept, alternatives_are_exact};
 use ndef_value::Profile;
 
@@ -57,7 +57,7 @@ pub extern "C" fn ndef_references(payload: &[u8], parts: &mut [NdefPart], count:
     ensures references { result ≢ BAD_ARGUMENT
         → GivesReferences payload.now parts.old parts.new count.new result }
 {
-    match accept::<AcLang>(Kind::Alternative, Profile::Strict, payload) {
+    match accept::<Leaf>(Kind::Alternative, Profile::Strict, payload) {
         Ok(()) => give_references(payload, parts, count),
         Err(_) => BAD_ARGUMENT,
     }

@@ -5,6 +5,7 @@ ghost use Rattle.ndef_format.specs.declared.profile.Profile.TheVariants.{Standar
 ghost use Rattle.ndef_piece.specs.Whole.{shown};
 ghost use Rattle.ndef_c.specs.Runs.{HasRun, IsFirstRun};
 
+use ndef_format::header::{ID_THERE, is_set, tnf_number};
 use ndef_piece::{WholePiece, heads_are_apart, whole_piece};
 
 /// A run at the front of some bytes (NDEF 1.0, chunked payloads).
@@ -26,7 +27,7 @@ pub(crate) struct FirstRun<'a> {
 fn is_initial(piece: &WholePiece<'_>) -> bool
     ensures { IsTrue result ↔ IsInitial Standard (shown piece.now) }
 {
-    let tnf = piece.header % 8;
+    let tnf = tnf_number(piece.header);
     tnf != 6 && (tnf != 0 || !piece.is_chunked())
 }
 
@@ -34,8 +35,7 @@ fn is_initial(piece: &WholePiece<'_>) -> bool
 fn is_later(piece: &WholePiece<'_>) -> bool
     ensures { IsTrue result ↔ IsLater (shown piece.now) }
 {
-    let has_id = piece.header >> 3 & 1 == 1;
-    piece.header % 8 == 6 && piece.kind.is_empty() && !has_id
+    tnf_number(piece.header) == 6 && piece.kind.is_empty() && !is_set(ID_THERE, piece.header)
 }
 
 /// The run with which the bytes begin, if all of it is there.

@@ -13,7 +13,7 @@ use crate::refusal::refuse;
 use crate::room::give;
 use crate::status::{BAD_ARGUMENT, NO_ROOM, OK, REFUSED};
 use crate::utf16::give_in_utf8;
-use ndef_lang::{Kind, TextLang};
+use ndef_lang::{Kind, Leaf};
 use ndef_types::{accept, split_language, texts_are_exact, unmark};
 use ndef_value::Profile;
 
@@ -59,7 +59,7 @@ pub extern "C" fn ndef_text(payload: &[u8], out: &mut NdefText, why: &mut NdefCh
     ensures kept { result ≡ REFUSED → out.new ≡ out.old }
     ensures kept_why { result ≡ OK → why.new ≡ why.old }
 {
-    match accept::<TextLang>(Kind::Text, Profile::Strict, payload) {
+    match accept::<Leaf>(Kind::Text, Profile::Strict, payload) {
         Ok(()) => {
             *out = text_at(payload);
             OK
@@ -98,7 +98,7 @@ pub extern "C" fn ndef_text_in_utf8(
     ensures kept { result ≡ REFUSED → (room.new ≡ room.old) × (count.new ≡ count.old) }
     ensures kept_why { result ≢ REFUSED → why.new ≡ why.old }
 {
-    match accept::<TextLang>(Kind::Text, Profile::Strict, payload) {
+    match accept::<Leaf>(Kind::Text, Profile::Strict, payload) {
         Ok(()) => give_text(payload, room, count),
         Err(refusal) => refuse(refusal, why),
     }

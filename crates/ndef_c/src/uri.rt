@@ -15,7 +15,7 @@ use crate::limits::profile_of;
 use crate::refusal::refuse;
 use crate::room::give_parts;
 use crate::status::{BAD_ARGUMENT, REFUSED};
-use ndef_lang::{Kind, UriLang};
+use ndef_lang::{Kind, Leaf};
 use ndef_types::{accept, prefix, split};
 
 /// Writes the URI for which a payload stands to the room.
@@ -50,7 +50,7 @@ pub extern "C" fn ndef_uri(
     if flags > 1 {
         return BAD_ARGUMENT;
     }
-    match accept::<UriLang>(Kind::Uri, profile_of(flags), payload) {
+    match accept::<Leaf>(Kind::Uri, profile_of(flags), payload) {
         Ok(()) => give_uri(payload, room, count),
         Err(refusal) => refuse(refusal, why),
     }

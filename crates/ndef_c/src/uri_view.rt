@@ -13,7 +13,7 @@ use crate::limits::profile_of;
 use crate::refusal::refuse;
 use crate::room::give;
 use crate::status::{BAD_ARGUMENT, OK, REFUSED};
-use ndef_lang::{Kind, UriLang};
+use ndef_lang::{Kind, Leaf};
 use ndef_types::{accept, prefix};
 
 /// A URI: the prefix of a code, and the rest, which lies in the payload.
@@ -64,7 +64,7 @@ pub extern "C" fn ndef_uri_view(
     if flags > 1 {
         return BAD_ARGUMENT;
     }
-    match accept::<UriLang>(Kind::Uri, profile_of(flags), payload) {
+    match accept::<Leaf>(Kind::Uri, profile_of(flags), payload) {
         Ok(()) => {
             *out = uri_at(payload);
             OK

@@ -1,28 +1,30 @@
 -- The fields from the front of a piece on.
-use Rattle.std.proofs.Common.{◌≡◌, ℕ, ◌+◌, ◌-◌, refl, sym, ◌∙◌, ap, ap₂, subst, arith, List, [], ◌∷◌, ◌++◌, length, length-append, append_assoc}
+use Rattle.std.proofs.Common.{◌≡◌, ℕ, ◌+◌, ◌-◌, Option, Some, None, refl, sym, ◌∙◌, ap, ap₂, subst, arith, List, [], ◌∷◌, ◌++◌, length, length-append, append_assoc}
+use Rattle.std.specs.Prelude.{unwrap_or}
 use Rattle.std.proofs.lemmas.List.{append-nil}
 use Rattle.std.proofs.lemmas.Grind.{flat_map-append}
 use Rattle.ndef_format.specs.Messages.{SpellsPieces}
 use Rattle.ndef_format.specs.Records.{Piece}
 use Rattle.ndef_format.specs.declared.kind.Kind.{Kind}
-use Rattle.ndef_format.specs.declared.kind.Kind.TheVariants as kinds
-use Rattle.ndef_format.specs.Nested.{kind_in, table_of}
+use Rattle.ndef_format.specs.Kinds.{outer_kind}
+use Rattle.ndef_format.specs.Nested.{kind_in, table_in, table_of}
 use Rattle.ndef_format.specs.declared.table.Table.{Table}
+use Rattle.ndef_format.specs.declared.table.Table.TheVariants.{SmartPoster}
 use Rattle.ndef_fields.specs.declared.front.HeadOctets.{HeadOctets}
 use Rattle.ndef_fields.specs.declared.inside.Inside.{Inside}
 use Rattle.ndef_fields.specs.declared.payload.Contents.{Contents}
 use Rattle.ndef_fields.specs.declared.name.FieldName.TheVariants as names
-use Rattle.ndef_fields.specs.Contents.{AreContentsOf, inner_octets, inside_octets, inside_stage}
+use Rattle.ndef_fields.specs.Contents.{AreContentsOf, inner_by, inside_by, stage_by}
 use Rattle.ndef_fields.specs.Cursors.{AreOuter, inner_in, inner_own, outer_in, parts_along}
-use Rattle.ndef_fields.specs.Fronts.{AreNestedFront, ArePayloadFront, IsHeadOctets, content_come, front_parts, inner_come, kind_come, tnf_come}
+use Rattle.ndef_fields.specs.Fronts.{AreFrontBy, AreNestedFront, ArePayloadFront, IsHeadOctets, content_come, front_parts, inner_come, kind_come, tnf_come}
 use Rattle.ndef_fields.specs.Lefts.{from_header, inside_parts}
 use Rattle.ndef_fields.specs.Messages.{AreParts, IsInnerOwn}
 use Rattle.ndef_fields.specs.Parts.{Part, field_at, joined, placed, told}
-use Rattle.ndef_fields.specs.Payloads.{leaf_parts, stage_of}
+use Rattle.ndef_fields.specs.Payloads.{outer_stage, stage_of}
 use Rattle.ndef_fields.specs.Refusals.{AreWholeBefore}
 use Rattle.ndef_fields.specs.Stages.{stage_parts}
 use Rattle.ndef_fields.proofs.Along.{along, inner_is, inner_joined, inner_owns, nothing_inside, nothing_outside}
-use Rattle.ndef_fields.proofs.Contents.{leaf_staged}
+use Rattle.ndef_fields.proofs.Joining.{leaf_staged}
 use Rattle.ndef_fields.proofs.Fronts.{front_behind, front_joined, head_front}
 use Rattle.ndef_fields.proofs.Joining.{leaf_joined, told_joined}
 use Rattle.ndef_fields.proofs.Lasts.{nothing_staged}
@@ -111,31 +113,20 @@ nothing_nested table parts n =
 
 -- ---- a front of a payload
 
-alone_front : (kind : Kind) (table : Table) (s : List ℕ) (x : List Part) → AreNestedFront table [] x → leaf_parts 0 kind s ++ x ≡ leaf_parts 0 kind s
-alone_front kind table s x n = ap (λ y. leaf_parts 0 kind s ++ y) (nothing_nested table x n) ∙ append-nil (leaf_parts 0 kind s)
-
-payload_front : (kind : Kind) (s : List ℕ) (x : List Part) → AreNestedFront (table_of kind) (inner_octets kind s) x
-    → ArePayloadFront kind s (stage_parts 0 (inside_stage kind) (inside_octets kind s) ++ x)
-payload_front kinds.SmartPoster s x n = n
-payload_front kinds.Request s x n = (x, refl, n)
-payload_front kinds.Select s x n = (x, refl, n)
-payload_front kinds.Text s x n = alone_front kinds.Text _ s x n
-payload_front kinds.Uri s x n = alone_front kinds.Uri _ s x n
-payload_front kinds.Carrier s x n = alone_front kinds.Carrier _ s x n
-payload_front kinds.Alternative s x n = alone_front kinds.Other _ s x n
-payload_front kinds.Error s x n = alone_front kinds.Other _ s x n
-payload_front kinds.Action s x n = alone_front kinds.Other _ s x n
-payload_front kinds.Size s x n = alone_front kinds.Other _ s x n
-payload_front kinds.MediaType s x n = alone_front kinds.Other _ s x n
-payload_front kinds.Collision s x n = alone_front kinds.Other _ s x n
-payload_front kinds.Other s x n = alone_front kinds.Other _ s x n
+payload_front : (table : Option Table) (kind : Kind) (s : List ℕ) (x : List Part) → AreNestedFront (unwrap_or table SmartPoster) (inner_by table s) x
+    → AreFrontBy table kind s (stage_parts 0 (stage_by table kind) (inside_by table s) ++ x)
+payload_front (Some table) kind s x n = (x, refl, n)
+payload_front None kind s x n =
+    ap (λ y. stage_parts 0 (outer_stage kind) s ++ y) (nothing_nested SmartPoster x n)
+    ∙ append-nil (stage_parts 0 (outer_stage kind) s)
+    ∙ sym (leaf_staged 0 (outer_kind kind) s)
 
 pub contents_front : (kind : Kind) (s : List ℕ) (c : Contents) (h : AreContentsOf kind s c) (x : List Part) → AreNestedFront c.table c.inner.now x
     → ArePayloadFront kind s (inside_parts 0 c.inside ++ x)
 contents_front kind s c h x n =
     let t = subst (λ table. AreNestedFront table c.inner.now x) h.table n in
     let m = subst (λ y. AreNestedFront (table_of kind) y x) h.inner t in
-    subst (λ y. ArePayloadFront kind s (y ++ x)) (sym (ap₂ (λ a b. stage_parts 0 a b) h.stage h.octets)) (payload_front kind s x m)
+    subst (λ y. ArePayloadFront kind s (y ++ x)) (sym (ap₂ (λ a b. stage_parts 0 a b) h.stage h.octets)) (payload_front (table_in kind) kind s x m)
 
 -- the octets of the fields before the nested message, and those of the nested message
 pub within : (s : List ℕ) (kind : Kind) (head : HeadOctets) (c : Contents) → IsHeadOctets s head → AreContentsOf kind (content_come s) c

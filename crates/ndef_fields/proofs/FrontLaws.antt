@@ -1,59 +1,47 @@
 -- The fields of a front of a message: there is one list of them, and it covers the front.
-use Rattle.std.proofs.Common.{◌≡◌, ℕ, refl, sym, ◌∙◌, ap, ap₂, subst, arith, List, [], ◌∷◌, ◌++◌, length, length-append, map, take, drop, append_assoc}
+use Rattle.std.proofs.Common.{◌≡◌, ℕ, Option, Some, None, refl, sym, ◌∙◌, ap, ap₂, subst, arith, List, [], ◌∷◌, ◌++◌, length, length-append, map, take, drop, append_assoc}
 use Rattle.std.specs.List.{AllByRecursion}
 use Rattle.std.proofs.lemmas.List.{append-nil}
 use Rattle.ndef_value.specs.ListLaws.{cut_alike}
 use Rattle.ndef_format.specs.Messages.{SpellsPieces}
-use Rattle.ndef_format.specs.Nested.{kind_in}
+use Rattle.ndef_format.specs.Kinds.{outer_kind}
+use Rattle.ndef_format.specs.Nested.{kind_in, table_in}
 use Rattle.ndef_format.specs.Records.{Piece}
 use Rattle.ndef_format.specs.declared.kind.Kind.{Kind}
-use Rattle.ndef_format.specs.declared.kind.Kind.TheVariants as kinds
 use Rattle.ndef_format.specs.declared.table.Table.{Table}
-use Rattle.ndef_format.specs.declared.table.Table.TheVariants as tables
 use Rattle.ndef_message.specs.Machine.SeenLaws.{same_split}
 use Rattle.ndef_piece.specs.Whole.{BeginWithPiece, IsSplit}
 use Rattle.ndef_fields.specs.declared.name.FieldName.TheVariants as names
-use Rattle.ndef_fields.specs.Cursors.{HasPieceContents, HoldsPieces, inner_own, outer_own, parts_along}
-use Rattle.ndef_fields.specs.Fronts.{AreFrontParts, AreHandoverFront, AreNestedFront, ArePayloadFront, content_come, front_parts, id_come, id_length_come, inner_come, kind_begun, kind_come, payload_length_come, tnf_come}
-use Rattle.ndef_fields.specs.Messages.{AreHandoverParts, AreNestedParts, AreParts, ArePayloadParts, IsInnerOwn, IsOuterOwn, piece_kind}
+use Rattle.ndef_fields.specs.Cursors.{HasPieceContents, HoldsPiecesBy, inner_own, outer_own, parts_along}
+use Rattle.ndef_fields.specs.Fronts.{AreFrontBy, AreFrontParts, AreNestedFront, ArePayloadFront, content_come, front_parts, id_come, id_length_come, inner_come, kind_begun, kind_come, payload_length_come, tnf_come}
+use Rattle.ndef_fields.specs.Messages.{AreNestedParts, AreParts, ArePartsBy, IsInnerOwn, IsOuterOwn, piece_kind, version_length}
 use Rattle.ndef_fields.specs.Parts.{Part, joined, placed, told}
 use Rattle.ndef_fields.specs.Payloads.{stage_of}
 use Rattle.ndef_message.specs.Machine.Seen.{ArePieces}
 use Rattle.ndef_fields.specs.Refusals.{AreWholeBefore}
 use Rattle.ndef_fields.specs.FieldLaws.{AreGapless, FrontFieldsAreSlices, FrontFieldsFollow, OneFrontTelling, OnePayloadTelling, PayloadFieldsAreSlices, PayloadFieldsFollow, PayloadsAreTold}
 use Rattle.ndef_fields.proofs.Along.{along_joined, inner_leaves}
-use Rattle.ndef_fields.proofs.Contents.{leaf_staged, leaves}
+use Rattle.ndef_fields.proofs.Contents.{leaves}
 use Rattle.ndef_fields.proofs.Lasts.{nothing_staged}
 use Rattle.ndef_fields.proofs.Members.{payload_holds}
 use Rattle.ndef_fields.proofs.Proper.{empty_begins}
 use Rattle.ndef_fields.proofs.FrontFields.{joined_both}
 use Rattle.ndef_fields.proofs.Fronts.{front_joined}
-use Rattle.ndef_fields.proofs.Joining.{cut_joined, leaf_joined}
+use Rattle.ndef_fields.proofs.Joining.{cut_joined, leaf_joined, leaf_staged}
 use Rattle.ndef_fields.proofs.Slices.{AreSome, follow, more, slices, some_along, some_append, some_leaf, some_payload}
 use Rattle.ndef_fields.proofs.Uniqueness.{outer_told, parts_spell, told_along}
 
 -- ---- whole pieces
 
 -- a payload that is told holds whole pieces
-payload_kept : (kind : Kind) (s : List ℕ) (parts : List Part) → ArePayloadParts kind s parts → HoldsPieces kind s
-payload_kept kinds.SmartPoster s parts (ps, a) = (ps, parts_spell 1 (IsInnerOwn tables.SmartPoster) ps s parts a)
-payload_kept kinds.Request s parts (inner, e, (ps, a)) = (ps, parts_spell 1 (IsInnerOwn tables.Request) ps (drop 1 s) inner a)
-payload_kept kinds.Select s parts (inner, e, (ps, a)) = (ps, parts_spell 1 (IsInnerOwn tables.Select) ps (drop 1 s) inner a)
-payload_kept kinds.Text s parts h = tt
-payload_kept kinds.Uri s parts h = tt
-payload_kept kinds.Carrier s parts h = tt
-payload_kept kinds.Alternative s parts h = tt
-payload_kept kinds.Error s parts h = tt
-payload_kept kinds.Action s parts h = tt
-payload_kept kinds.Size s parts h = tt
-payload_kept kinds.MediaType s parts h = tt
-payload_kept kinds.Collision s parts h = tt
-payload_kept kinds.Other s parts h = tt
+kept_by : (table : Option Table) (kind : Kind) (s : List ℕ) (parts : List Part) → ArePartsBy table kind s parts → HoldsPiecesBy table s
+kept_by (Some table) kind s parts (inner, e, (ps, a)) = (ps, parts_spell 1 (IsInnerOwn table) ps (drop (version_length table) s) inner a)
+kept_by None kind s parts h = tt
 
 pieces_kept : (ps : List Piece) (bytes : List ℕ) (parts : List Part) → AreParts 0 IsOuterOwn ps bytes parts → AllByRecursion HasPieceContents ps
 pieces_kept [] bytes parts a = tt
 pieces_kept (p ∷ ps) bytes parts (short, front, rest, own, later, e, s, o, pe, q) =
-    (payload_kept (piece_kind p) p.payload own o, pieces_kept ps rest later q)
+    (kept_by (table_in (piece_kind p)) (piece_kind p) p.payload own o, pieces_kept ps rest later q)
 
 -- the octets of the parts of whole pieces
 whole_joined : (ps : List Piece) (bytes : List ℕ) (parts : List Part) → AreParts 0 IsOuterOwn ps bytes parts → joined parts ≡ bytes
@@ -81,23 +69,14 @@ nested_joined table bytes parts n =
     (front_joined 1 n.rest (inner_come table n.rest) (leaf_joined 1 (kind_in table (tnf_come n.rest) (kind_come n.rest)) (content_come n.rest)))
     ∙ sym n.whole.split
 
-handover_joined : (table : Table) (s : List ℕ) (parts : List Part) → AreHandoverFront table s parts → joined parts ≡ s
-handover_joined table s parts (inner, e, n) = ap joined e ∙ cut_joined 0 names.Version 1 s inner (nested_joined table (drop 1 s) inner n)
+joined_by : (table : Option Table) (kind : Kind) (s : List ℕ) (parts : List Part) → AreFrontBy table kind s parts → joined parts ≡ s
+joined_by (Some table) kind s parts (inner, e, n) =
+    let k = version_length table in
+    ap joined e ∙ cut_joined 0 names.Version k s inner (nested_joined table (drop k s) inner n)
+joined_by None kind s parts h = ap joined h ∙ leaf_joined 0 (outer_kind kind) s
 
 pub payload_front_joined : (kind : Kind) (s : List ℕ) (parts : List Part) → ArePayloadFront kind s parts → joined parts ≡ s
-payload_front_joined kinds.SmartPoster s parts h = nested_joined tables.SmartPoster s parts h
-payload_front_joined kinds.Request s parts h = handover_joined tables.Request s parts h
-payload_front_joined kinds.Select s parts h = handover_joined tables.Select s parts h
-payload_front_joined kinds.Text s parts h = ap joined h ∙ leaf_joined 0 kinds.Text s
-payload_front_joined kinds.Uri s parts h = ap joined h ∙ leaf_joined 0 kinds.Uri s
-payload_front_joined kinds.Carrier s parts h = ap joined h ∙ leaf_joined 0 kinds.Carrier s
-payload_front_joined kinds.Alternative s parts h = ap joined h ∙ leaf_joined 0 kinds.Other s
-payload_front_joined kinds.Error s parts h = ap joined h ∙ leaf_joined 0 kinds.Other s
-payload_front_joined kinds.Action s parts h = ap joined h ∙ leaf_joined 0 kinds.Other s
-payload_front_joined kinds.Size s parts h = ap joined h ∙ leaf_joined 0 kinds.Other s
-payload_front_joined kinds.MediaType s parts h = ap joined h ∙ leaf_joined 0 kinds.Other s
-payload_front_joined kinds.Collision s parts h = ap joined h ∙ leaf_joined 0 kinds.Other s
-payload_front_joined kinds.Other s parts h = ap joined h ∙ leaf_joined 0 kinds.Other s
+payload_front_joined kind = joined_by (table_in kind) kind
 
 front_parts_joined : (bytes : List ℕ) (parts : List Part) → AreFrontParts bytes parts → joined parts ≡ bytes
 front_parts_joined bytes parts f =
@@ -131,23 +110,14 @@ some_nested table bytes parts n =
     subst AreSome (sym n.parts_are)
     (some_append n.before (front_parts 1 n.rest (inner_come table n.rest)) (subst AreSome (sym (inner_along table w.pieces w.front n.before n.spelled)) before) last)
 
-some_handover : (table : Table) (s : List ℕ) (parts : List Part) → AreHandoverFront table s parts → AreSome parts
-some_handover table s parts (inner, e, n) = subst AreSome (sym e) (more 0 names.Version (take 1 s) inner (some_nested table (drop 1 s) inner n))
+some_by : (table : Option Table) (kind : Kind) (s : List ℕ) (parts : List Part) → AreFrontBy table kind s parts → AreSome parts
+some_by (Some table) kind s parts (inner, e, n) =
+    let k = version_length table in
+    subst AreSome (sym e) (more 0 names.Version (take k s) inner (some_nested table (drop k s) inner n))
+some_by None kind s parts h = subst AreSome (sym h) (some_leaf 0 (outer_kind kind) s)
 
 pub some_payload_front : (kind : Kind) (s : List ℕ) (parts : List Part) → ArePayloadFront kind s parts → AreSome parts
-some_payload_front kinds.SmartPoster s parts h = some_nested tables.SmartPoster s parts h
-some_payload_front kinds.Request s parts h = some_handover tables.Request s parts h
-some_payload_front kinds.Select s parts h = some_handover tables.Select s parts h
-some_payload_front kinds.Text s parts h = subst AreSome (sym h) (some_leaf 0 kinds.Text s)
-some_payload_front kinds.Uri s parts h = subst AreSome (sym h) (some_leaf 0 kinds.Uri s)
-some_payload_front kinds.Carrier s parts h = subst AreSome (sym h) (some_leaf 0 kinds.Carrier s)
-some_payload_front kinds.Alternative s parts h = subst AreSome (sym h) (some_leaf 0 kinds.Other s)
-some_payload_front kinds.Error s parts h = subst AreSome (sym h) (some_leaf 0 kinds.Other s)
-some_payload_front kinds.Action s parts h = subst AreSome (sym h) (some_leaf 0 kinds.Other s)
-some_payload_front kinds.Size s parts h = subst AreSome (sym h) (some_leaf 0 kinds.Other s)
-some_payload_front kinds.MediaType s parts h = subst AreSome (sym h) (some_leaf 0 kinds.Other s)
-some_payload_front kinds.Collision s parts h = subst AreSome (sym h) (some_leaf 0 kinds.Other s)
-some_payload_front kinds.Other s parts h = subst AreSome (sym h) (some_leaf 0 kinds.Other s)
+some_payload_front kind = some_by (table_in kind) kind
 
 some_before : (bytes : List ℕ) (parts : List Part) → AreFrontParts bytes parts → AreSome parts
 some_before bytes parts f =
@@ -221,23 +191,14 @@ one_nested table bytes xs ys a b =
     ) same.rest
     ∙ sym b.parts_are
 
-one_handover : (table : Table) (s : List ℕ) (xs ys : List Part) → AreHandoverFront table s xs → AreHandoverFront table s ys → xs ≡ ys
-one_handover table s xs ys (x, e, a) (y, f, b) = e ∙ ap (λ z. told 0 names.Version (take 1 s) ++ z) (one_nested table (drop 1 s) x y a b) ∙ sym f
+one_by : (table : Option Table) (kind : Kind) (s : List ℕ) (xs ys : List Part) → AreFrontBy table kind s xs → AreFrontBy table kind s ys → xs ≡ ys
+one_by (Some table) kind s xs ys (x, e, a) (y, f, b) =
+    let k = version_length table in
+    e ∙ ap (λ z. told 0 names.Version (take k s) ++ z) (one_nested table (drop k s) x y a b) ∙ sym f
+one_by None kind s xs ys a b = a ∙ sym b
 
 one_payload : (kind : Kind) (s : List ℕ) (xs ys : List Part) → ArePayloadFront kind s xs → ArePayloadFront kind s ys → xs ≡ ys
-one_payload kinds.SmartPoster s xs ys a b = one_nested tables.SmartPoster s xs ys a b
-one_payload kinds.Request s xs ys a b = one_handover tables.Request s xs ys a b
-one_payload kinds.Select s xs ys a b = one_handover tables.Select s xs ys a b
-one_payload kinds.Text s xs ys a b = a ∙ sym b
-one_payload kinds.Uri s xs ys a b = a ∙ sym b
-one_payload kinds.Carrier s xs ys a b = a ∙ sym b
-one_payload kinds.Alternative s xs ys a b = a ∙ sym b
-one_payload kinds.Error s xs ys a b = a ∙ sym b
-one_payload kinds.Action s xs ys a b = a ∙ sym b
-one_payload kinds.Size s xs ys a b = a ∙ sym b
-one_payload kinds.MediaType s xs ys a b = a ∙ sym b
-one_payload kinds.Collision s xs ys a b = a ∙ sym b
-one_payload kinds.Other s xs ys a b = a ∙ sym b
+one_payload kind = one_by (table_in kind) kind
 
 one_front : (bytes : List ℕ) (xs ys : List Part) → AreFrontParts bytes xs → AreFrontParts bytes ys → xs ≡ ys
 one_front bytes xs ys a b =
@@ -288,26 +249,12 @@ nested_whole table bytes parts (ps, s) n =
           (subst (λ x. AreParts 1 (IsInnerOwn table) n.whole.pieces x n.before) same.front n.spelled),
     )
 
-handover_whole : (table : Table) (s : List ℕ) (parts : List Part) → ArePieces (drop 1 s) → AreHandoverFront table s parts → AreHandoverParts table s parts
-handover_whole table s parts a (inner, e, n) = (inner, e, nested_whole table (drop 1 s) inner a n)
-
-payload_whole : (kind : Kind) (s : List ℕ) (parts : List Part) → HoldsPieces kind s → ArePayloadFront kind s parts → ArePayloadParts kind s parts
-payload_whole kinds.SmartPoster s parts a h = nested_whole tables.SmartPoster s parts a h
-payload_whole kinds.Request s parts a h = handover_whole tables.Request s parts a h
-payload_whole kinds.Select s parts a h = handover_whole tables.Select s parts a h
-payload_whole kinds.Text s parts a h = h
-payload_whole kinds.Uri s parts a h = h
-payload_whole kinds.Carrier s parts a h = h
-payload_whole kinds.Alternative s parts a h = h
-payload_whole kinds.Error s parts a h = h
-payload_whole kinds.Action s parts a h = h
-payload_whole kinds.Size s parts a h = h
-payload_whole kinds.MediaType s parts a h = h
-payload_whole kinds.Collision s parts a h = h
-payload_whole kinds.Other s parts a h = h
+whole_by : (table : Option Table) (kind : Kind) (s : List ℕ) (parts : List Part) → HoldsPiecesBy table s → AreFrontBy table kind s parts → ArePartsBy table kind s parts
+whole_by (Some table) kind s parts a (inner, e, n) = (inner, e, nested_whole table (drop (version_length table) s) inner a n)
+whole_by None kind s parts a h = h
 
 pub payload_told_so : PayloadsAreTold
-payload_told_so kind records profile s told valid a = payload_whole kind s a.parts (payload_holds kind records profile s valid) a.spelled
+payload_told_so kind records profile s told valid a = whole_by (table_in kind) kind s a.parts (payload_holds kind records profile s valid) a.spelled
 
 pub one_payload_telling : OnePayloadTelling
 one_payload_telling kind s told other a b = a.placed ∙ ap (placed 0) (one_payload kind s a.parts b.parts a.spelled b.spelled) ∙ sym b.placed

@@ -1,11 +1,10 @@
 -- The field of the last of some bytes.
-use Rattle.std.proofs.Common.{◌≡◌, ℕ, zero, suc, ◌-◌, ◌<◌, ◌≤◌, true, false, refl, sym, ◌∙◌, ap, ap₂, subst, arith, List, [], ◌∷◌, ◌++◌, length, take, drop, drop_at, append_assoc, length-append}
+use Rattle.std.proofs.Common.{◌≡◌, ℕ, zero, suc, ◌-◌, ◌<◌, ◌≤◌, None, refl, sym, ◌∙◌, ap, ap₂, subst, arith, List, [], ◌∷◌, ◌++◌, length, take, drop, drop_at, append_assoc, length-append}
 use Rattle.std.proofs.lemmas.List.{append-nil, take_all, drop_all}
 use Rattle.std.proofs.Math.Seq.{take-nil, drop-nil}
 use Rattle.ndef_format.specs.Records.{octets, tnf_of}
-use Rattle.ndef_format.specs.Kinds.{kind_of}
+use Rattle.ndef_format.specs.Kinds.{kind_of, outer_kind}
 use Rattle.ndef_format.specs.declared.kind.Kind.{Kind}
-use Rattle.ndef_format.specs.declared.kind.Kind.TheVariants as kinds
 use Rattle.ndef_format.specs.Nested.{kind_in}
 use Rattle.ndef_format.specs.declared.table.Table.{Table}
 use Rattle.ndef_format.specs.Positions.{Field, InHead, InType, InId, InPayload, AtEnd}
@@ -18,11 +17,13 @@ use Rattle.ndef_fields.specs.declared.stage.Stage.{Stage}
 use Rattle.ndef_fields.specs.declared.stage.Stage.TheVariants as stages
 use Rattle.ndef_fields.specs.Parts.{Part, told}
 use Rattle.ndef_fields.specs.Payloads.{leaf_parts, outer_stage, references_parts, stage_of}
-use Rattle.ndef_fields.specs.Stages.{IsFieldCut, stage_parts}
+use Rattle.ndef_format.specs.Texts.{code_length}
+use Rattle.ndef_lang.specs.declared.leaf.Stage.{Stage as Layout}
+use Rattle.ndef_lang.specs.declared.leaf.Stage.TheVariants as layouts
+use Rattle.ndef_fields.specs.Stages.{IsFieldCut, stage_parts, next_parts, field_parts}
 use Rattle.ndef_fields.specs.Befores.{IsFieldBefore, StandsIn}
-use Rattle.ndef_fields.specs.Lasts.{EndsIn, IsFieldOf, IsInnerField, IsPayloadLast, kind_there}
-use Rattle.ndef_nest.specs.Machine.Payloads.{is_nest}
-use Rattle.ndef_fields.proofs.Contents.{leaf_staged}
+use Rattle.ndef_fields.specs.Lasts.{EndsIn, IsFieldOf, IsInnerField, IsLastBy, IsPayloadLast, kind_there}
+use Rattle.ndef_fields.proofs.Joining.{leaf_staged}
 
 -- ---- the last part
 ends_behind : (xs ys : List Part) (name : FieldName) → EndsIn ys name → EndsIn (xs ++ ys) name
@@ -39,25 +40,29 @@ no_references : (depth n : ℕ) → references_parts depth n [] ≡ []
 no_references depth zero = refl
 no_references depth (suc n) = no_references depth n
 
+nothing_next : (depth : ℕ) (next : Layout) (last : FieldName) → next_parts depth next last [] ≡ []
+nothing_next depth layouts.End last = refl
+nothing_next depth layouts.Any last = refl
+nothing_next depth layouts.Utf8 last = refl
+nothing_next depth layouts.Utf16 last = refl
+nothing_next depth layouts.Status last = rw (take-nil (code_length 0), drop-nil (code_length 0)) refl
+nothing_next depth (layouts.UriCode profile) last = refl
+nothing_next depth layouts.ErrorReason last = refl
+nothing_next depth layouts.CarrierKindLength last = refl
+nothing_next depth layouts.ReferenceLength last = refl
+nothing_next depth layouts.AuxiliaryCount last = refl
+nothing_next depth (layouts.References count) last = no_references depth count
+
+nothing_inside : (depth left : ℕ) (name : FieldName) (next : Layout) (last : FieldName) → field_parts depth left name next last [] ≡ []
+nothing_inside depth left name layouts.End last = refl
+nothing_inside depth left name next last = rw (take-nil left, drop-nil left) (nothing_next depth next last)
+
 -- a payload with no octets has no parts
 pub nothing_staged : (depth : ℕ) (stage : Stage) → stage_parts depth stage [] ≡ []
 nothing_staged depth stages.Done = refl
 nothing_staged depth (stages.Whole name) = refl
-nothing_staged depth stages.Status = refl
-nothing_staged depth (stages.Language n false) = rw (take-nil n, drop-nil n) refl
-nothing_staged depth (stages.Language n true) = rw (take-nil n, drop-nil n) refl
 nothing_staged depth stages.Mark = refl
-nothing_staged depth stages.UriCode = refl
-nothing_staged depth stages.ErrorReason = refl
-nothing_staged depth stages.CarrierFormat = refl
-nothing_staged depth stages.CarrierKindLength = refl
-nothing_staged depth (stages.CarrierKind n) = rw (take-nil n, drop-nil n) refl
-nothing_staged depth stages.Power = refl
-nothing_staged depth stages.ReferenceLength = refl
-nothing_staged depth (stages.Reference n) = rw (take-nil n, drop-nil n) refl
-nothing_staged depth stages.AuxiliaryCount = refl
-nothing_staged depth (stages.AuxiliaryLength left) = no_references depth left
-nothing_staged depth (stages.Auxiliary n left) = rw (take-nil n, drop-nil n) (no_references depth left)
+nothing_staged depth (stages.Inside left name next last) = nothing_inside depth left name next last
 
 -- behind a cut
 pub ends_later : (stage : Stage) (s : List ℕ) (cut : Cut) → IsFieldCut stage s cut → (depth : ℕ) (name : FieldName)
@@ -146,18 +151,6 @@ outer_head (InPayload head kind id content) octet name h = absurd h
 outer_head AtEnd octet name h = (refl, h)
 
 -- a payload with no message in it
-pub leaf_last : (kind : Kind) (s : List ℕ) (name : FieldName) → is_nest kind ≡ false
-    → EndsIn (stage_parts 0 (outer_stage kind) s) name → IsPayloadLast kind s (record { depth = 0; name = name })
-leaf_last kinds.SmartPoster s name e h = absurd (cc)
-leaf_last kinds.Request s name e h = absurd (cc)
-leaf_last kinds.Select s name e h = absurd (cc)
-leaf_last kinds.Text s name e h = (refl, h)
-leaf_last kinds.Uri s name e h = (refl, h)
-leaf_last kinds.Carrier s name e h = (refl, h)
-leaf_last kinds.Alternative s name e h = (refl, h)
-leaf_last kinds.Error s name e h = (refl, h)
-leaf_last kinds.Action s name e h = (refl, h)
-leaf_last kinds.Size s name e h = (refl, h)
-leaf_last kinds.MediaType s name e h = (refl, h)
-leaf_last kinds.Collision s name e h = (refl, h)
-leaf_last kinds.Other s name e h = (refl, h)
+pub leaf_last : (kind : Kind) (s : List ℕ) (name : FieldName) → EndsIn (stage_parts 0 (outer_stage kind) s) name
+    → IsLastBy None kind s (record { depth = 0; name = name })
+leaf_last kind s name h = (refl, subst (λ ps. EndsIn ps name) (sym (leaf_staged 0 (outer_kind kind) s)) h)

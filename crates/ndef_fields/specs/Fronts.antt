@@ -1,20 +1,18 @@
 -- In which field each octet of a front of a message stands.
-use Rattle.std.specs.Prelude.{◌≡◌, ℕ, List, ◌++◌, take, drop, slice_index}
+use Rattle.std.specs.Prelude.{◌≡◌, ℕ, Option, Some, None, List, ◌++◌, take, drop, slice_index}
 use Rattle.ndef_format.specs.Records.{tnf_of}
 use Rattle.ndef_format.specs.Kinds.{kind_of, outer_kind}
 use Rattle.ndef_format.specs.HeadReasons.{is_set, tnf_number, width}
-use Rattle.ndef_format.specs.Nested.{kind_in}
+use Rattle.ndef_format.specs.Nested.{kind_in, table_in}
 use Rattle.ndef_format.specs.declared.kind.Kind.{Kind}
-use Rattle.ndef_format.specs.declared.kind.Kind.TheVariants as kinds
 use Rattle.ndef_format.specs.declared.table.Table.{Table}
-use Rattle.ndef_format.specs.declared.table.Table.TheVariants as tables
 use Rattle.ndef_format.specs.declared.tnf.Tnf.{Tnf}
 use Rattle.ndef_fields.specs.declared.front.HeadOctets.{HeadOctets}
 use Rattle.ndef_fields.specs.declared.front.PieceFront.{PieceFront}
 use Rattle.ndef_fields.specs.declared.name.FieldName.TheVariants as names
 use Rattle.ndef_fields.specs.Befores.{body_given, content_given}
 use Rattle.ndef_fields.specs.Lasts.{kind_there}
-use Rattle.ndef_fields.specs.Messages.{AreParts, IsInnerOwn, IsOuterOwn}
+use Rattle.ndef_fields.specs.Messages.{AreParts, IsInnerOwn, IsOuterOwn, version_length}
 use Rattle.ndef_fields.specs.Parts.{Part, told}
 use Rattle.ndef_fields.specs.Payloads.{leaf_parts}
 use Rattle.ndef_fields.specs.Refusals.{AreWholeBefore, id_given, id_length_width}
@@ -85,17 +83,21 @@ pub record AreNestedFront (table : Table) (bytes : List ℕ) (parts : List Part)
   pub spelled : AreParts 1 (IsInnerOwn table) whole.pieces whole.front before
   pub parts_are : parts ≡ before ++ front_parts 1 rest (inner_come table rest)
 
--- Connection Handover 1.2: the parts of a front of the payload of a handover: a version octet, and a nested message
-abbrev pub AreHandoverFront : Table → List ℕ → List Part → Type 0
-AreHandoverFront table s parts =
-    (inner : List Part) × (parts ≡ told 0 names.Version (take 1 s) ++ inner) × AreNestedFront table (drop 1 s) inner
+-- RTD Smart Poster 1.0 and Connection Handover 1.2: the parts of a front of a payload that holds a nested message: a
+-- version octet in a handover, and the message
+abbrev pub AreNestFront : Table → List ℕ → List Part → Type 0
+AreNestFront table s parts =
+    (inner : List Part) × (parts ≡ told 0 names.Version (take (version_length table) s) ++ inner)
+    × AreNestedFront table (drop (version_length table) s) inner
+
+-- the parts of a front of a payload of a kind, which holds this message or none
+abbrev pub AreFrontBy : Option Table → Kind → List ℕ → List Part → Type 0
+AreFrontBy (Some table) kind s parts = AreNestFront table s parts
+AreFrontBy None kind s parts = parts ≡ leaf_parts 0 (outer_kind kind) s
 
 -- RTD Smart Poster 1.0 and Connection Handover 1.2: the parts of a front of a payload, by its kind
 abbrev pub ArePayloadFront : Kind → List ℕ → List Part → Type 0
-ArePayloadFront kinds.SmartPoster s parts = AreNestedFront tables.SmartPoster s parts
-ArePayloadFront kinds.Request s parts = AreHandoverFront tables.Request s parts
-ArePayloadFront kinds.Select s parts = AreHandoverFront tables.Select s parts
-ArePayloadFront kind s parts = parts ≡ leaf_parts 0 (outer_kind kind) s
+ArePayloadFront kind = AreFrontBy (table_in kind) kind
 
 -- NDEF 1.0, chunked payloads: the kind of a payload of which a front has come; none in several pieces is looked into
 abbrev pub kind_begun : List ℕ → Kind

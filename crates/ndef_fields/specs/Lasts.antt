@@ -1,5 +1,5 @@
 -- The field of the last of some bytes, in payloads and nested messages too.
-use Rattle.std.specs.Prelude.{◌≡◌, ℕ, ◌+◌, ◌<◌, Bool, List, [], ◌∷◌, ◌++◌, length, take, slice_index, if◌then◌else◌}
+use Rattle.std.specs.Prelude.{◌≡◌, ℕ, ◌+◌, ◌<◌, Bool, Option, Some, None, List, [], ◌∷◌, ◌++◌, length, take, slice_index, if◌then◌else◌}
 use Rattle.ndef_format.specs.Limits.{LimitValues}
 use Rattle.ndef_format.specs.Records.{Piece, Run, tnf_of}
 use Rattle.ndef_format.specs.declared.refusal.Refusal.{Refusal}
@@ -7,7 +7,7 @@ use Rattle.ndef_format.specs.Kinds.{kind_of}
 use Rattle.ndef_format.specs.declared.kind.Kind.{Kind}
 use Rattle.ndef_format.specs.declared.kind.Kind.TheVariants as kinds
 use Rattle.ndef_format.specs.Refusals.{IsReason, Refuses}
-use Rattle.ndef_format.specs.Nested.{kind_in}
+use Rattle.ndef_format.specs.Nested.{kind_in, table_in}
 use Rattle.ndef_format.specs.Payloads.{IsTypedPayload}
 use Rattle.ndef_format.specs.NestedReasons.{TypedReason}
 use Rattle.ndef_format.specs.declared.table.Table.{Table}
@@ -44,12 +44,19 @@ abbrev pub IsHandoverLast : Table → List ℕ → ByteField → Type 0
 IsHandoverLast table (version ∷ octet ∷ s) byte = (byte.depth ≡ 1) × IsLastInside table (octet ∷ s) byte.name
 IsHandoverLast table _ byte = (byte.depth ≡ 0) × (byte.name ≡ names.Version)
 
+-- RTD Smart Poster 1.0 and Connection Handover 1.2: the same of a payload that holds a nested message
+abbrev pub IsNestLast : Table → List ℕ → ByteField → Type 0
+IsNestLast tables.SmartPoster s byte = (byte.depth ≡ 1) × IsLastInside tables.SmartPoster s byte.name
+IsNestLast table s byte = IsHandoverLast table s byte
+
+-- the same of a payload of a kind, which holds this message or none
+abbrev pub IsLastBy : Option Table → Kind → List ℕ → ByteField → Type 0
+IsLastBy (Some table) kind s byte = IsNestLast table s byte
+IsLastBy None kind s byte = (byte.depth ≡ 0) × EndsIn (leaf_parts 0 (outer_kind kind) s) byte.name
+
 -- the field of the last of these octets of a payload of this kind
 abbrev pub IsPayloadLast : Kind → List ℕ → ByteField → Type 0
-IsPayloadLast kinds.SmartPoster s byte = (byte.depth ≡ 1) × IsLastInside tables.SmartPoster s byte.name
-IsPayloadLast kinds.Request s byte = IsHandoverLast tables.Request s byte
-IsPayloadLast kinds.Select s byte = IsHandoverLast tables.Select s byte
-IsPayloadLast kind s byte = (byte.depth ≡ 0) × EndsIn (leaf_parts 0 (outer_kind kind) s) byte.name
+IsPayloadLast kind = IsLastBy (table_in kind) kind
 
 -- NDEF 1.0, chunked payloads: the kind of the payload of a piece; a payload in several pieces isn't looked into
 abbrev pub kind_there : Bool → Kind → Kind

@@ -7,7 +7,8 @@ ghost use Rattle.ndef_fields.specs.Refusals.{NamesNext};
 
 use crate::FieldName;
 use crate::heads::{behind_pieces, id_length_in, name_by};
-use crate::left::{id_width, width};
+use crate::left::id_width;
+use ndef_format::header::{CHUNK, is_set, width};
 use ndef_piece::{header_tnf, heads_are_apart};
 use ndef_value::Tnf;
 
@@ -58,7 +59,7 @@ fn payload_before(header: u8, kind_length: u8, tail: &[u8]) -> PayloadBefore<'_>
     let kind_length = usize::from(kind_length);
     let id_length = usize::from(id_length_in(header, tail));
     PayloadBefore {
-        chunked: header >> 5 & 1 == 1,
+        chunked: is_set(CHUNK, header),
         tnf: header_tnf(header),
         kind: front_of(body, kind_length),
         count: behind(body, kind_length + id_length).len(),

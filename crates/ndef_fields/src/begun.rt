@@ -14,6 +14,7 @@ use crate::inside::Inside;
 use crate::left::Left;
 use crate::payload::{Contents, contents_of};
 use crate::stage::Stage;
+use ndef_format::header::{CHUNK, is_set};
 use ndef_lang::Kind;
 use ndef_nest::Table;
 use ndef_piece::header_tnf;
@@ -99,7 +100,7 @@ fn kind_of(front: &PieceFront<'_>) -> Kind
     ensures { result ≡ kind_there (is_set 5 front.now.header)
         (kind_of (tnf_of (tnf_number front.now.header)) front.now.head.kind.now) }
 {
-    if front.header >> 5 & 1 == 1 {
+    if is_set(CHUNK, front.header) {
         Kind::Other
     } else {
         Kind::of(header_tnf(front.header), front.head.kind)

@@ -5,8 +5,9 @@ ghost use Rattle.ndef_fields.specs.Fronts.{IsPieceFront, kind_begun, kind_come, 
 
 use crate::before::{behind, front_of};
 use crate::heads::id_length_in;
-use crate::left::{id_width, width};
+use crate::left::id_width;
 use crate::stage::first;
+use ndef_format::header::width;
 use ndef_lang::Kind;
 use ndef_piece::header_tnf;
 use ndef_value::Tnf;

@@ -4,7 +4,8 @@ ghost use Rattle.ndef_format.specs.HeadReasons.{width};
 ghost use Rattle.ndef_fields.specs.Refusals.{AreWholeBefore, id_given, IsBehindPieces, IsByLengths};
 
 use crate::FieldName;
-use crate::left::{id_width, width};
+use crate::left::id_width;
+use ndef_format::header::width;
 use ndef_piece::whole_piece;
 
 /// The bytes behind the whole pieces at the front.

@@ -1,7 +1,7 @@
 //! The field of the last of some bytes, in payloads and nested messages too.
 ghost use Rattle.std.specs.Prelude.{◌≡◌, ◌-◌, ◌<◌, ℕ, drop, length};
 ghost use Rattle.ndef_format.specs.Kinds.{kind_of};
-ghost use Rattle.ndef_fields.specs.Lasts.{EndsIn, IsFieldOfLast, IsHandoverLast, IsLastInside, IsPayloadLast};
+ghost use Rattle.ndef_fields.specs.Lasts.{EndsIn, IsFieldOfLast, IsHandoverLast, IsLastInside, IsNestLast, IsPayloadLast};
 ghost use Rattle.ndef_fields.specs.Lasts.{kind_there};
 ghost use Rattle.ndef_fields.specs.Stages.{stage_parts, stage_rank};
 
@@ -74,26 +74,26 @@ fn last_in_handover(table: Table, content: &[u8]) -> ByteField
     }
 }
 
+/// The field of the last of these octets of a payload that holds a nested message.
+fn last_in_nest(table: Table, content: &[u8]) -> ByteField
+    ensures { IsNestLast table content.now result }
+{
+    match table {
+        Table::SmartPoster => ByteField {
+            depth: 1,
+            name: last_inside(table, content),
+        },
+        Table::Request | Table::Select => last_in_handover(table, content),
+    }
+}
+
 /// The field of the last of these octets of a payload.
 fn last_in_payload(kind: Kind, content: &[u8]) -> ByteField
     ensures { 0 < length content.now → IsPayloadLast kind content.now result }
 {
-    match kind {
-        Kind::SmartPoster => ByteField {
-            depth: 1,
-            name: last_inside(Table::SmartPoster, content),
-        },
-        Kind::Request | Kind::Select => last_in_handover(Table::of(kind), content),
-        Kind::Text
-        | Kind::Uri
-        | Kind::Carrier
-        | Kind::Action
-        | Kind::Size
-        | Kind::MediaType
-        | Kind::Alternative
-        | Kind::Collision
-        | Kind::Error
-        | Kind::Other => ByteField {
+    match kind.table() {
+        Some(table) => last_in_nest(table, content),
+        None => ByteField {
             depth: 0,
             name: last_name(Stage::outside(kind), content),
         },

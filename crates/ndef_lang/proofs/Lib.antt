@@ -6,8 +6,7 @@ pub mod Members
 pub mod PlaceLemmas
 pub mod Reasons
 pub mod Rewritten
-pub mod TextLemmas
-pub mod UriLemmas
+pub mod StageLemmas
 pub mod Utf16Lemmas
 pub mod Utf16Whole
 pub mod Utf8Lemmas

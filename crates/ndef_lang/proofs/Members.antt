@@ -7,6 +7,12 @@ use Rattle.ndef_value.specs.SliceLaws.{behind, behind_drop, octet_at, octets_dro
 use Rattle.ndef_format.specs.Octets.{IsOctet, Octets}
 use Rattle.ndef_format.specs.Texts.{IsCodeOctet, IsTextIn, IsText, is_wide, IsSpelled, spelled}
 use Rattle.ndef_format.specs.Handovers.{IsAlternative, AreAuxiliary, AreReferences, IsCarrier}
+use Rattle.ndef_lang.specs.declared.leaf.Class.{Class}
+use Rattle.ndef_lang.specs.declared.leaf.Stage.{Stage}
+use Rattle.ndef_lang.specs.declared.leaf.Leaf.{Leaf}
+use Rattle.ndef_lang.specs.declared.leaf.Leaf.TheVariants.{Field}
+use Rattle.ndef_lang.specs.Language.{Continues}
+use Rattle.ndef_lang.specs.Machine.Leaf.{CompletesLeaf, CompletesStage, InClass}
 use Rattle.ndef_lang.specs.Machine.Utf16Laws.{units_alone, units_paired, no_units}
 use Rattle.ndef_lang.proofs.AsciiLemmas.{ascii_is_utf8, ascii_parts}
 
@@ -127,3 +133,20 @@ pair_at little most second s octets two four is is2 h k l m r =
     let tail : IsSpelled little (get_or s 0 0 ∷ get_or s 1 0 ∷ get_or rest 0 0 ∷ get_or rest 1 0 ∷ behind 2 rest) =
     unit_pair little _ _ _ _ (behind 2 rest) (octet_at s 0 octets) (octet_at s 1 octets) (octet_at rest 0 octets_rest) (octet_at rest 1 octets_rest) (omega arith) (omega arith) (omega arith) (omega arith) r in
     subst (IsSpelled little) (cut_two s two) (subst (λ t. IsSpelled little (get_or s 0 0 ∷ get_or s 1 0 ∷ t)) (cut_two rest four) tail)
+
+-- ---- a payload field by field
+
+-- a field and what stands behind it
+pub field_taken : (state : Leaf) (left k : ℕ) (class : Class) (next : Stage) (s front back : List ℕ) → state ≡ Field left class next → k ≡ left → k ≤ length s → front ≡ take k s → back ≡ drop k s → AllByRecursion (InClass class) front
+    → CompletesStage next back → CompletesLeaf state s
+field_taken state left k class next s front back is same long e f h t =
+    subst (λ x. CompletesLeaf x s) (sym is) (subst (λ n. Octets (InClass class) n (CompletesStage next) s) same
+    (field_from (InClass class) k (CompletesStage next) s long (subst (AllByRecursion (InClass class)) e h) (subst (CompletesStage next) f t)))
+
+-- the octet behind it
+pub stage_taken : (next : Stage) (state : Leaf) (s : List ℕ) → 1 ≤ length s → Continues (CompletesStage next) (CompletesLeaf state) (get_or s 0 0 ∷ []) → CompletesLeaf state (behind 1 s) → CompletesStage next s
+stage_taken next state s some f h = subst (CompletesStage next) (cut_one s some) ((f (behind 1 s)).0 h)
+
+pub nothing_left : (s : List ℕ) → length s ≡ 0 → s ≡ []
+nothing_left [] e = refl
+nothing_left (x ∷ s) e = absurd (omega arith)

@@ -1,19 +1,7 @@
 -- What contracts and proofs say of the states of the machines. The definitions beside this folder don't name them.
-pub mod Alternative
-pub mod AlternativeLaws
-pub mod Carrier
-pub mod CarrierLaws
-pub mod Fixed
-pub mod FixedLaws
-pub mod HandoverError
-pub mod HandoverErrorLaws
 pub mod Kind
 pub mod Leaf
 pub mod LeafLaws
-pub mod Text
-pub mod TextLaws
-pub mod Uri
-pub mod UriLaws
 pub mod Utf16
 pub mod Utf16Laws
 pub mod Utf8

@@ -7,6 +7,7 @@ ghost use Rattle.ndef_format.specs.Handovers.{IsAlternative, AreReferences, IsEr
 ghost use Rattle.ndef_format.specs.Nested.{IsPayload};
 
 use super::ascii::is_ascii;
+use super::leaf::Leaf;
 use super::utf8;
 use ndef_format::Kind;
 use ndef_value::Profile;
@@ -33,7 +34,7 @@ fn is_long_utf8(bytes: &[u8]) -> bool
 
 /// Whether it is a UTF-8 text.
 #[inline(always)]
-fn is_utf8(bytes: &[u8]) -> bool
+pub(crate) fn is_utf8(bytes: &[u8]) -> bool
     ensures { IsTrue result → IsUtf8 bytes.now }
 {
     are_short_ascii(bytes) || is_long_utf8(bytes)
@@ -63,7 +64,7 @@ fn are_units(bytes: &[u8], little: bool) -> bool
 }
 
 /// Whether it is a UTF-16 text.
-fn is_utf16(bytes: &[u8]) -> bool
+pub(crate) fn is_utf16(bytes: &[u8]) -> bool
     ensures { IsTrue result → IsUtf16 bytes.now }
 {
     match bytes {
@@ -174,7 +175,8 @@ fn is_carrier(payload: &[u8]) -> bool
     usize::from(*length) <= rest.len()
 }
 
-/// Whether the payload is one of the kind; of a kind whose payloads are messages, any is.
+/// Whether the payload is one of the kind; of a kind whose payloads are messages, any is. A kind that no arm
+/// names is read by its layout.
 #[inline(always)]
 pub(crate) fn is_leaf_payload(kind: Kind, profile: Profile, payload: &[u8]) -> bool
     ensures { IsTrue result → IsPayload kind profile payload.now }
@@ -185,10 +187,10 @@ pub(crate) fn is_leaf_payload(kind: Kind, profile: Profile, payload: &[u8]) -> b
         Kind::MediaType => is_utf8(payload),
         Kind::Action => payload.len() == 1,
         Kind::Size => payload.len() == 4,
-        Kind::Collision => payload.len() == 2,
         Kind::Alternative => is_alternative(payload),
         Kind::Error => is_error(payload),
         Kind::Carrier => is_carrier(payload),
         Kind::Other | Kind::SmartPoster | Kind::Request | Kind::Select => true,
+        _ => Leaf::of(kind, profile).is_completed_by(payload),
     }
 }

@@ -1,6 +1,7 @@
 -- A whole head at the front of some octets of a nested message.
 use Rattle.std.proofs.Common.{◌≡◌, ◌≢◌, ℕ, ◌+◌, ◌-◌, ◌<◌, ◌≤◌, ◌↔◌, inl, inr, Bool, true, false, List, [], ◌∷◌, ◌++◌, length, take, drop, refl, sym, ◌∙◌, ap, subst, arith}
-use Rattle.std.specs.Prelude.{◌==◌, ◌||◌, nat_lt, unwrap_or}
+use Rattle.std.specs.Prelude.{◌==◌, ◌||◌, if◌then◌else◌, nat_lt, unwrap_or}
+use Rattle.std.proofs.lemmas.Bool.{eq-eqb}
 use Rattle.std.proofs.lemmas.Bool.Decides.{eqb_tells, nat_tests}
 use Rattle.std.proofs.lemmas.List.{length-take-le}
 use Rattle.ndef_format.specs.Records.{AreOctets}
@@ -11,7 +12,10 @@ use Rattle.ndef_piece.specs.Whole.{BeginWithHead}
 use Rattle.ndef_lang.specs.Language.{Continues, PassesBetween, Reaches, StepsAll}
 use Rattle.ndef_lang.specs.StepLaws.{follows_more, reaches_more, steps_whole, take_parts}
 use Rattle.ndef_format.specs.Nested.{IsPayload, kind_in}
+use Rattle.ndef_format.specs.Kinds.{kind_of}
 use Rattle.ndef_format.specs.declared.kind.Kind.{Kind}
+use Rattle.ndef_format.specs.declared.kind.Kind.TheVariants.{Other}
+use Rattle.ndef_lang.specs.Machine.Kind.{kind_after, missing_of}
 use Rattle.ndef_nest.specs.declared.context.Context.{Context}
 use Rattle.ndef_nest.specs.declared.demand.Demand.{Demand}
 use Rattle.ndef_nest.specs.declared.phase.Name.{Name}
@@ -19,7 +23,7 @@ use Rattle.ndef_nest.specs.declared.phase.Phase.{Phase}
 use Rattle.ndef_nest.specs.declared.phase.Phase.TheVariants as phases
 use Rattle.ndef_nest.specs.Machine.Demands.{Allows, IsBody, IsTypeField, Later, RecordsToCome, Tail, demand_after, nested_spot}
 use Rattle.ndef_nest.specs.Machine.Phases.{Completes, CompletesHeaded, CompletesNamed, IsBetween, fewer, is_first_octet, is_sound}
-use Rattle.ndef_nest.specs.Machine.Reached.{HasCome, IsHeaded, IsInHead, IsNamed}
+use Rattle.ndef_nest.specs.Machine.Reached.{HasCome, IsHeaded, IsInHead, IsInName, IsNamed}
 use Rattle.ndef_nest.specs.Machine.SpanLaws.{some_records}
 use Rattle.ndef_nest.specs.Machine.BodyLaws.{typed_end, typed_step}
 use Rattle.ndef_nest.proofs.Reaching.{head_first, past_more, whole_head}
@@ -106,6 +110,23 @@ module _ (c : Context) (h : Head) (n : Name) (kind : Kind) (t : List ℕ) (are :
     payload_is = ap (λ g. g.payload_length) x.read ∙ sym payload;
     kind_is = ap (λ g. kind_in c.table g.tnf t) x.read ∙ is;
   }
+
+-- before the first octet of its type
+pub name_comes : (c : Context) (h : Head) (n : Name) → n.last ≡ h.last → n.id ≡ unwrap_or h.id_length 0 → n.payload ≡ h.payload_length → missing_of n.names ≡ h.kind_length
+    → ((more : List ℕ) → kind_after n.names more ≡ (if length more == h.kind_length then kind_of h.tnf more else Other))
+    → (records : ℕ) (m : List ℕ) → IsHeaded c h records m → IsInName c n records m
+name_comes c h n last id payload missing kind records m x = record {
+  done = x.done;
+  fields = x.fields;
+  name = [];
+  past = x.past;
+  are_octets = tt;
+  left_is = omega (arith, missing, ap (λ g. g.kind_length) x.read);
+  last_is = ap (λ g. g.last) x.read ∙ sym last;
+  id_is = ap (λ g. unwrap_or g.id_length 0) x.read ∙ sym id;
+  payload_is = ap (λ g. g.payload_length) x.read ∙ sym payload;
+  kind_is = λ more l. kind more ∙ rw (eq-eqb (length more) h.kind_length (l ∙ missing)) (ap (λ g. kind_of g.tnf more) (sym x.read));
+}
 
 -- octets that are taken at once, where some list passes behind them
 pub front_taken : (old new : List ℕ → Type 0) (bytes : List ℕ) (lo hi count : ℕ) → count ≤ length bytes → Continues old new (take count bytes) → PassesBetween new (lo - count) (hi - count) → StepsAll old new (take count bytes) lo hi count

@@ -1,11 +1,11 @@
 -- Payloads of a message within some limits, as a reader with wider ones takes them.
-use Rattle.std.proofs.Common.{◌≡◌, ℕ, ◌≤◌, ◌⊎◌, inl, inr, arith, List, [], ◌∷◌}
+use Rattle.std.proofs.Common.{◌≡◌, ℕ, ◌≤◌, ◌⊎◌, inl, inr, arith, List, [], ◌∷◌, Option, Some, None}
 use Rattle.ndef_format.specs.Kinds.{outer_kind}
 use Rattle.ndef_format.specs.Laws.{IsNoStricter, PayloadsStay}
 use Rattle.ndef_format.specs.Messages.{Item}
-use Rattle.ndef_format.specs.Nested.{HasContents, IsNest, IsPayload, Nested, kind_in}
-use Rattle.ndef_format.specs.Payloads.{IsTypedPayload}
-use Rattle.ndef_format.specs.declared.kind.Kind.TheVariants as kinds
+use Rattle.ndef_format.specs.Nested.{HasContents, IsNest, IsPayload, Nested, kind_in, table_in}
+use Rattle.ndef_format.specs.Payloads.{IsTypedBy, IsTypedPayload}
+use Rattle.ndef_format.specs.declared.kind.Kind.{Kind}
 use Rattle.ndef_format.specs.declared.profile.Profile.{Profile}
 use Rattle.ndef_format.specs.declared.table.Table.{Table}
 use Rattle.ndef_format.specs.declared.table.Table.TheVariants.{SmartPoster, Request, Select}
@@ -46,12 +46,12 @@ module _ (records more : ℕ) (profile other : Profile) (few : records ≤ more)
       by_rest (inl e) = inl e
       by_rest (inr m) = inr (nested_stays Select s m)
 
+  typed_stays_by : (table : Option Table) (kind : Kind) (s : List ℕ) → IsTypedBy table kind records profile s
+      → IsTypedBy table kind more other s
+  typed_stays_by (Some table) kind s n = nest_stays table s n
+  typed_stays_by None kind s n = payload_for_more (outer_kind kind) profile other s a n
+
 -- a payload of a record of a message is one within wider limits
 pub typed_stays : PayloadsStay IsTypedPayload
-typed_stays kinds.SmartPoster records more profile other s few a n =
-    nest_stays records more profile other few a SmartPoster s n
-typed_stays kinds.Request records more profile other s few a n =
-    nest_stays records more profile other few a Request s n
-typed_stays kinds.Select records more profile other s few a n =
-    nest_stays records more profile other few a Select s n
-typed_stays kind records more profile other s few a n = payload_for_more (outer_kind kind) profile other s a n
+typed_stays kind records more profile other s few a n =
+    typed_stays_by records more profile other few a (table_in kind) kind s n

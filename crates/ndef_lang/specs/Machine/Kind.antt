@@ -1,5 +1,5 @@
 -- Which kinds of payload the types of records name.
-use Rattle.std.specs.Prelude.{◌≡◌, ℕ, ◌==◌, List, [], ◌∷◌, ◌++◌, length, codes, if◌then◌else◌}
+use Rattle.std.specs.Prelude.{◌≡◌, ℕ, ◌==◌, List, ◌∷◌, ◌++◌, length, if◌then◌else◌}
 use Rattle.ndef_format.specs.declared.kind.Kind.{Kind}
 use Rattle.ndef_format.specs.declared.kind.Kind.TheVariants.{Other}
 use Rattle.ndef_lang.specs.declared.kind.Front.{Front}
@@ -9,22 +9,13 @@ use Rattle.ndef_format.specs.Kinds.{names, named}
 
 -- ---- a name that is half read
 
--- the kind, if no octet follows
-abbrev pub ended : Kind → List ℕ → Kind
-ended kind [] = kind
-ended kind (b ∷ more) = Other
-
 -- the kind of the name that begins so and goes on by these octets
 abbrev pub continued : Front → List ℕ → Kind
 continued fronts.Nothing more = named names more
-continued fronts.Poster more = named names (codes "S" ++ more)
-continued fronts.Handover more = named names (codes "H" ++ more)
-continued fronts.ActionOrAlternative more = named names (codes "a" ++ more)
-continued fronts.AlternativeOrAction more = named names (codes "ac" ++ more)
-continued fronts.Collision more = named names (codes "c" ++ more)
-continued fronts.Error more = named names (codes "e" ++ more)
-continued fronts.SecondOfError more = named names (codes "er" ++ more)
-continued (fronts.Whole kind) more = ended kind more
+continued (fronts.One a) more = named names (a ∷ more)
+continued (fronts.Two a b) more = named names (a ∷ b ∷ more)
+continued (fronts.Three a b c) more = named names (a ∷ b ∷ c ∷ more)
+continued fronts.Unknown more = Other
 
 -- how many octets are missing of the name
 abbrev pub missing_of : KindReader → ℕ

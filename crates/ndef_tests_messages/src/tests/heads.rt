@@ -17,7 +17,7 @@ first | strict | | 1000 | D5 | More | 0 255
 first | strict | | 1000 | C5 00 00 00 | More | 0 1000
 first | strict | | 1000 | C5 00 00 00 02 | More | 512 767
 first | strict | | 1000 | C5 00 00 00 04 | Refused(PayloadTooLarge) | 1 0
-first | strict | | 1000 | D1 01 08 | Head(Head { first: true, last: true, chunked: false, short: true, tnf: WellKnown, kind_length: 1, payload_length: 8, id_length: None }) | 8 8
+first | strict | | 1000 | D1 01 08 | Head(Head { first: true, last: true, chunked: false, short: true, tnf: WellKnown, kind_length: 1, id_length: None, payload_length: 8 }) | 8 8
 first | strict | | 1048576 | D7 | Refused(ReservedTnf) | 1 0
 first | strict | | 1048576 | 51 | Refused(BeginMissing) | 1 0
 later | strict | | 1048576 | D1 | Refused(BeginAgain) | 1 0
@@ -36,12 +36,12 @@ first | strict | | 1048576 | D8 00 00 01 | Refused(EmptyNotEmpty) | 1 0
 first | strict | | 10 | D5 00 0B | Refused(PayloadTooLarge) | 1 0
 inside | strict | | 0 | 56 00 01 | Refused(PayloadTooLarge) | 1 0
 first | strict | | 1048576 | C5 00 FF | Refused(PayloadTooLarge) | 1 0
-first | strict | | 1048576 | AA 03 00 01 02 04 09 | Head(Head { first: true, last: false, chunked: true, short: false, tnf: Media, kind_length: 3, payload_length: 66052, id_length: Some(9) }) | 66052 66052
+first | strict | | 1048576 | AA 03 00 01 02 04 09 | Head(Head { first: true, last: false, chunked: true, short: false, tnf: Media, kind_length: 3, id_length: Some(9), payload_length: 66052 }) | 66052 66052
 first | standard | | 1048576 | D7 | More | 0 255
 first | standard | | 1048576 | D7 01 | Refused(TypeNotEmpty) | 1 0
 first | standard | | 1048576 | F7 | Refused(ChunkAtEnd) | 1 0
 inside | standard | | 1048575 | 57 | Refused(ChangedInside) | 1 0
-first | standard | | 1048576 | D7 00 00 | Head(Head { first: true, last: true, chunked: false, short: true, tnf: Unknown, kind_length: 0, payload_length: 0, id_length: None }) | 0 0
+first | standard | | 1048576 | D7 00 00 | Head(Head { first: true, last: true, chunked: false, short: true, tnf: Unknown, kind_length: 0, id_length: None, payload_length: 0 }) | 0 0
 ";
 
 /// The same with the bounds of the heads that go on: `PLACE | PROFILE | LAST | ROOM | OCTETS | BOUNDS`.

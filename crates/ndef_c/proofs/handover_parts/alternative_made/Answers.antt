@@ -8,4 +8,4 @@ returns-clause-none c =
     let own = c.in_ok-content.ensures in
     let short = alternative_short c.args.alternative.now.power c.args.bytes.now c.in_ok-own.own.now own.may in
     let n = ap length own.payload in
-    none_by c.content_made.result (λ l m. omega (arith, l, short, n)) c.content_made.ensures.none
+    none_by c.known_made.result (λ l m. omega (arith, l, short, n)) c.known_made.ensures.none

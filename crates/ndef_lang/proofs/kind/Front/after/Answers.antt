@@ -1,5 +1,6 @@
-use Rattle.std.proofs.Common.{rules}
+use Rattle.std.proofs.Common.{sym}
+use Rattle.ndef_lang.specs.KindLaws.{named_long}
 use Rattle.ndef_lang.proofs.kind.Front.after.Goals as goal
 
-pub returns-in-ActionOrAlternative-eq99 : goal.returns-in-ActionOrAlternative-eq99
-returns-in-ActionOrAlternative-eq99 c = search rules
+pub returns-in-Three : goal.returns-in-Three
+returns-in-Three c more = let t = c.in-Three in rw t.is (sym (named_long t.field-0 t.field-1 t.field-2 c.args.byte more))

@@ -1,0 +1,278 @@
+//! Languages of one type of payload, whatever kind they are started with.
+ghost use Rattle.std.specs.Prelude.{ℕ, List, [], IsTrue};
+ghost use Rattle.ndef_format.specs.Octets.{AreOctetsOf};
+ghost use Rattle.ndef_format.specs.Records.{AreOctets};
+ghost use Rattle.ndef_format.specs.Reasons.{NoReason};
+ghost use Rattle.ndef_format.specs.PayloadReasons.{TextReason, UriReason};
+ghost use Rattle.ndef_format.specs.Texts.{IsText};
+ghost use Rattle.ndef_format.specs.Uris.{IsUri};
+ghost use Rattle.ndef_format.specs.Handovers.{IsAlternative, IsCarrier, IsError};
+ghost use Rattle.ndef_lang.specs.Language.{Continues};
+ghost use Rattle.ndef_lang.specs.Machine.Leaf.{CompletesLeaf, GoesOn};
+
+use super::language::Language;
+use super::leaf::{Class, Leaf, Stage};
+use super::member::is_leaf_payload;
+use ndef_format::Kind;
+use ndef_value::{Profile, Reason};
+use std::marker::PhantomData;
+
+/// A type of payload: the payloads, why an octet of one is refused, and what reads them.
+pub trait PayloadType: Copy {
+    ghost use Rattle.ndef_format.specs.declared.profile.Profile.{Profile};
+    ghost use Rattle.ndef_format.specs.declared.reason.Reason.{Reason};
+
+    /// The payloads.
+    ghost set: { Profile → List ℕ → Type 0 };
+
+    /// Which reasons hold of an octet after the octets of a payload before it.
+    ghost holds: { Profile → List ℕ → ℕ → Reason → Type 0 };
+
+    /// Whether the payload is seen at once to be one of them. Where it is false, the payload may be one.
+    fn has(_profile: Profile, _payload: &[u8]) -> bool
+        ensures { IsTrue result → set _profile _payload.now };
+
+    /// Before the first octet.
+    fn first(_profile: Profile) -> Leaf
+        ensures future { Continues (set _profile) (CompletesLeaf result) [] }
+        ensures goes { GoesOn (holds _profile) [] result };
+
+    /// A payload is octets.
+    ghost octets: { (profile : Profile) (s : List ℕ) → set profile s → AreOctets s };
+}
+
+/// The language of one type of payload.
+#[derive(Clone, Copy, Debug, PartialEq, Eq)]
+pub struct Only<T: PayloadType> {
+    leaf: Leaf,
+    of: PhantomData<T>,
+}
+
+impl<T: PayloadType> Language for Only<T> {
+    ghost use Rattle.ndef_lang.specs.Lengths.{meets};
+    ghost use Rattle.ndef_lang.specs.LengthLaws.{lengths_fit};
+    ghost use Rattle.ndef_lang.specs.Machine.LeafLaws.{completes_leaf_octets, are_leaf_lengths};
+    ghost use Rattle.ndef_lang.specs.Machine.Leaf.{CompletesLeaf, ReachedBy, leaf_lengths, leaf_told};
+
+    ghost set = { λ kind records profile s. T.set profile s };
+
+    ghost holds = { λ kind records profile s b. T.holds profile s b };
+
+    ghost future = { λ state. CompletesLeaf state.leaf };
+
+    ghost reached = { λ state kind records profile s. ReachedBy state.leaf (T.holds profile) s };
+
+    ghost fitting = { λ state. meets (leaf_lengths state.leaf) };
+
+    ghost told = { λ state. leaf_told state.leaf };
+
+    #[inline(always)]
+    fn has(_kind: Kind, _records: u32, profile: Profile, payload: &[u8]) -> bool {
+        T::has(profile, payload)
+    }
+
+    fn start(_kind: Kind, _records: u32, profile: Profile) -> Self {
+        Only {
+            leaf: T::first(profile),
+            of: PhantomData,
+        }
+    }
+
+    fn step(&mut self, byte: u8) {
+        self.leaf = self.leaf.after(byte);
+    }
+
+    fn step_all(&mut self, bytes: &[u8], lo: u64, hi: u64) -> usize {
+        self.leaf.take(bytes, lo, hi)
+    }
+
+    fn fits(&self, lo: u64, hi: u64) -> bool {
+        self.leaf.lengths().meet(lo, hi)
+    }
+
+    fn reason(&self) -> Reason {
+        self.leaf.told()
+    }
+
+    ghost exact = { λ state lo hi few. lengths_fit (CompletesLeaf state.leaf) (leaf_lengths state.leaf) lo hi
+        (are_leaf_lengths state.leaf) };
+
+    ghost future_octets = { λ state. completes_leaf_octets state.leaf };
+
+    ghost set_octets = { λ kind records profile s h. T.octets profile s h };
+}
+
+/// Texts (RTD Text 1.0).
+#[derive(Clone, Copy, Debug, PartialEq, Eq)]
+pub struct Texts;
+
+impl PayloadType for Texts {
+    ghost use Rattle.ndef_format.specs.declared.kind.Kind.TheVariants.{Text};
+    ghost use Rattle.ndef_lang.specs.Machine.LeafLaws.{payload_octets};
+
+    ghost set = { λ profile. IsText };
+
+    ghost holds = { λ profile. TextReason };
+
+    #[inline(always)]
+    fn has(profile: Profile, payload: &[u8]) -> bool {
+        is_leaf_payload(Kind::Text, profile, payload)
+    }
+
+    fn first(profile: Profile) -> Leaf {
+        Leaf::of(Kind::Text, profile)
+    }
+
+    ghost octets = { payload_octets Text };
+}
+
+/// URIs (RTD URI 1.0).
+#[derive(Clone, Copy, Debug, PartialEq, Eq)]
+pub struct Uris;
+
+impl PayloadType for Uris {
+    ghost use Rattle.ndef_format.specs.declared.kind.Kind.TheVariants.{Uri};
+    ghost use Rattle.ndef_lang.specs.Machine.LeafLaws.{payload_octets};
+
+    ghost set = { IsUri };
+
+    ghost holds = { UriReason };
+
+    #[inline(always)]
+    fn has(profile: Profile, payload: &[u8]) -> bool {
+        is_leaf_payload(Kind::Uri, profile, payload)
+    }
+
+    fn first(profile: Profile) -> Leaf {
+        Leaf::of(Kind::Uri, profile)
+    }
+
+    ghost octets = { payload_octets Uri };
+}
+
+/// Alternative carriers (Connection Handover 1.2).
+#[derive(Clone, Copy, Debug, PartialEq, Eq)]
+pub struct Alternatives;
+
+impl PayloadType for Alternatives {
+    ghost use Rattle.ndef_format.specs.declared.kind.Kind.TheVariants.{Alternative};
+    ghost use Rattle.ndef_lang.specs.Machine.LeafLaws.{payload_octets};
+
+    ghost set = { λ profile. IsAlternative };
+
+    ghost holds = { λ profile s b. NoReason };
+
+    #[inline(always)]
+    fn has(profile: Profile, payload: &[u8]) -> bool {
+        is_leaf_payload(Kind::Alternative, profile, payload)
+    }
+
+    fn first(profile: Profile) -> Leaf {
+        Leaf::of(Kind::Alternative, profile)
+    }
+
+    ghost octets = { payload_octets Alternative };
+}
+
+/// Handover errors (Connection Handover 1.2).
+#[derive(Clone, Copy, Debug, PartialEq, Eq)]
+pub struct Errors;
+
+impl PayloadType for Errors {
+    ghost use Rattle.ndef_format.specs.declared.kind.Kind.TheVariants.{Error};
+    ghost use Rattle.ndef_lang.specs.Machine.LeafLaws.{payload_octets};
+
+    ghost set = { λ profile. IsError };
+
+    ghost holds = { λ profile s b. NoReason };
+
+    #[inline(always)]
+    fn has(profile: Profile, payload: &[u8]) -> bool {
+        is_leaf_payload(Kind::Error, profile, payload)
+    }
+
+    fn first(profile: Profile) -> Leaf {
+        Leaf::of(Kind::Error, profile)
+    }
+
+    ghost octets = { payload_octets Error };
+}
+
+/// Handover carriers (Connection Handover 1.2).
+#[derive(Clone, Copy, Debug, PartialEq, Eq)]
+pub struct Carriers;
+
+impl PayloadType for Carriers {
+    ghost use Rattle.ndef_format.specs.declared.kind.Kind.TheVariants.{Carrier};
+    ghost use Rattle.ndef_lang.specs.Machine.LeafLaws.{payload_octets};
+
+    ghost set = { λ profile. IsCarrier };
+
+    ghost holds = { λ profile s b. NoReason };
+
+    #[inline(always)]
+    fn has(profile: Profile, payload: &[u8]) -> bool {
+        is_leaf_payload(Kind::Carrier, profile, payload)
+    }
+
+    fn first(profile: Profile) -> Leaf {
+        Leaf::of(Kind::Carrier, profile)
+    }
+
+    ghost octets = { payload_octets Carrier };
+}
+
+/// Lists of `N` octets.
+#[derive(Clone, Copy, Debug, PartialEq, Eq)]
+pub struct OctetsOf<const N: u32>;
+
+impl<const N: u32> PayloadType for OctetsOf<N> {
+    ghost set = { λ profile. AreOctetsOf N };
+
+    ghost holds = { λ profile s b. NoReason };
+
+    #[inline(always)]
+    fn has(_profile: Profile, payload: &[u8]) -> bool {
+        payload.len() as u64 == u64::from(N)
+    }
+
+    fn first(_profile: Profile) -> Leaf {
+        Leaf::Field {
+            left: N,
+            class: Class::Any,
+            next: Stage::End,
+        }
+    }
+
+    ghost octets = { λ profile s h. h.0 };
+}
+
+/// The payloads of Text records (RTD Text 1.0).
+///
+/// A payload is a status octet with bit 6 clear, as many octets of language code up to 7F as bits 5
+/// to 0 of it say, and a text: in UTF-16 where bit 7 is set, else in UTF-8.
+pub type TextLang = Only<Texts>;
+
+/// The payloads of URI records (RTD URI 1.0).
+///
+/// A payload is a code and a UTF-8 text. The codes above 23 hexadecimal are reserved: a strict
+/// reader refuses them, and any other reader takes any code.
+pub type UriLang = Only<Uris>;
+
+/// The payloads of alternative carrier records (Connection Handover 1.2).
+///
+/// A payload is an octet with the power state, a carrier reference after an octet with its length,
+/// an octet with the number of auxiliary references, each of these after its length, and any octets.
+pub type AcLang = Only<Alternatives>;
+
+/// The payloads of handover error records (Connection Handover 1.2).
+///
+/// A payload is a reason and its data: one octet for reasons 1 and 3, four for 2, any for others.
+pub type ErrLang = Only<Errors>;
+
+/// The payloads of handover carrier records (Connection Handover 1.2): a format octet, a type after an
+/// octet with its length, and any octets.
+pub type HcLang = Only<Carriers>;
+
+/// Payloads of `N` octets, as a size of four.
+pub type Fixed<const N: u32> = Only<OctetsOf<N>>;
