@@ -25,7 +25,7 @@ pub struct Checker<L: OuterLanguage> {
 }
 
 impl<L: OuterLanguage> Checker<L> {
-    ghost use Rattle.ndef_message.specs.Machine.Taken.{WasFed};
+    ghost use Rattle.ndef_message.specs.Machine.Taken.{WasFed, WhateverFed};
 
     /// Before a message.
     pub fn new(limits: Limits) -> Self
@@ -37,10 +37,10 @@ impl<L: OuterLanguage> Checker<L> {
     /// Takes the next bytes of the message, up to its last one or the first that is refused. After
     /// the last byte it takes none, and after a refusal it repeats that refusal.
     pub fn feed(&mut self, bytes: &[u8]) -> Fed
-        ensures fed { (limits : LimitValues) (front : List ℕ) → WasFed self.old limits front
-            → WasFed self.new limits (front ++ bytes.now) }
-        ensures tells { (limits : LimitValues) (front : List ℕ) → WasFed self.old limits front
-            → Tells L.set L.holds limits (front ++ bytes.now) (length front) result }
+        ensures fed { WhateverFed self.old (λ limits front.
+            WasFed self.new limits (front ++ bytes.now)) }
+        ensures tells { WhateverFed self.old (λ limits front.
+            Tells L.set L.holds limits (front ++ bytes.now) (length front) result) }
     {
         one_meaning();
         self.feed_bytes(bytes)
@@ -48,18 +48,18 @@ impl<L: OuterLanguage> Checker<L> {
 
     /// What the input is, if it ends here.
     pub fn end(&self) -> Result<(), Refusal>
-        ensures { (limits : LimitValues) (bytes : List ℕ) → WasFed self.now limits bytes
-            → TellsEnd L.set L.holds limits bytes result }
+        ensures { WhateverFed self.now (λ limits bytes.
+            TellsEnd L.set L.holds limits bytes result) }
     {
         self.judge_end()
     }
 
     /// The records that have ended; after a refusal, before the refused byte.
     pub fn records(&self) -> u32
-        ensures counted { (limits : LimitValues) (bytes : List ℕ) → WasFed self.now limits bytes
-            → CountsRecords L.set limits bytes result }
-        ensures message { (limits : LimitValues) (bytes : List ℕ) → WasFed self.now limits bytes
-            → CountsMessage L.set limits bytes result }
+        ensures counted { WhateverFed self.now (λ limits bytes.
+            CountsRecords L.set limits bytes result) }
+        ensures message { WhateverFed self.now (λ limits bytes.
+            CountsMessage L.set limits bytes result) }
     {
         format_laws(&self.limits);
         self.ended_records()
@@ -68,10 +68,10 @@ impl<L: OuterLanguage> Checker<L> {
     /// The bytes that were taken; after a refusal, those before the refused one. They are at most as
     /// many as a message within the limits can have.
     pub fn place(&self) -> u64
-        ensures longest { (limits : LimitValues) (bytes : List ℕ) → WasFed self.now limits bytes
-            → IsLongestViable L.set limits bytes result }
-        ensures bound { (limits : LimitValues) (bytes : List ℕ) → WasFed self.now limits bytes
-            → result ≤ greatest_length limits }
+        ensures longest { WhateverFed self.now (λ limits bytes.
+            IsLongestViable L.set limits bytes result) }
+        ensures bound { WhateverFed self.now (λ limits bytes.
+            result ≤ greatest_length limits) }
     {
         one_meaning();
         self.accepted_bytes()

@@ -31,3 +31,14 @@ WasFed {language = language} c limits bytes = (checker_limits c ≡ limits)
 abbrev pub HasRead : {L : Type 0} {language : Ghosts L} → Decoder L language → LimitValues → SoFar → Type 0
 HasRead d limits s = (decoder_limits d ≡ limits) × (has_failed d ≡ s.failed)
     × ((point : Point) × DecoderReached d s.bytes s.records point)
+
+-- whatever a checker was fed, with its limits: this holds of them
+abbrev pub WhateverFed : {L : Type 0} {language : Ghosts L} → Checker L language → (LimitValues → List ℕ → Type 0)
+    → Type 0
+WhateverFed {language = language} c claim =
+    (limits : LimitValues) (bytes : List ℕ) → WasFed c limits bytes → claim limits bytes
+
+-- whatever a decoder has read, with its limits: this holds of it
+abbrev pub WhateverRead : {L : Type 0} {language : Ghosts L} → Decoder L language → (LimitValues → SoFar → Type 0)
+    → Type 0
+WhateverRead d claim = (limits : LimitValues) (so_far : SoFar) → HasRead d limits so_far → claim limits so_far
