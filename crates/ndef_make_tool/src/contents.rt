@@ -9,6 +9,7 @@ use crate::handover::{make_alternative, make_collision, make_error};
 use crate::poster::{make_action, make_size, make_title};
 use crate::records::{make_known, make_uri};
 use clap::ArgMatches;
+use ndef_lang::Kind;
 use ndef_value::Record;
 use std::alloc::Global;
 
@@ -56,7 +57,7 @@ fn make_content(alloc: Global, property: Property, word: &str) -> Result<Record,
         Property::Title => make_title(alloc, word),
         Property::Action => make_action(alloc, word),
         Property::Size => make_size(alloc, word),
-        Property::Media => make_known(alloc, b"t", word.as_bytes()),
+        Property::Media => make_known(alloc, Kind::MediaType, word.as_bytes()),
         Property::Collision => make_collision(alloc, word),
         Property::Carrier => make_alternative(alloc, word),
         Property::Error => make_error(alloc, word),

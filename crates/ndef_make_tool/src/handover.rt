@@ -17,6 +17,7 @@ use crate::options::{cut_at_colon, cut_at_equals, is_said, number_below, word_or
 use crate::records::{make_known, well_known};
 use crate::{Fault, Refused};
 use clap::ArgMatches;
+use ndef_lang::Kind;
 use ndef_program::{cut_at, option_text};
 use ndef_types::{Ac, HandoverError, Power, Request, Select};
 use ndef_value::{Bytes, Message, MessageError, Name, Record};
@@ -124,7 +125,7 @@ fn make_ac(
     match Ac::new(power, reference, auxiliary, Bytes::new(alloc)) {
         Ok(ac) => {
             let payload = ac.encode(alloc)?;
-            Ok(well_known(alloc, b"ac", payload))
+            Ok(well_known(alloc, Kind::Alternative, payload))
         }
         Err(_) => Err(Fault::Refused(Refused::TooManyReferences)),
     }
@@ -192,7 +193,7 @@ fn make_reason(alloc: Global, reason: u8, detail: &[u8]) -> Result<Record, Fault
 {
     let error = HandoverError::new(alloc, reason, detail)?;
     let payload = error.encode(alloc)?;
-    Ok(well_known(alloc, b"err", payload))
+    Ok(well_known(alloc, Kind::Error, payload))
 }
 
 /// The record of the error of a word.
@@ -214,7 +215,7 @@ pub(crate) fn make_collision(alloc: Global, word: &str) -> Result<Record, Fault>
     ensures { MakesSaid MakesItem (collision_said word.now) result }
 {
     match number_below(65536, word) {
-        Some(number) => make_known(alloc, b"cr", &(number as u16).to_be_bytes()),
+        Some(number) => make_known(alloc, Kind::Collision, &(number as u16).to_be_bytes()),
         None => Err(Fault::Usage),
     }
 }
@@ -304,7 +305,7 @@ fn make_request(alloc: Global, minor: u8, records: Vec<Record>) -> Result<Record
     match Request::new(minor, message) {
         Ok(request) => {
             let payload = request.encode(alloc)?;
-            Ok(well_known(alloc, b"Hr", payload))
+            Ok(well_known(alloc, Kind::Request, payload))
         }
         Err(_) => Err(Fault::Refused(Refused::NoHandover)),
     }
@@ -329,7 +330,7 @@ fn make_select(alloc: Global, minor: u8, records: Vec<Record>) -> Result<Record,
     match Select::new(minor, selected(records)?) {
         Ok(select) => {
             let payload = select.encode(alloc)?;
-            Ok(well_known(alloc, b"Hs", payload))
+            Ok(well_known(alloc, Kind::Select, payload))
         }
         Err(_) => Err(Fault::Refused(Refused::NoHandover)),
     }

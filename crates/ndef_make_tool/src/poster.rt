@@ -10,6 +10,7 @@ use crate::options::{cut_at_equals, number_in};
 use crate::records::{make_known, make_text, well_known};
 use crate::{Fault, Refused};
 use clap::ArgMatches;
+use ndef_lang::Kind;
 use ndef_types::{Encoding, SmartPoster};
 use ndef_value::{Message, MessageError, Record};
 use std::alloc::Global;
@@ -41,7 +42,7 @@ pub(crate) fn make_action(alloc: Global, name: &str) -> Result<Record, Fault>
     ensures { MakesSaid MakesItem (action_said name.now) result }
 {
     match action_octet(name) {
-        Some(octet) => make_known(alloc, b"act", &[octet]),
+        Some(octet) => make_known(alloc, Kind::Action, &[octet]),
         None => Err(Fault::Usage),
     }
 }
@@ -51,7 +52,7 @@ pub(crate) fn make_size(alloc: Global, word: &str) -> Result<Record, Fault>
     ensures { MakesSaid MakesItem (size_said word.now) result }
 {
     match number_in(word) {
-        Some(size) => make_known(alloc, b"s", &size.to_be_bytes()),
+        Some(size) => make_known(alloc, Kind::Size, &size.to_be_bytes()),
         None => Err(Fault::Usage),
     }
 }
@@ -77,7 +78,7 @@ fn make_poster(alloc: Global, message: Message) -> Result<Record, Fault>
     match SmartPoster::new(message) {
         Ok(poster) => {
             let payload = poster.encode(alloc)?;
-            Ok(well_known(alloc, b"Sp", payload))
+            Ok(well_known(alloc, Kind::SmartPoster, payload))
         }
         Err(_) => Err(Fault::Refused(Refused::NoPoster)),
     }

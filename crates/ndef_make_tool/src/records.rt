@@ -1,6 +1,7 @@
 //! The records that parts ask for.
 ghost use Rattle.std.specs.Prelude.{◌≡◌, ◌<◌, ◌≤◌, ◌^◌, length, chars};
 ghost use Rattle.clap.specs.Words.{found_of, rows_of};
+ghost use Rattle.ndef_format.specs.Kinds.{kind_name};
 ghost use Rattle.ndef_make_tool.specs.Asked.{asked_part};
 ghost use Rattle.ndef_make_tool.specs.Checking.{Checked, is_unchecked};
 ghost use Rattle.ndef_make_tool.specs.Making.{Makes, MakesBy};
@@ -22,23 +23,23 @@ use ndef_types::{Encoding, Text, Uri};
 use ndef_value::{Bytes, MOST_RECORDS, Name, Profile, Record, Tnf};
 use std::alloc::Global;
 
-/// A record of a well-known type, without an id.
-pub(crate) fn well_known(alloc: Global, kind: &[u8], payload: Bytes) -> Record
-    requires kind { (1 ≤ length kind.now) × (length kind.now ≤ 32) }
+/// A record of the well-known type of a kind, without an id.
+pub(crate) fn well_known(alloc: Global, kind: Kind, payload: Bytes) -> Record
+    requires kind { 1 ≤ length (kind_name kind) }
     requires payload { length payload < 2 ^ 32 }
-    ensures { result ≡ well_known kind.now payload }
+    ensures { result ≡ well_known (kind_name kind) payload }
 {
-    let Ok(kind) = Name::from_slice(alloc, kind) else {
+    let Ok(kind) = Name::from_slice(alloc, kind.name()) else {
         unreachable!()
     };
     Record::from_parts(Tnf::WellKnown, kind, Name::new(alloc), payload)
 }
 
-/// A record of a well-known type with this payload.
-pub(crate) fn make_known(alloc: Global, kind: &[u8], payload: &[u8]) -> Result<Record, Fault>
-    ensures { MakesItem (well_known kind.now payload.now) result }
+/// A record of the well-known type of a kind with this payload.
+pub(crate) fn make_known(alloc: Global, kind: Kind, payload: &[u8]) -> Result<Record, Fault>
+    ensures { MakesItem (well_known (kind_name kind) payload.now) result }
 {
-    Ok(Record::new(alloc, Tnf::WellKnown, kind, b"", payload)?)
+    Ok(Record::new(alloc, Tnf::WellKnown, kind.name(), b"", payload)?)
 }
 
 /// The record of a text.
@@ -52,7 +53,7 @@ pub(crate) fn make_text(
 {
     let text = Text::new(alloc, encoding, language, text)?;
     let payload = text.encode(alloc)?;
-    Ok(well_known(alloc, b"T", payload))
+    Ok(well_known(alloc, Kind::Text, payload))
 }
 
 /// The record of the text of a part.
@@ -77,7 +78,7 @@ pub(crate) fn make_uri(alloc: Global, uri: &str) -> Result<Record, Fault>
 {
     let uri = Uri::new(alloc, uri)?;
     let payload = uri.encode(alloc)?;
-    Ok(well_known(alloc, b"U", payload))
+    Ok(well_known(alloc, Kind::Uri, payload))
 }
 
 /// The record of the URI of a part.

@@ -1,6 +1,6 @@
-use Rattle.std.proofs.Common.{◌≡◌, Err, rules}
+use Rattle.std.proofs.Common.{◌≡◌, Err, subst, rules}
 use Rattle.ndef_make_tool.specs.Faults.{record_fault}
-use Rattle.ndef_make_tool.specs.Records.{well_known}
+use Rattle.ndef_make_tool.specs.Records.{MakesItem, well_known}
 use Rattle.ndef_make_tool.proofs.Values.{item_unmade}
 use Rattle.ndef_make_tool.proofs.records.make_known.Goals as goal
 
@@ -9,4 +9,5 @@ returns-in_err-new c =
     let error = c.in_err-new.field-0.0 in
     let is : c.from_residual.result ≡ Err (record_fault error) = search rules in
     let new = c.in_err-new.ensures in
-    rw is (item_unmade (well_known c.args.kind.now c.args.payload.now) error new.bad_shape.0 new.bad_shape.1 new.too_long.0 new.too_long.1)
+    let made = item_unmade (well_known c.name.result.now c.args.payload.now) error new.bad_shape.0 new.bad_shape.1 new.too_long.0 new.too_long.1 in
+    rw is (subst (λ k. MakesItem (well_known k c.args.payload.now) (Err (record_fault error))) c.name.ensures.value made)
