@@ -12,7 +12,7 @@ use Rattle.ndef_message.specs.States.{SinkState}
 use Rattle.ndef_message.specs.declared.message_reading.Read.{Read}
 use Rattle.ndef_message.specs.declared.sending.WriteFault.{WriteFault}
 use Rattle.ndef_tool.specs.Output.{AreBlocks, FitsPlace, IsBlock, IsBlockBy, IsOutput, total_bytes, ending_line, message_line, status_of}
-use Rattle.ndef_tool.specs.Quoting.{Text}
+use Rattle.ndef_program.specs.Quoting.{Text}
 use Rattle.ndef_tool.specs.Rules.{typed_rules}
 use Rattle.ndef_program.specs.Statuses.{status_after}
 use Rattle.ndef_tool.specs.Runs.{EndsCommand}

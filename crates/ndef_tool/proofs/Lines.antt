@@ -12,7 +12,7 @@ use Rattle.ndef_types.specs.Posters.{StandForTexts}
 use Rattle.ndef_types.specs.Values.{TextValue}
 use Rattle.ndef_types.specs.declared.link.Link.{Link}
 use Rattle.ndef_tool.specs.Linking.{link_line, link_lines}
-use Rattle.ndef_tool.specs.Quoting.{Text}
+use Rattle.ndef_program.specs.Quoting.{Text}
 use Rattle.ndef_tool.specs.Showing.{AreRecordLines, IsRecordLine}
 
 -- what follows from a success

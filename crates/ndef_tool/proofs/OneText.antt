@@ -26,7 +26,7 @@ use Rattle.ndef_types.specs.declared.link.Link.{Link}
 use Rattle.ndef_types.specs.declared.power.Power.{Power}
 use Rattle.ndef_types.specs.declared.power.Power.TheVariants.{Inactive, Active, Activating, Unknown}
 use Rattle.ndef_tool.specs.Output.{AreBlocks, IsBlock, IsBlockBy, OneOutput, total_bytes, ending_line}
-use Rattle.ndef_tool.specs.Quoting.{Text}
+use Rattle.ndef_program.specs.Quoting.{Text}
 use Rattle.ndef_tool.specs.Showing.{AreRecordLines, IsRecordLine, IsTyped, PrintsValue, TellsPoster, record_front, told_carrier, told_request, told_select, told_text, told_uri}
 use Rattle.ndef_tool.specs.declared.choice.Action.{Action}
 use Rattle.ndef_tool.specs.declared.choice.Action.TheVariants.{Show, Check, Encode}

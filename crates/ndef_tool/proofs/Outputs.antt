@@ -8,7 +8,7 @@ use Rattle.ndef_message.specs.Sending.{Sent, MarksOf}
 use Rattle.ndef_message.specs.declared.message_reading.Read.{Read}
 use Rattle.ndef_message.specs.declared.sending.WriteFault.{WriteFault}
 use Rattle.ndef_tool.specs.Output.{AreBlocks, IsBlock, total_bytes, ending_line, status_of}
-use Rattle.ndef_tool.specs.Quoting.{Text}
+use Rattle.ndef_program.specs.Quoting.{Text}
 use Rattle.ndef_program.specs.Statuses.{status_after}
 use Rattle.ndef_tool.specs.Runs.{EndsCommand}
 use Rattle.ndef_program.specs.Outputs.{GoesOut}

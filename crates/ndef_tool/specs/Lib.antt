@@ -1,4 +1,3 @@
-pub mod Quoting
 pub mod Showing
 pub mod Linking
 pub mod CommandLine

@@ -7,7 +7,7 @@ use Rattle.ndef_format.specs.Reasons.{reason_number, reason_name}
 use Rattle.ndef_format.specs.declared.refusal.Refusal.{Refusal}
 use Rattle.ndef_message.specs.declared.message_reading.Read.{Read}
 use Rattle.ndef_message.specs.Written.{cut_octets}
-use Rattle.ndef_tool.specs.Quoting.{Text}
+use Rattle.ndef_program.specs.Quoting.{Text}
 use Rattle.ndef_tool.specs.Showing.{AreRecordLines, IsTyped}
 use Rattle.ndef_tool.specs.Linking.{AreLinkLines}
 use Rattle.ndef_format.specs.declared.profile.Profile.{Profile}

@@ -6,7 +6,7 @@ use Rattle.ndef_message.specs.declared.message_reading.Read.{Read}
 use Rattle.ndef_program.specs.Statuses.{status_after}
 use Rattle.ndef_tool.specs.Chosen.{Chooses}
 use Rattle.ndef_tool.specs.Output.{IsOutput, status_of, ndef_usage}
-use Rattle.ndef_tool.specs.Quoting.{Text}
+use Rattle.ndef_program.specs.Quoting.{Text}
 use Rattle.ndef_tool.specs.Inputs.{ReadsIn}
 use Rattle.ndef_program.specs.Outputs.{GoesOut}
 use Rattle.ndef_tool.specs.Streams.{Streams}

@@ -15,7 +15,7 @@ use Rattle.ndef_message.specs.declared.message_reading.ReadError.TheVariants as 
 use Rattle.ndef_program.specs.Outputs.{GoesOut}
 use Rattle.ndef_tool.specs.Blocks.{block_text}
 use Rattle.ndef_tool.specs.Output.{AreBlocks, IsBlock, total_bytes}
-use Rattle.ndef_tool.specs.Quoting.{Text}
+use Rattle.ndef_program.specs.Quoting.{Text}
 use Rattle.ndef_tool.specs.Rules.{Rules, typed_rules}
 use Rattle.ndef_tool.specs.declared.choice.Action.{Action}
 use Rattle.ndef_tool.specs.declared.choice.Action.TheVariants.{Check}

@@ -16,7 +16,7 @@ use Rattle.ndef_types.specs.declared.action.Action.{Action}
 use Rattle.ndef_types.specs.declared.action.Action.TheVariants.{Do, Save, Open, Other}
 use Rattle.ndef_types.specs.declared.encoding.Encoding.{Encoding}
 use Rattle.ndef_types.specs.declared.encoding.Encoding.TheVariants.{Utf8, Utf16}
-use Rattle.ndef_tool.specs.Quoting.{Text, quoted}
+use Rattle.ndef_program.specs.Quoting.{Text, quoted}
 
 -- a text of this sort is appended
 abbrev pub Adds : (before after : Text) → (Text → Type 0) → Type 0

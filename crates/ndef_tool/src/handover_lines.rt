@@ -11,7 +11,7 @@ ghost use Rattle.ndef_tool.specs.Showing.{Adds, PrintsValue, told_request, told_
 use crate::decimals::push_counted;
 use crate::kinds::kind_of;
 use ndef_lang::Kind;
-use ndef_types::{DecodeError, Request, Select};
+use ndef_types::{Request, Select, read_request, read_select};
 use ndef_value::{Bytes, Message, NoMemory, Profile, Record};
 use std::alloc::Global;
 
@@ -56,15 +56,11 @@ pub fn push_request(
     profile: Profile,
     payload: &[u8],
 ) -> Result<(), NoMemory>
-    requires short { length payload.now < 2 ^ 32 }
-    requires request { IsNest tables.Request MOST_RECORDS profile payload.now }
+    requires { IsNest tables.Request MOST_RECORDS profile payload.now }
     ensures { OnOk result (Adds line.old line.new (PrintsValue kinds.Request profile payload.now)) }
 {
-    match Request::decode_as(alloc, payload, profile) {
-        Ok(request) => push_told_request(line, &request),
-        Err(DecodeError::NoMemory) => Err(NoMemory),
-        Err(DecodeError::Refused(_)) => unreachable!(),
-    }
+    let request = read_request(alloc, payload, profile)?;
+    push_told_request(line, &request)
 }
 
 /// How many carriers a select has.
@@ -92,13 +88,9 @@ pub fn push_select(
     profile: Profile,
     payload: &[u8],
 ) -> Result<(), NoMemory>
-    requires short { length payload.now < 2 ^ 32 }
-    requires select { IsNest tables.Select MOST_RECORDS profile payload.now }
+    requires { IsNest tables.Select MOST_RECORDS profile payload.now }
     ensures { OnOk result (Adds line.old line.new (PrintsValue kinds.Select profile payload.now)) }
 {
-    match Select::decode_as(alloc, payload, profile) {
-        Ok(select) => push_told_select(line, &select),
-        Err(DecodeError::NoMemory) => Err(NoMemory),
-        Err(DecodeError::Refused(_)) => unreachable!(),
-    }
+    let select = read_select(alloc, payload, profile)?;
+    push_told_select(line, &select)
 }

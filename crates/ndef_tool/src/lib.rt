@@ -37,6 +37,5 @@ pub use decimals::push_number;
 pub use ending::{Ending, HexFault};
 pub use hexadecimal::read_hexadecimal;
 pub use printing::ending_line;
-pub use quoting::{push_quoted, push_quoted_bytes};
 pub use running::run;
 pub use session::{Session, handle};

@@ -7,8 +7,9 @@ ghost use Rattle.ndef_format.specs.declared.table.Table.TheVariants as tables;
 ghost use Rattle.ndef_tool.specs.Showing.{Adds, PrintsValue, TellsPoster, action_name, media_name, poster_back, poster_front, size_name};
 
 use crate::decimals::{push_counted, push_number};
-use crate::quoting::{push_named, push_quoted};
-use ndef_types::{Action, DecodeError, SmartPoster};
+use crate::quoting::push_named;
+use ndef_program::push_quoted;
+use ndef_types::{Action, SmartPoster, read_poster};
 use ndef_value::{Bytes, NoMemory, Profile};
 use std::alloc::Global;
 
@@ -93,13 +94,9 @@ pub fn push_poster(
     profile: Profile,
     payload: &[u8],
 ) -> Result<(), NoMemory>
-    requires short { length payload.now < 2 ^ 32 }
-    requires poster { IsNest tables.SmartPoster MOST_RECORDS profile payload.now }
+    requires { IsNest tables.SmartPoster MOST_RECORDS profile payload.now }
     ensures { OnOk result (Adds line.old line.new (PrintsValue kinds.SmartPoster profile payload.now)) }
 {
-    match SmartPoster::decode_as(alloc, payload, profile) {
-        Ok(poster) => push_told_poster(alloc, line, &poster),
-        Err(DecodeError::NoMemory) => Err(NoMemory),
-        Err(DecodeError::Refused(_)) => unreachable!(),
-    }
+    let poster = read_poster(alloc, payload, profile)?;
+    push_told_poster(alloc, line, &poster)
 }

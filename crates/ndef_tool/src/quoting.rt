@@ -1,60 +1,11 @@
-//! Bytes between quotation marks.
-ghost use Rattle.std.specs.Prelude.{◌≡◌, ◌++◌, ◌∷◌, [], OnOk};
-ghost use Rattle.hex.specs.Hex.{encode_lower};
-ghost use Rattle.ndef_tool.specs.Quoting.{is_plain_octet, quoted, quoted_byte, quoted_bytes};
+//! Bytes between quotation marks, after a word.
+ghost use Rattle.std.specs.Prelude.{◌≡◌, ◌++◌, OnOk};
+ghost use Rattle.ndef_program.specs.Quoting.{quoted};
 
+use ndef_program::push_quoted;
 use ndef_value::{Bytes, NoMemory};
 
-/// Whether a byte stands between quotation marks as it is: printable ASCII, but for the quotation
-/// mark and the backslash.
-fn is_plain(byte: u8) -> bool
-    ensures { result ≡ is_plain_octet byte }
-{
-    0x20 <= byte && byte <= 0x7e && byte != 0x22 && byte != 0x5c
-}
-
-/// A byte in two lower-case hexadecimal digits.
-fn digits_of(byte: u8) -> [u8; 2]
-    ensures { result ≡ encode_lower (byte ∷ []) }
-{
-    let mut digits = [0; 2];
-    let Ok(()) = hex::encode_to_slice([byte].as_slice(), &mut digits) else {
-        unreachable!()
-    };
-    digits
-}
-
-/// Appends a byte as it stands between quotation marks.
-fn push_byte(line: &mut Bytes, byte: u8) -> Result<(), NoMemory>
-    ensures { OnOk result (line.new ≡ line.old ++ quoted_byte byte) }
-{
-    if is_plain(byte) {
-        return line.extend(&[byte]);
-    }
-    line.extend(b"\\x")?;
-    line.extend(&digits_of(byte))
-}
-
-/// Appends the bytes as they stand between quotation marks.
-pub fn push_quoted_bytes(line: &mut Bytes, bytes: &[u8]) -> Result<(), NoMemory>
-    ensures { OnOk result (line.new ≡ line.old ++ quoted_bytes bytes.now) }
-{
-    for byte in bytes {
-        push_byte(line, *byte)?;
-    }
-    Ok(())
-}
-
-/// Appends the bytes between quotation marks.
-pub fn push_quoted(line: &mut Bytes, bytes: &[u8]) -> Result<(), NoMemory>
-    ensures { OnOk result (line.new ≡ line.old ++ quoted bytes.now) }
-{
-    line.extend(b"\"")?;
-    push_quoted_bytes(line, bytes)?;
-    line.extend(b"\"")
-}
-
-/// Appends a word, and the bytes behind it between quotation marks.
+/// Appends a word, and the bytes after it between quotation marks.
 pub fn push_named(line: &mut Bytes, word: &[u8], bytes: &[u8]) -> Result<(), NoMemory>
     ensures { OnOk result (line.new ≡ line.old ++ (word.now ++ quoted bytes.now)) }
 {

@@ -8,7 +8,7 @@ ghost use Rattle.ndef_tool.specs.Showing.{Adds, PrintsValue, encoding_name, told
 
 use crate::decimals::push_counted;
 use crate::quoting::push_named;
-use ndef_types::{Carrier, DecodeError, Encoding, Text, Uri};
+use ndef_types::{Carrier, Encoding, Text, Uri, read_carrier, read_text, read_uri};
 use ndef_value::{Bytes, NoMemory, Profile};
 use std::alloc::Global;
 
@@ -39,15 +39,11 @@ pub fn push_text(
     profile: Profile,
     payload: &[u8],
 ) -> Result<(), NoMemory>
-    requires short { length payload.now < 2 ^ 32 }
-    requires text { IsText payload.now }
+    requires { IsText payload.now }
     ensures { OnOk result (Adds line.old line.new (PrintsValue kinds.Text profile payload.now)) }
 {
-    match Text::decode(alloc, payload) {
-        Ok(text) => push_told_text(line, &text),
-        Err(DecodeError::NoMemory) => Err(NoMemory),
-        Err(DecodeError::Refused(_)) => unreachable!(),
-    }
+    let text = read_text(alloc, payload)?;
+    push_told_text(line, &text)
 }
 
 /// Appends the URI.
@@ -64,15 +60,11 @@ pub fn push_uri(
     profile: Profile,
     payload: &[u8],
 ) -> Result<(), NoMemory>
-    requires short { length payload.now < 2 ^ 32 }
-    requires uri { IsUri profile payload.now }
+    requires { IsUri profile payload.now }
     ensures { OnOk result (Adds line.old line.new (PrintsValue kinds.Uri profile payload.now)) }
 {
-    match Uri::decode_as(alloc, payload, profile) {
-        Ok(uri) => push_told_uri(line, &uri),
-        Err(DecodeError::NoMemory) => Err(NoMemory),
-        Err(DecodeError::Refused(_)) => unreachable!(),
-    }
+    let uri = read_uri(alloc, payload, profile)?;
+    push_told_uri(line, &uri)
 }
 
 /// Appends the format and the type of a handover carrier, and how many octets of data it has.
@@ -91,13 +83,9 @@ pub fn push_carrier(
     profile: Profile,
     payload: &[u8],
 ) -> Result<(), NoMemory>
-    requires short { length payload.now < 2 ^ 32 }
-    requires carrier { IsCarrier payload.now }
+    requires { IsCarrier payload.now }
     ensures { OnOk result (Adds line.old line.new (PrintsValue kinds.Carrier profile payload.now)) }
 {
-    match Carrier::decode(alloc, payload) {
-        Ok(carrier) => push_told_carrier(line, &carrier),
-        Err(DecodeError::NoMemory) => Err(NoMemory),
-        Err(DecodeError::Refused(_)) => unreachable!(),
-    }
+    let carrier = read_carrier(alloc, payload)?;
+    push_told_carrier(line, &carrier)
 }

@@ -13,6 +13,7 @@ pub(crate) const MOST: usize = MOST_PAYLOAD as usize;
 
 /// Nothing where the payload is in the set of its kind and of at most 4294967295 bytes, else where and
 /// why it is refused.
+#[inline(always)]
 pub fn accept<L: Language>(kind: Kind, profile: Profile, payload: &[u8]) -> Result<(), Refusal>
     ensures ok { OnOk result ((length payload.now < 2 ^ 32) × L.set kind MOST_RECORDS profile payload.now) }
     ensures err { IfErr result

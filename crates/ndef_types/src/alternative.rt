@@ -12,7 +12,7 @@ ghost use Rattle.ndef_types.specs.Alternatives.{MakesAc};
 use crate::accepting::{MOST, accept};
 use crate::fields::{behind_first, split_counted};
 use crate::{DecodeError, EncodeError, Power};
-use ndef_lang::{AcLang, Kind};
+use ndef_lang::{Kind, Leaf};
 use ndef_value::{Bytes, Name, NoMemory, Profile};
 use std::alloc::Global;
 use std::hash::{Hash, Hasher};
@@ -179,7 +179,7 @@ impl Ac {
     pub fn decode(alloc: Global, payload: &[u8]) -> Result<Ac, DecodeError>
         ensures { DecodesTo IsAlternative (λ s b. NoReason) StandsForAc payload.now result }
     {
-        accept::<AcLang>(Kind::Alternative, Profile::Strict, payload)?;
+        accept::<Leaf>(Kind::Alternative, Profile::Strict, payload)?;
         Ok(read_ac(alloc, payload)?)
     }
 

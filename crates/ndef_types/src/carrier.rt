@@ -7,7 +7,7 @@ ghost use Rattle.ndef_types.specs.Values.{StandsForCarrier, IsCarrierValue, carr
 
 use crate::accepting::{MOST, accept};
 use crate::{DecodeError, EncodeError};
-use ndef_lang::{HcLang, Kind};
+use ndef_lang::{Kind, Leaf};
 use ndef_value::{Bytes, Name, NoMemory, Profile};
 use std::alloc::Global;
 use std::marker::Model;
@@ -33,8 +33,9 @@ impl Model for Carrier {
     ghost inverse = { λ v. record { format = v.format; kind = v.kind; carried = v.carried } };
 }
 
-/// The carrier for which a payload stands.
-fn read_carrier(alloc: Global, payload: &[u8]) -> Result<Carrier, NoMemory>
+/// The carrier for which a payload of a handover carrier record stands, or `NoMemory`. The payload is not checked
+/// again.
+pub fn read_carrier(alloc: Global, payload: &[u8]) -> Result<Carrier, NoMemory>
     requires { IsCarrier payload.now }
     ensures { IfOk result (StandsForCarrier payload.now) }
 {
@@ -70,7 +71,7 @@ impl Carrier {
     pub fn decode(alloc: Global, payload: &[u8]) -> Result<Carrier, DecodeError>
         ensures { DecodesTo IsCarrier (λ s b. NoReason) StandsForCarrier payload.now result }
     {
-        accept::<HcLang>(Kind::Carrier, Profile::Strict, payload)?;
+        accept::<Leaf>(Kind::Carrier, Profile::Strict, payload)?;
         Ok(read_carrier(alloc, payload)?)
     }
 

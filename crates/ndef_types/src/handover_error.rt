@@ -8,7 +8,7 @@ ghost use Rattle.ndef_types.specs.Values.{StandsForError, IsErrorValue, error_pa
 
 use crate::accepting::{MOST, accept};
 use crate::{DecodeError, EncodeError};
-use ndef_lang::{ErrLang, Kind};
+use ndef_lang::{Kind, Leaf};
 use ndef_value::{Bytes, NoMemory, Profile};
 use std::alloc::Global;
 use std::marker::Model;
@@ -82,7 +82,7 @@ impl HandoverError {
     pub fn decode(alloc: Global, payload: &[u8]) -> Result<HandoverError, DecodeError>
         ensures { DecodesTo IsError (λ s b. NoReason) StandsForError payload.now result }
     {
-        accept::<ErrLang>(Kind::Error, Profile::Strict, payload)?;
+        accept::<Leaf>(Kind::Error, Profile::Strict, payload)?;
         let [reason, detail @ ..] = payload else {
             unreachable!()
         };

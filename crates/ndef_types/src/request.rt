@@ -44,8 +44,9 @@ impl Model for Request {
     ghost inverse = { λ v. record { minor = v.minor; message = v.items } };
 }
 
-/// The request for which a payload stands.
-fn read_request(alloc: Global, payload: &[u8], profile: Profile) -> Result<Request, NoMemory>
+/// The request for which a payload of a Handover Request record stands, or `NoMemory`. The payload is not checked
+/// again.
+pub fn read_request(alloc: Global, payload: &[u8], profile: Profile) -> Result<Request, NoMemory>
     requires { IsNest tables.Request MOST_RECORDS profile payload.now }
     ensures { IfOk result (StandsForRequest profile payload.now) }
 {

@@ -42,8 +42,9 @@ impl Model for Select {
     ghost inverse = { λ v. record { minor = v.minor; message = v.message } };
 }
 
-/// The select for which a payload stands.
-fn read_select(alloc: Global, payload: &[u8], profile: Profile) -> Result<Select, NoMemory>
+/// The select for which a payload of a Handover Select record stands, or `NoMemory`. The payload is not checked
+/// again.
+pub fn read_select(alloc: Global, payload: &[u8], profile: Profile) -> Result<Select, NoMemory>
     requires { IsNest tables.Select MOST_RECORDS profile payload.now }
     ensures { IfOk result (StandsForSelect profile payload.now) }
 {

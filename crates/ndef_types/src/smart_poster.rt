@@ -127,8 +127,8 @@ fn plain_for(alloc: Global, message: Message, profile: Profile) -> Result<Messag
     }
 }
 
-/// The poster for which a payload stands.
-fn read_poster(alloc: Global, payload: &[u8], profile: Profile) -> Result<SmartPoster, NoMemory>
+/// The poster for which a payload of a smart poster record stands, or `NoMemory`. The payload is not checked again.
+pub fn read_poster(alloc: Global, payload: &[u8], profile: Profile) -> Result<SmartPoster, NoMemory>
     requires { IsNest tables.SmartPoster MOST_RECORDS profile payload.now }
     ensures { IfOk result (StandsForPoster profile payload.now) }
 {

@@ -12,7 +12,7 @@ use crate::accepting::{MOST, accept};
 use crate::fields::behind_first;
 use crate::utf16::{push_text, read_utf16, units_len};
 use crate::{DecodeError, EncodeError, Encoding};
-use ndef_lang::{Kind, TextLang};
+use ndef_lang::{Kind, Leaf};
 use ndef_value::{Bytes, NoMemory, Profile};
 use std::alloc::{AllocError, Global};
 use std::hash::{Hash, Hasher};
@@ -104,8 +104,8 @@ fn read_octets(alloc: Global, encoding: Encoding, octets: &[u8]) -> Result<Strin
     }
 }
 
-/// The text for which a payload stands.
-pub(crate) fn read_text(alloc: Global, payload: &[u8]) -> Result<Text, NoMemory>
+/// The text for which a payload of a Text record stands, or `NoMemory`. The payload is not checked again.
+pub fn read_text(alloc: Global, payload: &[u8]) -> Result<Text, NoMemory>
     requires { IsText payload.now }
     ensures { IfOk result (StandsForText payload.now) }
 {
@@ -191,7 +191,7 @@ impl Text {
     pub fn decode(alloc: Global, payload: &[u8]) -> Result<Text, DecodeError>
         ensures { DecodesTo IsText TextReason StandsForText payload.now result }
     {
-        accept::<TextLang>(Kind::Text, Profile::Strict, payload)?;
+        accept::<Leaf>(Kind::Text, Profile::Strict, payload)?;
         Ok(read_text(alloc, payload)?)
     }
 

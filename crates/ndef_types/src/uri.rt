@@ -14,7 +14,7 @@ ghost use Rattle.ndef_types.specs.Values.{StandsForUri, WritesUri};
 use crate::accepting::{MOST, accept};
 use crate::prefixes::{prefix, split};
 use crate::{DecodeError, EncodeError};
-use ndef_lang::{Kind, UriLang};
+use ndef_lang::{Kind, Leaf};
 use ndef_value::{Bytes, NoMemory, Profile};
 use std::alloc::Global;
 use std::hash::{Hash, Hasher};
@@ -34,8 +34,8 @@ impl Model for Uri {
     ghost view = { λ u. string_bytes u.text };
 }
 
-/// The URI for which a payload stands.
-pub(crate) fn read_uri(alloc: Global, payload: &[u8], profile: Profile) -> Result<Uri, NoMemory>
+/// The URI for which a payload of a URI record stands, or `NoMemory`. The payload is not checked again.
+pub fn read_uri(alloc: Global, payload: &[u8], profile: Profile) -> Result<Uri, NoMemory>
     requires { IsUri profile payload.now }
     ensures { IfOk result (StandsForUri payload.now) }
 {
@@ -70,7 +70,7 @@ impl Uri {
     pub fn decode_as(alloc: Global, payload: &[u8], profile: Profile) -> Result<Uri, DecodeError>
         ensures { DecodesTo (IsUri profile) (UriReason profile) StandsForUri payload.now result }
     {
-        accept::<UriLang>(Kind::Uri, profile, payload)?;
+        accept::<Leaf>(Kind::Uri, profile, payload)?;
         Ok(read_uri(alloc, payload, profile)?)
     }
 
