@@ -5,7 +5,7 @@ use Rattle.std.proofs.lemmas.List.{append-nil}
 use Rattle.ndef_format.specs.Limits.{LimitValues}
 use Rattle.ndef_fields.specs.Tellings.{TellsFields}
 use Rattle.ndef_fields.specs.declared.telling.Told.{Told}
-use Rattle.ndef_tool.specs.Quoting.{Text}
+use Rattle.ndef_program.specs.Quoting.{Text}
 use Rattle.ndef_explain_tool.specs.Explaining.{AddsMessage, AddsStop, AreMessageTexts, AreTold, Explains, IsExplained, IsStopText, bytes_told}
 use Rattle.ndef_explain_tool.specs.Forms.{Form}
 use Rattle.ndef_explain_tool.specs.declared.explaining.Progress.{Progress}

@@ -6,13 +6,13 @@ use Rattle.ndef_format.specs.Reasons.{reason_name, reason_number}
 use Rattle.ndef_format.specs.declared.refusal.Refusal.{Refusal}
 use Rattle.ndef_fields.specs.Names.{name_text}
 use Rattle.ndef_fields.specs.declared.field.Field.{Field}
-use Rattle.ndef_tool.specs.Quoting.{Text}
+use Rattle.ndef_program.specs.Quoting.{Text}
 use Rattle.serde_json.specs.Data.{Data, string}
 use Rattle.serde_json.specs.Written.{comma_if, compact_text, items_text, members_text}
 use Rattle.ndef_explain_tool.specs.JsonText.{Pair, counted, items_of, later_members, member_text, members_of, object_of}
 use Rattle.ndef_explain_tool.specs.Meanings.{meaning_of, reading_of}
 use Rattle.ndef_explain_tool.specs.Objects.{digit_fault, end_text, field_pairs, file_pairs, line_fault, line_of, meaning_pairs, named_fault, octet_pairs, place_fault, place_pairs, refusal_object}
-use Rattle.ndef_explain_tool.specs.Sentences.{sentence_of}
+use Rattle.ndef_format.specs.Sentences.{reason_sentence}
 use Rattle.ndef_explain_tool.specs.declared.message_objects.RefusedByte.{RefusedByte}
 
 regroup : (q v l : Text) → 44 ∷ (q ++ 58 ∷ (v ++ (l ++ 125 ∷ []))) ≡ (((44 ∷ (q ++ 58 ∷ [])) ++ v) ++ l) ++ 125 ∷ []
@@ -90,14 +90,14 @@ refusal_grouped p n o r s e = simp (append_assoc, append-nil)
 
 pub refusal_text : (at : ℕ) (refusal : Refusal) (byte : Option RefusedByte) → compact_text (refusal_object at refusal byte)
     ≡ codes "{" ++ (member_text false (codes "at") (counted (at + refusal.at)) ++ (later_members (place_pairs byte) ++ (member_text true (codes "name") (string (reason_name refusal.reason))
-    ++ (later_members (octet_pairs byte) ++ (member_text true (codes "reason") (counted (reason_number refusal.reason)) ++ (member_text true (codes "sentence") (string (sentence_of refusal.reason)) ++ codes "}"))))))
+    ++ (later_members (octet_pairs byte) ++ (member_text true (codes "reason") (counted (reason_number refusal.reason)) ++ (member_text true (codes "sentence") (string (reason_sentence refusal.reason)) ++ codes "}"))))))
 refusal_text at refusal byte =
     let place = later_members (place_pairs byte) in
     let name = member_text true (codes "name") (string (reason_name refusal.reason)) in
     let octet = later_members (octet_pairs byte) in
     let reason = member_text true (codes "reason") (counted (reason_number refusal.reason)) in
-    let sentence = member_text true (codes "sentence") (string (sentence_of refusal.reason)) in
-    let last = (codes "reason", counted (reason_number refusal.reason)) ∷ (codes "sentence", string (sentence_of refusal.reason)) ∷ [] in
+    let sentence = member_text true (codes "sentence") (string (reason_sentence refusal.reason)) in
+    let last = (codes "reason", counted (reason_number refusal.reason)) ∷ (codes "sentence", string (reason_sentence refusal.reason)) ∷ [] in
     let behind = (codes "name", string (reason_name refusal.reason)) ∷ (octet_pairs byte ++ last) in
     object_text (codes "at") (counted (at + refusal.at)) (place_pairs byte ++ behind)
     ∙ ap (λ t. codes "{" ++ (member_text false (codes "at") (counted (at + refusal.at)) ++ t))
@@ -143,13 +143,13 @@ field_done at field whole octets depth name o a b c d e f g h deep named i j k l
     ∙ sym (ap (λ t. o ++ t) (field_text at field whole octets))
 
 pub refusal_done : (at : ℕ) (refusal : Refusal) (byte : Option RefusedByte) (name sentence : Text) (number : ℕ) (o a b c d e f g h : Text) → name ≡ reason_name refusal.reason
-    → number ≡ reason_number refusal.reason → sentence ≡ sentence_of refusal.reason → a ≡ o ++ codes "{" → b ≡ a ++ member_text false (codes "at") (counted (at + refusal.at))
+    → number ≡ reason_number refusal.reason → sentence ≡ reason_sentence refusal.reason → a ≡ o ++ codes "{" → b ≡ a ++ member_text false (codes "at") (counted (at + refusal.at))
     → c ≡ b ++ later_members (place_pairs byte) → d ≡ c ++ member_text true (codes "name") (string name) → e ≡ d ++ later_members (octet_pairs byte)
     → f ≡ e ++ member_text true (codes "reason") (counted number) → g ≡ f ++ member_text true (codes "sentence") (string sentence)
     → h ≡ g ++ codes "}" → h ≡ o ++ compact_text (refusal_object at refusal byte)
 refusal_done at refusal byte name sentence number o a b c d e f g h named numbered said i j k l m n p q =
     eight o a b c d e f g h (codes "{") (member_text false (codes "at") (counted (at + refusal.at))) (later_members (place_pairs byte)) (member_text true (codes "name") (string (reason_name refusal.reason)))
-    (later_members (octet_pairs byte)) (member_text true (codes "reason") (counted (reason_number refusal.reason))) (member_text true (codes "sentence") (string (sentence_of refusal.reason))) (codes "}")
+    (later_members (octet_pairs byte)) (member_text true (codes "reason") (counted (reason_number refusal.reason))) (member_text true (codes "sentence") (string (reason_sentence refusal.reason))) (codes "}")
     i j k (l ∙ ap (λ x. c ++ member_text true (codes "name") (string x)) named) m (n ∙ ap (λ x. e ++ member_text true (codes "reason") (counted x)) numbered)
     (p ∙ ap (λ x. f ++ member_text true (codes "sentence") (string x)) said) q
     ∙ sym (ap (λ t. o ++ t) (refusal_text at refusal byte))

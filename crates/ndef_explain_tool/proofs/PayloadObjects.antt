@@ -8,7 +8,7 @@ use Rattle.ndef_format.specs.declared.kind.Kind.{Kind}
 use Rattle.ndef_fields.specs.Tellings.{ArePayloadFields}
 use Rattle.ndef_fields.specs.declared.field.Field.{Field}
 use Rattle.ndef_message.specs.Views.{only_payload}
-use Rattle.ndef_tool.specs.Quoting.{Text}
+use Rattle.ndef_program.specs.Quoting.{Text}
 use Rattle.serde_json.specs.Data.{Data}
 use Rattle.serde_json.specs.Written.{comma_if, compact_text, items_text}
 use Rattle.ndef_explain_tool.specs.JsonText.{counted, items_of, member_start, member_text}

@@ -11,7 +11,7 @@ use Rattle.ndef_explain_tool.specs.FieldLines.{field_text}
 use Rattle.ndef_format.specs.Messages.{Item}
 use Rattle.ndef_format.specs.Records.{Piece, Run}
 use Rattle.ndef_message.specs.Views.{only_payload}
-use Rattle.ndef_tool.specs.Quoting.{Text}
+use Rattle.ndef_program.specs.Quoting.{Text}
 use Rattle.ndef_explain_tool.specs.PayloadLines.{AddsPayload, AddsPayloads, ArePayloadTexts, IsJoinedText, IsPayloadTextBy, payload_head}
 
 pub several : (number : ℕ) (item : Item) (p : Piece) (later : List Piece) (text : Text) (o : Option (List ℕ)) → o ≡ only_payload (p ∷ later) → is_some o ≡ false

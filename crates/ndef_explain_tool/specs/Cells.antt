@@ -3,7 +3,7 @@ use Rattle.std.specs.Prelude.{ℕ, ◌+◌, ◌*◌, ◌-◌, ◌^◌, ◌%◌, 
 use Rattle.std.specs.Int.{w32, to_be_bytes}
 use Rattle.std.specs.List.{flat_map}
 use Rattle.hex.specs.Hex.{encode_lower}
-use Rattle.ndef_tool.specs.Quoting.{Text}
+use Rattle.ndef_program.specs.Quoting.{Text}
 
 -- a place in eight digits
 abbrev pub place_text : ℕ → Text

@@ -14,13 +14,13 @@ use Rattle.ndef_fields.specs.Tellings.{AreFieldsBefore, IsMessageFront, TellsFie
 use Rattle.ndef_fields.specs.declared.field.Field.{Field}
 use Rattle.ndef_fields.specs.declared.last.ByteField.{ByteField}
 use Rattle.ndef_fields.specs.declared.telling.Told.{Told}
-use Rattle.ndef_tool.specs.Quoting.{Text}
+use Rattle.ndef_program.specs.Quoting.{Text}
 use Rattle.ndef_explain_tool.specs.Cells.{cells, start_of}
 use Rattle.ndef_explain_tool.specs.FieldLines.{field_text}
 use Rattle.ndef_explain_tool.specs.Forms.{Form, lines, objects}
 use Rattle.ndef_explain_tool.specs.Objects.{IsMessageObject, IsRefusedObject}
 use Rattle.ndef_explain_tool.specs.PayloadLines.{ArePayloadTexts}
-use Rattle.ndef_explain_tool.specs.Sentences.{sentence_of}
+use Rattle.ndef_format.specs.Sentences.{reason_sentence}
 use Rattle.ndef_explain_tool.specs.declared.explaining.Progress.{Progress}
 use Rattle.ndef_explain_tool.specs.declared.explaining.Stop.{Stop}
 use Rattle.ndef_explain_tool.specs.declared.explaining.Stop.TheVariants.{End, Refused}
@@ -82,7 +82,7 @@ abbrev pub reason_lines : (at : ℕ) → Refusal → Text
 reason_lines at refusal =
     codes "refused at " ++ decimal (at + refusal.at) ++ codes ": " ++ decimal (reason_number refusal.reason)
     ++ codes " "
-    ++ reason_name refusal.reason ++ codes "\n" ++ sentence_of refusal.reason ++ codes "\n"
+    ++ reason_name refusal.reason ++ codes "\n" ++ reason_sentence refusal.reason ++ codes "\n"
 
 -- the lines of a refused byte, where there is one
 abbrev pub IsByteText : (at : ℕ) (input : List ℕ) → Refusal → Text → Type 0

@@ -2,7 +2,7 @@
 use Rattle.std.specs.Prelude.{ℕ, ◌+◌, List, ◌++◌, codes, drop, take}
 use Rattle.ndef_fields.specs.Names.{name_text}
 use Rattle.ndef_fields.specs.declared.field.Field.{Field}
-use Rattle.ndef_tool.specs.Quoting.{Text}
+use Rattle.ndef_program.specs.Quoting.{Text}
 use Rattle.ndef_explain_tool.specs.Cells.{cells, later_cells, start_of}
 use Rattle.ndef_explain_tool.specs.Meanings.{meaning_of, reading_of, whole_of}
 

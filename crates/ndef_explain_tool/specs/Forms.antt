@@ -1,6 +1,6 @@
 -- The two forms in which an input is told.
 use Rattle.std.specs.Prelude.{Bool, true, false, Option, Some, None, option_map}
-use Rattle.ndef_tool.specs.Quoting.{Text}
+use Rattle.ndef_program.specs.Quoting.{Text}
 use Rattle.ndef_explain_tool.specs.declared.explaining.Style.{Style}
 use Rattle.ndef_explain_tool.specs.declared.explaining.Style.TheVariants.{Lines, Objects}
 

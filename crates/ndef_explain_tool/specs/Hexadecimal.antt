@@ -4,7 +4,7 @@ use Rattle.std.specs.List.{before_first, flat_map, list_all, list_any, prefix_le
 use Rattle.hex.specs.Hex.{decode_of}
 use Rattle.hex.specs.declared.error.FromHexError.{FromHexError}
 use Rattle.ndef_tool.specs.Hexadecimal.{fault_of}
-use Rattle.ndef_tool.specs.Quoting.{Text}
+use Rattle.ndef_program.specs.Quoting.{Text}
 use Rattle.ndef_tool.specs.declared.ending.Ending.TheVariants.{Hex, Memory}
 use Rattle.ndef_explain_tool.specs.Lines.{lines_of}
 use Rattle.ndef_explain_tool.specs.declared.inputs.Unread.{Unread}

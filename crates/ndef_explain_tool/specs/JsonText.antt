@@ -1,6 +1,6 @@
 -- Objects in JSON and their texts (RFC 8259); `compact_text` is the text of a value, without spaces.
 use Rattle.std.specs.Prelude.{Bool, true, ℕ, List, [], ◌∷◌, ◌++◌}
-use Rattle.ndef_tool.specs.Quoting.{Text}
+use Rattle.ndef_program.specs.Quoting.{Text}
 use Rattle.serde_json.specs.Data.{Data, Items, Members, item, member, no_items, no_members, number, object, string, unsigned}
 use Rattle.serde_json.specs.Written.{comma_if, compact_text}
 

@@ -14,4 +14,3 @@ pub mod Pages
 pub mod Painting
 pub mod PayloadLines
 pub mod Running
-pub mod Sentences

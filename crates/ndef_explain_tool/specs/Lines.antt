@@ -1,7 +1,7 @@
 -- Lines of a text.
 use Rattle.std.specs.Prelude.{◌==◌, List}
 use Rattle.std.specs.List.{slice_split}
-use Rattle.ndef_tool.specs.Quoting.{Text}
+use Rattle.ndef_program.specs.Quoting.{Text}
 
 -- the lines of a text
 abbrev pub lines_of : Text → List Text

@@ -8,7 +8,7 @@ use Rattle.ndef_fields.specs.declared.name.FieldName.{FieldName}
 use Rattle.ndef_fields.specs.declared.name.FieldName.TheVariants as names
 use Rattle.ndef_explain_tool.specs.declared.meaning.Reading.{Reading}
 use Rattle.ndef_explain_tool.specs.declared.meaning.Reading.TheVariants as readings
-use Rattle.ndef_tool.specs.Quoting.{Text, quoted}
+use Rattle.ndef_program.specs.Quoting.{Text, quoted}
 
 -- how the octets of a field of this name are read
 abbrev pub reading_of : FieldName → Reading

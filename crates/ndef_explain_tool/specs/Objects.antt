@@ -12,7 +12,7 @@ use Rattle.ndef_fields.specs.Names.{name_text}
 use Rattle.ndef_fields.specs.Tellings.{AreFieldsBefore, ArePayloadFields}
 use Rattle.ndef_fields.specs.declared.field.Field.{Field}
 use Rattle.ndef_fields.specs.declared.telling.Told.{Told}
-use Rattle.ndef_tool.specs.Quoting.{Text, quoted_bytes}
+use Rattle.ndef_program.specs.Quoting.{Text, quoted_bytes}
 use Rattle.ndef_tool.specs.declared.ending.Ending.{Ending}
 use Rattle.ndef_tool.specs.declared.ending.Ending.TheVariants as endings
 use Rattle.ndef_tool.specs.declared.ending.HexFault.{HexFault}
@@ -22,7 +22,7 @@ use Rattle.serde_json.specs.Written.{comma_if, compact_text, items_text}
 use Rattle.ndef_explain_tool.specs.FieldLines.{octets_of}
 use Rattle.ndef_explain_tool.specs.JsonText.{Pair, counted, items_of, later_members, member_text, object_of}
 use Rattle.ndef_explain_tool.specs.Meanings.{meaning_of, reading_of, whole_of}
-use Rattle.ndef_explain_tool.specs.Sentences.{sentence_of}
+use Rattle.ndef_format.specs.Sentences.{reason_sentence}
 use Rattle.ndef_explain_tool.specs.declared.inputs.Unread.{Unread}
 use Rattle.ndef_explain_tool.specs.declared.inputs.Unread.TheVariants.{Ends, NoPlace}
 use Rattle.ndef_explain_tool.specs.declared.message_objects.RefusedByte.{RefusedByte}
@@ -174,7 +174,7 @@ refusal_object at refusal byte =
     object_of ((codes "at", counted (at + refusal.at)) ∷ (place_pairs byte
     ++ (codes "name", string (reason_name refusal.reason)) ∷ (octet_pairs byte
     ++ (codes "reason", counted (reason_number refusal.reason))
-    ∷ (codes "sentence", string (sentence_of refusal.reason)) ∷ [])))
+    ∷ (codes "sentence", string (reason_sentence refusal.reason)) ∷ [])))
 
 -- the number that a message would have, and the refusal
 abbrev pub refused_rest : (number : ℕ) → (refusal : Data) → List Pair

@@ -1,7 +1,7 @@
 -- Output in colour.
 use Rattle.std.specs.Prelude.{◌==◌, ◌||◌, ℕ, Bool, true, false, [], ◌∷◌, ◌++◌, codes, nat_eq, drop, take, map, slice_index, if◌then◌else◌}
 use Rattle.std.specs.List.{join_with_byte, starts_with}
-use Rattle.ndef_tool.specs.Quoting.{Text}
+use Rattle.ndef_program.specs.Quoting.{Text}
 use Rattle.ndef_explain_tool.specs.Lines.{lines_of}
 use Rattle.ndef_explain_tool.specs.declared.painting.Ink.{Ink}
 use Rattle.ndef_explain_tool.specs.declared.painting.Ink.TheVariants as ink

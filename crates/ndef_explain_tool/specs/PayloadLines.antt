@@ -6,7 +6,7 @@ use Rattle.ndef_format.specs.Messages.{Item, run_record}
 use Rattle.ndef_format.specs.Records.{Piece, Run}
 use Rattle.ndef_fields.specs.Tellings.{ArePayloadFields}
 use Rattle.ndef_fields.specs.declared.field.Field.{Field}
-use Rattle.ndef_tool.specs.Quoting.{Text}
+use Rattle.ndef_program.specs.Quoting.{Text}
 use Rattle.ndef_explain_tool.specs.FieldLines.{field_text}
 
 -- the line of a joined payload: the number of its record, and how many bytes it has

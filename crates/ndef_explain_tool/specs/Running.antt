@@ -5,7 +5,7 @@ use Rattle.ndef_message.specs.States.{SinkState}
 use Rattle.ndef_message.specs.declared.input.InputError.{InputError}
 use Rattle.ndef_message.specs.declared.sending.WriteFault.{WriteFault}
 use Rattle.ndef_tool.specs.Output.{ending_text, status_of}
-use Rattle.ndef_tool.specs.Quoting.{Text, quoted}
+use Rattle.ndef_program.specs.Quoting.{Text, quoted}
 use Rattle.ndef_program.specs.Statuses.{status_after}
 use Rattle.ndef_program.specs.Outputs.{GoesOut}
 use Rattle.ndef_program.specs.Pages.{page_asked}

@@ -7,7 +7,8 @@ ghost use Rattle.ndef_explain_tool.specs.Meanings.{tnf_meaning, tnf_word, versio
 
 use crate::cells::digits_of;
 use ndef_fields::{Field, FieldName};
-use ndef_tool::{push_number, push_quoted};
+use ndef_program::push_quoted;
+use ndef_tool::push_number;
 use ndef_value::{Bytes, NoMemory};
 
 /// How the octets of a field are read.

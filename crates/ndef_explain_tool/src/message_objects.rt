@@ -16,10 +16,9 @@ use crate::json_text::{
     push_counted_member, push_member_start, push_octets_member, push_string_member,
 };
 use crate::payload_objects::push_payloads_array;
-use crate::refusal_lines::sentence_of;
 use ndef_fields::{ByteField, Fields, Told, field_of_last, fields_before, fields_before_are_exact};
 use ndef_message::Items;
-use ndef_tool::push_quoted_bytes;
+use ndef_program::push_quoted_bytes;
 use ndef_value::{Bytes, NoMemory, Refusal};
 use std::alloc::Global;
 
@@ -159,7 +158,7 @@ fn push_refusal(
     push_string_member(line, true, b"name", refusal.reason.name())?;
     push_octet(alloc, line, byte)?;
     push_counted_member(line, true, b"reason", u64::from(refusal.reason.number()))?;
-    push_string_member(line, true, b"sentence", sentence_of(refusal.reason))?;
+    push_string_member(line, true, b"sentence", refusal.reason.sentence())?;
     line.extend(b"}")?;
     Ok(())
 }

@@ -12,8 +12,8 @@ use crate::fault_objects::push_unread_object;
 use crate::inputs::{Unread, octets_of};
 use crate::painting::push_shown;
 use ndef_message::InputError;
-use ndef_program::Status;
-use ndef_tool::{Action, Ending, ending_line, push_number, push_quoted};
+use ndef_program::{Status, push_quoted};
+use ndef_tool::{Action, Ending, ending_line, push_number};
 use ndef_value::{Bytes, Limits, NoMemory};
 use std::alloc::Global;
 
