@@ -2,11 +2,11 @@
 use super::doors::{is_agreed, is_answered, is_held, step_of};
 use ndef_cases::case::{Case, case_of, is_in};
 use ndef_cases::records::{are_shown, are_told};
-use ndef_lang::{Leaf, Opaque, OuterLanguage};
+use ndef_lang::{Kind, Language, Leaf, Opaque, OuterLanguage};
 use ndef_message::{SliceSource, StdSink, read_message, view};
 use ndef_nest::Typed;
 use ndef_tool::run;
-use ndef_value::{Limits, Profile, Reason, Refusal};
+use ndef_value::{Limits, Message, Profile, Reason, Refusal};
 use std::alloc::Global;
 
 /// What is wrong with a case, if anything is.
@@ -15,13 +15,33 @@ pub(super) type Wrong = Option<&'static str>;
 /// The most bytes of an accepted message of which each is replaced by each other.
 const MOST_REPLACED: usize = 24;
 
-/// Whether the records that are read, and those that are viewed, are those of the case.
-fn has_records<L: OuterLanguage>(alloc: Global, case: &Case<'_>) -> Option<bool> {
-    let bytes = case.bytes.as_slice();
-    let mut source = SliceSource::whole(bytes);
+/// The message that is read.
+fn message_in<L: OuterLanguage>(alloc: Global, case: &Case<'_>) -> Option<Message> {
+    let mut source = SliceSource::whole(case.bytes.as_slice());
     let read = read_message::<L, _>(alloc, &mut source, case.limits).ok()?;
-    let view = view::<L>(bytes, case.limits).ok()?;
-    Some(are_told(alloc, case.records, &read.message)? && are_shown(alloc, case.records, &view)?)
+    Some(read.message)
+}
+
+/// Whether the records that are read, and those that are viewed, are those of the case.
+fn has_records<L: OuterLanguage>(
+    alloc: Global,
+    case: &Case<'_>,
+    message: &Message,
+) -> Option<bool> {
+    let view = view::<L>(case.bytes.as_slice(), case.limits).ok()?;
+    Some(are_told(alloc, case.records, message)? && are_shown(alloc, case.records, &view)?)
+}
+
+/// Whether the quick test says of each payload that it is one of its type. No contract asks for that: a test
+/// that always says no is right too, but slow.
+fn are_seen_at_once<L: OuterLanguage>(limits: Limits, message: &Message) -> bool {
+    for record in message.records() {
+        let kind = Kind::of(record.tnf(), record.kind());
+        if !L::has(kind, limits.records(), limits.profile(), record.payload()) {
+            return false;
+        }
+    }
+    true
 }
 
 /// The most fronts of a long message that are tried.
@@ -90,8 +110,12 @@ fn wrong_with_accepted<L: OuterLanguage>(
 ) -> Option<Wrong> {
     let bytes = case.bytes.as_slice();
     let message = &bytes[..bytes.len().min(taken as usize)];
-    if !has_records::<L>(alloc, case)? {
+    let read = message_in::<L>(alloc, case)?;
+    if !has_records::<L>(alloc, case, &read)? {
         return Some(Some("other records"));
+    }
+    if !are_seen_at_once::<L>(case.limits, &read) {
+        return Some(Some("a payload isn't seen at once to be one"));
     }
     if !are_fronts::<L>(alloc, case.limits, message) {
         return Some(Some("a front is answered otherwise"));
