@@ -616,8 +616,8 @@ uint32_t ndef_uri_prefix(uint32_t code, uint8_t *room, ndef_size size, ndef_size
 
 /* What is known of a message that is being built in a room. All 0: it has no record yet. */
 typedef struct ndef_built {
-    uint64_t length;  /* its bytes, from the front of the room */
-    uint64_t last_at; /* where the last chunk of its last record begins */
+    ndef_size length;  /* its bytes, from the front of the room */
+    ndef_size last_at; /* where the last chunk of its last record begins */
     uint32_t records; /* the number of its records */
 } ndef_built;
 

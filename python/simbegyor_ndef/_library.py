@@ -1,4 +1,4 @@
-"""The calls of the library, as ndef.h declares them: structs, numbers and one way to fill a room.
+"""The calls of the library, and one way to fill a room.
 
 The calls have no `argtypes`, since their conversion takes longer than most calls. So an argument is octets, a reference,
 a struct's array, a length from SIZES, or a number of 32 bits as `u32(..)` makes it.
@@ -11,27 +11,23 @@ import os
 import struct
 from typing import Any, Callable, Dict, List, Tuple
 
+from . import _interface as interface
+from ._interface import BAD_ARGUMENT as BAD_ARGUMENT, END as END, MORE as MORE, NO_ROOM as NO_ROOM, OK as OK, REFUSED as REFUSED
+from ._interface import AlternativeParts as AlternativeParts, CarrierParts as CarrierParts, Checked as Checked, Checker as Checker
+from ._interface import ErrorParts as ErrorParts, Limits as Limits, Part as Part, PosterParts as PosterParts, Writing as Writing
+from ._interface import RequestParts as RequestParts, SelectParts as SelectParts, TextParts as TextParts, u32 as u32
 from ._platform import library_name
 from .errors import DecodeError, EncodeError
 
-OK, REFUSED, NO_ROOM, BAD_ARGUMENT, END, MORE = range(6)
-STANDARD, OPAQUE = 1, 2
-FIRST, LAST = 1, 2
-UTF16 = 1
-REQUEST, SELECT = range(2)
-EMPTY, UNKNOWN = 0, 5
-PAYLOAD_TOO_LARGE = 14
+STANDARD, OPAQUE, UTF16 = interface.STANDARD, interface.OPAQUE, interface.AS_UTF16
+FIRST, LAST = interface.WRITE_FIRST, interface.WRITE_LAST
+REQUEST, SELECT = interface.REQUEST, interface.SELECT
+EMPTY, UNKNOWN = interface.TNF_EMPTY, interface.TNF_UNKNOWN
+PAYLOAD_TOO_LARGE = interface.REASON_PAYLOAD_TOO_LARGE
 U32_END = 1 << 32
 
-byref, u32, _size = ctypes.byref, ctypes.c_uint32, ctypes.c_size_t
-
-
-def _numbers(names: str) -> List[Tuple[str, Any]]:
-    return [(name, u32) for name in names.split()]
-
-
-def _sizes(names: str) -> List[Tuple[str, Any]]:
-    return [(name, _size) for name in names.split()]
+NO_FLAGS = u32(0)
+byref, _size = ctypes.byref, ctypes.c_size_t
 
 
 class _Sizes(Dict[int, Any]):
@@ -45,61 +41,7 @@ USUAL_SIZES = 4096
 SIZES = _Sizes({value: _size.from_param(value) for value in range(USUAL_SIZES)})
 
 
-class Limits(ctypes.Structure):
-    _fields_ = _numbers('payload records pieces flags')
-
-
-class Checked(ctypes.Structure):
-    _fields_ = [('place', ctypes.c_uint64)] + _numbers('records reason')
-
-
-class Checker(ctypes.Structure):
-    _fields_ = [('words', ctypes.c_uint64 * 29)]
-
-
-class RecordParts(ctypes.Structure):
-    _fields_ = _sizes('at end type_at type_length id_at id_length payload_at part_length payload_length pieces') + _numbers('tnf last')
-
-
-class Writing(ctypes.Structure):
-    _fields_ = _numbers('tnf flags chunk')
-
-
-class TextParts(ctypes.Structure):
-    _fields_ = _sizes('language_at language_length text_at text_length') + _numbers('utf16')
-
-
-class PosterParts(ctypes.Structure):
-    _fields_ = _sizes('uri_at uri_length') + _numbers('has_action action has_size size')
-
-
-class CarrierParts(ctypes.Structure):
-    _fields_ = _sizes('type_at type_length data_at data_length') + _numbers('format')
-
-
-class AlternativeParts(ctypes.Structure):
-    _fields_ = _numbers('power references')
-
-
-class ErrorParts(ctypes.Structure):
-    _fields_ = _sizes('data_at data_length') + _numbers('reason has_number number')
-
-
-class RequestParts(ctypes.Structure):
-    _fields_ = _sizes('carriers') + _numbers('major minor collision')
-
-
-class SelectParts(ctypes.Structure):
-    _fields_ = _sizes('carriers detail_at detail_length') + _numbers('major minor has_error error')
-
-
-class Part(ctypes.Structure):
-    _fields_ = _sizes('at length')
-
-
-class FieldParts(ctypes.Structure):
-    _fields_ = _sizes('at length') + _numbers('depth name')
-
+RecordParts, FieldParts = interface.Record, interface.Field
 
 # The fields of a RecordParts, or of the octets that it lies in, all of them at once.
 record_fields = struct.Struct('@10N2I').unpack_from
@@ -111,55 +53,47 @@ def record_room() -> Tuple[bytearray, Any]:
     return octets, byref(RecordParts.from_buffer(octets))
 
 
-
 _path = os.path.join(os.path.dirname(os.path.abspath(__file__)), library_name())
 try:
     # Other threads run while a call looks at a whole message; the other calls are too short for that.
-    _long, _short = ctypes.CDLL(_path), ctypes.PyDLL(_path)
+    _long, _short = interface.calls(ctypes.CDLL(_path)), interface.calls(ctypes.PyDLL(_path))
 except OSError as missing:
     raise ImportError('simbegyor_ndef needs the library for C, for this machine, at %s' % _path) from missing
 
 
-def _call(name: str, loaded: Any = _short, result: Any = u32) -> Callable[..., int]:
-    found: Any = getattr(loaded, name)
-    found.restype = result
-    call: Callable[..., int] = found
-    return call
-
-
-_usual_limits = _call('ndef_usual_limits', result=None)
-_reason_name = _call('ndef_reason_name')
-_reason_sentence = _call('ndef_reason_sentence')
-_field_name = _call('ndef_field_name')
-_fields = _call('ndef_fields', _long)
-check = _call('ndef_check', _long)
+_usual_limits = _short.usual_limits
+_reason_name = _short.reason_name
+_reason_sentence = _short.reason_sentence
+_field_name = _short.field_name
+_fields = _long.fields
+check = _long.check
 # For octets that are few: no other thread runs meanwhile.
-check_short = _call('ndef_check')
-begin = _call('ndef_begin')
-feed = _call('ndef_feed', _long)
-record_at = _call('ndef_record_at')
-payload = _call('ndef_payload', _long)
-write_record = _call('ndef_write_record')
-uri = _call('ndef_uri')
-write_uri = _call('ndef_write_uri')
-text = _call('ndef_text')
-text_in_utf8 = _call('ndef_text_in_utf8')
-write_text = _call('ndef_write_text')
-poster = _call('ndef_poster')
-carrier = _call('ndef_carrier')
-write_carrier = _call('ndef_write_carrier')
-alternative = _call('ndef_alternative')
-references = _call('ndef_references')
-request = _call('ndef_request')
-select = _call('ndef_select')
-write_alternative = _call('ndef_write_alternative')
-write_action = _call('ndef_write_action')
-write_size = _call('ndef_write_size')
-write_collision = _call('ndef_write_collision')
-error = _call('ndef_error')
-write_error = _call('ndef_write_error')
-write_error_number = _call('ndef_write_error_number')
-write_handover = _call('ndef_write_handover')
+check_short = _short.check
+begin = _short.begin
+feed = _long.feed
+record_at = _short.record_at
+payload = _long.payload
+write_record = _short.write_record
+uri = _short.uri
+write_uri = _short.write_uri
+text = _short.text
+text_in_utf8 = _short.text_in_utf8
+write_text = _short.write_text
+poster = _short.poster
+carrier = _short.carrier
+write_carrier = _short.write_carrier
+alternative = _short.alternative
+references = _short.references
+request = _short.request
+select = _short.select
+write_alternative = _short.write_alternative
+write_action = _short.write_action
+write_size = _short.write_size
+write_collision = _short.write_collision
+error = _short.error
+write_error = _short.write_error
+write_error_number = _short.write_error_number
+write_handover = _short.write_handover
 
 
 @functools.lru_cache

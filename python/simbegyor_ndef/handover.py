@@ -150,7 +150,7 @@ class CollisionResolutionRecord(LocalRecord):
         record = Record(cls._type, '', octets)._written(library.FIRST | library.LAST, 0)
         status, request = library.put(library.write_handover, library.REQUEST, 1, 2, record, library.SIZES[len(record)], given=len(record))
         parts, why = library.RequestParts(), library.Checked()
-        if status != library.OK or library.request(request, library.SIZES[len(request)], 0, library.byref(parts),
+        if status != library.OK or library.request(request, library.SIZES[len(request)], library.NO_FLAGS, library.byref(parts),
                                                    library.byref(why)) != library.OK:
             raise cls._decode_error('no such payload has {} octets', len(octets))
         made = cls.__new__(cls)

@@ -1,4 +1,4 @@
-//! The calls of `include/ndef.h`. All `unsafe` of this crate is here.
+//! The calls of `include/ndef.h`, which `ffi/calls.rs` declares. All `unsafe` of this crate is here.
 //!
 //! The header demands this of a caller, and it is kept so:
 //!
@@ -21,6 +21,11 @@
 // Which calls are used depends on the features.
 #![allow(dead_code)]
 
+mod calls;
+
+use self::calls as c;
+pub(crate) use self::calls::*;
+pub use self::calls::{Field, Part};
 use crate::bytes::Bytes;
 
 #[cfg(feature = "alloc")]
@@ -31,182 +36,6 @@ use alloc::{string::String, vec::Vec};
 /// `ndef_size`: a length, or the place of a byte. It has 64 bits, aligned to 8 bytes, on every machine.
 pub(crate) type Size = u64;
 const _: () = assert!(align_of::<Size>() == 8, "the library for C takes lengths that are aligned to 8 bytes");
-
-pub(crate) const OK: u32 = 0;
-pub(crate) const REFUSED: u32 = 1;
-pub(crate) const NO_ROOM: u32 = 2;
-pub(crate) const END: u32 = 4;
-pub(crate) const MORE: u32 = 5;
-pub(crate) const STANDARD: u32 = 1;
-pub(crate) const OPAQUE: u32 = 2;
-pub(crate) const FIRST: u32 = 1;
-pub(crate) const LAST: u32 = 2;
-pub(crate) const LONG: u32 = 4;
-pub(crate) const AS_UTF16: u32 = 1;
-pub(crate) const REQUEST: u32 = 0;
-pub(crate) const SELECT: u32 = 1;
-
-/// The structs of the header: name, size in bytes, and the fields in order.
-macro_rules! structs {
-    ($($(#[$doc:meta])* $name:ident ($size:literal) { $($field:ident: $kind:ty),* $(,)? })*) => { $(
-        $(#[$doc])*
-        #[repr(C)]
-        #[derive(Clone, Copy, Debug, Default, PartialEq, Eq)]
-        pub(crate) struct $name { $(pub(crate) $field: $kind),* }
-        const _: () = assert!(size_of::<$name>() == $size);
-    )* };
-}
-
-structs! {
-    /// `ndef_limits`
-    Limits (16) { payload: u32, records: u32, pieces: u32, flags: u32 }
-    /// `ndef_checked`
-    Checked (16) { place: u64, records: u32, reason: u32 }
-    /// `ndef_record`
-    Record (88) {
-        at: Size, end: Size, type_at: Size, type_length: Size, id_at: Size, id_length: Size,
-        payload_at: Size, part_length: Size, payload_length: Size, pieces: Size, tnf: u32, last: u32
-    }
-    /// `ndef_writing`
-    Writing (12) { tnf: u32, flags: u32, chunk: u32 }
-    /// `ndef_text_parts`
-    TextParts (40) { language_at: Size, language_length: Size, text_at: Size, text_length: Size, utf16: u32 }
-    /// `ndef_carrier_parts`
-    CarrierParts (40) { type_at: Size, type_length: Size, data_at: Size, data_length: Size, format: u32 }
-    /// `ndef_alternative_parts`
-    AlternativeParts (8) { power: u32, references: u32 }
-    /// `ndef_request_parts`
-    RequestParts (24) { carriers: Size, major: u32, minor: u32, collision: u32 }
-    /// `ndef_select_parts`
-    SelectParts (40) {
-        carriers: Size, detail_at: Size, detail_length: Size, major: u32, minor: u32, has_error: u32, error: u32
-    }
-    /// `ndef_poster_parts`
-    PosterParts (32) {
-        uri_at: Size, uri_length: Size, has_action: u32, action: u32, has_size: u32, size: u32
-    }
-    /// `ndef_error_parts`
-    ErrorParts (32) { data_at: Size, data_length: Size, reason: u32, has_number: u32, number: u32 }
-}
-
-/// Where a part of some bytes lies. [`Record::chunks_in`](crate::Record::chunks_in) fills an array of them.
-#[repr(C)]
-#[derive(Clone, Copy, Debug, Default, PartialEq, Eq, Hash)]
-pub struct Part {
-    pub(crate) at: Size,
-    pub(crate) length: Size,
-}
-const _: () = assert!(size_of::<Part>() == 16);
-
-/// Which bytes stand in a field, and its name. [`Fields::of_in`](crate::Fields::of_in) fills an array of them.
-#[repr(C)]
-#[derive(Clone, Copy, Debug, Default, PartialEq, Eq, Hash)]
-pub struct Field {
-    pub(crate) at: Size,
-    pub(crate) length: Size,
-    pub(crate) depth: u32,
-    pub(crate) name: u32,
-}
-const _: () = assert!(size_of::<Field>() == 24);
-
-/// `ndef_checker`
-#[repr(C)]
-#[derive(Clone)]
-pub(crate) struct Checker {
-    words: [u64; 29],
-}
-const _: () = assert!(size_of::<Checker>() == 232);
-
-mod c {
-    use super::*;
-
-    #[rustfmt::skip]
-    extern "C" {
-        pub(super) fn ndef_version() -> u32;
-        pub(super) fn ndef_usual_limits(out: *mut Limits);
-        pub(super) fn ndef_check(bytes: *const u8, length: Size, limits: *const Limits, out: *mut Checked) -> u32;
-        pub(super) fn ndef_begin(limits: *const Limits, checker: *mut Checker) -> u32;
-        pub(super) fn ndef_feed(checker: *mut Checker, bytes: *const u8, length: Size, out: *mut Checked) -> u32;
-        pub(super) fn ndef_reason_name(reason: u32, room: *mut u8, size: Size, count: *mut Size) -> u32;
-        pub(super) fn ndef_reason_sentence(reason: u32, room: *mut u8, size: Size, count: *mut Size) -> u32;
-        pub(super) fn ndef_record_at(bytes: *const u8, length: Size, at: Size, out: *mut Record) -> u32;
-        pub(super) fn ndef_kind(bytes: *const u8, length: Size, record: *const Record, within: u32) -> u32;
-        pub(super) fn ndef_payload(
-            bytes: *const u8, length: Size, at: Size, room: *mut u8, size: Size, count: *mut Size,
-        ) -> u32;
-        pub(super) fn ndef_pieces(
-            bytes: *const u8, length: Size, at: Size, parts: *mut Part, size: Size, count: *mut Size,
-        ) -> u32;
-        pub(super) fn ndef_fields(
-            bytes: *const u8, length: Size, limits: *const Limits, fields: *mut Field, size: Size, count: *mut Size,
-            why: *mut Checked,
-        ) -> u32;
-        pub(super) fn ndef_field_name(name: u32, room: *mut u8, size: Size, count: *mut Size) -> u32;
-        pub(super) fn ndef_find_id(
-            bytes: *const u8, length: Size, at: Size, id: *const u8, id_length: Size, out: *mut Record,
-        ) -> u32;
-        pub(super) fn ndef_write_record(
-            kind: *const u8, type_length: Size, id: *const u8, id_length: Size, payload: *const u8,
-            payload_length: Size, how: *const Writing, room: *mut u8, size: Size, count: *mut Size,
-        ) -> u32;
-        pub(super) fn ndef_uri(
-            payload: *const u8, length: Size, flags: u32, room: *mut u8, size: Size, count: *mut Size,
-            why: *mut Checked,
-        ) -> u32;
-        pub(super) fn ndef_write_uri(
-            uri: *const u8, length: Size, room: *mut u8, size: Size, count: *mut Size,
-        ) -> u32;
-        pub(super) fn ndef_text(payload: *const u8, length: Size, out: *mut TextParts, why: *mut Checked) -> u32;
-        pub(super) fn ndef_text_in_utf8(
-            payload: *const u8, length: Size, room: *mut u8, size: Size, count: *mut Size, why: *mut Checked,
-        ) -> u32;
-        pub(super) fn ndef_write_text(
-            language: *const u8, language_length: Size, text: *const u8, text_length: Size, flags: u32,
-            room: *mut u8, size: Size, count: *mut Size,
-        ) -> u32;
-        pub(super) fn ndef_carrier(
-            payload: *const u8, length: Size, out: *mut CarrierParts, why: *mut Checked,
-        ) -> u32;
-        pub(super) fn ndef_write_carrier(
-            format: u32, kind: *const u8, type_length: Size, data: *const u8, data_length: Size, room: *mut u8,
-            size: Size, count: *mut Size,
-        ) -> u32;
-        pub(super) fn ndef_alternative(
-            payload: *const u8, length: Size, out: *mut AlternativeParts, why: *mut Checked,
-        ) -> u32;
-        pub(super) fn ndef_reference(payload: *const u8, length: Size, index: Size, out: *mut Part) -> u32;
-        pub(super) fn ndef_references(
-            payload: *const u8, length: Size, parts: *mut Part, size: Size, count: *mut Size,
-        ) -> u32;
-        pub(super) fn ndef_write_alternative(
-            power: u32, bytes: *const u8, length: Size, parts: *const Part, parts_count: Size, room: *mut u8,
-            size: Size, count: *mut Size,
-        ) -> u32;
-        pub(super) fn ndef_request(
-            payload: *const u8, length: Size, flags: u32, out: *mut RequestParts, why: *mut Checked,
-        ) -> u32;
-        pub(super) fn ndef_select(
-            payload: *const u8, length: Size, flags: u32, out: *mut SelectParts, why: *mut Checked,
-        ) -> u32;
-        pub(super) fn ndef_poster(
-            payload: *const u8, length: Size, flags: u32, out: *mut PosterParts, why: *mut Checked,
-        ) -> u32;
-        pub(super) fn ndef_write_action(action: u32, room: *mut u8, size: Size, count: *mut Size) -> u32;
-        pub(super) fn ndef_write_size(bytes: u32, room: *mut u8, size: Size, count: *mut Size) -> u32;
-        pub(super) fn ndef_write_collision(number: u32, room: *mut u8, size: Size, count: *mut Size) -> u32;
-        pub(super) fn ndef_error(payload: *const u8, length: Size, out: *mut ErrorParts, why: *mut Checked) -> u32;
-        pub(super) fn ndef_write_error(
-            reason: u32, data: *const u8, length: Size, room: *mut u8, size: Size, count: *mut Size,
-        ) -> u32;
-        pub(super) fn ndef_write_error_number(
-            reason: u32, number: u32, room: *mut u8, size: Size, count: *mut Size,
-        ) -> u32;
-        pub(super) fn ndef_write_handover(
-            handover: u32, major: u32, minor: u32, message: *const u8, length: Size, room: *mut u8, size: Size,
-            count: *mut Size,
-        ) -> u32;
-    }
-}
 
 /// The length of a slice, as the calls take it.
 #[inline]

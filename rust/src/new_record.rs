@@ -18,9 +18,9 @@ pub struct Form {
 impl Form {
     /// The flags of the record with an index of so many.
     fn flags(self, index: usize, count: usize) -> u32 {
-        (if self.long { ffi::LONG } else { 0 })
-            | (if index == 0 { ffi::FIRST } else { 0 })
-            | (if index + 1 == count { ffi::LAST } else { 0 })
+        (if self.long { ffi::WRITE_LONG } else { 0 })
+            | (if index == 0 { ffi::WRITE_FIRST } else { 0 })
+            | (if index + 1 == count { ffi::WRITE_LAST } else { 0 })
     }
 }
 

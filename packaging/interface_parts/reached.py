@@ -1,0 +1,115 @@
+"""Which calls each language reaches: the table of docs/BINDINGS.md."""
+from __future__ import annotations
+
+import re
+import string
+from typing import Dict, Iterator, List, Set, Tuple
+
+from . import javascript_face
+from .model import MARK, TOP, Interface, Unknown
+
+PATH = 'docs/BINDINGS.md'
+BEGIN, END = f'<!-- {MARK} -->\n', '<!-- the end of what is generated -->\n'
+LIBRARY = 'python/simbegyor_ndef/_library.py'
+# Where each face makes its calls by their names in C.
+SOURCES = {
+    'C++': ('include/*.hpp',),
+    'Python': (LIBRARY,),
+    'Rust': ('rust/src/ffi.rs',),
+    'JavaScript': (javascript_face.PATH,),
+    'Java': ('java/native/ndef_jni.c',),
+    'Go': ('go/*.go',),
+}
+WRITES = 'write_record write_uri write_text write_carrier write_alternative write_action write_size write_collision write_error'
+WHOLE = 'write_poster write_request write_select'
+POSTER = 'poster_titles title poster_media_type poster_icons'
+APPEND = 'append append_text append_uri'
+# Why a face does not reach calls: the reason, and for each face the calls.
+REASONS: Tuple[Tuple[str, Dict[str, str]], ...] = (
+    ('Another call tells all of them at once: ndef_links, ndef_references or ndef_fields.', {
+        'C++': 'link_at field_at next_field', 'Python': 'reference field_at next_field', 'Rust': 'field_at next_field',
+        'JavaScript': 'reference link_at field_at next_field', 'Java': 'reference link_at field_at next_field',
+        'Go': 'reference link_at field_at next_field'}),
+    ('It walks the records itself: what is looked for is picked of them.', {
+        'C++': 'poster_titles poster_icons', 'Python': 'find_type find_id ' + POSTER, 'Rust': 'find_type link_at links ' + POSTER,
+        'JavaScript': 'find_type find_id ' + POSTER, 'Java': 'find_type find_id poster_titles', 'Go': 'find_type find_id poster_titles title'}),
+    ('The file ndef.hpp includes ndef.h: a program makes this call as in C.', {'C++': 'pieces payload_fields version uri_prefix'}),
+    ('The file ndef_names.h has these texts, and they are taken from there.', {
+        'C++': 'reason_name reason_sentence field_name status_name', 'Go': 'reason_name reason_sentence field_name'}),
+    ('Its classes are those of ndeflib, which has nothing of the kind.', {'Python': 'kind links link_at'}),
+    ('A payload is given with its chunks joined, and not where they lie.', {
+        'Python': 'pieces', 'JavaScript': 'pieces', 'Java': 'pieces', 'Go': 'pieces'}),
+    ('It tells the fields of messages alone.', {
+        'Python': 'payload_fields', 'Rust': 'payload_fields', 'JavaScript': 'payload_fields', 'Java': 'payload_fields',
+        'Go': 'payload_fields'}),
+    ('A refusal is an error of the language, so a status has no name there.', {
+        'Python': 'status_name', 'Rust': 'status_name', 'Java': 'status_name', 'Go': 'status_name'}),
+    ('The package has the version of the library that it brings or asks for.', {
+        'Python': 'version', 'JavaScript': 'version', 'Java': 'version', 'Go': 'version'}),
+    ('A URI is given whole, with its prefix spelled out.', {
+        'Python': 'uri_view uri_prefix', 'Rust': 'uri_view uri_prefix', 'JavaScript': 'uri_view uri_prefix', 'Java': 'uri_view uri_prefix',
+        'Go': 'uri_view uri_prefix'}),
+    ('A message is written of all its records at once, into memory that grows.', {
+        'Python': APPEND, 'Rust': APPEND, 'Java': APPEND, 'Go': APPEND}),
+    ('A message is written again by decoding it and encoding its records.', {
+        'Python': 'rewrite', 'Rust': 'rewrite', 'Java': 'rewrite', 'Go': 'rewrite'}),
+    ('Posters and handovers are written record by record.', {'Python': WHOLE, 'Rust': WHOLE, 'Java': WHOLE}),
+    ('Posters and handovers are written whole, by one call each.', {
+        'Go': 'write_alternative write_action write_size write_collision write_error write_error_number write_handover'}),
+    ('It reads messages, and writes none.', {
+        'JavaScript': f'{WRITES} write_error_number write_handover {WHOLE} {APPEND} rewrite'}),
+    ('It checks bytes that are all there.', {'JavaScript': 'begin feed'}),
+    ('The class Limits has these numbers.', {'Java': 'usual_limits'}),
+)
+
+
+def source(face: str) -> str:
+    """The code of a face, without comments and without what is generated."""
+    text = '\n'.join(path.read_text() for pattern in SOURCES[face] for path in sorted(TOP.glob(pattern)))
+    if face == 'JavaScript':
+        text = re.sub(re.escape(javascript_face.BEGIN) + '.*' + re.escape(javascript_face.END), '', text, flags=re.S)
+    if face == 'Python':
+        return re.sub(r'_(?:long|short)\.(\w+)', r'ndef_\1', text)
+    return re.sub(r'/\*.*?\*/|//[^\n]*', '', text, flags=re.S)
+
+
+def reached(face: str, interface: Interface) -> Set[str]:
+    return set(re.findall(r'\bndef_\w+', source(face))) & set(interface.calls)
+
+
+def given(face: str) -> Dict[str, str]:
+    """The letter of the reason for each call that the face does not reach."""
+    return {f'ndef_{name}': letter for letter, (_, faces) in zip(string.ascii_lowercase, REASONS) for name in faces.get(face, '').split()}
+
+
+def unexplained(interface: Interface) -> Iterator[str]:
+    """What a face neither reaches nor has a reason for, and reasons that do not hold."""
+    for face in SOURCES:
+        has, letters = reached(face, interface), given(face)
+        for name in interface.calls:
+            if name not in has and name not in letters:
+                yield f'{face} does not reach {name}: make the call, or say why not in packaging/interface_parts/reached.py'
+        for name in letters:
+            if name in has or name not in interface.calls:
+                yield f'{face}: packaging/interface_parts/reached.py says why it does not reach {name}, but it does, or there is no such call'
+
+
+def table(interface: Interface) -> str:
+    """The table of calls and faces, and the reasons."""
+    columns = [(reached(face, interface), given(face)) for face in SOURCES]
+    lines: List[str] = ['| ' + ' | '.join(['call', 'C', *SOURCES]) + ' |', '|---' * (2 + len(SOURCES)) + '|']
+    for name in interface.calls:
+        cells = ['yes' if name in has else letters.get(name, '?') for has, letters in columns]
+        lines.append('| ' + ' | '.join([name, 'yes', *cells]) + ' |')
+    lines += ['', '| | why not |', '|---|---|']
+    lines += [f'| {letter} | {reason} |' for letter, (reason, _) in zip(string.ascii_lowercase, REASONS)]
+    return '\n'.join(lines) + '\n'
+
+
+def text(interface: Interface) -> str:
+    """The page with the table as it has to be."""
+    page = (TOP / PATH).read_text()
+    if page.count(BEGIN) != 1 or page.count(END) != 1:
+        raise Unknown(f'{PATH}: the lines that begin and end the generated part do not stand there once')
+    front, rest = page.split(BEGIN)
+    return front + BEGIN + table(interface) + END + rest.split(END)[1]
