@@ -1,4 +1,5 @@
 """Links of a page, and the names of files, functions and definitions in it."""
+import functools
 import re
 
 CODE = ('*.rt', '*.antt', '*.py', '*.h', '*.c', '*.hpp', '*.cpp', '*.rs', '*.go', '*.java', '*.js', '*.map', 'ndef', 'ndef-make', 'ndef-explain', 'Makefile', '*.sh',
@@ -23,8 +24,24 @@ def without_blocks(text):
     return re.sub(r'^```.*?^```$', '', text, flags=re.M | re.S)
 
 
+@functools.cache
 def anchors(path):
-    return {slug(heading) for heading in re.findall(r'^#+ (.*)$', without_blocks(path.read_text()), re.M)}
+    """The headings of a page, and the anchors that it gives its rows."""
+    text = without_blocks(path.read_text())
+    return {slug(heading) for heading in re.findall(r'^#+ (.*)$', text, re.M)} | set(re.findall(r'<a id="([\w-]+)">', text))
+
+
+@functools.cache
+def lines(path):
+    return path.read_text().split('\n')
+
+
+def moved_links(page):
+    """The links of names to lines that lack the name."""
+    for name, path, line in re.findall(r'\[`(\w[\w:]*)(?:\(\)|: [^`]*)?`\]\(([^()\s#]+)#L(\d+)\)', page.read_text()):
+        file = (page.parent / path).resolve()
+        if file.exists() and not re.search(rf'\b{name.split("::")[-1]}\b', ''.join(lines(file)[int(line) - 1:int(line)])):
+            yield f'{path}#L{line}: the line lacks {name}'
 
 
 def broken_links(top, page):
@@ -37,7 +54,7 @@ def broken_links(top, page):
         if not file.exists():
             yield f'{target}: no such file'
         elif re.fullmatch(r'L\d+', anchor):
-            if int(anchor[1:]) > file.read_text().count('\n'):
+            if int(anchor[1:]) >= len(lines(file)):
                 yield f'{target}: no such line'
         elif anchor and anchor not in anchors(file):
             yield f'{target}: no such heading'
