@@ -59,7 +59,7 @@ pub record OneRun (item : Item) (behind rest : List ℕ) : Type 0 where
   pub single : run.later ≡ []
   pub begins : BeginsWithRun run behind rest
 
--- the next record, and those behind it
+-- the next record, and those after it
 pub record NextItem (items : List Item) (rest : List ℕ) (done : List Item) : Type 0 where
   pub item : Item
   pub piece : Piece

@@ -1,4 +1,4 @@
--- The payload of an alternative carrier: it is in its set, and stands for the value.
+-- The payload of an alternative carrier: it is in its set, and is that of the value.
 use Rattle.std.proofs.Common.{◌≡◌, ℕ, ◌<◌, ◌%◌, List, [], ◌∷◌, ◌++◌, refl, sym, subst, arith, length, append_assoc, take_at, drop_at}
 use Rattle.std.specs.List.{AllByRecursion, flat_map}
 use Rattle.ndef_format.specs.Records.{AreOctets}
@@ -28,7 +28,7 @@ payload_in_set v h =
     let behind = length v.auxiliary ∷ (flat_map counted v.auxiliary ++ v.rest) in
     (power_below v.power, (h.reference.0, octets_field IsOctet v.reference behind AreAuxiliary h.reference.1 (h.few, names_are v.auxiliary v.rest h.auxiliary h.rest)))
 
--- ---- what it stands for
+-- ---- the value it stands for
 
 names_stand : (names : List (List ℕ)) (rest : List ℕ) → StandForNames (length names) (flat_map counted names ++ rest) names rest
 names_stand [] rest = (refl, refl)

@@ -11,7 +11,7 @@ use Rattle.ndef_types.specs.Values.{AcValue, StandsForAc, StandForNames, power_c
 use Rattle.ndef_c.specs.Alternatives.{LiesAt, reference_place, references}
 use Rattle.ndef_c.specs.Walks.{Lies}
 
--- ---- the octet at a place, and those behind it
+-- ---- the octet at a place, and those after it
 
 pub record At (s : List ℕ) (at x : ℕ) (rest : List ℕ) : Type 0 where
   pub within : at < length s
@@ -81,7 +81,7 @@ pub record NamesAt (payload : List ℕ) (count at i : ℕ) : Type 0 where
   pub stand : (v : AcValue) → StandsForAc payload v → StandForNames m (drop at payload) (drop i v.auxiliary) v.rest
   pub place : (v : AcValue) → StandsForAc payload v → at ≡ 3 + names_size (take i v.auxiliary) + length v.reference
 
--- the next one lies behind its length, and the others behind it
+-- the next one comes after its length, and the others after that one
 pub record NameThere (payload : List ℕ) (count at i : ℕ) : Type 0 where
   pub within : at < length payload
   pub bound : at + (1 + get_or payload at 0) ≤ length payload

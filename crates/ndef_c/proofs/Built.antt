@@ -71,9 +71,9 @@ cleared room built b =
       front = take-set-lt built.length room built.last_at _ before ∙ ap (λ x. slice_set (take built.length room) built.last_at (x - 64)) (sym same);
     }
 
--- ---- the record behind it
+-- ---- the record after it
 
--- what is put behind the message
+-- what is put after the message
 pub put_behind : (room mid new octets : List ℕ) (built : NdefBuilt) (count : ℕ) → take built.length mid ≡ reopened (held room built) → drop built.length mid ≡ drop built.length room → count ≡ built.length + length octets
     → IsPut built.length octets mid new → new ≡ reopened (held room built) ++ (octets ++ drop count room)
 put_behind room mid new octets built count front behind n p =

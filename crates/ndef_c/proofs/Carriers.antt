@@ -8,7 +8,7 @@ use Rattle.ndef_lang.specs.OctetLaws.{field_parts}
 use Rattle.ndef_types.specs.Values.{CarrierValue, StandsForCarrier}
 use Rattle.ndef_c.specs.Walks.{Lies}
 
--- its parts, where so many octets are those of the type
+-- its parts, where the first n octets are those of the type
 pub record Parts (payload : List ℕ) (n : ℕ) : Type 0 where
   pub within : 2 + n ≤ length payload
   pub carrier : CarrierValue

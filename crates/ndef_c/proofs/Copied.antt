@@ -37,7 +37,7 @@ pub record IsNext (next p : Piece) (behind rest : List ℕ) : Type 0 where
 pub next_is : HeadsAreApart → {payload end rest done : List ℕ} (k : Copying payload end rest done) (p : Piece) (short : Bool) (behind : List ℕ) → IsSplit p short behind rest → IsNext k.next p k.behind behind
 next_is apart {rest = rest} k p short behind i = let s = same_split apart k.next p k.short short k.behind behind rest k.split i in record { same = s.0; behind_is = s.1 }
 
--- behind a piece that another one follows
+-- after a piece that another one follows
 pub copied_on : {payload end rest done : List ℕ} (k : Copying payload end rest done) (p : Piece) (behind : List ℕ) → IsNext k.next p k.behind behind → p.chunked ≡ true → Copying payload end behind (done ++ p.payload)
 copied_on {payload} {end} {rest} {done} k p behind i c =
     let n = later_next k.later end k.behind (subst (λ q. Later q k.later end k.behind) (ap (λ q. q.chunked) i.same ∙ c) k.others) in
@@ -52,7 +52,7 @@ copied_on {payload} {end} {rest} {done} k p behind i c =
           ∙ ap (λ ps. done ++ (k.next.payload ++ payload_of ps)) (sym n.are) ∙ k.left;
     }
 
--- behind the last
+-- after the last
 pub copied_all : {payload end rest done : List ℕ} (k : Copying payload end rest done) (p : Piece) (behind : List ℕ) → IsNext k.next p k.behind behind → p.chunked ≡ false → done ++ p.payload ≡ payload
 copied_all {payload} {end} {rest} {done} k p behind i c =
     let n = later_none k.later end k.behind (subst (λ q. Later q k.later end k.behind) (ap (λ q. q.chunked) i.same ∙ c) k.others) in

@@ -1,4 +1,4 @@
--- References within some bytes, each behind its length, and the payload of an alternative carrier that has them.
+-- References within some bytes, each after its length, and the payload of an alternative carrier that has them.
 use Rattle.std.proofs.Common.{◌≡◌, ℕ, zero, suc, ◌+◌, ◌*◌, ◌<◌, ◌≤◌, ◌^◌, List, [], ◌∷◌, ◌++◌, take, drop, get_or, map, refl, sym, subst, ◌∙◌, ap, ap₂, arith, length, length-append, length-drop, append-nil}
 use Rattle.std.specs.List.{AllByRecursion, flat_map}
 use Rattle.std.proofs.lemmas.List.Elements.{recursion_from_All}
@@ -23,7 +23,7 @@ part_length bytes part h = let n = length-drop part.at bytes in let w = h.0 in l
 pub counted_length : (bytes : List ℕ) (part : NdefPart) → MayBeReference (length bytes) part → length (counted_part bytes part) ≡ 1 + part.length
 counted_length bytes part h = let e = part_length bytes part h in omega (arith, e)
 
--- a reference behind its length, put together
+-- a reference after its length, put together
 pub counted_is : (bytes from : List ℕ) (part : NdefPart) → MayBeReference (length bytes) part → from ≡ drop part.at bytes → (part.length ∷ []) ++ take part.length from ≡ counted_part bytes part
 counted_is bytes from part h e = ap₂ (λ n x. n ∷ x) (sym (part_length bytes part h)) (ap (take part.length) e)
 

@@ -26,7 +26,7 @@ number_error number h = record {
   number_is = from_be_bytes-to_be_bytes_4 number h;
 }
 
--- what stands behind some octets lies there
+-- what stands after some octets lies there
 pub lies_behind : (n : ℕ) (s : List ℕ) → n ≤ length s → Lies s n (length (behind n s)) (behind n s)
 lies_behind n s h = record {
   within = omega (arith, h, ap length (behind_drop n s), length-drop n s);

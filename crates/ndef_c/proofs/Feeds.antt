@@ -34,7 +34,7 @@ all_accepted set limits bytes n v a =
 -- ---- what is answered of all the bytes
 
 module _ {set : Sets} (holds : Conditions) {limits : LimitValues} (bytes : List ℕ) (out : NdefChecked) where
-  -- more are wanted
+  -- more bytes are needed
   pub fed_more : IsViable set limits bytes → ¬ IsAccepted set limits bytes → (place : ℕ) → IsLongestViable set limits bytes place → out.place ≡ place → out.records ≡ 0 → out.reason ≡ reason_number EndOfInput
       → FeedsTo set holds limits bytes MORE out
   fed_more v u place longest e0 e1 e2 =

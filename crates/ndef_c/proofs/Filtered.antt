@@ -12,7 +12,7 @@ filter_more test xs x e = filter-append test xs (x ∷ []) ∙ ap (λ b. filter 
 pub filter_same : {T : Type 0} (test : T → Bool) (xs : List T) (x : T) → test x ≡ false → filter test (xs ++ x ∷ []) ≡ filter test xs
 filter_same test xs x e = filter-append test xs (x ∷ []) ∙ ap (λ b. filter test xs ++ (if b then x ∷ [] else [])) e ∙ append-nil (filter test xs)
 
--- how many pass it, with one more
+-- the number that pass it, with one more
 pub count_more : {T : Type 0} (test : T → Bool) (xs : List T) (x : T) → test x ≡ true → length (filter test (xs ++ x ∷ [])) ≡ length (filter test xs) + 1
 count_more test xs x e = ap length (filter_more test xs x e) ∙ length-append (filter test xs) (x ∷ [])
 

@@ -42,7 +42,7 @@ split_size p s x bytes i =
     let d = length-append (unwrap_or p.id []) p.payload in
     omega (arith, a, b, c, d)
 
--- ---- those behind it
+-- ---- those after it
 
 -- the bytes begin with these pieces, which are what follows a piece with such a CF, and then come others
 pub record Later (chunked : Bool) (ps : List Piece) (rest bytes : List ℕ) : Type 0 where

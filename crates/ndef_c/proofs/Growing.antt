@@ -154,7 +154,7 @@ room_is octets begins before after count g = elim (cases_lt (length before.room)
   | inr l ↦ l
 ]
 
--- behind what is there
+-- after what is there
 held_more : (records : List Appended) (a : Appended) (before after : Holding) (count : ℕ) → reopened before ≡ followed_octets true records → length (reopened before) ≡ before.built.length
     → is_first_of before.built ≡ opens true records → before.built.records ≡ length records → IsAppended a before after count → HoldsRecords records a after
 held_more records a before after count e n first few g =

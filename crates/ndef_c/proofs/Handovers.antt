@@ -62,7 +62,7 @@ members table profile (i ∷ items) t h = (
   members table profile items t h.1,
 )
 
--- the records of a payload that holds a message behind a version octet
+-- the records of a payload that holds a message after a version octet
 pub record Nest (table : Table) (profile : Profile) (payload : List ℕ) : Type 0 where
   pub some : 0 < length payload
   pub items : List Item
@@ -130,7 +130,7 @@ pub error_some : (s : List ℕ) → IsError s → 0 < length s
 error_some [] h = absurd h
 error_some (x ∷ s) h = omega arith
 
--- its data lies behind its reason
+-- its data lies after its reason
 pub error_told : (payload s : List ℕ) (at : ℕ) → IsError s → Lies payload (at + 1) (length s) s
     → (v : ErrorValue) × StandsForError s v × (get_or s 0 0 ≡ v.reason) × Lies payload (at + 2) (length s - 1) v.detail
 error_told payload [] at h l = absurd h

@@ -1,4 +1,4 @@
--- The links that are told are those of the message.
+-- The links that are given are those of the message.
 use Rattle.std.proofs.Common.{◌≡◌, ◌≢◌, ℕ, zero, suc, ◌∷◌, [], drop, refl, sym, ◌∙◌, ap, subst, arith, false, true≢false, List, length, map, append-nil, Some, None, inl, inr, Option}
 use Rattle.std.specs.List.{AllByRecursion}
 use Rattle.std.specs.Prelude.{slice_get, Ok}

@@ -1,4 +1,4 @@
--- A record in one piece, its payload behind the front of it.
+-- A record in one piece, its payload after the front of it.
 use Rattle.std.proofs.Common.{◌≡◌, ℕ, Bool, false, List, [], ◌++◌, None, length, refl, sym, ap, ◌∙◌, append-nil, append_assoc}
 use Rattle.ndef_format.specs.Messages.{Item}
 use Rattle.ndef_format.specs.Records.{fields, octets}
@@ -14,7 +14,7 @@ use Rattle.ndef_c.specs.Writes.{LastBegins, piece_octets, record_octets}
 behind_front : (head kind id part : List ℕ) → (head ++ (kind ++ (id ++ []))) ++ part ≡ head ++ (kind ++ (id ++ part))
 behind_front head kind id part = simp (append-nil, append_assoc)
 
--- the front of the piece, and the payload behind it, are the octets of the record
+-- the front of the piece, and the payload after it, are the octets of the record
 pub whole_as : (form : Form) (first last : Bool) (m : Item) (head : Head) (part : List ℕ) → part ≡ m.payload
     → written_fields head ≡ fields (first_piece first last false m part) (is_short form (length part))
     → piece_octets head m.kind m.id [] ++ part ≡ record_octets form first last None m

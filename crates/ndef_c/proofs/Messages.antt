@@ -1,4 +1,4 @@
--- The records of a message, one behind another.
+-- The records of a message, one after another.
 use Rattle.std.proofs.Common.{◌≡◌, ◌≢◌, ℕ, ◌-◌, ◌<◌, ◌≤◌, ◌++◌, ◌∷◌, [], take, drop, refl, sym, ◌∙◌, ap, subst, arith, true, false, true≢false, List, length, length-append, append_assoc, map, take_at, Some}
 use Rattle.std.specs.List.{AllByRecursion}
 use Rattle.std.specs.Prelude.{slice_get, unwrap_or}
@@ -61,7 +61,7 @@ there bytes at (r ∷ more) end s w = (r, drop w.0 bytes, w.1)
 pub run_there : {bytes : List ℕ} {runs : List Run} {at : ℕ} {done : List Run} → Left bytes runs at done → HasRun (drop at bytes)
 run_there {bytes} {runs} {at} {done} l = there bytes at l.more l.end l.some l.walked
 
--- the run that begins there is one of the message, and the others are left behind it
+-- the run that begins there is one of the message, and the others are left after it
 pub record Onward (bytes : List ℕ) (runs : List Run) (next : ℕ) (done : List Run) (run : Run) : Type 0 where
   pub more : List Run
   pub all : runs ≡ done ++ run ∷ more

@@ -89,7 +89,7 @@ size_some (suc n) = λ k e.
 spelled_in : WrittenIsSpelled → (profile : Profile) (first last : Bool) (a : Appended) → IsItem a.item → Spelled profile first last (size_of a.how) a.item
 spelled_in written profile first last a i = spelled_as written profile first last (size_of a.how) a.item (size_some a.how.chunk) i
 
--- the runs, the last of them told as such
+-- the runs, the last of them marked as such
 abbrev runs_of : Bool → List Appended → Appended → List Run
 runs_of first [] last = cut_run first true (size_of last.how) last.item ∷ []
 runs_of first (a ∷ others) last = cut_run first false (size_of a.how) a.item ∷ runs_of false others last

@@ -9,7 +9,7 @@ use Rattle.ndef_c.specs.Checks.{ChecksTo, RefusesAt, TakesMessage}
 use Rattle.ndef_c.specs.Feeding.{FeedsAreChecks, checked_status}
 use Rattle.ndef_c.specs.declared.checking.NdefChecked.{NdefChecked}
 
--- what is told is told by its parts
+-- two answers with equal parts are equal
 same_told : (out other : NdefChecked) → other.place ≡ out.place → other.records ≡ out.records → other.reason ≡ out.reason → other ≡ out
 same_told out other e f g = parts other.place out.place other.records out.records other.reason out.reason e f g
   where

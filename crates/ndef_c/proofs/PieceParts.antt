@@ -1,4 +1,4 @@
--- Where the pieces of a record lie, told one after another.
+-- Where the pieces of a record lie, given one after another.
 use Rattle.std.proofs.Common.{◌≡◌, ℕ, ◌+◌, ◌-◌, ◌≤◌, ◌∷◌, [], drop, sym, ◌∙◌, ap, subst, arith, List, ◌++◌, length, length-append, length-drop, append_assoc, Bool, true, false}
 use Rattle.ndef_format.specs.Records.{Piece, Run, pieces}
 use Rattle.ndef_format.specs.HeadReasons.{is_set}
@@ -13,7 +13,7 @@ use Rattle.ndef_c.proofs.Places.{lie_in, shown_parts}
 
 -- ---- one piece
 
--- the part that is told of a payload in front of the rest
+-- the part that is given for a payload in front of the rest
 abbrev pub part_of : (bytes rest payload : List ℕ) → NdefPart
 part_of bytes rest payload = record { at = length bytes - length rest - length payload; length = length payload }
 
@@ -46,7 +46,7 @@ piece_there header short kind id payload rest behind bytes place part h e none i
 
 -- ---- those of a run
 
--- of the pieces of a run so many are told, and the others begin at the place
+-- some pieces of a run have been given, and the others begin at the place
 pub record Telling (bytes : List ℕ) (at : ℕ) (all : List Piece) (end : List ℕ) (place : ℕ) (done : List NdefPart) : Type 0 where
   pub next : Piece
   pub later : List Piece

@@ -30,7 +30,7 @@ lies_within bytes part at count l h =
     let d = length-drop at bytes in
     omega (arith, n, t, d, h)
 
--- a part of what is behind the first octet
+-- a part of what is after the first octet
 pub lies_behind : (payload bytes part : List ℕ) (at count : ℕ) → bytes ≡ drop 1 payload → at < length bytes → Lies bytes at count part → Lies payload (at + 1) count part
 lies_behind payload bytes part at count e h l = record {
   within = omega (arith, h, l.within, ap length e, length-drop 1 payload);
@@ -42,7 +42,7 @@ tail_of : (n x : ℕ) (s part : List ℕ) → take (suc n) s ≡ x ∷ part → 
 tail_of n x [] part e = absurd (cc)
 tail_of n x (y ∷ s) part e = ap (drop 1) e
 
--- .. and of what is behind the first octet of a part
+-- .. and of what is after the first octet of a part
 pub lies_tail : (bytes part : List ℕ) (at count x : ℕ) → Lies bytes at count (x ∷ part) → Lies bytes (at + 1) (length part) part
 lies_tail bytes part at count x l = record {
   within = omega (arith, l.within, l.count_is);
@@ -50,7 +50,7 @@ lies_tail bytes part at count x l = record {
   count_is = refl;
 }
 
--- what is behind a record
+-- what is after a record
 pub record Ends (bytes rest : List ℕ) (at : ℕ) : Type 0 where
   pub rest_is : drop (length bytes - length rest) bytes ≡ rest
   pub onward : at < length bytes - length rest
@@ -125,7 +125,7 @@ lie_in header kind id payload rest bytes s =
       payload_behind = omega (arith, n, a, b, d);
     }
 
--- behind the end of the bytes is no record
+-- after the end of the bytes is no record
 pub none_beyond : (bytes : List ℕ) (at : ℕ) → length bytes ≤ at → IsRecordThere bytes at → ⊥
 none_beyond bytes at h r =
     let i = initial_of r.0 r.1 (drop at bytes) r.2 in

@@ -118,7 +118,7 @@ cutting_end {form} {first} {last} {size} {m} {rest} {done} {at} c h e = record {
   at_is = c.at_is;
 }
 
--- it begins there, however the size is told
+-- it begins there, in whichever form the size is given
 pub last_by : {form : Form} {first last : Bool} {size : Option ℕ} {most : ℕ} {m : Item} {at : ℕ} → LastBegins form first last (Some most) m at → most ≡ unwrap_or size 4294967295 → length m.payload < 2 ^ 32 → LastBegins form first last size m at
 last_by {form} {first} {last} {size} {most} {m} {at} l e small = record {
   done = l.done;

@@ -36,7 +36,7 @@ with_parts t u k l i j payload e f g = rw (e, f, g) refl
 pub item_is : {bytes : List ℕ} {found : FirstRun} (x : IsFirstRun bytes found) → shown_item found (run_record x.run).payload ≡ run_record x.run
 item_is {bytes} {found} x = with_parts _ _ _ _ _ _ (run_record x.run).payload (ap (λ q. tnf_of q.tnf) x.initial) (ap (λ q. q.kind) x.initial) (sym (id_of found x))
 
--- the front of the piece, and the joined payload behind it, are the octets of the record
+-- the front of the piece, and the joined payload after it, are the octets of the record
 front_and_payload : {bytes : List ℕ} {found : FirstRun} (x : IsFirstRun bytes found) (form : Form) (first : Bool) (head : Head)
     → written_fields head ≡ fields (first_piece first found.last false (run_record x.run) (run_record x.run).payload) (is_short form (length (run_record x.run).payload))
     → piece_octets head found.first.kind.now found.first.id.now [] ++ (run_record x.run).payload ≡ record_octets form first found.last None (run_record x.run)
@@ -44,7 +44,7 @@ front_and_payload {bytes} {found} x form first head e =
     ap₂ (λ k i. piece_octets head k i [] ++ (run_record x.run).payload) (ap (λ q. q.kind) x.initial) (sym (id_of found x))
     ∙ whole_as form first found.last (run_record x.run) head (run_record x.run).payload refl e
 
--- what is written of a record, and of those behind it
+-- what is written of a record, and of those after it
 pub record Part (form : Form) (first : Bool) (left : List Run) (run : Run) (more : List Run) (part : List ℕ) : Type 0 where
   pub are : left ≡ run ∷ more
   pub octets : one_by_one form first None (records_of left) ≡ part ++ one_by_one form false None (records_of more)
@@ -61,12 +61,12 @@ part_of {bytes} {found_at} {runs} {done} {at} {next} {found} l x o form first he
           ∙ ap (λ y. y ++ one_by_one form false None (records_of o.more)) (sym (front_and_payload x form first head e));
     }
 
--- those that are left behind it
+-- those that are left after it
 pub left_are : {bytes : List ℕ} {runs done : List Run} {run : Run} {next : ℕ} (o : Onward bytes runs next done run) (k : Left bytes runs next (done ++ run ∷ [])) → k.more ≡ o.more
 left_are {bytes} {runs} {done} {run} {next} o k =
     append_cancel_left (done ++ run ∷ []) k.more o.more (sym k.all ∙ o.all ∙ sym (append_assoc done (run ∷ []) o.more))
 
--- behind the last there are none
+-- after the last there are none
 pub none_more : (more : List Run) → is_last_run more ≡ true → more ≡ []
 none_more [] e = refl
 none_more (r ∷ more) e = absurd (cc)
@@ -88,7 +88,7 @@ pub writable_there : (runs done : List Run) (run : Run) (more : List Run) → ru
 writable_there runs done run more e h =
     all_there IsWritable (records_of done) (run_record run) (records_of more) (subst (AllByRecursion IsWritable) (ap records_of e ∙ map-append run_record done (run ∷ more)) h)
 
--- ---- how many bytes that are
+-- ---- the number of bytes
 
 -- the piece has those of its front and those of the payload
 pub part_length : {bytes : List ℕ} {found : FirstRun} (x : IsFirstRun bytes found) (head : Head) (front : ℕ) → front ≡ length (piece_octets head found.first.kind.now found.first.id.now [])

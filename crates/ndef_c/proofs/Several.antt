@@ -1,4 +1,4 @@
--- Records that are written one behind another.
+-- Records that are written one after another.
 use Rattle.std.proofs.Common.{◌≡◌, ℕ, zero, suc, ◌+◌, ◌-◌, ◌<◌, ◌≤◌, ◌==◌, ◌&&◌, Bool, true, false, List, [], ◌∷◌, ◌++◌, None, take, drop, get_or, map, length, length-append, refl, sym, ◌∙◌, ap, ap₂, subst, arith, append-nil, append_assoc, rules}
 use Rattle.std.specs.List.{flat_map}
 use Rattle.std.proofs.lemmas.Grind.{flat_map-append}
@@ -46,7 +46,7 @@ first_some : (first : Bool) → (first && false) ≡ false
 first_some true = refl
 first_some false = refl
 
--- those of records and of others behind them
+-- those of records and of others after them
 pub left_on : (first : Bool) (left : ℕ) (xs ys : List Item) → left_octets first left (xs ++ ys) ≡ left_octets first left xs ++ left_octets (first && is_nil xs) (left - length xs) ys
 left_on first left [] ys = ap₂ (λ f n. left_octets f n ys) (sym (first_none first)) (omega arith)
 left_on first left (m ∷ xs) ys =
@@ -77,7 +77,7 @@ and_assoc false b c = refl
 place_of : (a b k l : ℕ) (f g : Bool) → a ≡ b → k ≡ l → f ≡ g → ◌≡◌ {A = Place} (record { at = a; left = k; first = f }) (record { at = b; left = l; first = g })
 place_of a b k l f g d e h = rw (d, e, h) refl
 
--- behind records and others behind them
+-- after records and others after them
 pub behind_on : (p : Place) (xs ys : List Item) → behind (behind p xs) ys ≡ behind p (xs ++ ys)
 behind_on p xs ys =
     let q = behind p xs in
@@ -90,7 +90,7 @@ behind_on p xs ys =
 pub written_none : (p : Place) (old : List ℕ) → IsWritten p [] old old p
 written_none p old = record { put = put_none p.at old; size = refl; next = place_of _ _ _ _ _ _ (omega arith) (omega arith) (sym (first_none p.first)) }
 
--- records, and others behind them
+-- records, and others after them
 pub written_on : {p q r : Place} {xs ys : List Item} {old mid new : List ℕ} → p.at ≤ length old → IsWritten p xs old mid q → IsWritten q ys mid new r → IsWritten p (xs ++ ys) old new r
 written_on {p} {q} {r} {xs} {ys} {old} {mid} {new} h w v = record {
   put = subst (λ t. IsPut p.at t old new) (ap (λ s. left_octets p.first p.left xs ++ left_octets s.first s.left ys) w.next ∙ sym (left_on p.first p.left xs ys))
@@ -99,7 +99,7 @@ written_on {p} {q} {r} {xs} {ys} {old} {mid} {new} h w v = record {
   next = v.next ∙ ap (λ s. behind s ys) w.next ∙ behind_on p xs ys;
 }
 
--- behind some of the records there is room for those that follow
+-- after some of the records there is room for those that follow
 pub room_on : {p q : Place} {xs : List Item} {old mid : List ℕ} → IsWritten p xs old mid q → (ys zs : List Item) → p.at + length (left_octets p.first p.left (xs ++ (ys ++ zs))) ≤ length old
     → q.at + length (left_octets q.first q.left ys) ≤ length mid
 room_on {p} {q} {xs} {old} {mid} w ys zs h =
@@ -116,7 +116,7 @@ room_on {p} {q} {xs} {old} {mid} w ys zs h =
     let size = w.size in
     omega (arith, next, part, b, c, d, e, f, size, h)
 
--- behind some of the records those that follow are left
+-- after some of the records those that follow are left
 pub left_of : {p q : Place} {xs : List Item} {old mid : List ℕ} → IsWritten p xs old mid q → (ys zs : List Item) → length (xs ++ (ys ++ zs)) ≤ p.left → length ys ≤ q.left
 left_of {p} {q} {xs} w ys zs h =
     let next = ap (λ s. s.left) w.next in
@@ -126,7 +126,7 @@ left_of {p} {q} {xs} w ys zs h =
 
 -- ---- one more of some records
 
--- the list up to an index, and those behind it
+-- the list up to an index, and those after it
 pub split_at_index : {X : Type 0} (xs : List X) (k : ℕ) (d : X) → k < length xs → xs ≡ take k xs ++ ((get_or xs k d ∷ []) ++ drop (suc k) xs)
 split_at_index [] k d h = absurd (omega (arith, h))
 split_at_index (x ∷ xs) zero d h = refl
@@ -138,7 +138,7 @@ all_more f [] k d h = absurd (omega (arith, h))
 all_more f (x ∷ xs) zero d h = append-nil (f x)
 all_more f (x ∷ xs) (suc k) d h = ap (λ t. f x ++ t) (all_more f xs k d (omega (arith, h))) ∙ sym (append_assoc (f x) (flat_map f (take k xs)) (f (get_or xs k d)))
 
--- several lists joined, up to an index and behind it
+-- several lists joined, up to an index and after it
 pub all_split : {X Y : Type 0} (f : X → List Y) (xs : List X) (k : ℕ) (d : X) → k < length xs → flat_map f xs ≡ flat_map f (take k xs) ++ (f (get_or xs k d) ++ flat_map f (drop (suc k) xs))
 all_split f [] k d h = absurd (omega (arith, h))
 all_split f (x ∷ xs) zero d h = refl
@@ -219,6 +219,6 @@ left_canonical short items left e = left_all true left items e ∙ records_joine
 pub canonical_length : ShortIsCanonical → (items : List Item) → length (canonical items) ≡ length (middle_octets items)
 canonical_length short items = sym (ap length (left_canonical short items (length items) refl)) ∙ left_length true (length items) items
 
--- so many octets are before it
+-- that number of octets is before it
 pub front_length : ShortIsCanonical → (front : List ℕ) (items : List Item) → length (front ++ canonical items) ≡ length front + length (middle_octets items)
 front_length short front items = length-append front (canonical items) ∙ ap (λ n. length front + n) (canonical_length short items)

@@ -1,4 +1,4 @@
--- An octet and the bytes behind it, stepped one after another: whether they are a payload.
+-- An octet and the bytes after it, stepped one after another: whether they are a payload.
 use Rattle.std.proofs.Common.{◌≡◌, ℕ, ◌+◌, ◌-◌, ◌≤◌, List, [], ◌∷◌, ◌++◌, take, drop, refl, sym, subst, arith, inl, inr, length, length-drop, append-nil}
 use Rattle.std.specs.Prelude.{◌↔◌}
 use Rattle.std.proofs.lemmas.Bool.{cases_lt}

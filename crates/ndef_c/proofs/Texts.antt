@@ -66,7 +66,7 @@ given_utf8 payload octets v h e l = e ∙ sym (by v.encoding h.encoding h.text)
     by Utf8 w s = s
     by Utf16 w s = let n = leb-true 128 (get_or payload 0 0) w in absurd (omega (arith, n, l))
 
--- a text in UTF-16 is spelled behind its mark
+-- a text in UTF-16 is spelled after its mark
 pub given_utf16 : (payload octets : List ℕ) (v : TextValue) → StandsForText payload v → octets ≡ encoded_octets payload → 128 ≤ get_or payload 0 0
     → (little : Bool) (rest : List ℕ) → little ≡ (unmarked octets).0 → rest ≡ (unmarked octets).1 → AreSpelled little v.text rest
 given_utf16 payload octets v h e l little rest a b = record {

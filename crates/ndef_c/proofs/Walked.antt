@@ -69,7 +69,7 @@ walked profile (r ∷ q ∷ rs) bytes done left at each s some e rest b a =
       subst (AreWalked bytes (at + length w.0) (q ∷ rs)) end (walked profile (q ∷ rs) bytes (done ++ w.0) w.1 (at + length w.0) each.1 w.4 (λ x. cc) u.1 rest all k),
     )
 
--- a front of a front, and what is behind it
+-- a front of a front, and what is after it
 front_of : (n m : ℕ) (xs : List ℕ) → n ≤ m → take m xs ≡ take n xs ++ drop n (take m xs)
 front_of n m xs h = sym (take-append-drop n (take m xs)) ∙ ap (λ x. x ++ drop n (take m xs)) (take-take n m xs h)
 

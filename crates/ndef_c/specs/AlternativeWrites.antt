@@ -11,7 +11,7 @@ use Rattle.ndef_c.specs.declared.part.NdefPart.{NdefPart}
 abbrev pub part_of : List ℕ → NdefPart → List ℕ
 part_of bytes part = take part.length (drop part.at bytes)
 
--- the part lies within so many bytes
+-- the part lies within `size` bytes
 abbrev pub IsPartWithin : (size : ℕ) → NdefPart → Type 0
 IsPartWithin size part = part.at + part.length ≤ size
 
@@ -27,7 +27,7 @@ pub record MayBeAlternative (power : ℕ) (bytes : List ℕ) (parts : List NdefP
   pub few : length parts ≤ 256
   pub references : All (MayBeReference (length bytes)) parts
 
--- Connection Handover 1.2, Alternative Carrier record: it has this power state and these references, and nothing behind
+-- Connection Handover 1.2, Alternative Carrier record: it has this power state and these references, and nothing after
 -- them
 pub record IsAlternativeOf (power : ℕ) (bytes : List ℕ) (parts : List NdefPart) (v : AcValue) : Type 0 where
   pub value : IsAcValue v
@@ -48,6 +48,6 @@ pub record GivesAlternative (power : ℕ) (bytes : List ℕ) (parts : List NdefP
   pub is : IsAlternativeOf power bytes parts alternative
   pub gives : GivesFor WritesAlternative alternative before after count status
 
--- Connection Handover 1.2, Alternative Carrier record: a reference behind its length
+-- Connection Handover 1.2, Alternative Carrier record: a reference after its length
 abbrev pub counted_part : List ℕ → NdefPart → List ℕ
 counted_part bytes part = counted (part_of bytes part)

@@ -1,4 +1,4 @@
--- What is told of the payload of an alternative carrier.
+-- What is said of the payload of an alternative carrier.
 use Rattle.std.specs.Prelude.{◌≡◌, ◌==◌, ℕ, ◌+◌, ◌^◌, ◌<◌, ◌≤◌, List, ◌∷◌, length, take, slice_get, sum_by, Some, if◌then◌else◌}
 use Rattle.ndef_format.specs.Handovers.{IsAlternative}
 use Rattle.ndef_types.specs.Values.{AcValue, StandsForAc, power_code}
@@ -12,7 +12,7 @@ abbrev pub references : AcValue → List (List ℕ)
 references v = v.reference ∷ v.auxiliary
 
 -- Connection Handover 1.2, Alternative Carrier record: the payload is that of an alternative carrier: its power state,
--- and how many references it has
+-- and its number of references
 pub record IsAlternativeAt (payload : List ℕ) (out : NdefAlternative) : Type 0 where
   pub in_set : IsAlternative payload
   pub short : length payload < 2 ^ 32

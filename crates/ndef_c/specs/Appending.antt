@@ -26,7 +26,7 @@ asked_of flags language text = record { flags = flags; language = language; text
 abbrev pub text_record : List ℕ → Asked → Item
 text_record id a = well_known kinds.Text id (text_payload (asked_text a.flags a.language a.text))
 
--- NDEF 1.0, ID_LENGTH: one more record with the id can stand behind the message
+-- NDEF 1.0, ID_LENGTH: one more record with the id can stand after the message
 pub record MayBeJoined (id : List ℕ) (h : Holding) : Type 0 where
   pub short : length id < 256
   pub grown : MayBeGrown h
@@ -36,7 +36,7 @@ pub record MayBeTextThere (id : List ℕ) (a : Asked) (h : Holding) : Type 0 whe
   pub text : MayBeText a.flags a.language a.text
   pub joined : MayBeJoined id h
 
--- RTD URI 1.0: the record of a URI is written behind the message, as WritesUri says
+-- RTD URI 1.0: the record of a URI is written after the message, as WritesUri says
 pub record GivesUriThere (id uri : List ℕ) (before after : Holding) (count status : ℕ) : Type 0 where
   pub payload : List ℕ
   pub is : WritesUri uri payload

@@ -2,11 +2,12 @@
 use Rattle.std.specs.Prelude.{◌≡◌, ℕ, ◌+◌, ◌<◌, ◌≤◌, ⊤, List, [], ◌∷◌, ◌++◌, length, drop}
 use Rattle.ndef_c.specs.declared.status.TheConstants.{OK, NO_ROOM}
 
--- these stand at the front of the array, and behind them it is as it was
+-- these stand at the front of the array, and after them it is as it was
 abbrev pub set_over : {T : Type 0} → List T → List T → List T
 set_over told before = told ++ drop (length told) before
 
--- so many elements of which this holds are written where the array has room, else it is as it was; their number is told
+-- `many` elements, of which this holds, are written where the array has room, else it is unchanged; their number is
+-- given
 pub record GivesMany {T : Type 0} (holds : List T → Type 0) (many : ℕ) (before after : List T) (count status : ℕ)
     : Type 0 where
   pub count_is : count ≡ many

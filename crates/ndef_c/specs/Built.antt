@@ -8,7 +8,7 @@ use Rattle.ndef_c.specs.declared.status.TheConstants.{OK, NO_ROOM}
 use Rattle.ndef_c.specs.declared.building.NdefBuilt.{NdefBuilt}
 use Rattle.ndef_c.specs.declared.writing.NdefWriting.{NdefWriting}
 
--- a room, and what is told of the message with which it begins
+-- a room, and what is known of the message with which it begins
 pub record Holding : Type 0 where
   pub room : List ℕ
   pub built : NdefBuilt
@@ -71,7 +71,7 @@ pub record IsGrown (octets : List ℕ) (begins : ℕ → Type 0) (before after :
   pub begins_at : begins at
   pub last_at : after.last_at ≡ before.length + at
 
--- the octets are written behind the message where there is room, else all is as it was; the length of both is told
+-- the octets are written after the message where there is room, else nothing changes; the length of both is given
 pub record GivesAppended (octets : List ℕ) (begins : ℕ → Type 0) (before after : Holding) (count status : ℕ)
     : Type 0 where
   pub count_is : count ≡ before.built.length + length octets
@@ -80,11 +80,11 @@ pub record GivesAppended (octets : List ℕ) (begins : ℕ → Type 0) (before a
       × IsGrown octets begins before.built after.built
   pub too_small : length before.room < count → (status ≡ NO_ROOM) × (after ≡ before)
 
--- a well-known record is asked for in one piece, in the short form where that tells its length
+-- a well-known record is asked for in one piece, in the short form where that can hold its length
 abbrev pub whole : NdefWriting
 whole = record { tnf = 1; flags = 0; chunk = 0 }
 
--- the record is written so behind the message
+-- the record is written so after the message
 abbrev pub GivesWhole : Item → (before after : Holding) (count status : ℕ) → Type 0
 GivesWhole m before after count status =
     GivesAppended (appended_octets (is_first_of before.built) whole m)

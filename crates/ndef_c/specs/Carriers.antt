@@ -1,4 +1,4 @@
--- What is told of the payload of a handover carrier, and which carriers may be written.
+-- What is said of the payload of a handover carrier, and which carriers may be written.
 use Rattle.std.specs.Prelude.{◌≡◌, ℕ, ◌^◌, ◌+◌, ◌<◌, List, length}
 use Rattle.ndef_format.specs.Handovers.{IsCarrier}
 use Rattle.ndef_types.specs.Values.{CarrierValue, StandsForCarrier}

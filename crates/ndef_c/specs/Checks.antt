@@ -29,7 +29,7 @@ limits_of n = record {
 abbrev pub MayBeSet : NdefLimits → Type 0
 MayBeSet n = AreInRange (limits_of n) × (n.flags ≤ 3)
 
--- NDEF 1.0, messages: the bytes begin with a message of so many bytes and records
+-- NDEF 1.0, messages: the bytes begin with a message of this number of bytes and records
 pub record TakesMessage (set : Sets) (holds : Conditions) (limits : LimitValues) (bytes : List ℕ)
     (out : NdefChecked) : Type 0 where
   pub viewed : Viewed

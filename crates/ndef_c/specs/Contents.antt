@@ -17,8 +17,8 @@ IsContent (contents.Alternative power bytes reference auxiliary) =
 IsContent (contents.Error reason detail) = ⊤
 IsContent (contents.Octets octets) = ⊤
 
--- Connection Handover 1.2, Alternative Carrier record: a power state, the carrier data reference behind its length, and
--- behind their number the auxiliary ones, each behind its length
+-- Connection Handover 1.2, Alternative Carrier record: a power state, the carrier data reference after its length, and
+-- after their number the auxiliary ones, each after its length
 abbrev pub alternative_octets : (power : ℕ) → List ℕ → NdefPart → List NdefPart → List ℕ
 alternative_octets power bytes reference auxiliary =
     power ∷ (counted_part bytes reference ++ length auxiliary ∷ flat_map (counted_part bytes) auxiliary)

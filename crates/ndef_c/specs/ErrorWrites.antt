@@ -14,11 +14,11 @@ pub record MayBeError (reason : ℕ) (detail : List ℕ) : Type 0 where
   pub error : IsErrorValue (error_of reason detail)
   pub fits : 1 + length detail < 2 ^ 32
 
--- Connection Handover 1.2, Error record: a defined reason, and a number that its data can tell
+-- Connection Handover 1.2, Error record: a defined reason, and a number that its data can hold
 abbrev pub MayBeNumber : (reason number : ℕ) → Type 0
 MayBeNumber reason number = (reason ≡ 2) ⊎ (((reason ≡ 1) ⊎ (reason ≡ 3)) × (number < 256))
 
--- Connection Handover 1.2, Error record: the error of this reason, whose data tell this number
+-- Connection Handover 1.2, Error record: the error of this reason, whose data give this number
 pub record IsErrorOf (reason number : ℕ) (v : ErrorValue) : Type 0 where
   pub error : IsErrorValue v
   pub reason_is : v.reason ≡ reason

@@ -1,4 +1,4 @@
--- What is told of the payload of a handover error.
+-- What is said of the payload of a handover error.
 use Rattle.std.specs.Prelude.{◌≡◌, ℕ, ◌^◌, ◌<◌, ◌==◌, ◌&&◌, nat_le, List, length, slice_index, Option, Some, None, if◌then◌else◌}
 use Rattle.std.specs.Int.{w32, from_be_bytes}
 use Rattle.ndef_format.specs.Handovers.{IsError}
@@ -12,12 +12,12 @@ use Rattle.ndef_c.specs.declared.error.NdefError.{NdefError}
 abbrev pub number_in : (reason : ℕ) → List ℕ → ℕ
 number_in reason detail = if reason == 2 then from_be_bytes w32 detail else slice_index detail 0
 
--- Connection Handover 1.2, Error record: the number that the data of a defined reason tell; 1 to 3 are defined
+-- Connection Handover 1.2, Error record: the number that the data of a defined reason give; 1 to 3 are defined
 abbrev pub number_told : (reason : ℕ) → List ℕ → Option ℕ
 number_told reason detail = if nat_le 1 reason && nat_le reason 3 then Some (number_in reason detail) else None
 
 -- Connection Handover 1.2, Error record: the payload is that of an error: its reason, where its data lie, and the
--- number that they tell
+-- number that they give
 pub record IsErrorAt (payload : List ℕ) (out : NdefError) : Type 0 where
   pub in_set : IsError payload
   pub short : length payload < 2 ^ 32

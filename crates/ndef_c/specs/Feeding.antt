@@ -33,12 +33,12 @@ IsFed checker so_far = HasLooked checker.looking so_far.limits so_far.bytes
 abbrev pub BeginsTo : NdefLimits → (status : ℕ) → Type 0
 BeginsTo limits status = (MayBeSet limits × (status ≡ OK)) ⊎ ((¬ MayBeSet limits) × (status ≡ BAD_ARGUMENT))
 
--- what a check answers where a checker answers so: it tells no difference between bytes that end too early and others
+-- what a check answers where a checker answers so: it doesn't separate bytes that end too early from others
 abbrev pub checked_status : ℕ → ℕ
 checked_status status = if status == MORE then REFUSED else status
 
 -- NDEF 1.0, messages: what is answered of all the bytes so far is what a check of them answers, and that more are
--- wanted where they are refused only because they end.
+-- needed where they are refused only because they end.
 pub record FeedsTo (set : Sets) (holds : Conditions) (limits : LimitValues) (bytes : List ℕ) (status : ℕ)
     (out : NdefChecked) : Type 0 where
   pub checks : ChecksTo set holds limits bytes (checked_status status) out
@@ -61,7 +61,7 @@ pub record AnswersFed (limits : NdefLimits) (bytes : List ℕ) (status : ℕ) (b
 
 -- ---- law
 
--- A check of all the bytes so far answers the same, but that it has no status for more that are wanted.
+-- A check of all the bytes so far answers the same, except that it has no status for needing more.
 abbrev pub FeedsAreChecks : Sets → Conditions → Type 0
 FeedsAreChecks set holds = (limits : LimitValues) (bytes : List ℕ) (fed checked : ℕ) (out other : NdefChecked)
     → FeedsTo set holds limits bytes fed out → ChecksTo set holds limits bytes checked other

@@ -79,8 +79,8 @@ pub record AreFieldsChecked (limits : LimitValues) (bytes : List ℕ) (checked :
   pub whole : checked ≡ OK → (a : AreFields limits bytes told) × (a.count ≡ why.place)
   pub before : checked ≡ REFUSED → AreFieldsBefore (take why.place bytes) told
 
--- the fields are written where the array has room, and what the check answered is; else it is as it was; their number
--- is told
+-- the fields are written where the array has room, and the answer is that of the check; else the array is unchanged;
+-- their number is given
 pub record GivesEach (told : List Field) (checked : ℕ) (before after : List NdefField) (count status : ℕ)
     : Type 0 where
   pub count_is : count ≡ length told
@@ -117,7 +117,7 @@ abbrev pub GivesWith : (told : List Field) (place : ℕ) (after : NdefField) →
 GivesWith told place after = (f : Field) × IsFieldWith told place f × (after ≡ numbers_of f)
 
 -- NDEF 1.0, messages: the field in which the byte at the place stands is given, of the message or before the refused
--- byte; none where the place is behind
+-- byte; none where the place is after
 pub record GivesFieldAt (limits : LimitValues) (bytes : List ℕ) (place : ℕ) (before after : NdefField) (status : ℕ)
     (why : NdefChecked) : Type 0 where
   pub checked : ℕ
@@ -134,7 +134,7 @@ abbrev pub OneFieldWith : Type 0
 OneFieldWith = (told : List Field) (end place : ℕ) (f g : Field) → AreGapless 0 told end
     → IsFieldWith told place f → IsFieldWith told place g → f ≡ g
 
--- The byte behind a field stands in the next one.
+-- The byte after a field stands in the next one.
 abbrev pub StepsLeadOn : Type 0
 StepsLeadOn = (told before behind : List Field) (end : ℕ) (f g : Field) → AreGapless 0 told end
     → told ≡ before ++ f ∷ g ∷ behind → IsFieldWith told (f.at + f.length) g

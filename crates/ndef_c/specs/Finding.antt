@@ -1,4 +1,4 @@
--- What is told of the first record that has what is wanted.
+-- What is said of the first record that has what is searched for.
 use Rattle.std.specs.Prelude.{◌≡◌, ◌≢◌, ℕ, true, false, List, [], drop}
 use Rattle.std.specs.List.{AllByRecursion}
 use Rattle.ndef_format.specs.Messages.{Item, run_record}
@@ -27,11 +27,11 @@ Has (WithId id) i = HasIdOf id.now i
 abbrev pub Sought : Type 1
 Sought = Item → Type 0
 
--- NDEF 1.0, ME: the record of the run hasn't what is wanted, and isn't the last of its message
+-- NDEF 1.0, ME: the record of the run hasn't what is searched for, and isn't the last of its message
 abbrev pub IsPassed : Sought → Run → Type 0
 IsPassed P run = (¬ P (run_record run)) × (ends_message run.initial run.later ≡ false)
 
--- NDEF 1.0, messages: from a place up to another lie records, one behind another, that are all passed
+-- NDEF 1.0, messages: from a place up to another lie records, one after another, that are all passed
 pub record PassesTo (P : Sought) (bytes : List ℕ) (at next : ℕ) : Type 0 where
   pub runs : List Run
   pub between : LieBetween bytes at runs next
@@ -44,7 +44,7 @@ pub record FindsAt (P : Sought) (bytes : List ℕ) (at : ℕ) (out : NdefRecord)
   pub record_is : IsRecordAt bytes next out
   pub has : P (run_record record_is.run)
 
--- NDEF 1.0, messages: the first of these records that has what is wanted begins there
+-- NDEF 1.0, messages: the first of these records that has what is searched for begins there
 pub record HasFirst (P : Sought) (bytes : List ℕ) (at next : ℕ) : Type 0 where
   pub passes : PassesTo P bytes at next
   pub run : Run
@@ -52,7 +52,7 @@ pub record HasFirst (P : Sought) (bytes : List ℕ) (at next : ℕ) : Type 0 whe
   pub begins : BeginsWithRun run rest (drop next bytes)
   pub has : P (run_record run)
 
--- NDEF 1.0, messages: none of the records from the place on, up to the last of the message, has what is wanted
+-- NDEF 1.0, messages: none of the records from the place on, up to the last of the message, has what is searched for
 pub record HasNone (P : Sought) (bytes : List ℕ) (at : ℕ) : Type 0 where
   pub next : ℕ
   pub passes : PassesTo P bytes at next

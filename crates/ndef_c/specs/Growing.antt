@@ -14,7 +14,7 @@ pub record Appended : Type 0 where
   pub how : NdefWriting
   pub item : Item
 
--- NDEF 1.0, MB: the record behind these is the first of its message
+-- NDEF 1.0, MB: the record after these is the first of its message
 abbrev pub opens : Bool → List Appended → Bool
 opens first [] = first
 opens first (a ∷ others) = false
@@ -25,8 +25,8 @@ followed_octets first [] = []
 followed_octets first (a ∷ others) =
     record_octets (form_of a.how) first false (size_of a.how) a.item ++ followed_octets false others
 
--- NDEF 1.0, messages: the room begins with these records and a last one, each written as it was asked, and so it is
--- told
+-- NDEF 1.0, messages: the room begins with these records and a last one, each written as it was asked, and the holding
+-- says so
 pub record HoldsRecords (records : List Appended) (last : Appended) (h : Holding) : Type 0 where
   pub within : h.built.length ≤ length h.room
   pub bytes : take h.built.length h.room
@@ -49,7 +49,7 @@ abbrev pub FirstIsHeld : Type 0
 FirstIsHeld = (a : Appended) (before after : Holding) (count : ℕ) → IsUnbuilt before.built
     → IsAppended a before after count → HoldsRecords [] a after
 
--- Each further one is its last record, behind those that were there.
+-- Each further one is its last record, after those that were there.
 abbrev pub OthersAreHeld : Type 0
 OthersAreHeld = (records : List Appended) (last a : Appended) (before after : Holding) (count : ℕ)
     → HoldsRecords records last before → IsAppended a before after count → HoldsRecords (records ++ last ∷ []) a after

@@ -81,7 +81,7 @@ abbrev pub error_items : NdefSelectWriting → List ℕ → List Item
 error_items how bytes =
     if how.has_error == 1 then well_known kinds.Error [] (how.reason ∷ part_of bytes how.detail) ∷ [] else []
 
--- Connection Handover 1.2: what a select is made of
+-- Connection Handover 1.2: the parts of a select
 pub record SelectAsked : Type 0 where
   pub how : NdefSelectWriting
   pub carriers : CarriersAsked

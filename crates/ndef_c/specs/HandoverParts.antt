@@ -8,7 +8,7 @@ use Rattle.ndef_c.specs.Contents.{alternative_payload}
 use Rattle.ndef_c.specs.declared.handover_parts.NdefAlternativeWriting.{NdefAlternativeWriting}
 use Rattle.ndef_c.specs.declared.part.NdefPart.{NdefPart}
 
--- Connection Handover 1.2, Alternative Carrier record: its own references, so many of all from the first on
+-- Connection Handover 1.2, Alternative Carrier record: its own references, the first of all, in the number that it has
 abbrev pub own_references : List NdefPart → NdefAlternativeWriting → List NdefPart
 own_references all a = take a.references (drop a.first all)
 

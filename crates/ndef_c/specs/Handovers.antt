@@ -1,4 +1,4 @@
--- What is told of the payloads of handovers.
+-- What is said of the payloads of handovers.
 use Rattle.std.specs.Prelude.{◌≡◌, ℕ, ◌+◌, ◌*◌, ◌^◌, ◌<◌, ◌⊎◌, List, drop, length, slice_index, Option, Some, None}
 use Rattle.ndef_format.specs.Messages.{Item}
 use Rattle.ndef_format.specs.declared.profile.Profile.{Profile}
@@ -21,7 +21,7 @@ use Rattle.ndef_c.specs.declared.select.NdefSelect.{NdefSelect}
 abbrev pub IsHandoverPayload : List ℕ → Type 0
 IsHandoverPayload payload = IsNest Request MOST_RECORDS Standard payload ⊎ IsNest Select MOST_RECORDS Standard payload
 
--- Connection Handover 1.2, Handover Request and Select records: behind the version octet these records, a select may
+-- Connection Handover 1.2, Handover Request and Select records: after the version octet these records, a select may
 -- have none
 abbrev pub HasMessage : Profile → List Item → List ℕ → Type 0
 HasMessage profile items payload = MayBeInPieces profile items (drop 1 payload)

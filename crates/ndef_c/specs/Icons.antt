@@ -1,4 +1,4 @@
--- What is told of the icons of a smart poster.
+-- What is said of the icons of a smart poster.
 use Rattle.std.specs.Prelude.{◌≡◌, ℕ, ◌+◌, Bool, true, false, List, length, filter, slice_get, Some}
 use Rattle.ndef_format.specs.Messages.{Item}
 use Rattle.ndef_format.specs.declared.profile.Profile.TheVariants.{Standard}

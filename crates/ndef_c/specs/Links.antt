@@ -1,4 +1,4 @@
--- What is told of the links of a message.
+-- What is said of the links of a message.
 use Rattle.std.specs.Prelude.{◌≡◌, ◌≢◌, ℕ, ◌+◌, ◌^◌, ◌<◌, ◌≤◌, List, [], ◌∷◌, length, map, take, drop, slice_get, Option, Some, None, Ok}
 use Rattle.ndef_format.specs.Messages.{Item, run_record}
 use Rattle.ndef_format.specs.Limits.{LimitValues}
@@ -20,7 +20,7 @@ use Rattle.ndef_c.specs.declared.message.Place.{Place}
 
 -- ---- the records of a message
 
--- NDEF 1.0, messages: the bytes begin with these runs, one behind another, and the last of them alone ends the message
+-- NDEF 1.0, messages: the bytes begin with these runs, one after another, and the last of them alone ends the message
 pub record BeginsWithRuns (runs : List Run) (bytes : List ℕ) : Type 0 where
   pub some : runs ≢ []
   pub end : ℕ
@@ -30,7 +30,7 @@ pub record BeginsWithRuns (runs : List Run) (bytes : List ℕ) : Type 0 where
 abbrev pub HasRuns : List ℕ → Type 0
 HasRuns bytes = (runs : List Run) × BeginsWithRuns runs bytes
 
--- the run with the index begins at the place, behind those before it
+-- the run with the index begins at the place, after those before it
 pub record IsPlaceOf (bytes : List ℕ) (runs : List Run) (p : Place) : Type 0 where
   pub run : Run
   pub is : slice_get runs p.index ≡ Some run
@@ -38,7 +38,8 @@ pub record IsPlaceOf (bytes : List ℕ) (runs : List Run) (p : Place) : Type 0 w
   pub rest : List ℕ
   pub begins : BeginsWithRun run rest (drop p.at bytes)
 
--- Connection Handover 1.2, carrier data reference: the place of the first record with the id; the empty id is none's
+-- Connection Handover 1.2, carrier data reference: the place of the first record with the id; no record has the empty
+-- id
 abbrev pub FindsRecord : List ℕ → List Run → List ℕ → Option Place → Type 0
 FindsRecord bytes runs id None = IsIndexOf (map run_record runs) id None
 FindsRecord bytes runs id (Some p) = IsIndexOf (map run_record runs) id (Some p.index) × IsPlaceOf bytes runs p
@@ -99,21 +100,21 @@ pub record GivesLinks (bytes payload : List ℕ) (before after : List NdefLink) 
 
 -- ---- law
 
--- what is told is this link: its alternative carrier lies there, and its record has that index
+-- what is given is this link: its alternative carrier lies there, and its record has that index
 pub record IsLink (payload : List ℕ) (link : Link) (out : NdefLink) : Type 0 where
   pub carrier : List ℕ
   pub lies : Lies payload out.carrier_at out.carrier_length carrier
   pub stands : StandsForAc carrier link.ac
   pub index : TellsNumber link.index out.has_record out.record_index
 
--- the links that are told are these
+-- the links that are given are these
 pub record AreLinksTold (bytes payload : List ℕ) (links : List Link) : Type 0 where
   pub may : MayHaveLinks bytes payload
   pub each : (index : ℕ) (out : NdefLink) → IsLinkAt bytes payload index out → (link : Link)
       × (slice_get links index ≡ Some link) × IsLink payload link out
   pub end : (index : ℕ) → HasNoLink bytes payload index → length links ≤ index
 
--- Of a message that a check takes and its handover the links are told that it has.
+-- Of a message that a check takes and its handover the links that it has are given.
 abbrev pub LinksAreTold : Sets → Conditions → Type 0
 LinksAreTold set holds = (limits : LimitValues) (bytes : List ℕ) (v : Viewed) (handover : Item) (links : List Link)
     → Views set holds limits bytes (Ok v)

@@ -14,7 +14,7 @@ use Rattle.ndef_c.specs.declared.checking.NdefChecked.{NdefChecked}
 use Rattle.ndef_c.specs.declared.text.NdefText.{NdefText}
 use Rattle.ndef_c.specs.declared.uri_view.NdefUri.{NdefUri}
 
--- the payload isn't in its set: where and why is told
+-- the payload isn't in its set: where and why is given
 pub record RefusesWith (set : Payloads) (holds : Reasons) (payload : List ℕ) (out : NdefChecked) : Type 0 where
   pub refusal : Refusal
   pub refused : RefusesPayload set holds payload refusal

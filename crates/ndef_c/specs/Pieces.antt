@@ -12,7 +12,7 @@ pub record IsPieceAt (bytes : List ℕ) (at : ℕ) (piece : Piece) (part : NdefP
   pub split : IsSplit piece short (drop (part.at + part.length) bytes) (drop at bytes)
   pub lies : Lies bytes part.at part.length piece.payload
 
--- NDEF 1.0, chunked payloads: the pieces begin at the place, one behind another, and their payloads lie there
+-- NDEF 1.0, chunked payloads: the pieces begin at the place, one after another, and their payloads lie there
 abbrev pub ArePiecesAt : List ℕ → ℕ → List Piece → List NdefPart → Type 0
 ArePiecesAt bytes at [] [] = ⊤
 ArePiecesAt bytes at (p ∷ ps) (q ∷ qs) = IsPieceAt bytes at p q × ArePiecesAt bytes (q.at + q.length) ps qs

@@ -1,4 +1,4 @@
--- What a smart poster is made of, as parts of some bytes.
+-- The parts of a smart poster, as parts of some bytes.
 use Rattle.std.specs.Prelude.{◌≡◌, ℕ, ◌<◌, ◌≤◌, ◌^◌, List, [], length}
 use Rattle.ndef_format.specs.Messages.{Item}
 use Rattle.ndef_format.specs.declared.kind.Kind.TheVariants as kinds

@@ -22,7 +22,7 @@ use Rattle.ndef_c.specs.declared.poster_writing.Numbers.{Numbers}
 use Rattle.ndef_c.specs.declared.poster_writing.Poster.{Poster}
 use Rattle.ndef_c.specs.declared.poster_writing.Said.{Said}
 
--- RTD Smart Poster 1.0: what a poster is made of, as parts of some bytes
+-- RTD Smart Poster 1.0: the contents of a poster, as parts of some bytes
 pub record PosterAsked : Type 0 where
   pub bytes : List ℕ
   pub how : NdefPosterWriting
@@ -107,7 +107,7 @@ WrittenPostersAreRead = (a : PosterAsked) (may : MayBePoster a) → AreOctets a.
 abbrev pub MayBeAsked : (has : ℕ) → List ℕ → Type 0
 MayBeAsked has octets = (has ≡ 0) ⊎ ((has ≡ 1) × (length octets < 2 ^ 32))
 
--- RTD Smart Poster 1.0: what a poster is made of
+-- RTD Smart Poster 1.0: the contents of a poster
 abbrev pub asked_by : Poster → PosterAsked
 asked_by p = poster_asked p.bytes.now p.how.now p.titles.now p.icons.now
 

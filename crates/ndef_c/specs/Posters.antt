@@ -1,4 +1,4 @@
--- What is told of the payload of a smart poster.
+-- What is said of the payload of a smart poster.
 use Rattle.std.specs.Prelude.{ℕ, ◌^◌, ◌<◌, List, length, Option, Some, option_map}
 use Rattle.ndef_format.specs.Messages.{Item}
 use Rattle.ndef_format.specs.Records.{Run}

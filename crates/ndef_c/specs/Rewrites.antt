@@ -12,12 +12,12 @@ use Rattle.ndef_c.specs.Links.{BeginsWithRuns}
 use Rattle.ndef_c.specs.Rooms.{Gives}
 use Rattle.ndef_c.specs.Writes.{one_by_one}
 
--- NDEF 1.0, record layout: the parts of the record go together, and one piece can tell their lengths
+-- NDEF 1.0, record layout: the parts of the record go together, and one piece can hold their lengths
 pub record IsWritable (m : Item) : Type 0 where
   pub shaped : IsShaped m
   pub lengths : HasLengths m
 
--- NDEF 1.0, record layout: parts of such lengths go with the type name format, and one piece can tell them
+-- NDEF 1.0, record layout: parts of such lengths go with the type name format, and one piece can hold them
 pub record IsWhole (tnf : Tnf) (kind id payload : ℕ) : Type 0 where
   pub changed : tnf ≢ Unchanged
   pub shape : HasShape tnf kind id payload
@@ -41,7 +41,7 @@ AsksForForm flags = (flags ≡ 0) ⊎ (flags ≡ 4)
 abbrev pub form_with : ℕ → Form
 form_with flags = if nat_le 4 flags then Long else Short
 
--- NDEF 1.0, record layout: each record can be in one piece, and some room has so many bytes
+-- NDEF 1.0, record layout: each record can be in one piece, and some room has that many bytes
 pub record CanBeRewritten (form : Form) (runs : List Run) : Type 0 where
   pub writable : AllByRecursion IsWritable (records_of runs)
   pub fits : length (rewritten form runs) < 2 ^ 64

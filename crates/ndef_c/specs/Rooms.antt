@@ -5,11 +5,11 @@ use Rattle.ndef_format.specs.Sentences.{reason_sentence}
 use Rattle.ndef_format.specs.declared.reason.Reason.{Reason}
 use Rattle.ndef_c.specs.declared.status.TheConstants.{OK, NO_ROOM}
 
--- these bytes stand at the front of the room, and behind them it is as it was
+-- these bytes stand at the front of the room, and after them it is as it was
 abbrev pub written_over : List ℕ → List ℕ → List ℕ
 written_over text room = text ++ drop (length text) room
 
--- the bytes are written to the room where it is large enough, else it is as it was; how many they are is told
+-- the bytes are written to the room where it is large enough, else it is unchanged; their number is given
 pub record Gives (text before after : List ℕ) (count status : ℕ) : Type 0 where
   pub count_is : count ≡ length text
   pub fits : length text ≤ length before → (status ≡ OK) × (after ≡ written_over text before)

@@ -1,4 +1,4 @@
--- Records that stand one behind another in a message that is written.
+-- Records that stand one after another in a message that is written.
 use Rattle.std.specs.Prelude.{◌≡◌, ℕ, ◌+◌, ◌-◌, ◌<◌, ◌≤◌, ◌^◌, ◌==◌, ◌&&◌, ⊤, Bool, false, List, [], ◌∷◌, ◌++◌, length, map, None, slice_index_or}
 use Rattle.std.specs.List.{All, flat_map}
 use Rattle.ndef_format.specs.Canonical.{canonical, is_nil}
@@ -55,12 +55,12 @@ pub record AreSeries (items : List Item) (s : Series) : Type 0 where
 abbrev pub all_items : List Series → List Item
 all_items = flat_map series_items
 
--- NDEF 1.0, MB and ME: the octets of records of a message of which `left` are left, these and those behind them
+-- NDEF 1.0, MB and ME: the octets of records of a message of which `left` are left, these and those after them
 abbrev pub left_octets : (first : Bool) (left : ℕ) → List Item → List ℕ
 left_octets first left [] = []
 left_octets first left (m ∷ ms) = record_octets Short first (left == 1) None m ++ left_octets false (left - 1) ms
 
--- where the records behind these are written
+-- where the records after these are written
 abbrev pub behind : Place → List Item → Place
 behind p items = record {
   at = p.at + length (left_octets p.first p.left items);
@@ -68,7 +68,7 @@ behind p items = record {
   first = p.first && is_nil items;
 }
 
--- the records are written at the place, and the other one is behind them
+-- the records are written at the place, and the other one is after them
 pub record IsWritten (p : Place) (items : List Item) (old new : List ℕ) (q : Place) : Type 0 where
   pub put : IsPut p.at (left_octets p.first p.left items) old new
   pub size : length new ≡ length old
@@ -78,7 +78,7 @@ pub record IsWritten (p : Place) (items : List Item) (old new : List ℕ) (q : P
 abbrev pub middle_octets : List Item → List ℕ
 middle_octets = flat_map (λ m. record_octets Short false false None m)
 
--- RTD Smart Poster 1.0 and Connection Handover 1.2: behind these octets a message of these records, each of which may
+-- RTD Smart Poster 1.0 and Connection Handover 1.2: after these octets a message of these records, each of which may
 -- be written, is no longer than a payload
 pub record MayBeMessage (front : List ℕ) (several : List Series) : Type 0 where
   pub each : All IsSeries several

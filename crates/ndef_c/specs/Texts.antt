@@ -1,4 +1,4 @@
--- The texts that may be written, and what is told of those that are read.
+-- The texts that may be written, and what is said of those that are read.
 use Rattle.std.specs.Prelude.{◌≡◌, ℕ, ◌≤◌, ◌^◌, ◌<◌, ◌==◌, Bool, true, List, length, chars, encode_utf8_all, IsAscii, IsUtf8, if◌then◌else◌}
 use Rattle.std.specs.Str.{all_scalars}
 use Rattle.ndef_format.specs.Texts.{IsText, spelled, units_of}

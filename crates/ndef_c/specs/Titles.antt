@@ -1,4 +1,4 @@
--- What is told of the titles and of the media type of a smart poster.
+-- What is said of the titles and of the media type of a smart poster.
 use Rattle.std.specs.Prelude.{◌≡◌, ℕ, ◌+◌, ◌^◌, ◌<◌, true, List, length, slice_get, slice_index, Some}
 use Rattle.std.specs.Str.{str_eq_ignore_ascii_case}
 use Rattle.ndef_format.specs.Messages.{Item}

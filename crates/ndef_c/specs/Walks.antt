@@ -27,7 +27,7 @@ abbrev pub ends_message : Piece → List Piece → Bool
 ends_message p [] = p.last
 ends_message p (q ∷ qs) = ends_message q qs
 
--- so many bytes from a place on, all of them there, are the part
+-- `count` bytes from the place `at` on, all of them there, are the part
 pub record Lies (bytes : List ℕ) (at count : ℕ) (part : List ℕ) : Type 0 where
   pub within : at + count ≤ length bytes
   pub are : take count (drop at bytes) ≡ part
@@ -43,7 +43,7 @@ LieBetween bytes at (r ∷ rs) end = (next : ℕ) × BeginsWithRun r (drop next 
 abbrev pub LiesFromTo : List ℕ → (at : ℕ) → Piece → (end : ℕ) → Type 0
 LiesFromTo bytes at p end = (short : Bool) × IsSplit p short (drop end bytes) (drop at bytes)
 
--- NDEF 1.0, record layout and chunked payloads: this is the record at the place, and where its parts lie, one behind
+-- NDEF 1.0, record layout and chunked payloads: this is the record at the place, and where its parts lie, one after
 -- another, the payload last
 pub record IsRecordAt (bytes : List ℕ) (at : ℕ) (r : NdefRecord) : Type 0 where
   pub run : Run

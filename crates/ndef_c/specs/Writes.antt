@@ -30,7 +30,7 @@ piece_octets head kind id part = octets (written_fields head) ++ (kind ++ (id ++
 abbrev pub octets_by : Way → Item → List ℕ
 octets_by way m = record_octets way.form way.first way.last (Some way.size) m
 
--- NDEF 1.0, chunked payloads: in the octets of a record that is written so, its last piece begins behind so many
+-- NDEF 1.0, chunked payloads: in the octets of a record that is written so, its last piece begins at this place
 pub record LastBegins (form : Form) (first last : Bool) (size : Option ℕ) (m : Item) (at : ℕ) : Type 0 where
   pub done : List Piece
   pub piece : Piece
@@ -72,7 +72,7 @@ pub record MayBeWritten (how : NdefWriting) (m : Item) : Type 0 where
 
 -- ---- law
 
--- the records one after another, the last of them told as such
+-- the records one after another, the last of them marked as such
 abbrev pub one_by_one : Form → (first : Bool) → Option ℕ → List Item → List ℕ
 one_by_one form first size [] = []
 one_by_one form first size (m ∷ ms) = record_octets form first (is_nil ms) size m ++ one_by_one form false size ms

@@ -20,11 +20,11 @@ use ndef_value::Profile;
 pub struct NdefAlternative {
     /// The power state of the carrier, 0 to 3.
     pub power: u32,
-    /// How many references there are, 1 to 256: the carrier data reference and the auxiliary ones.
+    /// The number of references, 1 to 256: the carrier data reference and the auxiliary ones.
     pub references: u32,
 }
 
-/// The power state of an alternative carrier, and how many references it has.
+/// The power state of an alternative carrier, and its number of references.
 fn alternative_at(payload: &[u8]) -> NdefAlternative
     requires alternative { IsAlternative payload.now }
     requires short { length payload.now < 2 ^ 32 }
@@ -38,8 +38,8 @@ fn alternative_at(payload: &[u8]) -> NdefAlternative
     }
 }
 
-/// Tells the power state of the alternative carrier for which the payload of an Alternative Carrier
-/// record stands, and how many references it has.
+/// Gives the power state of the alternative carrier for which the payload of an Alternative Carrier
+/// record stands, and its number of references.
 #[unsafe(no_mangle)]
 pub extern "C" fn ndef_alternative(
     payload: &[u8],
@@ -61,7 +61,7 @@ pub extern "C" fn ndef_alternative(
     }
 }
 
-/// The reference that stands behind its length at a place.
+/// The reference that stands after its length at a place.
 pub(crate) fn counted_at(payload: &[u8], at: usize) -> NdefPart
     requires { at < length payload.now }
     ensures at { result.at ≡ at + 1 }
@@ -116,7 +116,7 @@ fn reference_at(payload: &[u8], index: usize) -> Option<NdefPart>
     Some(auxiliary_at(payload, index - 1))
 }
 
-/// Tells where the reference with an index lies, if there is one.
+/// Gives the place of the reference with an index, if there is one.
 fn give_reference(payload: &[u8], index: usize, out: &mut NdefPart) -> u32
     requires alternative { IsAlternative payload.now }
     requires short { length payload.now < 2 ^ 32 }
@@ -135,8 +135,8 @@ fn give_reference(payload: &[u8], index: usize, out: &mut NdefPart) -> u32
     }
 }
 
-/// Tells where the reference with an index lies in the payload of an Alternative Carrier record: 0 is
-/// the carrier data reference, and the auxiliary ones follow.
+/// Gives the place of the reference with an index in the payload of an Alternative Carrier record:
+/// 0 is the carrier data reference, and the auxiliary ones follow.
 #[unsafe(no_mangle)]
 pub extern "C" fn ndef_reference(payload: &[u8], index: usize, out: &mut NdefPart) -> u32
     ensures known { (result ≡ OK) ⊎ (result ≡ END) ⊎ (result ≡ BAD_ARGUMENT) }

@@ -29,7 +29,7 @@ fn are_references(bytes: &[u8], parts: &[NdefPart]) -> bool
     true
 }
 
-/// The bytes of references, each behind its length.
+/// The bytes of references, each after its length.
 fn counted_length(bytes: &[u8], parts: &[NdefPart]) -> usize
     requires few { length parts.now < 256 }
     requires references { All (MayBeReference (length bytes.now)) parts.now }
@@ -43,7 +43,7 @@ fn counted_length(bytes: &[u8], parts: &[NdefPart]) -> usize
     total
 }
 
-/// Writes a reference behind its length at a place of the room, and answers the place behind it.
+/// Writes a reference after its length at a place of the room, and answers the place after it.
 fn put_reference(room: &mut [u8], at: usize, bytes: &[u8], part: &NdefPart) -> usize
     requires reference { MayBeReference (length bytes.now) part.now }
     requires room { at + length (counted_part bytes.now part.now) ≤ length room.old }
@@ -56,7 +56,7 @@ fn put_reference(room: &mut [u8], at: usize, bytes: &[u8], part: &NdefPart) -> u
     put(room, after_length, &from[..part.length])
 }
 
-/// Writes references, each behind its length, at a place of the room, and answers the place behind them.
+/// Writes references, each after its length, at a place of the room, and answers the place after them.
 fn put_references(room: &mut [u8], at: usize, bytes: &[u8], parts: &[NdefPart]) -> usize
     requires references { All (MayBeReference (length bytes.now)) parts.now }
     requires room { at + length (flat_map (counted_part bytes.now) parts.now) ≤ length room.old }
@@ -85,7 +85,7 @@ pub(crate) fn alternative_length(
     3 + reference.length + counted_length(bytes, auxiliary)
 }
 
-/// Writes the payload of an alternative carrier at a place of the room, and answers the place behind it.
+/// Writes the payload of an alternative carrier at a place of the room, and answers the place after it.
 pub(crate) fn put_alternative(
     room: &mut [u8],
     at: usize,

@@ -13,7 +13,7 @@ use crate::text::text_content;
 use ndef_types::split;
 use ndef_value::Tnf;
 
-/// Whether a record with the id can stand behind the message with which the room begins.
+/// Whether a record with the id can stand after the message with which the room begins.
 fn may_join(room: &[u8], built: &NdefBuilt, id: &[u8]) -> bool
     ensures { IsTrue result ↔ MayBeJoined id.now (held room.now built.now) }
 {

@@ -1,4 +1,4 @@
-//! A message that is built in the room of its caller, whole behind each record.
+//! A message that is built in the room of its caller, whole after each record.
 ghost use Rattle.std.specs.Prelude.{◌≡◌, ◌≢◌, ◌≤◌, ◌↔◌, length, take, drop, Some, IsTrue};
 ghost use Rattle.ndef_format.specs.Canonical.{HasLengths};
 ghost use Rattle.ndef_c.specs.Built.{AppendedBegins, EndsWithPiece, GivesAppended, GivesWhole, MayBeAppended, MayBeGrown, appended_octets, held, is_first_of, reopened};
@@ -128,8 +128,9 @@ pub(crate) fn append_made(
     OK
 }
 
-/// Appends a record (NDEF 1.0, record layout and chunked payloads) to the message with which the room
-/// begins, and tells what is known of the message then. The record that was the last is so no more.
+/// Appends a record (NDEF 1.0, record layout and chunked payloads) to the message with which the
+/// room begins, and updates what is known of the message. The record that was the last no longer
+/// is.
 #[unsafe(no_mangle)]
 pub extern "C" fn ndef_append(
     built: &mut NdefBuilt,

@@ -47,7 +47,7 @@ fn carrier_at(payload: &[u8]) -> NdefCarrier
     }
 }
 
-/// Tells where the parts of the carrier lie for which the payload of a Handover Carrier record stands.
+/// Gives the places of the parts of the carrier for which the payload of a Handover Carrier record stands.
 #[unsafe(no_mangle)]
 pub extern "C" fn ndef_carrier(payload: &[u8], out: &mut NdefCarrier, why: &mut NdefChecked) -> u32
     ensures known { (result ≡ OK) ⊎ (result ≡ REFUSED) }

@@ -19,7 +19,7 @@ pub(crate) enum Content<'a> {
         language: &'a [u8],
         text: &'a str,
     },
-    /// RTD Text 1.0: the same in UTF-16, big-endian behind its byte order mark.
+    /// RTD Text 1.0: the same in UTF-16, big-endian after its byte order mark.
     Utf16 {
         language: &'a [u8],
         text: &'a str,
@@ -48,7 +48,7 @@ pub(crate) enum Content<'a> {
     },
 }
 
-/// So many bytes and some behind them, unless no payload is that long.
+/// The sum of both numbers of bytes, unless no payload is that long.
 fn payload_length(front: usize, behind: usize) -> Option<usize>
     requires { front < 2 ^ 32 }
     ensures none { IsNone result ↔ (2 ^ 32 ≤ front + behind) }
@@ -60,7 +60,7 @@ fn payload_length(front: usize, behind: usize) -> Option<usize>
     Some(front + behind)
 }
 
-/// Twice as many bytes as a text has units, behind some others, unless no payload is that long.
+/// Twice as many bytes as a text has units, after some others, unless no payload is that long.
 fn units_length(front: usize, text: &str) -> Option<usize>
     requires { front < 2 ^ 32 }
     ensures none { IsNone result ↔ (2 ^ 32 ≤ front + 2 * length (units_of (chars text.now))) }
@@ -73,7 +73,7 @@ fn units_length(front: usize, text: &str) -> Option<usize>
     payload_length(front, 2 * units as usize)
 }
 
-/// How many bytes it has, unless no payload is that long.
+/// The number of its bytes, unless no payload is that long.
 pub(crate) fn content_length(content: &Content<'_>) -> Option<usize>
     requires { IsContent content.now }
     ensures none { IsNone result ↔ (2 ^ 32 ≤ length (content_octets content.now)) }
@@ -94,7 +94,7 @@ pub(crate) fn content_length(content: &Content<'_>) -> Option<usize>
     }
 }
 
-/// Writes it at a place of the room, and answers the place behind it.
+/// Writes it at a place of the room, and answers the place after it.
 pub(crate) fn put_content(room: &mut [u8], at: usize, content: &Content<'_>) -> usize
     requires content { IsContent content.now }
     requires room { at + length (content_octets content.now) ≤ length room.old }
@@ -123,7 +123,7 @@ pub(crate) fn put_content(room: &mut [u8], at: usize, content: &Content<'_>) -> 
     }
 }
 
-/// Writes it to the room where that is large enough, tells how many bytes it has, and answers the status.
+/// Writes it to the room where that is large enough, sets `count` to its number of bytes, and returns the status.
 pub(crate) fn give_content(content: &Content<'_>, room: &mut [u8], count: &mut usize) -> u32
     requires { IsContent content.now }
     ensures bad { result ≡ BAD_ARGUMENT ↔ (2 ^ 32 ≤ length (content_octets content.now)) }

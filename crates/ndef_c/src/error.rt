@@ -25,11 +25,11 @@ pub struct NdefError {
     pub reason: u32,
     /// 1 where the reason is one of those that the standard defines, 1 to 3, else 0.
     pub has_number: u32,
-    /// The number that the data of such a reason tell; 0 with another one.
+    /// The number that the data of such a reason give; 0 with another one.
     pub number: u32,
 }
 
-/// The number that the data of a defined reason tell.
+/// The number that the data of a defined reason give.
 fn number_of(reason: u8, detail: &[u8]) -> Option<u32>
     requires { IsErrorData reason detail.now }
     ensures { result ≡ number_told reason detail.now }
@@ -41,7 +41,7 @@ fn number_of(reason: u8, detail: &[u8]) -> Option<u32>
     }
 }
 
-/// The reason of an error, where its data lie, and the number that they tell.
+/// The reason of an error, where its data lie, and the number that they give.
 fn error_at(payload: &[u8]) -> NdefError
     requires error { IsError payload.now }
     requires short { length payload.now < 2 ^ 32 }
@@ -60,8 +60,8 @@ fn error_at(payload: &[u8]) -> NdefError
     }
 }
 
-/// Tells the reason of the error for which the payload of an Error record stands, where its data lie,
-/// and the number that they tell.
+/// Gives the reason of the error for which the payload of an Error record stands, where its data
+/// lie, and the number that they give.
 #[unsafe(no_mangle)]
 pub extern "C" fn ndef_error(payload: &[u8], out: &mut NdefError, why: &mut NdefChecked) -> u32
     ensures known { (result ≡ OK) ⊎ (result ≡ REFUSED) }

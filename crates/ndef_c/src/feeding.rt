@@ -21,7 +21,7 @@ use std::mem::{align_of, size_of};
 /// A checker, and what it looks into.
 #[derive(Drop)]
 pub(crate) enum Looking {
-    /// There is none, since its limits aren't any.
+    /// No checker, since the limits are invalid.
     Nothing,
     /// The payloads that the standards define.
     Typed(Checker<Typed>),
@@ -40,7 +40,7 @@ const _: () = prove!(size_of::<NdefChecker>() <= 232);
 
 const _: () = prove!(align_of::<NdefChecker>() == 8);
 
-/// Feeds a checker, and tells what is known of all the bytes that it was fed.
+/// Feeds a checker, and writes what is known of all the bytes that it was fed.
 fn feed<L: OuterLanguage>(checker: &mut Checker<L>, bytes: &[u8], out: &mut NdefChecked) -> u32
     ensures { (limits : LimitValues) (front : List ℕ) → WasFed checker.old limits front
         → WasFed checker.new limits (front ++ bytes.now)
@@ -115,7 +115,7 @@ pub unsafe extern "C" fn ndef_begin(limits: &NdefLimits, checker: *mut NdefCheck
     begins_to(limits)
 }
 
-/// Feeds the next bytes to a checker, and tells what is known of all the bytes that it was fed.
+/// Feeds the next bytes to a checker, and writes what is known of all the bytes that it was fed.
 #[unsafe(no_mangle)]
 pub unsafe extern "C" fn ndef_feed(
     checker: *mut NdefChecker,

@@ -67,7 +67,7 @@ fn checked_front<'a>(bytes: &'a [u8], limits: Limits, why: &mut NdefChecked) -> 
     (front, checked)
 }
 
-/// How many fields there are.
+/// The number of fields.
 pub(crate) fn count_of(fields: Fields<'_>) -> usize
     requires { length fields < 2 ^ 64 }
     ensures { result ≡ length fields.entry }
@@ -91,8 +91,8 @@ pub(crate) fn write_fields(fields: Fields<'_>, array: &mut [NdefField])
     }
 }
 
-/// Writes the fields of these bytes, a front of a message, where the array has room for them, and tells how many
-/// they are. Answers what a check answered, or that there is no room.
+/// Writes the fields of these bytes, a front of a message, where the array has room for them, and sets `count` to their
+/// number. Returns what a check answered, or that there is no room.
 fn give_fields(front: &[u8], checked: u32, array: &mut [NdefField], count: &mut usize) -> u32
     requires { IsMessageFront front.now }
     ensures known { (result ≡ NO_ROOM) ⊎ (result ≡ checked) }
@@ -109,8 +109,8 @@ fn give_fields(front: &[u8], checked: u32, array: &mut [NdefField], count: &mut 
     checked
 }
 
-/// Tells in which field each byte stands of the message with which the bytes begin, or of those before the
-/// refused byte (NDEF 1.0, record layout), and what a check answers.
+/// Gives the field of each byte of the message with which the bytes begin, or of those before the refused byte (NDEF
+/// 1.0, record layout), and what a check answers.
 #[unsafe(no_mangle)]
 pub extern "C" fn ndef_fields(
     bytes: &[u8],
@@ -147,7 +147,7 @@ fn field_with(fields: Fields<'_>, place: usize) -> Option<Field>
     None
 }
 
-/// Tells the field with the byte at a place of these bytes, a front of a message. Answers `behind` where it has none.
+/// Gives the field with the byte at a place of these bytes, a front of a message. Returns `behind` where there is none.
 fn give_field(front: &[u8], place: usize, behind: u32, out: &mut NdefField) -> u32
     requires { IsMessageFront front.now }
     ensures known { (result ≡ OK) ⊎ (result ≡ behind) }
@@ -165,7 +165,7 @@ fn give_field(front: &[u8], place: usize, behind: u32, out: &mut NdefField) -> u
     }
 }
 
-/// What is answered behind the last field, by what a check answered.
+/// What is answered after the last field, by what a check answered.
 fn answer_behind(checked: u32) -> u32
     ensures ended { checked ≡ OK → result ≡ END }
     ensures refused { checked ≢ OK → result ≡ checked }
@@ -173,8 +173,8 @@ fn answer_behind(checked: u32) -> u32
     if checked == OK { END } else { checked }
 }
 
-/// Tells in which field the byte at a place stands of the message with which the bytes begin, or of those
-/// before the refused byte, and what a check answers.
+/// Gives the field of the byte at a place of the message with which the bytes begin, or of those before the refused
+/// byte, and what a check answers.
 #[unsafe(no_mangle)]
 pub extern "C" fn ndef_field_at(
     bytes: &[u8],
@@ -196,7 +196,7 @@ pub extern "C" fn ndef_field_at(
     give_field(front, place, answer_behind(checked), out)
 }
 
-/// Steps to the field behind this one, of which the length 0 and the place 0 are before the first.
+/// Steps to the field after this one, of which the length 0 and the place 0 are before the first.
 #[unsafe(no_mangle)]
 pub extern "C" fn ndef_next_field(
     bytes: &[u8],

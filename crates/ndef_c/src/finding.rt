@@ -21,15 +21,15 @@ enum Wanted<'a> {
 /// How a walk over records ends.
 #[derive(Clone, Copy)]
 enum Walk {
-    /// At the place of the first record that has what is wanted.
+    /// At the place of the first record that has what is searched for.
     Found(usize),
-    /// Behind the last record of the message.
+    /// After the last record of the message.
     Ended,
     /// Where no record begins.
     Broken,
 }
 
-/// Whether a record has what is wanted.
+/// Whether a record has what is searched for.
 fn has(found: &FirstRun<'_>, wanted: &Wanted<'_>) -> bool
     ensures { (bytes : List ℕ) (first : IsFirstRun bytes found.now)
         → (IsTrue result ↔ Has wanted.now (run_record first.run)) }
@@ -42,7 +42,7 @@ fn has(found: &FirstRun<'_>, wanted: &Wanted<'_>) -> bool
     }
 }
 
-/// Walks over the records from a place on, up to the first that has what is wanted.
+/// Walks over the records from a place on, up to the first that has what is searched for.
 fn walk_from(bytes: &[u8], at: usize, wanted: &Wanted<'_>) -> Walk
     requires { at ≤ length bytes.now }
     ensures { WalksTo (Has wanted.now) bytes.now at result }
@@ -62,7 +62,7 @@ fn walk_from(bytes: &[u8], at: usize, wanted: &Wanted<'_>) -> Walk
     }
 }
 
-/// Tells the first record from a place on that has what is wanted.
+/// Gives the first record from a place on that has what is searched for.
 fn find(bytes: &[u8], at: usize, wanted: &Wanted<'_>, out: &mut NdefRecord) -> u32
     ensures known { (result ≡ OK) ⊎ (result ≡ END) ⊎ (result ≡ BAD_ARGUMENT) }
     ensures found { result ≡ OK → FindsAt (Has wanted.now) bytes.now at out.new }
@@ -90,8 +90,8 @@ fn find(bytes: &[u8], at: usize, wanted: &Wanted<'_>, out: &mut NdefRecord) -> u
     }
 }
 
-/// Tells the first record with a type (NDEF 1.0, TNF and TYPE) from the one at a place on, up to the
-/// one that is the last of its message.
+/// Gives the first record with a type (NDEF 1.0, TNF and TYPE) from the one at a place on, up to
+/// the one that is the last of its message.
 #[unsafe(no_mangle)]
 pub extern "C" fn ndef_find_type(
     bytes: &[u8],
@@ -109,8 +109,8 @@ pub extern "C" fn ndef_find_type(
     find(bytes, at, &Wanted::Kind(tnf, kind), out)
 }
 
-/// Tells the first record with an id (NDEF 1.0, ID) from the one at a place on, up to the one that is
-/// the last of its message. The empty id is that of no record.
+/// Gives the first record with an id (NDEF 1.0, ID) from the one at a place on, up to the one that
+/// is the last of its message. No record has the empty id.
 #[unsafe(no_mangle)]
 pub extern "C" fn ndef_find_id(bytes: &[u8], at: usize, id: &[u8], out: &mut NdefRecord) -> u32
     ensures known { (result ≡ OK) ⊎ (result ≡ END) ⊎ (result ≡ BAD_ARGUMENT) }

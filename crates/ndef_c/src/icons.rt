@@ -63,7 +63,7 @@ fn icon_in(bytes: &[u8], piece: &WholePiece<'_>) -> NdefIcon
     }
 }
 
-/// How many icons there are in a message, each record of which is in one piece.
+/// The number of icons in a message, each record of which is in one piece.
 fn icons_in(bytes: &[u8]) -> usize
     requires { (profile : Profile) × (items : List Item) × MayBeInPieces profile items bytes.now }
     ensures { (profile : Profile) (items : List Item) → MayBeInPieces profile items bytes.now
@@ -108,7 +108,7 @@ fn tell_icons(payload: &[u8], array: &mut [NdefIcon])
     }
 }
 
-/// Tells where each icon lies, where there is room for them, and how many they are.
+/// Gives the place of each icon, where there is room for them, and their number.
 fn give_icons(payload: &[u8], array: &mut [NdefIcon], count: &mut usize) -> u32
     requires { IsPosterPayload payload.now }
     ensures { GivesIcons payload.now array.old array.new count.new result }
@@ -122,8 +122,8 @@ fn give_icons(payload: &[u8], array: &mut [NdefIcon], count: &mut usize) -> u32
     OK
 }
 
-/// Tells where the media type and the image of each icon of a smart poster lie, in the payload of the
-/// poster. Each record of a media type is told, whatever the type.
+/// Gives the places of the media type and the image of each icon of a smart poster, in the payload
+/// of the poster. Each record of a media type counts, whatever the type.
 #[unsafe(no_mangle)]
 pub extern "C" fn ndef_poster_icons(
     payload: &[u8],

@@ -34,8 +34,8 @@ fn kind_within(within: u32, kind: Kind) -> Kind
     }
 }
 
-/// Tells what the payload of a record is, by its type: the number of its kind, 0 for any other. `within` is the
-/// number of the kind of payload that holds the message of the record, 0 for a message of its own.
+/// Says what the payload of a record is, by its type: the number of its kind, 0 for any other. `within` is the number
+/// of the kind of payload that holds the message of the record, 0 for a message of its own.
 #[unsafe(no_mangle)]
 pub extern "C" fn ndef_kind(bytes: &[u8], record: &NdefRecord, within: u32) -> u32
     ensures known { result ≤ 12 }

@@ -15,13 +15,13 @@ use ndef_piece::heads_are_apart;
 use ndef_types::{alternatives_are_exact, texts_are_exact, uris_are_exact};
 use ndef_value::one_meaning;
 
-/// What a check takes is walked from place 0 on: its records lie one after another, each where the one
-/// before it ends, and the last of them alone is told as the last.
+/// What a check takes is walked from place 0 on: its records lie one after another, each where the one before it ends,
+/// and only the last of them is marked as the last.
 pub fn checks_are_walked<L: OuterLanguage>()
     ensures { ChecksAreWalked L.set L.holds }
 {}
 
-/// A checker that was fed the bytes in any parts tells what a check of them all tells.
+/// A checker that was fed the bytes in any parts answers what a check of them all answers.
 pub fn feeds_are_checks<L: OuterLanguage>()
     ensures { FeedsAreChecks L.set L.holds }
 {
@@ -36,14 +36,14 @@ pub fn one_record_is_there()
     heads_are_apart();
 }
 
-/// Records that are written one after another, the first and the last told as such, are the bytes that
-/// `encode` and `encode_chunked` make of their message.
+/// Records that are written one after another, the first and the last marked as such, are the bytes that `encode` and
+/// `encode_chunked` make of their message.
 pub fn records_make_a_message()
     ensures { RecordsMakeAMessage }
 {}
 
-/// What a room holds of the records that `ndef_append` appends to it: each written as it was asked, one
-/// behind another, the first and the last of them alone told as such.
+/// What a room holds of the records that `ndef_append` appends to it: each written as it was asked, one after another,
+/// and only the first and the last of them marked as such.
 pub fn appended_records_are_held()
     ensures first { FirstIsHeld }
     ensures others { OthersAreHeld }
@@ -56,8 +56,8 @@ pub fn held_records_are_a_message()
     writing_is_spelling();
 }
 
-/// Of a message that a check takes and its handover `ndef_link_at` tells the links that the message has,
-/// in their order, and no more.
+/// Of a message that a check takes and its handover `ndef_link_at` gives the links that the message has, in their
+/// order, and no more.
 pub fn links_are_told<L: OuterLanguage>()
     ensures { LinksAreTold L.set L.holds }
 {
@@ -67,8 +67,8 @@ pub fn links_are_told<L: OuterLanguage>()
     alternatives_are_exact();
 }
 
-/// Of fields that follow one another without a gap the byte at a place stands in one, and the byte behind one of
-/// them in the next: so `ndef_next_field` steps from each to the one behind it.
+/// Of fields that follow one another without a gap the byte at a place stands in one, and the byte after one of
+/// them in the next: so `ndef_next_field` steps from each to the one after it.
 pub fn fields_are_stepped()
     ensures one { OneFieldWith }
     ensures next { StepsLeadOn }

@@ -1,4 +1,4 @@
-//! The library as C calls it: no memory is taken, and nothing is kept between calls but in a checker, in the
+//! The library as C calls it: it allocates no memory, and keeps nothing between calls except in a checker, in the
 //! memory of its caller. `include/ndef.h` says what each call demands, answers and leaves.
 //!
 //! Where to look:
@@ -14,7 +14,7 @@
 //!   payload is written in place. `appending.rt`, `specs/Appending.antt`: texts and URIs appended so.
 //! - `poster_writing.rt`, `specs/PosterWrites.antt`: a smart poster written in one call. `poster_parts.rt`,
 //!   `specs/PosterParts.antt`: its titles and icons. `series.rt`, `series_writing.rt`, `specs/Series.antt`: records
-//!   written one behind another.
+//!   written one after another.
 //! - `handover_making.rt`, `specs/HandoverMaking.antt`: a request or a select written in one call. `handover_parts.rt`,
 //!   `specs/HandoverParts.antt`: its alternative carriers.
 //! - `rewriting.rt`, `specs/Rewrites.antt`: a message written again, each record in one piece.

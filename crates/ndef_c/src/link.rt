@@ -61,7 +61,7 @@ pub(crate) fn link_of(bytes: &[u8], at: usize, carrier: &[u8]) -> NdefLink
     }
 }
 
-/// Tells the link with an index, if there is one.
+/// Gives the link with an index, if there is one.
 fn give_link(bytes: &[u8], payload: &[u8], index: usize, out: &mut NdefLink) -> u32
     requires { MayHaveLinks bytes.now payload.now }
     ensures known { (result ≡ OK) ⊎ (result ≡ END) }
@@ -79,8 +79,8 @@ fn give_link(bytes: &[u8], payload: &[u8], index: usize, out: &mut NdefLink) -> 
     }
 }
 
-/// Tells the link with an index: where the payload of its Alternative Carrier record lies in the
-/// payload of a handover, and the record to which it refers of the message with which the bytes begin.
+/// Gives the link with an index: where the payload of its Alternative Carrier record lies in the payload of a handover,
+/// and the record of the message at the front of the bytes to which it refers.
 #[unsafe(no_mangle)]
 pub extern "C" fn ndef_link_at(
     bytes: &[u8],

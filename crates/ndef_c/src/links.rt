@@ -43,7 +43,7 @@ fn tell_links(bytes: &[u8], payload: &[u8], links: &mut [NdefLink])
     }
 }
 
-/// Tells each link, where there is room for them, and how many they are.
+/// Gives each link, where there is room for them, and their number.
 fn give_links(bytes: &[u8], payload: &[u8], links: &mut [NdefLink], count: &mut usize) -> u32
     requires { MayHaveLinks bytes.now payload.now }
     ensures { GivesLinks bytes.now payload.now links.old links.new count.new result }
@@ -57,8 +57,8 @@ fn give_links(bytes: &[u8], payload: &[u8], links: &mut [NdefLink], count: &mut 
     OK
 }
 
-/// Tells the links of the message with which the bytes begin, in the order of the alternative carriers
-/// in the payload of its handover: for each what `ndef_link_at` tells. The handover is read once.
+/// Gives the links of the message with which the bytes begin, in the order of the alternative carriers in the payload
+/// of its handover: for each what `ndef_link_at` gives. The handover is read once.
 #[unsafe(no_mangle)]
 pub extern "C" fn ndef_links(
     bytes: &[u8],

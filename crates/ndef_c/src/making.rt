@@ -86,7 +86,7 @@ pub(crate) fn made_length(made: &Made<'_>, ends: Ends) -> usize
     piece_length(&head_of(made, ends), made.kind, made.id, &[]) + made.bytes
 }
 
-/// Writes the record at a place of the room, and answers the place behind it.
+/// Writes the record at a place of the room, and answers the place after it.
 pub(crate) fn put_made(room: &mut [u8], at: usize, made: &Made<'_>, ends: Ends) -> usize
     requires made { IsMade made.now }
     requires room { at + length (whole_octets ends (made_item made.now)) ≤ length room.old }

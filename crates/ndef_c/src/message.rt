@@ -1,4 +1,4 @@
-//! The records of a message, one behind another.
+//! The records of a message, one after another.
 ghost use Rattle.std.specs.Prelude.{◌↔◌, List, IsTrue};
 ghost use Rattle.ndef_format.specs.Records.{Run};
 ghost use Rattle.ndef_c.specs.Links.{BeginsWithRuns, FindsRecord, HasRuns};
@@ -32,7 +32,7 @@ pub(crate) fn has_message(bytes: &[u8]) -> bool
     }
 }
 
-/// The first record of a message with the id; the empty id is none's.
+/// The first record of a message with the id; no record has the empty id.
 pub(crate) fn record_with(bytes: &[u8], id: &[u8]) -> Option<Place>
     requires { HasRuns bytes.now }
     ensures { (runs : List Run) → BeginsWithRuns runs bytes.now → FindsRecord bytes.now runs id.now result }

@@ -96,7 +96,7 @@ pub(crate) fn alternative_at(bytes: &[u8], index: usize) -> Option<Found<'_>>
     None
 }
 
-/// How many records of a kind there are in a nested message, each record of which is in one piece.
+/// The number of records of a kind in a nested message, each record of which is in one piece.
 pub(crate) fn count_of(table: Table, bytes: &[u8], kind: Kind) -> usize
     requires { (profile : Profile) × (items : List Item) × MayBeInPieces profile items bytes.now }
     ensures { (profile : Profile) (items : List Item) (wanted : Item → Bool) → MayBeInPieces profile items bytes.now
@@ -117,7 +117,7 @@ pub(crate) fn count_of(table: Table, bytes: &[u8], kind: Kind) -> usize
     count
 }
 
-/// How many alternative carriers there are in a message, each record of which is in one piece.
+/// The number of alternative carriers in a message, each record of which is in one piece.
 pub(crate) fn alternatives_in(bytes: &[u8]) -> usize
     requires { (profile : Profile) × (items : List Item) × MayBeInPieces profile items bytes.now }
     ensures { (profile : Profile) (items : List Item) → MayBeInPieces profile items bytes.now

@@ -13,7 +13,7 @@ use crate::status::{BAD_ARGUMENT, NO_ROOM, OK};
 use ndef_piece::{heads_are_apart, whole_piece};
 
 /// Copies the payloads of the pieces of the run with which the bytes begin to a place of the room, and
-/// answers the place behind them.
+/// answers the place after them.
 pub(crate) fn copy_pieces(bytes: &[u8], room: &mut [u8], from: usize) -> usize
     requires run { HasRun bytes.now }
     requires room { (run : Run) (rest : List ℕ) → BeginsWithRun run rest bytes.now

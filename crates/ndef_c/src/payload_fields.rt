@@ -10,7 +10,7 @@ use crate::writing::tnf_of;
 use ndef_fields::{payload_fields, payload_fields_are_exact};
 use ndef_lang::Kind;
 
-/// Writes the fields of a payload of this kind, where the array has room for them, and tells how many they are.
+/// Writes the fields of a payload of this kind, where the array has room for them, and sets `count` to their number.
 fn give_payload_fields(
     kind: Kind,
     payload: &[u8],
@@ -31,8 +31,8 @@ fn give_payload_fields(
     OK
 }
 
-/// Tells in which field each byte stands of the payload of a record with a type name format and a type, its
-/// chunks joined (RTD Text 1.0, RTD URI 1.0, RTD Smart Poster 1.0 and Connection Handover 1.2).
+/// Gives the field of each byte of the payload of a record with a type name format and a type, its chunks joined (RTD
+/// Text 1.0, RTD URI 1.0, RTD Smart Poster 1.0 and Connection Handover 1.2).
 #[unsafe(no_mangle)]
 pub extern "C" fn ndef_payload_fields(
     tnf: u32,

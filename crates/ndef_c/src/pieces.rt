@@ -43,8 +43,8 @@ fn tell_pieces(bytes: &[u8], at: usize, parts: &mut [NdefPart])
     }
 }
 
-/// Tells where the payload of each piece of the record at a place of the bytes lies (NDEF 1.0, chunked
-/// payloads): to the front of the parts, in their order, where these are enough.
+/// Gives the place of the payload of each piece of the record at a place of the bytes (NDEF 1.0, chunked payloads):
+/// writes them to the front of the parts, in their order, where these are enough.
 #[unsafe(no_mangle)]
 pub extern "C" fn ndef_pieces(
     bytes: &[u8],

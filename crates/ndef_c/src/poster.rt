@@ -36,7 +36,7 @@ pub struct NdefPoster {
     pub has_action: u32,
     /// The action, 0 to 255; 0 without one.
     pub action: u32,
-    /// 1 where it tells the size of what it refers to, else 0.
+    /// 1 where it gives the size of what it refers to, else 0.
     pub has_size: u32,
     /// That size in bytes; 0 without one.
     pub size: u32,
@@ -119,7 +119,7 @@ fn poster_at(payload: &[u8]) -> NdefPoster
     }
 }
 
-/// Tells where the payload of the URI record of a smart poster lies, its action and its size.
+/// Gives the place of the payload of the URI record of a smart poster, its action and its size.
 #[unsafe(no_mangle)]
 pub extern "C" fn ndef_poster(
     payload: &[u8],

@@ -43,7 +43,7 @@ fn reason_of(number: u32) -> Option<Reason>
     Some(reason)
 }
 
-/// Writes the name of the reason with a number, in ASCII and with no NUL behind it, to the room.
+/// Writes the name of the reason with a number, in ASCII and with no NUL after it, to the room.
 #[unsafe(no_mangle)]
 pub extern "C" fn ndef_reason_name(reason: u32, room: &mut [u8], count: &mut usize) -> u32
     ensures bad { result ≡ BAD_ARGUMENT ↔ ((reason ≡ 0) ⊎ (25 < reason)) }

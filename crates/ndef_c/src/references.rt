@@ -32,7 +32,7 @@ fn tell_references(payload: &[u8], parts: &mut [NdefPart])
     }
 }
 
-/// Tells where each reference lies, where the parts are enough, and how many they are.
+/// Gives the place of each reference, where the parts are enough, and their number.
 fn give_references(payload: &[u8], parts: &mut [NdefPart], count: &mut usize) -> u32
     requires alternative { IsAlternative payload.now }
     requires short { length payload.now < 2 ^ 32 }
@@ -48,8 +48,8 @@ fn give_references(payload: &[u8], parts: &mut [NdefPart], count: &mut usize) ->
     OK
 }
 
-/// Tells where each reference lies in the payload of an Alternative Carrier record: the carrier data
-/// reference first, and the auxiliary ones behind it.
+/// Gives the place of each reference in the payload of an Alternative Carrier record: the carrier data reference first,
+/// then the auxiliary ones.
 #[unsafe(no_mangle)]
 pub extern "C" fn ndef_references(payload: &[u8], parts: &mut [NdefPart], count: &mut usize) -> u32
     ensures bad { result ≡ BAD_ARGUMENT ↔ ¬ (IsAlternative payload.now × (length payload.now < 2 ^ 32)) }

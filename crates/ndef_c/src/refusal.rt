@@ -19,7 +19,7 @@ pub(crate) fn refused_by(refusal: Refusal) -> NdefChecked
     }
 }
 
-/// Tells a refusal, and answers that the bytes are refused.
+/// Writes a refusal, and returns the status of refused bytes.
 pub(crate) fn refuse(refusal: Refusal, why: &mut NdefChecked) -> u32
     ensures place { why.new.place ≡ refusal.at }
     ensures records { why.new.records ≡ 0 }

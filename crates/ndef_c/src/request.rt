@@ -60,7 +60,7 @@ fn collision_of(message: &[u8]) -> u32
     }
 }
 
-/// The version of a request, its random number and how many alternative carriers it has.
+/// The version of a request, its random number and its number of alternative carriers.
 fn request_at(payload: &[u8]) -> NdefRequest
     requires nest { (profile : Profile) × IsNest tables.Request MOST_RECORDS profile payload.now }
     requires short { length payload.now < 2 ^ 32 }
@@ -77,8 +77,8 @@ fn request_at(payload: &[u8]) -> NdefRequest
     }
 }
 
-/// Tells the version of the handover request for which the payload of a Handover Request record stands,
-/// its random number and how many alternative carriers it has.
+/// Gives the version of the handover request for which the payload of a Handover Request record stands, its random
+/// number and its number of alternative carriers.
 #[unsafe(no_mangle)]
 pub extern "C" fn ndef_request(
     payload: &[u8],

@@ -53,8 +53,8 @@ fn head_of(found: &FirstRun<'_>, first: bool, form: Form) -> Head
     whole_head(piece.tnf(), piece.kind, piece.id, found.payload, ends, form)
 }
 
-/// The bytes of the message with which the bytes begin, each record in one piece, unless one can't be, or
-/// no room has so many.
+/// The number of bytes of the message with which the bytes begin, each record in one piece, unless one can't be, or no
+/// room is that large.
 fn rewritten_length(bytes: &[u8], form: Form) -> Option<usize>
     requires { HasRuns bytes.now }
     ensures none { IfNone result ((runs : List Run) → BeginsWithRuns runs bytes.now → ¬ CanBeRewritten form runs) }

@@ -4,7 +4,7 @@ ghost use Rattle.ndef_c.specs.Rooms.{Gives, IsPut};
 
 use crate::status::{NO_ROOM, OK};
 
-/// Writes bytes at a place of the room, and answers the place behind them.
+/// Writes bytes at a place of the room, and answers the place after them.
 pub(crate) fn put(room: &mut [u8], at: usize, bytes: &[u8]) -> usize
     requires { at + length bytes.now ≤ length room.old }
     ensures put { IsPut at bytes.now room.old room.new }
@@ -16,7 +16,7 @@ pub(crate) fn put(room: &mut [u8], at: usize, bytes: &[u8]) -> usize
     end
 }
 
-/// Writes bytes to the room where it is large enough, tells how many they are, and answers the status.
+/// Writes bytes to the room where it is large enough, sets `count` to their number, and returns the status.
 pub(crate) fn give(bytes: &[u8], room: &mut [u8], count: &mut usize) -> u32
     ensures { Gives bytes.now room.old room.new count.new result }
 {
@@ -28,7 +28,7 @@ pub(crate) fn give(bytes: &[u8], room: &mut [u8], count: &mut usize) -> u32
     OK
 }
 
-/// Writes three parts, one behind another, at a place of the room, and answers the place behind them.
+/// Writes three parts, one after another, at a place of the room, and answers the place after them.
 pub(crate) fn put_parts(
     room: &mut [u8],
     at: usize,
@@ -46,8 +46,8 @@ pub(crate) fn put_parts(
     put(room, after_second, third)
 }
 
-/// Writes three parts, one behind another, to the room where it is large enough, tells how many bytes
-/// they are, and answers the status.
+/// Writes three parts, one after another, to the room where it is large enough, sets `count` to
+/// their number of bytes, and returns the status.
 pub(crate) fn give_parts(
     first: &[u8],
     second: &[u8],

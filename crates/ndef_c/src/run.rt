@@ -19,7 +19,7 @@ pub(crate) struct FirstRun<'a> {
     pub(crate) pieces: usize,
     /// Whether it ends its message.
     pub(crate) last: bool,
-    /// The bytes behind it.
+    /// The bytes after it.
     pub(crate) rest: &'a [u8],
 }
 

@@ -36,7 +36,7 @@ pub struct NdefSelect {
     pub major: u32,
     /// The minor version, 0 to 15.
     pub minor: u32,
-    /// 1 where it tells an error, else 0.
+    /// 1 where it has an error, else 0.
     pub has_error: u32,
     /// The reason of that error, 0 to 255; 0 without one.
     pub error: u32,
@@ -80,7 +80,7 @@ fn error_in(payload: &[u8]) -> Detail
     }
 }
 
-/// The version of a select, its first error and how many alternative carriers it has.
+/// The version of a select, its first error and its number of alternative carriers.
 fn select_at(payload: &[u8]) -> NdefSelect
     requires nest { (profile : Profile) × IsNest tables.Select MOST_RECORDS profile payload.now }
     requires short { length payload.now < 2 ^ 32 }
@@ -100,8 +100,8 @@ fn select_at(payload: &[u8]) -> NdefSelect
     }
 }
 
-/// Tells the version of the handover select for which the payload of a Handover Select record stands,
-/// its error and how many alternative carriers it has.
+/// Gives the version of the handover select for which the payload of a Handover Select record
+/// stands, its error and its number of alternative carriers.
 #[unsafe(no_mangle)]
 pub extern "C" fn ndef_select(
     payload: &[u8],

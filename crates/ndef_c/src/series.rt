@@ -1,4 +1,4 @@
-//! Records that stand one behind another in a message that is written.
+//! Records that stand one after another in a message that is written.
 ghost use Rattle.std.specs.Prelude.{◌≡◌, ◌<◌, length, slice_get, Some, IfNone, IfSome};
 ghost use Rattle.ndef_c.specs.Made.{IsMade, made_item};
 ghost use Rattle.ndef_c.specs.Series.{HoldsMade, MayBeIn, series_items};
@@ -8,7 +8,7 @@ use crate::making::Made;
 use crate::part::NdefPart;
 use crate::poster_parts::{NdefIconWriting, NdefTitleWriting, icon_made, title_made};
 
-/// Records that stand one behind another.
+/// Records that stand one after another.
 #[derive(Clone, Copy)]
 pub(crate) enum Series<'a> {
     /// No record.
@@ -35,7 +35,7 @@ pub(crate) enum Series<'a> {
     },
 }
 
-/// How many records they are.
+/// The number of records.
 pub(crate) fn series_count(series: &Series<'_>) -> usize
     ensures { result ≡ length (series_items series.now) }
 {

@@ -68,7 +68,7 @@ fn all_length(several: &[Series<'_>]) -> Option<usize>
     Some(total)
 }
 
-/// How many records they all are.
+/// The number of records of all series.
 fn all_count(several: &[Series<'_>]) -> usize
     requires { length (all_items several.now) ≤ 8 * 65535 }
     ensures { result ≡ length (all_items several.now) }
@@ -80,7 +80,7 @@ fn all_count(several: &[Series<'_>]) -> usize
     count
 }
 
-/// Writes a record at a place, and answers the place behind it.
+/// Writes a record at a place, and answers the place after it.
 fn put_next(room: &mut [u8], place: Place, made: &Made<'_>) -> Place
     requires made { IsMade made.now }
     requires left { 1 ≤ place.left }
@@ -98,7 +98,7 @@ fn put_next(room: &mut [u8], place: Place, made: &Made<'_>) -> Place
     }
 }
 
-/// Writes records at a place, and answers the place behind them.
+/// Writes records at a place, and answers the place after them.
 fn put_series(room: &mut [u8], place: Place, series: &Series<'_>) -> Place
     requires holds { HoldsMade series.now }
     requires may { IsSeries series.now }
@@ -116,7 +116,7 @@ fn put_series(room: &mut [u8], place: Place, series: &Series<'_>) -> Place
     next
 }
 
-/// Writes all records at a place, and answers the place behind them.
+/// Writes all records at a place, and answers the place after them.
 fn put_all(room: &mut [u8], place: Place, several: &[Series<'_>]) -> Place
     requires holds { All HoldsMade several.now }
     requires may { All IsSeries several.now }
@@ -131,8 +131,8 @@ fn put_all(room: &mut [u8], place: Place, several: &[Series<'_>]) -> Place
     next
 }
 
-/// Writes some bytes and the message of the records to the room where it is large enough, tells how many
-/// bytes that are, and answers the status.
+/// Writes some bytes and the message of the records to the room where it is large enough, sets `count` to the number of
+/// bytes, and returns the status.
 pub(crate) fn give_message(
     front: &[u8],
     several: &[Series<'_>],

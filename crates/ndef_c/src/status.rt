@@ -10,5 +10,5 @@ pub const NO_ROOM: u32 = 2;
 pub const BAD_ARGUMENT: u32 = 3;
 /// There are no more records, references, links or fields.
 pub const END: u32 = 4;
-/// More bytes are wanted.
+/// More bytes are needed.
 pub const MORE: u32 = 5;

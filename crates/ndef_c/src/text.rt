@@ -29,7 +29,7 @@ pub struct NdefText {
     pub text_at: usize,
     /// The bytes of the text.
     pub text_length: usize,
-    /// 1 for UTF-16, behind a byte order mark or big-endian without one; 0 for UTF-8.
+    /// 1 for UTF-16, after a byte order mark or big-endian without one; 0 for UTF-8.
     pub utf16: u32,
 }
 
@@ -50,7 +50,7 @@ pub(crate) fn text_at(payload: &[u8]) -> NdefText
     }
 }
 
-/// Tells where the parts of the text lie for which the payload of a Text record stands.
+/// Gives the places of the parts of the text for which the payload of a Text record stands.
 #[unsafe(no_mangle)]
 pub extern "C" fn ndef_text(payload: &[u8], out: &mut NdefText, why: &mut NdefChecked) -> u32
     ensures known { (result ≡ OK) ⊎ (result ≡ REFUSED) }

@@ -62,7 +62,7 @@ fn text_of(found: &Found<'_>) -> NdefText
     }
 }
 
-/// How many titles there are in a message, each record of which is in one piece.
+/// The number of titles in a message, each record of which is in one piece.
 fn titles_in(bytes: &[u8]) -> usize
     requires { (profile : Profile) × (items : List Item) × MayBeInPieces profile items bytes.now }
     ensures { (profile : Profile) (items : List Item) → MayBeInPieces profile items bytes.now
@@ -95,7 +95,7 @@ fn tell_titles(payload: &[u8], texts: &mut [NdefText])
     }
 }
 
-/// Tells where each title lies, where there is room for them, and how many they are.
+/// Gives the place of each title, where there is room for them, and their number.
 fn give_titles(payload: &[u8], texts: &mut [NdefText], count: &mut usize) -> u32
     requires { IsPosterPayload payload.now }
     ensures { GivesTitles payload.now texts.old texts.new count.new result }
@@ -109,8 +109,8 @@ fn give_titles(payload: &[u8], texts: &mut [NdefText], count: &mut usize) -> u32
     OK
 }
 
-/// Tells where each title of a smart poster lies, as `ndef_text` tells the parts of a text, but by places
-/// in the payload of the poster.
+/// Gives the place of each title of a smart poster, as `ndef_text` gives the parts of a text, but by places in the
+/// payload of the poster.
 #[unsafe(no_mangle)]
 pub extern "C" fn ndef_poster_titles(
     payload: &[u8],
@@ -127,7 +127,7 @@ pub extern "C" fn ndef_poster_titles(
     give_titles(payload, texts, count)
 }
 
-/// Tells where the media type lies to which the URI of a smart poster leads.
+/// Gives the place of the media type to which the URI of a smart poster leads.
 #[unsafe(no_mangle)]
 pub extern "C" fn ndef_poster_media_type(payload: &[u8], out: &mut NdefPart) -> u32
     ensures known { (result ≡ OK) ⊎ (result ≡ END) ⊎ (result ≡ BAD_ARGUMENT) }
@@ -182,9 +182,9 @@ fn title_in(payload: &[u8], language: &[u8]) -> Option<NdefText>
     None
 }
 
-/// Tells where the title of a smart poster in a language lies, of several the first, as
-/// `ndef_poster_titles` tells it. The case of the letters of language codes doesn't matter (RFC 5646,
-/// section 2.1.1).
+/// Gives the place of the title of a smart poster in a language, of several the first, as
+/// `ndef_poster_titles` gives it. The case of the letters of language codes doesn't matter (RFC
+/// 5646, section 2.1.1).
 #[unsafe(no_mangle)]
 pub extern "C" fn ndef_title(payload: &[u8], language: &[u8], out: &mut NdefText) -> u32
     ensures known { (result ≡ OK) ⊎ (result ≡ END) ⊎ (result ≡ BAD_ARGUMENT) }

@@ -44,8 +44,7 @@ fn uri_at(payload: &[u8]) -> NdefUri
     }
 }
 
-/// Tells the code of the prefix and where the rest lies of the URI for which the payload of a URI record
-/// stands.
+/// Gives the code of the prefix and the place of the rest of the URI for which the payload of a URI record stands.
 #[unsafe(no_mangle)]
 pub extern "C" fn ndef_uri_view(
     payload: &[u8],

@@ -20,7 +20,7 @@ fn unit_of(little: bool, first: u8, second: u8) -> u32
     }
 }
 
-/// The unit with which the octets begin, and those behind it.
+/// The unit with which the octets begin, and those after it.
 fn first_unit(little: bool, octets: &[u8]) -> (u32, &[u8])
     requires { 2 ≤ length octets.now }
     ensures { octets.now ≡ unit_octets little result.0 ++ result.1.now }
@@ -49,7 +49,7 @@ fn is_surrogate(unit: u32) -> bool
     0xd800 <= unit && unit < 0xe000
 }
 
-/// The character with which the octets begin, and those behind it.
+/// The character with which the octets begin, and those after it.
 fn first_character(little: bool, octets: &[u8]) -> (char, &[u8])
     requires { (c : ℕ) × (cs : List ℕ) × AreSpelled little (c ∷ cs) octets.now }
     ensures { (c : ℕ) (cs : List ℕ) → AreSpelled little (c ∷ cs) octets.now
@@ -64,7 +64,7 @@ fn first_character(little: bool, octets: &[u8]) -> (char, &[u8])
     (character(code), behind)
 }
 
-/// How many bytes the text that the octets spell has in UTF-8.
+/// The number of bytes in UTF-8 of the text that the octets spell.
 fn utf8_length(little: bool, octets: &[u8]) -> usize
     requires text { (cs : List ℕ) × AreSpelled little cs octets.now }
     requires short { length octets.now < 2 ^ 32 }
@@ -97,8 +97,8 @@ fn put_in_utf8(room: &mut [u8], little: bool, octets: &[u8])
     }
 }
 
-/// Writes the text that the octets spell to the room in UTF-8 where it is large enough, tells how many
-/// bytes it has, and answers the status.
+/// Writes the text that the octets spell to the room in UTF-8 where it is large enough, sets `count` to its number of
+/// bytes, and returns the status.
 pub(crate) fn give_in_utf8(little: bool, octets: &[u8], room: &mut [u8], count: &mut usize) -> u32
     requires text { (cs : List ℕ) × AreSpelled little cs octets.now }
     requires short { length octets.now < 2 ^ 32 }
@@ -114,7 +114,7 @@ pub(crate) fn give_in_utf8(little: bool, octets: &[u8], room: &mut [u8], count: 
     OK
 }
 
-/// Writes the units of a character, big-endian, at a place of the room, and answers the place behind
+/// Writes the units of a character, big-endian, at a place of the room, and answers the place after
 /// them.
 fn put_character(room: &mut [u8], at: usize, c: char) -> usize
     requires { at + length (spelled false (encode_utf16 c)) ≤ length room.old }
@@ -130,7 +130,8 @@ fn put_character(room: &mut [u8], at: usize, c: char) -> usize
     end
 }
 
-/// Writes the units of a text, big-endian, at a place of the room, and answers the place behind them.
+/// Writes the units of a text, big-endian, at a place of the room, and answers the place after
+/// them.
 pub(crate) fn put_units(room: &mut [u8], at: usize, text: &str) -> usize
     requires { at + length (spelled false (units_of (chars text.now))) ≤ length room.old }
     ensures put { IsPut at (spelled false (units_of (chars text.now))) room.old room.new }

@@ -88,14 +88,14 @@ fn is_shaped(parts: &Parts<'_>) -> bool
     )
 }
 
-/// Whether a piece can tell their lengths.
+/// Whether a piece can hold their lengths.
 fn has_lengths(parts: &Parts<'_>) -> bool
     ensures { IsTrue result ↔ HasLengths (item_of parts.now) }
 {
     parts.kind.len() <= 255 && parts.id.len() <= 255 && parts.payload.len() <= u32::MAX as usize
 }
 
-/// Whether a piece of so many payload bytes is written in the short form.
+/// Whether a piece of `length` payload bytes is written in the short form.
 pub(crate) fn is_short(form: Form, length: usize) -> bool
     ensures { result ≡ is_short form length }
 {
@@ -149,7 +149,7 @@ fn later_head(way: Way, ends: bool, part: &[u8]) -> Head
     }
 }
 
-/// Writes a piece at a place of the room, and answers the place behind it.
+/// Writes a piece at a place of the room, and answers the place after it.
 pub(crate) fn put_piece(
     room: &mut [u8],
     at: usize,

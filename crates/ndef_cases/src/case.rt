@@ -45,7 +45,7 @@ pub struct Case<'a> {
     pub limits: Limits,
     pub bytes: Vec<u8>,
     pub answer: Answer,
-    /// How many bytes a decoder holds, where the input could go on.
+    /// The number of bytes that a decoder holds, where the input could go on.
     pub held: Option<u64>,
     /// The records of what is accepted, as the line has them.
     pub records: &'a str,

@@ -5,7 +5,7 @@ use std::test::Fail;
 /// The most fields of a line.
 const MOST_FIELDS: usize = 11;
 
-/// The first field of a line, and those behind it.
+/// The first field of a line, and those after it.
 pub fn field(line: &str) -> (&str, &str) {
     match line.split_once('|') {
         Some((first, rest)) => (first.trim(), rest),
@@ -24,7 +24,7 @@ pub fn fields(line: &str) -> [&str; MOST_FIELDS] {
     fields
 }
 
-/// The bytes that hexadecimal digits stand for, with spaces between some; `-` is none.
+/// The bytes of hexadecimal digits, with spaces between some; `-` is none.
 pub fn bytes_of(alloc: Global, text: &str) -> Option<Vec<u8>> {
     let mut bytes = Vec::new(alloc);
     if text == "-" {

@@ -1,4 +1,4 @@
-//! Memory that is used up, and then let go block by block.
+//! Memory that is used up, and then freed block by block.
 use std::alloc::Global;
 use std::test::Fail;
 
@@ -19,7 +19,7 @@ pub fn use_up(alloc: Global, held: &mut Vec<Vec<u8>>) -> bool {
     false
 }
 
-/// Blocks that are let go one by one, small ones first.
+/// Blocks that can be freed one by one, small ones first.
 pub fn spare_blocks(alloc: Global) -> Result<Vec<Vec<u8>>, Fail> {
     let mut spare: Vec<Vec<u8>> = Vec::with_capacity(alloc, 12)?;
     for size in [4096, 4096, 4096, 4096, 64, 64, 64, 64, 32, 32, 32, 32] {

@@ -1,7 +1,7 @@
 //! Readers and writers that are slow, or fail.
 use std::io::{self, BufRead, Read, Write};
 
-/// A reader of at most so many bytes at a time. If it is to fail, it fails once, behind its bytes.
+/// A reader of at most `most` bytes at a time. If it is to fail, it fails once, after its bytes.
 #[derive(Drop)]
 pub struct SlowReader<'a> {
     pub bytes: &'a [u8],
@@ -67,7 +67,7 @@ impl BufRead for OnceReader<'_> {
     }
 }
 
-/// A writer that takes so many bytes in all, two at a time, and then fails.
+/// A writer that takes `room` bytes in all, two at a time, and then fails.
 #[derive(Drop)]
 pub struct FullWriter<'a> {
     pub out: &'a mut Vec<u8>,

@@ -1,4 +1,4 @@
-//! The command `ndef-explain`: tells of each byte of the messages of its inputs in which field it stands.
+//! The command `ndef-explain`: says in which field each byte of the messages of its inputs stands.
 ghost use Rattle.std.specs.Prelude.{⊤};
 
 use ndef_explain_tool::{Inputs, read_input, run};

@@ -12,7 +12,7 @@ use ndef_message::{
 use ndef_value::Limits;
 use std::alloc::Global;
 
-/// How bytes are handed over: so many of them, then the others in parts of at most this size.
+/// How bytes are handed over: `first` of them, then the others in parts of at most `size`.
 #[derive(Clone, Copy)]
 pub(super) struct Parts {
     first: usize,
@@ -32,7 +32,7 @@ pub(super) const BYTES: Parts = Parts { first: 0, size: 1 };
 /// A message of more bytes isn't cut at each place.
 const LONG: usize = 1024;
 
-/// At how many places a long message is cut.
+/// The number of places at which a long message is cut, at most.
 const MOST_CUTS: usize = 32;
 
 fn two_parts(first: usize) -> Parts {
@@ -50,7 +50,7 @@ fn slowly(bytes: &[u8]) -> StdSource<SlowReader<'_>> {
     })
 }
 
-/// The bytes up to a place, and those behind it.
+/// The bytes up to a place, and those after it.
 fn cut_at(bytes: &[u8], place: usize) -> (&[u8], &[u8]) {
     bytes.split_at(place.min(bytes.len()))
 }
@@ -83,7 +83,7 @@ pub(super) fn checked<L: OuterLanguage>(
     Some(Err(checker.end().err()?))
 }
 
-/// What comes of a part that a decoder is handed.
+/// What a decoder answers to a part that it is given.
 #[derive(Clone, Copy)]
 enum Progress {
     GoesOn,
@@ -118,8 +118,7 @@ fn hand_parts<L: OuterLanguage>(decoder: &mut Decoder<L>, bytes: &[u8], parts: P
     progress
 }
 
-/// What a decoder answers; nothing where memory is wanting, or where it doesn't take what ends to have
-/// ended.
+/// What a decoder answers; nothing where memory runs out, or where it says that the message hasn't ended where it ends.
 pub(super) fn decoded<L: OuterLanguage>(
     alloc: Global,
     limits: Limits,
@@ -184,7 +183,7 @@ fn is_answered_in_two<L: OuterLanguage>(
         && check_from::<L, _>(limits, &mut SliceSource::new(bytes, &cuts)) == wanted
 }
 
-/// Every how many bytes a message is cut: at each place, or at some of a long message.
+/// The distance between the places where a message is cut: 1, or more for a long message.
 pub(super) fn step_of(length: usize, most: usize) -> usize {
     if length <= LONG {
         return 1;
@@ -227,7 +226,7 @@ pub(super) fn is_agreed<L: OuterLanguage>(alloc: Global, limits: Limits, bytes: 
         && viewed::<L>(limits, bytes) == answer
 }
 
-/// Whether the bytes can go on, and a decoder holds so many of them.
+/// Whether the bytes can go on, and a decoder holds that many of them.
 pub(super) fn is_held<L: OuterLanguage>(
     alloc: Global,
     limits: Limits,

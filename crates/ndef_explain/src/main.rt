@@ -1,4 +1,4 @@
-//! The program `ndef-explain`: tells of each byte of the messages of its inputs in which field it stands.
+//! The program `ndef-explain`: says in which field each byte of the messages of its inputs stands.
 #![tactic(auto)]
 
 ghost use Rattle.std.specs.Prelude.{⊤};

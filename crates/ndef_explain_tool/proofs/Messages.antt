@@ -11,7 +11,7 @@ use Rattle.ndef_explain_tool.specs.Forms.{Form}
 use Rattle.ndef_explain_tool.specs.declared.explaining.Progress.{Progress}
 use Rattle.ndef_explain_tool.specs.declared.explaining.Stop.{Stop}
 
--- what goes on with the rest goes on with the input: `more` are the messages of the rest
+-- what continues with the rest continues with the input: `more` are the messages of the rest
 pub record GoesOn (form : Form) (limits : LimitValues) (input : List ℕ) (at number : ℕ) (old text : Text) (more : List Told) (stop : Stop) : Type 0 where
   pub told : List Told
   pub are_told : AreTold limits told input stop

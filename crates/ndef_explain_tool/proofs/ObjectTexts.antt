@@ -21,7 +21,7 @@ regroup q v l = simp append_assoc
 grouped : (q v l : Text) → 123 ∷ (q ++ 58 ∷ (v ++ (l ++ 125 ∷ []))) ≡ 123 ∷ (((q ++ 58 ∷ []) ++ v) ++ (l ++ 125 ∷ []))
 grouped q v l = simp append_assoc
 
--- members behind others, and the closing bracket
+-- members after others, and the closing bracket
 pub later_text : (pairs : List Pair) → members_text true (members_of pairs) ≡ later_members pairs ++ codes "}"
 later_text [] = refl
 later_text ((name, value) ∷ pairs) =
@@ -114,7 +114,7 @@ object_line_text name value pairs = ap (λ t. t ++ codes "\n") (object_text name
 
 -- ---- objects, part by part
 
--- texts behind one another
+-- texts after one another
 pub three : (o a b c p q r : Text) → a ≡ o ++ p → b ≡ a ++ q → c ≡ b ++ r → c ≡ o ++ (p ++ (q ++ r))
 three o a b c p q r e f g = g ∙ ap (λ t. t ++ r) (f ∙ ap (λ t. t ++ q) e) ∙ append_assoc (o ++ p) q r ∙ append_assoc o p (q ++ r)
 

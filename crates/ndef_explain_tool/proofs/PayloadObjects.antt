@@ -19,7 +19,7 @@ use Rattle.ndef_explain_tool.proofs.ObjectTexts.{five, item_more, object_text}
 pub one_item : (value : Data) (before : Bool) (old new : Text) → new ≡ old ++ (comma_if before ++ compact_text value) → AddsItems (value ∷ []) before true old new
 one_item value before old new e rest = item_more value rest before old new e
 
--- the object of a payload behind a comma
+-- the object of a payload after a comma
 pub joined : (number : ℕ) (run : Run) (later : Bool) (kind : Kind) (octets : List ℕ) (fields : List Field) (old middle new : Text) → octets ≡ (run_record run).payload → kind ≡ run_kind run
     → ArePayloadFields kind octets fields → middle ≡ old ++ comma_if later → new ≡ middle ++ compact_text (payload_object number octets fields) → AddsJoined number run later old new
 joined number run later kind octets fields old middle new e k a m n =
@@ -55,7 +55,7 @@ pair_grouped a b c = simp (append_assoc, append-nil)
 
 -- ---- record by record
 
--- what is appended behind some records goes on with those that are left
+-- what is appended after some records continues with those that are left
 pub record KeepsOn (runs rest : List Run) (number : ℕ) (behind : Bool) (old new : Text) : Type 0 where
   pub done : List Data
   pub adds : AddsItems done false behind old new

@@ -38,7 +38,7 @@ joined_text number item kind octets told old middle new e k a m n =
 
 -- ---- record by record
 
--- what is appended behind some records goes on with those that are left
+-- what is appended after some records continues with those that are left
 pub record KeepsOn (runs rest : List Run) (number : ℕ) (old new : Text) : Type 0 where
   pub done : Text
   pub done_is : new ≡ old ++ done

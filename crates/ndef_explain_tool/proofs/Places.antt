@@ -13,7 +13,7 @@ gapless_end : (from end : ℕ) (fields : List Field) → AreGapless from fields 
 gapless_end from end [] e = omega (arith, e)
 gapless_end from end (f ∷ fs) (place, some, rest) = let last = gapless_end (from + f.length) end fs rest in omega (arith, last)
 
--- where the end of fields can be counted behind a place, each place of them can
+-- where the end of fields can be counted after a place, each place of them can
 pub gapless_fit : (at from end : ℕ) (fields : List Field) → AreGapless from fields end → at + end < 2 ^ 64 → PlacesFit at fields
 gapless_fit at from end [] follow fits = tt
 gapless_fit at from end (f ∷ fs) (place, some, rest) fits =

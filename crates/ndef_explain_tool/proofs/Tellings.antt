@@ -12,7 +12,7 @@ use Rattle.ndef_explain_tool.specs.Running.{Gives, TellsAll, TellsAsked, TellsNe
 use Rattle.ndef_explain_tool.specs.declared.choice.Choice.{Choice}
 use Rattle.ndef_explain_tool.specs.declared.telling.Manner.{Manner}
 
--- what goes on with the rest of the inputs goes on with all of them
+-- what continues with the rest of the inputs continues with all of them
 abbrev pub KeepsOn : {I : Type 0} → Gives I → Manner → (names left : List Text) → Status → Status → (first next : World I) → Type 0
 KeepsOn {I} gives manner names left begun st first next =
     (after : World I) (result : Status) → TellsAll gives manner left st next after result → TellsAll gives manner names begun first after result
@@ -24,7 +24,7 @@ pub keeps_next : {I : Type 0} (gives : Gives I) (manner : Manner) (names left re
 keeps_next gives manner names left rest name begun st told first next middle read keeps e g t after result h =
     keeps after result (subst (λ x. TellsAll gives manner x st next after result) (sym e) (read, middle, Ok told, g, t, h))
 
--- writing fails behind an input
+-- writing fails after an input
 pub keeps_failed : {I : Type 0} (gives : Gives I) (manner : Manner) (names left rest : List Text) (name : Text) (begun st : Status) (fault : WriteFault) (first next middle : World I)
     (read : Result (List ℕ) InputError) → KeepsOn gives manner names left begun st first next → left ≡ name ∷ rest → gives next.inputs name read middle.inputs
     → TellsNext manner name read next.output middle.output (Err fault) → TellsAll gives manner names begun first middle status.Fault

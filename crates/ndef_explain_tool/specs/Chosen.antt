@@ -50,12 +50,12 @@ asked_of words = asked_by explain_app words
 abbrev pub asked_parts : Asked → Choice × List Text
 asked_parts asked = (asked.choice, map (λ file. file.now) asked.files.items)
 
--- what comes of words that ask for this: the usage line exactly where it is nothing
+-- the outcome of words that ask for this: the usage line exactly where it is nothing
 abbrev pub Answers : Option (Choice × List Text) → Result Asked WordsError → Type 0
 Answers wanted (Ok asked) = wanted ≡ Some (asked_parts asked)
 Answers wanted (Err Usage) = wanted ≡ None
 Answers wanted (Err NoMemory) = ⊤
 
--- what comes of the words
+-- the outcome of the words
 abbrev pub Asks : List Text → Result Asked WordsError → Type 0
 Asks words asked = Answers (asked_of words) asked

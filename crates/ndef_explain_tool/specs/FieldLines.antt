@@ -15,7 +15,7 @@ abbrev pub front_text : (at : ℕ) → Field → (octets : List ℕ) → Text
 front_text at field octets =
     start_of (at + field.at) field.depth ++ cells (take 8 octets) ++ codes "  " ++ name_text field.name
 
--- what the octets of a field say, of which a number has so many, and the octets after the first eight
+-- what the octets of a field say, where a number has `whole` of them, and the octets after the first eight
 abbrev pub back_text : (whole : ℕ) → Field → (octets : List ℕ) → Text
 back_text whole field octets =
     meaning_of (reading_of field.name) whole octets ++ later_cells field.depth 0 (drop 8 octets) ++ codes "\n"

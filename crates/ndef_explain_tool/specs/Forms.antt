@@ -1,4 +1,4 @@
--- The two forms in which an input is told.
+-- The two forms in which an input is explained.
 use Rattle.std.specs.Prelude.{Bool, true, false, Option, Some, None, option_map}
 use Rattle.ndef_program.specs.Quoting.{Text}
 use Rattle.ndef_explain_tool.specs.declared.explaining.Style.{Style}

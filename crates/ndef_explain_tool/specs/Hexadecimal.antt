@@ -38,11 +38,11 @@ abbrev pub is_digit : ℕ → Bool
 is_digit byte = (nat_le 48 byte && nat_le byte 57) || (nat_le 97 byte && nat_le byte 102)
     || (nat_le 65 byte && nat_le byte 70)
 
--- how many digits the place has with which a line of a dump begins
+-- the number of digits of the place with which a line of a dump begins
 abbrev pub place_length : Text → ℕ
 place_length line = prefix_len is_digit line
 
--- what stands behind the place of a line
+-- what stands after the place of a line
 abbrev pub behind_place : Text → Text
 behind_place line = drop (place_length line) line
 

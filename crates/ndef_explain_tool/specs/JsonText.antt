@@ -34,7 +34,7 @@ member_start later name = comma_if later ++ (compact_text (string name) ++ 58 �
 abbrev pub member_text : (later : Bool) → (name : Text) → Data → Text
 member_text later name value = member_start later name ++ compact_text value
 
--- members behind others
+-- members after others
 abbrev pub later_members : List Pair → Text
 later_members [] = []
 later_members ((name, value) ∷ pairs) = member_text true name value ++ later_members pairs

@@ -72,11 +72,11 @@ octets_number (a ∷ b ∷ c ∷ d ∷ []) = from_be_bytes w32 (a ∷ b ∷ c �
 octets_number (a ∷ b ∷ []) = from_be_bytes w16 (a ∷ b ∷ [])
 octets_number octets = slice_index octets 0
 
--- NDEF 1.0, SR: how many octets PAYLOAD_LENGTH has in a record with this header octet
+-- NDEF 1.0, SR: the number of octets of PAYLOAD_LENGTH in a record with this header octet
 abbrev pub length_octets : (header : ℕ) → ℕ
 length_octets header = if is_set 4 header then 1 else 4
 
--- how many octets a number of this name has, in a record with this header octet
+-- the number of octets of a number of this name, in a record with this header octet
 abbrev pub whole_length : FieldName → (header : ℕ) → ℕ
 whole_length names.PayloadLength header = length_octets header
 whole_length names.Size header = 4
@@ -87,11 +87,11 @@ whole_length _ header = 1
 abbrev pub whole_of : (bytes : List ℕ) → Field → ℕ
 whole_of bytes field = whole_length field.name (slice_index bytes (field.at - 2))
 
--- a number is cut: how many of its octets there are
+-- a number is cut: the number of its octets that are there
 abbrev pub cut_text : (count whole : ℕ) → Text
 cut_text count whole = codes " cut after " ++ decimal count ++ codes " of " ++ decimal whole ++ codes " octets"
 
--- a number of so many octets, or how many of them there are
+-- a number of `whole` octets, or the number of those that are there
 abbrev pub number_text : (whole : ℕ) → List ℕ → Text
 number_text whole octets = if nat_lt (length octets) whole then cut_text (length octets) whole
     else codes " " ++ decimal (octets_number octets)
@@ -100,7 +100,7 @@ number_text whole octets = if nat_lt (length octets) whole then cut_text (length
 abbrev pub reserved_text : ℕ → Text
 reserved_text bits = if bits == 0 then [] else codes ", reserved bits set: " ++ encode_lower (bits ∷ [])
 
--- an octet whose lower bits are one of so many values, and whose other bits are reserved
+-- an octet whose lower bits are one of that many values, and whose other bits are reserved
 abbrev pub bits_text : (values octet : ℕ) → Text
 bits_text values octet = codes " " ++ decimal (octet % values) ++ reserved_text (octet - octet % values)
 

@@ -44,7 +44,7 @@ meaning_pairs [] = []
 meaning_pairs (blank ∷ meaning) = (codes "meaning", string meaning) ∷ []
 
 -- a field of an input: its place there, how deep it lies, what it says, its name, and its octets in hexadecimal digits;
--- a number has so many
+-- a number has `whole` octets
 abbrev pub field_pairs : (at : ℕ) → Field → (whole : ℕ) → (octets : List ℕ) → List Pair
 field_pairs at field whole octets =
     (codes "at", counted (at + field.at)) ∷ (codes "depth", counted field.depth)
@@ -66,7 +66,7 @@ PlacesFit at (field ∷ fields) = (at + field.at < 2 ^ 64) × PlacesFit at field
 
 -- ---- payloads in several pieces, joined
 
--- the payload of the record of this number: its fields, and how many bytes it has
+-- the payload of the record of this number: its fields, and its number of bytes
 abbrev pub payload_object : (number : ℕ) → (payload : List ℕ) → List Field → Data
 payload_object number payload fields =
     object_of ((codes "fields", fields_array 0 payload fields) ∷ (codes "length", counted (length payload))
@@ -76,7 +76,7 @@ payload_object number payload fields =
 abbrev pub run_kind : Run → Kind
 run_kind run = kind_of (run_record run).tnf (run_record run).kind
 
--- NDEF 1.0, chunked payloads: the object of a payload that has these pieces behind its first; none where there are none
+-- NDEF 1.0, chunked payloads: the object of a payload that has these pieces after its first; none where there are none
 abbrev pub ArePayloadObjectsBy : (number : ℕ) → Item → (later : List Piece) → List Data → Type 0
 ArePayloadObjectsBy number item [] objects = objects ≡ []
 ArePayloadObjectsBy number item (p ∷ later) objects =
@@ -96,7 +96,7 @@ AddsJoined number run later old new =
     (fields : List Field) × ArePayloadFields (run_kind run) (run_record run).payload fields
     × (new ≡ old ++ (comma_if later ++ compact_text (payload_object number (run_record run).payload fields)))
 
--- where an array goes on, these values are appended; `before` and `behind` say whether values come before and behind
+-- where an array continues, these values are appended; `before` and `behind` say whether values come before and after
 -- them
 abbrev pub AddsItems : List Data → (before behind : Bool) → (old new : Text) → Type 0
 AddsItems values before behind old new =
@@ -214,7 +214,7 @@ abbrev pub hex_object : Option Text → HexFault → Data
 hex_object file (BadDigit digit) = digit_fault file digit
 hex_object file Odd = named_fault file (codes "odd number of digits")
 
--- what is told of a line without a place and a colon
+-- what is said of a line without a place and a colon
 abbrev pub place_fault : Text
 place_fault = codes "no place and colon"
 

@@ -14,7 +14,7 @@ begins line word = starts_with nat_eq line word
 abbrev pub is_heading : Text → Bool
 is_heading line = begins line (codes "message ") || begins line (codes "file ")
 
--- the line of a refused byte has a caret behind the octets, which end two columns later in a message within a payload
+-- the line of a refused byte has a caret after the octets, which end two columns later in a message within a payload
 abbrev pub is_refused_byte : Text → Bool
 is_refused_byte line = slice_index line 33 == 94 || slice_index line 35 == 94
 
@@ -28,7 +28,7 @@ ink_of line = if is_heading line then ink.Bold
     else (if is_fault line then ink.Red
     else (if begins line (codes "0") then (if is_refused_byte line then ink.Red else ink.FaintPlace) else ink.Plain))
 
--- ECMA-48, select graphic rendition: a text in this rendition, and the usual one behind it
+-- ECMA-48, select graphic rendition: a text in this rendition, and the usual one after it
 abbrev pub rendered : (rendition : Text) → Text → Text
 rendered rendition text = codes "\u{1b}[" ++ rendition ++ codes "m" ++ text ++ codes "\u{1b}[0m"
 

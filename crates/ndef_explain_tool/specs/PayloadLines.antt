@@ -9,7 +9,7 @@ use Rattle.ndef_fields.specs.declared.field.Field.{Field}
 use Rattle.ndef_program.specs.Quoting.{Text}
 use Rattle.ndef_explain_tool.specs.FieldLines.{field_text}
 
--- the line of a joined payload: the number of its record, and how many bytes it has
+-- the line of a joined payload: the number of its record, and its number of bytes
 abbrev pub payload_head : (number bytes : ℕ) → Text
 payload_head number bytes =
     codes "payload of record " ++ decimal number ++ codes ": bytes " ++ decimal bytes ++ codes "\n"
@@ -20,7 +20,7 @@ IsJoinedText number item text =
     (told : List Field) × ArePayloadFields (kind_of item.tnf item.kind) item.payload told
     × (text ≡ payload_head number (length item.payload) ++ flat_map (field_text 0 item.payload) told)
 
--- NDEF 1.0, chunked payloads: the lines of a payload that has these pieces behind its first; none where there are none
+-- NDEF 1.0, chunked payloads: the lines of a payload that has these pieces after its first; none where there are none
 abbrev pub IsPayloadTextBy : (number : ℕ) → Item → (later : List Piece) → Text → Type 0
 IsPayloadTextBy number item [] text = text ≡ []
 IsPayloadTextBy number item (p ∷ later) text = IsJoinedText number item text

@@ -68,7 +68,7 @@ IsBody form limits (Ok octets) text st =
     (stop : Stop) × IsExplained form limits octets stop text × (st ≡ stop_status stop)
 IsBody form limits (Err unread) text st = (text ≡ fault_text form unread) × (st ≡ fault_status unread)
 
--- lines stand behind the name of the input, in colour or not; objects stand as they are
+-- lines stand after the name of the input, in colour or not; objects stand as they are
 abbrev pub sheet : Manner → (json : Bool) → (name : Text) → (body : Text) → Text
 sheet manner false name body = shown_in manner.in_color (heading manner.named name ++ body)
 sheet manner true name body = body
@@ -80,12 +80,12 @@ IsTold manner name read text st =
     × IsBody (form_in manner.json manner.named name) manner.limits octets body st
     × (text ≡ sheet manner manner.json name body)
 
--- where memory is wanting
+-- where memory runs out
 abbrev pub memory_text : (json : Bool) → Text
 memory_text false = codes "fault: memory\n"
 memory_text true = codes "{\"fault\":\"memory\"}\n"
 
--- the same; or the fault, where memory is wanting
+-- the same; or the fault, where memory runs out
 abbrev pub IsToldInMemory : Manner → (name : Text) → (read : Result (List ℕ) InputError) → Text → Status → Type 0
 IsToldInMemory manner name read text st =
     IsTold manner name read text st ⊎ ((text ≡ memory_text manner.json) × (st ≡ status.Fault))
@@ -132,7 +132,7 @@ abbrev pub GoesOn : {I : Type 0} → Result Status WriteFault → (next : Status
 GoesOn (Ok st) next before after result = next st
 GoesOn (Err fault) next before after result = (after ≡ before) × (result ≡ status.Fault)
 
--- the inputs of these names are read and told, one after another, behind others that came to a status
+-- the inputs of these names are read and explained, one after another, after others that came to a status
 abbrev pub TellsAll : {I : Type 0} → Gives I → Manner → (names : List Text) → Status → (before after : World I) → Status
     → Type 0
 TellsAll gives manner [] st before after result = (after ≡ before) × (result ≡ st)
@@ -174,7 +174,7 @@ abbrev pub inputs_of : List Text → List Text
 inputs_of [] = codes "-" ∷ []
 inputs_of (name ∷ names) = name ∷ names
 
--- how inputs are told
+-- how inputs are explained
 abbrev pub manner_of : Choice → (takes_color named : Bool) → Manner
 manner_of choice takes_color named = record {
   limits = choice.limits;
@@ -184,7 +184,7 @@ manner_of choice takes_color named = record {
   named = named;
 }
 
--- the inputs are told for which the words ask
+-- the inputs for which the words ask are explained
 abbrev pub TellsAsked : {I : Type 0} → Gives I → (takes_color : Bool) → Choice × List Text → (before after : World I)
     → Status → Type 0
 TellsAsked gives takes_color (choice, files) before after result =

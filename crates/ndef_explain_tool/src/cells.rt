@@ -6,7 +6,7 @@ ghost use Rattle.ndef_explain_tool.specs.Cells.{cell, cells, indentation, later_
 
 use ndef_value::{Bytes, NoMemory};
 
-/// How many octets a line has.
+/// The number of octets of a line.
 pub(crate) const COLUMNS: usize = 8;
 
 /// As many blanks as the octets of a line have columns.

@@ -127,7 +127,7 @@ fn push_messages<'a>(
     })
 }
 
-/// Appends what is printed of a refusal, behind so many bytes, with these bytes left.
+/// Appends what is printed of a refusal, after `at` bytes, with these bytes left.
 fn push_refused(
     alloc: Global,
     line: &mut Bytes,

@@ -8,7 +8,7 @@ use crate::meaning::{push_meaning, whole_of};
 use ndef_fields::{Field, Fields};
 use ndef_value::{Bytes, NoMemory};
 
-/// At most `count` octets at the front, and those behind them.
+/// At most `count` octets at the front, and those after them.
 pub(crate) fn cut(octets: &[u8], count: usize) -> (&[u8], &[u8])
     ensures front { result.0.now ≡ take count octets.now }
     ensures back { result.1.now ≡ drop count octets.now }
@@ -33,7 +33,7 @@ fn push_front(line: &mut Bytes, at: u64, field: &Field, octets: &[u8]) -> Result
     line.extend(field.name.text())
 }
 
-/// Appends what the octets of a field say, of which a number has so many, and the octets after the first eight.
+/// Appends what the octets of a field say, where a number has `whole` of them, and the octets after the first eight.
 fn push_back(line: &mut Bytes, whole: usize, field: &Field, octets: &[u8]) -> Result<(), NoMemory>
     ensures { OnOk result (line.new ≡ line.old ++ back_text whole field.now octets.now) }
 {
@@ -42,7 +42,7 @@ fn push_back(line: &mut Bytes, whole: usize, field: &Field, octets: &[u8]) -> Re
     line.extend(b"\n")
 }
 
-/// Appends the lines of a field of these bytes, before which so many bytes of the input come.
+/// Appends the lines of a field of these bytes, with `at` bytes of the input before them.
 fn push_field(line: &mut Bytes, at: u64, bytes: &[u8], field: &Field) -> Result<(), NoMemory>
     ensures { OnOk result (line.new ≡ line.old ++ field_text at bytes.now field.now) }
 {
@@ -51,7 +51,7 @@ fn push_field(line: &mut Bytes, at: u64, bytes: &[u8], field: &Field) -> Result<
     push_back(line, whole_of(bytes, field), field, octets)
 }
 
-/// Appends the lines of the fields of these bytes, before which so many bytes of the input come.
+/// Appends the lines of the fields of these bytes, with `at` bytes of the input before them.
 pub(crate) fn push_fields(
     line: &mut Bytes,
     at: u64,

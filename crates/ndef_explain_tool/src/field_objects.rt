@@ -38,8 +38,8 @@ fn push_meaning_member(
     push_said(line, text.as_slice())
 }
 
-/// Appends the object of a field with these octets, of which a number has `whole`, before which so many bytes of the
-/// input come.
+/// Appends the object of a field with these octets, of which a number has `whole`, with `at` bytes of the input before
+/// them.
 fn push_field_members(
     alloc: Global,
     line: &mut Bytes,
@@ -87,7 +87,7 @@ fn push_field_object(
     )
 }
 
-/// Appends the array of the fields of these bytes, before which so many bytes of the input come.
+/// Appends the array of the fields of these bytes, with `at` bytes of the input before them.
 pub(crate) fn push_fields_array(
     alloc: Global,
     line: &mut Bytes,

@@ -70,7 +70,7 @@ fn separator_in(text: &[u8]) -> Option<usize>
     text.iter().position(|byte| is_separator(*byte))
 }
 
-/// The first word, and what stands behind the separator that ends it, if there is one.
+/// The first word, and what stands after the separator that ends it, if there is one.
 fn cut_word(text: &[u8]) -> (&[u8], Option<&[u8]>)
     ensures split { words_of text.now
         ≡ result.0.now ∷ option_map_or (λ rest. words_of rest.now) result.1 [] }
@@ -94,14 +94,14 @@ fn push_words(digits: &mut Bytes, text: &[u8]) -> Result<(), NoMemory>
     digits.extend(without_prefix(word))
 }
 
-/// How many digits the place has with which a line of a dump begins.
+/// The number of digits of the place with which a line of a dump begins.
 fn place_length(line: &[u8]) -> usize
     ensures { result ≡ place_length line.now }
 {
     line.iter().take_while(|byte| is_digit(**byte)).count()
 }
 
-/// What stands behind the place of a line.
+/// What stands after the place of a line.
 fn behind_place(line: &[u8]) -> &[u8]
     ensures { result.now ≡ behind_place line.now }
 {
@@ -245,7 +245,7 @@ fn decode_digits(alloc: Global, text: &[u8]) -> Result<Vec<u8>, Unread>
     }
 }
 
-/// The bytes for which a text stands. A line without a place and a colon is told before anything else.
+/// The bytes for which a text stands. A line without a place and a colon is reported before anything else.
 pub(crate) fn decode(alloc: Global, text: &[u8]) -> Result<Vec<u8>, Unread>
     ensures octets { StandsFor text.now (bytes_of result) }
     ensures room { IfErr result FitsUnread }

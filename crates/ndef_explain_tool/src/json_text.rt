@@ -23,7 +23,7 @@ fn digit_of(number: u8) -> u8
     }
 }
 
-/// The letter that stands for a byte behind a backslash; 0 where there is none.
+/// The letter that stands for a byte after a backslash; 0 where there is none.
 fn letter_of(byte: u8) -> u8
     ensures { result ≡ escape_letter byte }
 {
@@ -72,7 +72,7 @@ pub(crate) fn push_comma(line: &mut Bytes, later: bool) -> Result<(), NoMemory>
     if later { line.extend(b",") } else { Ok(()) }
 }
 
-/// Appends the name of a member and the colon behind it, after a comma if other members come before.
+/// Appends the name of a member and the colon after it, after a comma if other members come before.
 pub(crate) fn push_member_start(line: &mut Bytes, later: bool, name: &[u8]) -> Result<(), NoMemory>
     ensures { OnOk result (line.new ≡ line.old ++ member_start later name.now) }
 {

@@ -1,5 +1,4 @@
-//! What the program `ndef-explain` does: it tells of each byte of an input in which field it stands, and
-//! what the field says.
+//! What the program `ndef-explain` does: it says in which field each byte of an input stands, and what the field says.
 #![tactic(auto)]
 
 mod cells;

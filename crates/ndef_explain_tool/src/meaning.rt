@@ -88,7 +88,8 @@ fn number_of(octets: &[u8]) -> u32
     }
 }
 
-/// How many octets a number of this name has, in a record with this header octet (NDEF 1.0, SR).
+/// The number of octets of a number of this name, in a record with this header octet (NDEF 1.0,
+/// SR).
 fn whole_length(name: FieldName, header: u8) -> usize
     ensures { result ≡ whole_length name header }
 {
@@ -110,7 +111,7 @@ fn octet_at(bytes: &[u8], at: usize) -> u8
     }
 }
 
-/// How many octets a number has that is this field of these bytes.
+/// The number of octets of a number that is this field of these bytes.
 pub(crate) fn whole_of(bytes: &[u8], field: &Field) -> usize
     ensures { result ≡ whole_of bytes.now field.now }
 {
@@ -176,7 +177,7 @@ fn push_status(line: &mut Bytes, status: u8) -> Result<(), NoMemory>
     push_number(line, u64::from(status % 64))
 }
 
-/// Appends how many octets of a number there are, where some are missing.
+/// Appends the number of octets of a number that are there, where some are missing.
 fn push_cut(line: &mut Bytes, count: usize, whole: usize) -> Result<(), NoMemory>
     ensures { OnOk result (line.new ≡ line.old ++ cut_text count whole) }
 {
@@ -187,7 +188,7 @@ fn push_cut(line: &mut Bytes, count: usize, whole: usize) -> Result<(), NoMemory
     line.extend(b" octets")
 }
 
-/// Appends a number of so many octets, or how many of them there are.
+/// Appends a number of `whole` octets, or the number of those that are there.
 fn push_number_text(line: &mut Bytes, whole: usize, octets: &[u8]) -> Result<(), NoMemory>
     ensures { OnOk result (line.new ≡ line.old ++ number_text whole octets.now) }
 {
@@ -209,7 +210,7 @@ fn push_reserved(line: &mut Bytes, bits: u8) -> Result<(), NoMemory>
     line.extend(&digits_of(bits))
 }
 
-/// Appends the value of the lower bits of an octet, one of so many, and the others that are set.
+/// Appends the value of the lower bits of an octet, one of `values`, and the others that are set.
 fn push_bits(line: &mut Bytes, values: u8, octet: u8) -> Result<(), NoMemory>
     requires { 0 < values }
     ensures { OnOk result (line.new ≡ line.old ++ bits_text values octet) }

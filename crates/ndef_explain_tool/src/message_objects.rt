@@ -141,7 +141,7 @@ fn push_octet(alloc: Global, line: &mut Bytes, byte: Option<RefusedByte>) -> Res
     }
 }
 
-/// Appends the object of a refusal behind so many bytes.
+/// Appends the object of a refusal after `at` bytes.
 fn push_refusal(
     alloc: Global,
     line: &mut Bytes,
@@ -182,7 +182,7 @@ fn push_refused_back(
     Ok(())
 }
 
-/// The fields of a front of a message, before which so many bytes of the input come.
+/// The fields of a front of a message, with `at` bytes of the input before it.
 fn fields_of_front(at: u64, front: &[u8]) -> Fields<'_>
     requires front { IsMessageFront front.now }
     requires fits { at + length front.now < 2 ^ 64 }

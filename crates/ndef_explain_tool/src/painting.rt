@@ -24,7 +24,7 @@ fn is_heading(line: &[u8]) -> bool
     line.starts_with(b"message ") || line.starts_with(b"file ")
 }
 
-/// Whether the line of a place is that of a refused byte: it has a caret behind the octets.
+/// Whether the line of a place is that of a refused byte: it has a caret after the octets.
 fn is_refused_byte(line: &[u8]) -> bool
     ensures { result ≡ is_refused_byte line.now }
 {
@@ -57,7 +57,8 @@ fn ink_of(line: &[u8]) -> Ink
     }
 }
 
-/// Appends a text in this rendition, and the usual one behind it (ECMA-48, select graphic rendition).
+/// Appends a text in this rendition, and the usual one after it (ECMA-48, select graphic
+/// rendition).
 fn push_rendered(out: &mut Bytes, rendition: &[u8], text: &[u8]) -> Result<(), NoMemory>
     ensures { OnOk result (out.new ≡ out.old ++ rendered rendition.now text.now) }
 {

@@ -10,7 +10,7 @@ use ndef_tool::push_number;
 use ndef_value::{Bytes, NoMemory};
 use std::alloc::Global;
 
-/// Appends the line of a joined payload: the number of its record, and how many bytes it has.
+/// Appends the line of a joined payload: the number of its record, and its number of bytes.
 fn push_payload_head(line: &mut Bytes, number: u64, bytes: u64) -> Result<(), NoMemory>
     ensures { OnOk result (line.new ≡ line.old ++ payload_head number bytes) }
 {

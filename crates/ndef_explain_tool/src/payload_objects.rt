@@ -22,7 +22,7 @@ fn fields_of(kind: Kind, payload: &[u8]) -> Fields<'_>
     payload_fields(kind, payload)
 }
 
-/// Appends the object of a payload: its fields, how many bytes it has, and the number of its record.
+/// Appends the object of a payload: its fields, its number of bytes, and the number of its record.
 fn push_payload_members(
     alloc: Global,
     line: &mut Bytes,

@@ -28,7 +28,7 @@ fn push_byte_line(
     line.extend(b"\n")
 }
 
-/// Appends the line of the refused byte of these bytes, before which so many bytes of the input come;
+/// Appends the line of the refused byte of these bytes, with `at` bytes of the input before them;
 /// nothing where the input has ended.
 fn push_refused_byte(
     line: &mut Bytes,
@@ -46,7 +46,7 @@ fn push_refused_byte(
     push_byte_line(line, at, refusal.at, bytes[place], byte)
 }
 
-/// Appends the line of a refusal behind so many bytes, and what it means.
+/// Appends the line of a refusal after `at` bytes, and what it means.
 fn push_reason(line: &mut Bytes, at: u64, refusal: Refusal) -> Result<(), NoMemory>
     requires { at + refusal.at < 2 ^ 64 }
     ensures { OnOk result (line.new ≡ line.old ++ reason_lines at refusal) }
@@ -71,7 +71,7 @@ fn push_before(line: &mut Bytes, at: u64, front: &[u8]) -> Result<(), NoMemory>
     Ok(())
 }
 
-/// Appends the lines of a refusal, behind so many bytes, with these bytes left.
+/// Appends the lines of a refusal, after `at` bytes, with these bytes left.
 pub(crate) fn push_refused_lines(
     line: &mut Bytes,
     at: u64,

@@ -39,7 +39,7 @@ fn usage() -> &'static [u8]
     USAGE
 }
 
-/// What is printed where memory is wanting.
+/// What is printed where memory runs out.
 fn memory_text(json: bool) -> &'static [u8]
     ensures { result.now ≡ memory_text json }
 {
@@ -71,7 +71,7 @@ fn is_in_color(color: Color, takes_color: bool) -> bool
     }
 }
 
-/// How inputs are told.
+/// How inputs are explained.
 fn manner_of(choice: Choice, takes_color: bool, named: bool) -> Manner
     ensures { result ≡ manner_of choice takes_color named }
 {
@@ -120,7 +120,7 @@ fn tell_next<K: Sink>(
     }
 }
 
-/// Reads and tells the inputs of these names, one after another.
+/// Reads and explains the inputs of these names, one after another.
 fn tell_all<I: Inputs, K: Sink>(
     alloc: Global,
     manner: &Manner,
@@ -142,7 +142,7 @@ fn tell_all<I: Inputs, K: Sink>(
     status
 }
 
-/// Tells the inputs for which the words ask.
+/// Explains the inputs for which the words ask.
 fn run_for<I: Inputs, K: Sink>(
     alloc: Global,
     asked: &Asked<'_>,

@@ -17,7 +17,7 @@ use ndef_tool::{Action, Ending, ending_line, push_number};
 use ndef_value::{Bytes, Limits, NoMemory};
 use std::alloc::Global;
 
-/// How inputs are told.
+/// How inputs are explained.
 #[derive(Clone, Copy, Debug)]
 pub(crate) struct Manner {
     pub(crate) limits: Limits,
@@ -165,7 +165,7 @@ fn tell_octets(
     }
 }
 
-/// Lines behind the name of the input, where inputs are named, in colour or not.
+/// Lines after the name of the input, where inputs are named, in colour or not.
 fn sheet_of(alloc: Global, manner: &Manner, name: &str, body: &[u8]) -> Result<Bytes, NoMemory>
     ensures { IfOk result (λ text. text ≡ sheet manner.now false name.now body.now) }
 {

@@ -15,7 +15,7 @@ use Rattle.ndef_fields.specs.Messages.{piece_parts, AreParts, AreNestedParts, Is
 use Rattle.ndef_fields.specs.Cursors.{parts_along, inner_own, inner_in, outer_own, outer_in, AreOuter, HasPieceContents}
 use Rattle.ndef_fields.proofs.Joining.{leaf_joined, piece_joined}
 
--- the header octet tells the form
+-- the header octet gives the form
 form_told : (p : Piece) (short : Bool) (front rest : List ℕ) → SpellsPiece p short front → is_set 4 (slice_index (front ++ rest) 0) ≡ short
 form_told p short front rest s =
     ap (λ x. is_set 4 (slice_index (x ++ rest) 0)) s.spelled ∙ (header_parts (fields p short) s.piece.tnf).short
@@ -88,7 +88,7 @@ longer w short rest bytes i =
 some_there : (w : Piece) (short : Bool) (rest bytes : List ℕ) → IsSplit w short rest bytes → 0 < length bytes
 some_there w short rest bytes i = let n = longer w short rest bytes i in omega (arith, n)
 
--- what is left behind the piece that is shown
+-- what is left after the piece that is shown
 first_parts : (depth : ℕ) (own : Piece → List Part) (p : Piece) (later : List Piece) (bytes : List ℕ) (f : First p later bytes) (w : Piece) (short : Bool) (rest : List ℕ) → IsSplit w short rest bytes
     → parts_along depth own (pieces_of bytes) bytes ≡ piece_parts depth w short (own w) ++ parts_along depth own (pieces_of rest) rest
 first_parts depth own p later bytes f w short rest i =

@@ -1,4 +1,4 @@
--- The field of a byte, told by the bytes before it.
+-- The field of a byte, determined by the bytes before it.
 use Rattle.std.proofs.Common.{◌≡◌, ◌≢◌, ℕ, ◌+◌, ◌-◌, inl, inr, refl, sym, ◌∙◌, ap, arith, List, [], ◌∷◌, ◌++◌, length, take, drop, take_at, drop_at, append_assoc, length-append}
 use Rattle.std.proofs.lemmas.Bool.{cases_lt}
 use Rattle.ndef_format.specs.Records.{HeadFields, Piece, Run, octets, tnf_of, payload_length_octets, id_length_octets}
@@ -18,7 +18,7 @@ use Rattle.ndef_fields.specs.Befores.{IsFieldBefore, body_given, content_given}
 use Rattle.ndef_fields.specs.Refusals.{IsBehindPieces, IsNameOf, lengths_width}
 use Rattle.ndef_fields.proofs.Proper.{not_whole, tells}
 
--- behind whole pieces lies what has come of one more
+-- what follows whole pieces is what has come of one more
 pub left_is : HeadsAreApart → (limits : LimitValues) (bytes rest : List ℕ) (runs : List Run) (begun : List Piece) (field : Field)
     → IsBehindPieces bytes rest → IsAt limits bytes runs begun field → rest ≡ octets_so_far field
 left_is apart limits bytes rest runs begun field b a =
@@ -48,7 +48,7 @@ payload_named AtEnd p h = absurd h
 
 -- ---- in payloads
 
--- what the octets of a piece tell of its payload
+-- what the octets of a piece say of its payload
 record Given (head : HeadFields) (kind content : List ℕ) (h k : ℕ) (tail : List ℕ) : Type 0 where
   chunked : is_set 5 h ≡ head.chunked
   tnf : tnf_number h ≡ head.tnf

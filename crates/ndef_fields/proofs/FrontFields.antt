@@ -35,7 +35,7 @@ use Rattle.ndef_fields.proofs.Payloads.{contents_joined}
 pub joined_both : (xs ys : List Part) → joined (xs ++ ys) ≡ joined xs ++ joined ys
 joined_both = flat_map-append (λ part. part.octets)
 
--- what stands behind some parts is placed behind their octets
+-- what stands after some parts is placed after their octets
 pub placed_both : (at : ℕ) (xs ys : List Part) → placed at (xs ++ ys) ≡ placed at xs ++ placed (at + length (joined xs)) ys
 placed_both at [] ys = let e : at ≡ at + 0 = omega arith in ap (λ n. placed n ys) e
 placed_both at (x ∷ xs) ys =
@@ -43,7 +43,7 @@ placed_both at (x ∷ xs) ys =
     let e : at + length x.octets + length (joined xs) ≡ at + length (joined (x ∷ xs)) = omega (arith, n) in
     ap (λ fs. field_at at x ∷ fs) (placed_both (at + length x.octets) xs ys ∙ ap (λ k. placed (at + length x.octets) xs ++ placed k ys) e)
 
--- ---- a cursor with no pieces behind those of a nested message
+-- ---- a cursor with no pieces after those of a nested message
 
 pub no_outer : AreOuter []
 no_outer = record { pieces = []; spelled = refl; contents = tt }
@@ -148,7 +148,7 @@ within s kind head c h has =
 -- ---- both
 
 module _ (at end : ℕ) (parts : List Part) (table : Table) (bytes rest : List ℕ) (w : AreWholeBefore bytes rest) where
-  -- how many octets come before the front of the last piece
+  -- the number of octets before the front of the last piece
   pub before_last : at + length (joined parts) + length bytes ≡ end → at + length (joined (parts ++ inner_in table w.front)) + length rest ≡ end
   before_last e =
       let n = ap length (joined_both parts (inner_in table w.front)) in

@@ -33,7 +33,7 @@ use Rattle.ndef_fields.proofs.Uniqueness.{outer_told, parts_spell, told_along}
 
 -- ---- whole pieces
 
--- a payload that is told holds whole pieces
+-- a payload whose parts are given holds whole pieces
 kept_by : (table : Option Table) (kind : Kind) (s : List ℕ) (parts : List Part) → ArePartsBy table kind s parts → HoldsPiecesBy table s
 kept_by (Some table) kind s parts (inner, e, (ps, a)) = (ps, parts_spell 1 (IsInnerOwn table) ps (drop (version_length table) s) inner a)
 kept_by None kind s parts h = tt
@@ -129,7 +129,7 @@ some_before bytes parts f =
 
 -- ---- there is one list
 
--- the whole pieces at the front of some bytes, and what lies behind them
+-- the whole pieces at the front of some bytes, and what follows them
 pub record SameWhole (ps qs : List Piece) (x y r t : List ℕ) : Type 0 where
   pub pieces : ps ≡ qs
   pub front : x ≡ y
@@ -231,7 +231,7 @@ front_fields_are_slices bytes told a =
 
 -- ---- payloads
 
--- where all bytes are those of whole pieces, nothing lies behind them
+-- where all bytes are those of whole pieces, nothing follows them
 no_rest : (ps : List Piece) (bytes rest : List ℕ) → SpellsPieces ps bytes → (w : AreWholeBefore bytes rest) → SameWhole w.pieces ps w.front bytes rest []
 no_rest ps bytes rest s w =
     same_pieces w.pieces ps w.front bytes rest [] w.spelled s (sym w.split ∙ sym (append-nil bytes)) w.ended empty_begins

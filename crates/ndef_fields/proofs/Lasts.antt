@@ -64,7 +64,7 @@ nothing_staged depth (stages.Whole name) = refl
 nothing_staged depth stages.Mark = refl
 nothing_staged depth (stages.Inside left name next last) = nothing_inside depth left name next last
 
--- behind a cut
+-- after a cut
 pub ends_later : (stage : Stage) (s : List ℕ) (cut : Cut) → IsFieldCut stage s cut → (depth : ℕ) (name : FieldName)
     → EndsIn (stage_parts depth cut.stage (drop cut.length s)) name → EndsIn (stage_parts depth stage s) name
 ends_later stage s cut c depth name h =

@@ -23,7 +23,7 @@ use Rattle.ndef_fields.proofs.Joining.{leaf_joined, leaf_staged, told_joined}
 
 -- ---- whole payloads
 
--- nothing behind some parts
+-- nothing after some parts
 none_behind : (parts : List Part) → parts ≡ parts ++ inner_in SmartPoster []
 none_behind parts = sym (append-nil parts) ∙ ap (λ x. parts ++ x) (sym (nothing_inside SmartPoster))
 

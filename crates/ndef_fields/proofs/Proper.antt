@@ -19,7 +19,7 @@ use Rattle.ndef_fields.specs.Refusals.{IsNameOf, IsByLengths, id_given, id_lengt
 
 -- ---- no piece begins there
 
--- a head, and fewer octets than it tells of
+-- a head, and fewer octets than it announces
 fewer_than_body : HeadsAreApart → (f : HeadFields) (s : List ℕ) → CanBeSpelled f → length s < f.kind_length + (unwrap_or f.id_length 0 + f.payload_length) → ¬ BeginWithPiece (octets f ++ s)
 fewer_than_body apart f s c n w =
     let i = w.split in
@@ -65,7 +65,7 @@ not_whole apart spot (InPayload head name id content) p =
     fewer_than_body apart head (name ++ (id ++ content)) p.0.stands.spelled (omega (arith, k, i, n, a, b))
 not_whole apart spot AtEnd p = empty_begins
 
--- ---- its field is told by lengths
+-- ---- lengths determine its field
 
 id_read : (short : Bool) (n : ℕ) (o : Option ℕ) (z : List ℕ)
     → (if is_some o then slice_index ((payload_length_octets short n ++ id_length_octets o) ++ z) (if short then 1 else 4) else 0) ≡ unwrap_or o 0
@@ -74,7 +74,7 @@ id_read true n (Some d) z = refl
 id_read false n None z = refl
 id_read false n (Some d) z = refl
 
--- what the octets behind a head's first two tell
+-- what the octets after a head's first two say
 pub record Tells (f : HeadFields) (s tail : List ℕ) (h k : ℕ) : Type 0 where
   pub long : length tail ≡ width h + id_length_width h + length s
   pub kind_is : k ≡ f.kind_length
@@ -146,7 +146,7 @@ named_first spot (InId head kind id) p e = absurd (let n = ap length e in omega 
 named_first spot (InPayload head kind id content) p e = absurd (let n = ap length e in omega (arith, n))
 named_first spot AtEnd p e = refl
 
--- ---- behind whole pieces
+-- ---- after whole pieces
 
 -- the bytes, and what is left of them, are whole pieces before the same octets
 abbrev pub KeepsBehind : List ℕ → List ℕ → Type 0

@@ -1,4 +1,4 @@
--- The field of a byte, told by the bytes before it.
+-- The field of a byte, determined by the bytes before it.
 use Rattle.std.specs.Prelude.{◌≡◌, ℕ, ◌+◌, List, [], ◌∷◌, ◌++◌, length, drop}
 use Rattle.ndef_format.specs.Records.{Piece, Run, tnf_of}
 use Rattle.ndef_format.specs.Limits.{LimitValues}
@@ -8,7 +8,7 @@ use Rattle.ndef_fields.specs.declared.before.Before.{Before}
 use Rattle.ndef_fields.specs.declared.before.Before.TheVariants.{Head, Payload}
 use Rattle.ndef_fields.specs.Refusals.{IsNameOf, id_given, lengths_width}
 
--- NDEF 1.0, record layout: what follows the head of a piece, of which these are the octets behind the first two
+-- NDEF 1.0, record layout: what follows the head of a piece, of which these are the octets after the first two
 abbrev pub body_given : (header : ℕ) (tail : List ℕ) → List ℕ
 body_given header tail = drop (lengths_width header) tail
 
@@ -24,7 +24,7 @@ IsFieldBefore (InPayload head kind id content) (Payload p) =
 IsFieldBefore field (Head name) = IsNameOf field name
 IsFieldBefore field (Payload p) = ⊥
 
--- NDEF 1.0, messages: the byte behind these stands in this field, whatever the limits and the message that they begin
+-- NDEF 1.0, messages: the byte after these stands in this field, whatever the limits and the message that they begin
 abbrev pub IsBefore : List ℕ → Before → Type 0
 IsBefore bytes before = (limits : LimitValues) (runs : List Run) (begun : List Piece) (field : Field)
     → IsAt limits bytes runs begun field → IsFieldBefore field before

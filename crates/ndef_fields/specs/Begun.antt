@@ -17,7 +17,7 @@ pub record IsLastCursor (at : ℕ) (table : Table) (s : List ℕ) (cursor : Curs
   pub parts : parts_left cursor ≡ front_parts 1 s (inner_come table s)
   pub sound : IsSoundCursor cursor
 
--- so many octets are left, and then those of the nested message, up to the end
+-- the octets that are left, and then those of the nested message, up to the end
 abbrev pub WithinEnd : (at end : ℕ) → Left → Contents → Type 0
 WithinEnd at end left contents = at + length (joined (left_parts 0 left)) + length contents.inner.now ≡ end
 

@@ -19,7 +19,7 @@ use Rattle.ndef_fields.specs.Refusals.{AreWholeBefore, id_given, id_length_width
 
 -- ---- a front of a piece
 
--- NDEF 1.0, PAYLOAD_LENGTH: its octets that have come of a piece that begins with these octets
+-- NDEF 1.0, PAYLOAD_LENGTH: those of its octets that have come, of a piece that begins with these octets
 abbrev pub payload_length_come : List ℕ → List ℕ
 payload_length_come s = take (width (slice_index s 0)) (drop 2 s)
 
@@ -27,16 +27,16 @@ payload_length_come s = take (width (slice_index s 0)) (drop 2 s)
 abbrev pub id_length_come : List ℕ → List ℕ
 id_length_come s = take (id_length_width (slice_index s 0)) (drop (width (slice_index s 0)) (drop 2 s))
 
--- NDEF 1.0, TYPE: its octets that have come, behind the lengths
+-- NDEF 1.0, TYPE: its octets that have come, after the lengths
 abbrev pub kind_come : List ℕ → List ℕ
 kind_come s = take (slice_index s 1) (body_given (slice_index s 0) (drop 2 s))
 
--- NDEF 1.0, ID: its octets that have come, behind TYPE
+-- NDEF 1.0, ID: its octets that have come, after TYPE
 abbrev pub id_come : List ℕ → List ℕ
 id_come s =
     take (id_given (slice_index s 0) (drop 2 s)) (drop (slice_index s 1) (body_given (slice_index s 0) (drop 2 s)))
 
--- NDEF 1.0, PAYLOAD: its octets that have come, behind ID
+-- NDEF 1.0, PAYLOAD: its octets that have come, after ID
 abbrev pub content_come : List ℕ → List ℕ
 content_come s = content_given (slice_index s 0) (slice_index s 1) (drop 2 s)
 

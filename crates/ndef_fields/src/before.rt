@@ -1,4 +1,4 @@
-//! The field of a byte, told by the bytes before it.
+//! The field of a byte, determined by the bytes before it.
 ghost use Rattle.std.specs.Prelude.{◌≡◌, drop, length, take};
 ghost use Rattle.ndef_format.specs.Records.{tnf_of};
 ghost use Rattle.ndef_format.specs.HeadReasons.{is_set, tnf_number};
@@ -21,7 +21,7 @@ pub(crate) struct PayloadBefore<'a> {
     pub tnf: Tnf,
     /// TYPE of its piece.
     pub kind: &'a [u8],
-    /// How many octets of the payload come before the byte.
+    /// The number of octets of the payload before the byte.
     pub count: usize,
 }
 
@@ -34,7 +34,7 @@ pub(crate) enum Before<'a> {
     Payload(PayloadBefore<'a>),
 }
 
-/// What is left behind the first `count` octets, nothing where there are fewer.
+/// What is left after the first `count` octets, nothing where there are fewer.
 pub(crate) fn behind(octets: &[u8], count: usize) -> &[u8]
     ensures { result.now ≡ drop count octets.now }
 {
@@ -48,7 +48,7 @@ pub(crate) fn front_of(octets: &[u8], count: usize) -> &[u8]
     octets.split_at(count.min(octets.len())).0
 }
 
-/// The payload that these octets behind a header octet and TYPE_LENGTH reach into.
+/// The payload that these octets after a header octet and TYPE_LENGTH reach into.
 fn payload_before(header: u8, kind_length: u8, tail: &[u8]) -> PayloadBefore<'_>
     ensures chunked { result.chunked ≡ is_set 5 header }
     ensures tnf { result.tnf ≡ tnf_of (tnf_number header) }
@@ -66,7 +66,7 @@ fn payload_before(header: u8, kind_length: u8, tail: &[u8]) -> PayloadBefore<'_>
     }
 }
 
-/// The field of the octet behind a header octet, TYPE_LENGTH and these octets of a piece.
+/// The field of the octet after a header octet, TYPE_LENGTH and these octets of a piece.
 fn before_by(header: u8, kind_length: u8, tail: &[u8]) -> Before<'_>
     ensures { IsBeforeBy header kind_length tail.now result }
 {
@@ -78,7 +78,8 @@ fn before_by(header: u8, kind_length: u8, tail: &[u8]) -> Before<'_>
     }
 }
 
-/// The field of the byte behind these, where they are a front of a message (NDEF 1.0, record layout).
+/// The field of the byte after these, where they are a front of a message (NDEF 1.0, record
+/// layout).
 pub(crate) fn next_field(bytes: &[u8]) -> Before<'_>
     ensures { IsBefore bytes.now result }
 {
@@ -97,8 +98,8 @@ pub(crate) fn before_last(bytes: &[u8]) -> Before<'_>
     next_field(front_of(bytes, bytes.len().saturating_sub(1)))
 }
 
-/// The field of the byte behind these, where they are a front of a message (NDEF 1.0, record layout).
-/// It says [`FieldName::Payload`] of each byte of a payload.
+/// The field of the byte after these, where they are a front of a message (NDEF 1.0, record
+/// layout). It says [`FieldName::Payload`] of each byte of a payload.
 pub fn next_name(bytes: &[u8]) -> FieldName
     ensures { NamesNext bytes.now result }
 {

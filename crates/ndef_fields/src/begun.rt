@@ -49,7 +49,7 @@ pub(crate) fn pieces_cursor(bytes: &[u8]) -> Cursor<'_>
     }
 }
 
-/// The fields of the front of a piece of a nested message, of which so many bytes come before it.
+/// The fields of the front of a piece of a nested message, with `at` bytes before it.
 fn last_cursor(at: usize, table: Table, octets: &[u8]) -> Cursor<'_>
     requires { at + length octets.now < 2 ^ 64 }
     ensures { IsLastCursor at table octets.now result }
@@ -107,7 +107,7 @@ fn kind_of(front: &PieceFront<'_>) -> Kind
     }
 }
 
-/// The fields of the front of a piece, of which so many bytes come before it.
+/// The fields of the front of a piece, with `at` bytes before it.
 pub(crate) fn begin_front(at: usize, octets: &[u8]) -> Begun<'_>
     requires { at + length octets.now < 2 ^ 64 }
     ensures { AreBegunAt at octets.now result }

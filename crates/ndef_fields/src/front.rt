@@ -30,7 +30,7 @@ pub(crate) struct PieceFront<'a> {
     pub header: u8,
     /// The fields before the payload.
     pub head: HeadOctets<'a>,
-    /// The octets of the payload, and those behind it.
+    /// The octets of the payload, and those after it.
     pub content: &'a [u8],
 }
 

@@ -8,7 +8,7 @@ use crate::left::id_width;
 use ndef_format::header::width;
 use ndef_piece::whole_piece;
 
-/// The bytes behind the whole pieces at the front.
+/// The bytes after the whole pieces at the front.
 pub(crate) fn behind_pieces(bytes: &[u8]) -> &[u8]
     ensures behind { IsBehindPieces bytes.now result.now }
     ensures whole { AreWholeBefore bytes.now result.now }
@@ -20,7 +20,7 @@ pub(crate) fn behind_pieces(bytes: &[u8]) -> &[u8]
     rest
 }
 
-/// ID_LENGTH behind PAYLOAD_LENGTH; 0 where there is none.
+/// ID_LENGTH after PAYLOAD_LENGTH; 0 where there is none.
 pub(crate) fn id_length_in(header: u8, tail: &[u8]) -> u8
     ensures { result ≡ id_given header tail.now }
 {
@@ -31,7 +31,7 @@ pub(crate) fn id_length_in(header: u8, tail: &[u8]) -> u8
     if at < tail.len() { tail[at] } else { 0 }
 }
 
-/// The field of the octet behind a header octet, TYPE_LENGTH and these octets of a piece.
+/// The field of the octet after a header octet, TYPE_LENGTH and these octets of a piece.
 pub(crate) fn name_by(header: u8, kind_length: u8, tail: &[u8]) -> FieldName
     ensures { IsByLengths header kind_length tail.now result }
 {

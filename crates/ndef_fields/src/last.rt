@@ -111,9 +111,9 @@ fn kind_before(payload: &PayloadBefore<'_>) -> Kind
     }
 }
 
-/// The field of the last of these bytes, where the others are a front of a message (NDEF 1.0, record layout;
-/// RTD Text 1.0, RTD URI 1.0, RTD Smart Poster 1.0 and Connection Handover 1.2). Given the bytes of an
-/// input up to a refused one and with it, it tells the field in which the refused byte stands.
+/// The field of the last of these bytes, where the others are a front of a message (NDEF 1.0, record layout; RTD Text
+/// 1.0, RTD URI 1.0, RTD Smart Poster 1.0 and Connection Handover 1.2). Given the bytes of an input up to and including
+/// a refused one, it gives the field in which the refused byte stands.
 ///
 /// A payload that comes in several pieces is one field of each.
 pub fn field_of_last(bytes: &[u8]) -> ByteField

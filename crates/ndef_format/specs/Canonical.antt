@@ -4,7 +4,7 @@ use Rattle.std.specs.List.{AllByRecursion, flat_map}
 use Rattle.ndef_format.specs.Messages.{Item, IsShaped}
 use Rattle.ndef_format.specs.Records.{AreOctets, code, Piece, octets, fields, body}
 
--- NDEF 1.0, record layout: the lengths that a piece can tell
+-- NDEF 1.0, record layout: the lengths that a piece can have
 pub record HasLengths (m : Item) : Type 0 where
   pub kind : length m.kind < 256
   pub id : length m.id < 256

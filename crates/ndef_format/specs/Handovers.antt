@@ -3,17 +3,17 @@ use Rattle.std.specs.Prelude.{ℕ, zero, suc, List, [], ◌∷◌, ◌≡◌, le
 use Rattle.ndef_format.specs.Records.{AreOctets}
 use Rattle.ndef_format.specs.Octets.{Counted, IsOctet, Octets}
 
--- n references, each behind its length, and then any octets
+-- n references, each after its length, and then any octets
 abbrev pub AreReferences : ℕ → List ℕ → Type 0
 AreReferences zero = AreOctets
 AreReferences (suc n) = Counted (AreReferences n)
 
--- Connection Handover 1.2, Alternative Carrier record: a count of auxiliary references, and so many of them
+-- Connection Handover 1.2, Alternative Carrier record: a count of auxiliary references, and that many of them
 abbrev pub AreAuxiliary : List ℕ → Type 0
 AreAuxiliary [] = ⊥
 AreAuxiliary (n ∷ s) = IsOctet n × AreReferences n s
 
--- Connection Handover 1.2, Alternative Carrier record: a power state, a reference behind its length, and auxiliary
+-- Connection Handover 1.2, Alternative Carrier record: a power state, a reference after its length, and auxiliary
 -- references
 abbrev pub IsAlternative : List ℕ → Type 0
 IsAlternative = Octets IsOctet 1 (Counted AreAuxiliary)
@@ -28,6 +28,6 @@ abbrev pub IsError : List ℕ → Type 0
 IsError [] = ⊥
 IsError (reason ∷ s) = IsOctet reason × IsErrorData reason s
 
--- Connection Handover 1.2, Handover Carrier record: a format, a type behind its length, and any octets
+-- Connection Handover 1.2, Handover Carrier record: a format, a type after its length, and any octets
 abbrev pub IsCarrier : List ℕ → Type 0
 IsCarrier = Octets IsOctet 1 (Counted AreOctets)

@@ -14,7 +14,7 @@ is_set k b = b / 2 ^ k % 2 == 1
 abbrev pub tnf_number : ℕ → ℕ
 tnf_number b = b % 8
 
--- NDEF 1.0, SR: how many octets PAYLOAD_LENGTH has
+-- NDEF 1.0, SR: the number of octets of PAYLOAD_LENGTH
 abbrev pub width : ℕ → ℕ
 width header = if is_set 4 header then 1 else 4
 
@@ -106,6 +106,6 @@ abbrev pub lowest : List (Reason × Bool) → Option Reason
 lowest [] = None
 lowest (c ∷ cs) = if c.1 then Some c.0 else lowest cs
 
--- why an octet behind these is refused, if it is
+-- why an octet after these is refused, or None
 abbrev pub reason_for : Spot → List ℕ → ℕ → Option Reason
 reason_for spot xs b = lowest (conditions spot xs b)

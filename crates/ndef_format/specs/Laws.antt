@@ -30,7 +30,7 @@ abbrev pub CanonicalSpells : Type 0
 CanonicalSpells = (profile : Profile) (m : List Item) → m ≢ [] → AllByRecursion IsItem m
     → SpellsBy profile (map (λ p. record { initial = p; later = [] }) (whole_pieces true m)) m (canonical m)
 
--- A message within the limits is at most as long as they tell.
+-- A message within the limits is at most as long as they allow.
 abbrev pub MessagesAreBounded : Type 0
 MessagesAreBounded = (limits : LimitValues) (runs : List Run) (m : List Item) (bytes : List ℕ)
     → SpellsBy limits.profile runs m bytes → IsWithin limits runs → length bytes ≤ greatest_length limits
@@ -91,7 +91,7 @@ abbrev pub OneRefusal : Sets → Conditions → Type 0
 OneRefusal set holds = (limits : LimitValues) (bytes : List ℕ) (refusal other : Refusal)
     → Refuses set holds limits bytes refusal → Refuses set holds limits bytes other → refusal ≡ other
 
--- What is refused, and why, follows from the bytes up to the refused one, whatever is behind it.
+-- What is refused, and why, follows from the bytes up to the refused one, whatever follows it.
 abbrev pub RefusalsAreLocal : Sets → Conditions → Type 0
 RefusalsAreLocal set holds = (limits : LimitValues) (bytes other : List ℕ) (refusal : Refusal)
     → refusal.at < length bytes → refusal.at < length other → take (refusal.at + 1) bytes ≡ take (refusal.at + 1) other

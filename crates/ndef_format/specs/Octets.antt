@@ -1,4 +1,4 @@
--- Fields of a payload: so many octets, or octets behind their length (RTD 1.0 and Connection Handover 1.2).
+-- Fields of a payload: a fixed number of octets, or octets after their length (RTD 1.0 and Connection Handover 1.2).
 use Rattle.std.specs.Prelude.{ℕ, ◌<◌, zero, suc, List, [], ◌∷◌, ◌≡◌, length}
 use Rattle.ndef_format.specs.Records.{AreOctets}
 
@@ -12,7 +12,7 @@ Octets passes zero set r = set r
 Octets passes (suc n) set [] = ⊥
 Octets passes (suc n) set (b ∷ r) = passes b × Octets passes n set r
 
--- a length octet, so many octets, and then a list that is in the set
+-- a length octet, that many octets, and then a list that is in the set
 abbrev pub Counted : (List ℕ → Type 0) → List ℕ → Type 0
 Counted set [] = ⊥
 Counted set (n ∷ s) = IsOctet n × Octets IsOctet n set s

@@ -36,7 +36,7 @@ pub data TextField : Type 0 where
   utf8_octet : List ℕ → TextField
   utf16_octet : List ℕ → TextField
 
--- RTD Text 1.0, syntax: the field of the octet behind these
+-- RTD Text 1.0, syntax: the field of the octet that follows these
 abbrev pub next_text_field : List ℕ → TextField
 next_text_field [] = status_octet
 next_text_field (status ∷ s) =

@@ -6,7 +6,7 @@ use Rattle.ndef_format.specs.declared.profile.Profile.{Profile}
 use Rattle.ndef_format.specs.declared.kind.Kind.{Kind}
 use Rattle.ndef_format.specs.declared.table.Table.{Table}
 
--- the payloads of each kind, of a message with so many records, for each profile
+-- the payloads of each kind, of a message with that number of records, for each profile
 abbrev pub Sets : Type 1
 Sets = Kind → ℕ → Profile → List ℕ → Type 0
 

@@ -45,7 +45,7 @@ pub record IsOpen (spot : Spot) (xs : List ℕ) : Type 0 where
 pub record Stands (spot : Spot) (p : Piece) : Type 0 where
   -- MB in the first piece of the message and in no other
   pub begins : p.first ≡ spot.first
-  -- an initial piece has the shape of its record, but for a payload that goes on
+  -- an initial piece has the shape of its record, except for a payload that continues
   pub initial : spot.inside ≡ false
       → IsInitial spot.profile p
       × HasShape (tnf_of p.tnf) (length p.kind) (length (unwrap_or p.id [])) (length p.payload)
@@ -101,7 +101,7 @@ abbrev pub is_between : (begun : List Piece) → Bool
 is_between [] = true
 is_between (p ∷ begun) = false
 
--- NDEF 1.0, messages and chunked payloads: where a piece stands, behind whole runs and the pieces of an open one
+-- NDEF 1.0, messages and chunked payloads: where a piece stands, after whole runs and the pieces of an open one
 abbrev pub spot_after : LimitValues → List Run → (begun : List Piece) → Spot
 spot_after limits runs begun = record {
   profile = limits.profile;
@@ -112,18 +112,18 @@ spot_after limits runs begun = record {
   room = limits.payload - length (payload_of begun);
 }
 
--- each of these pieces stands behind those before it, behind these runs and the first pieces of an open one
+-- each of these pieces stands after those before it, after these runs and the first pieces of an open one
 abbrev pub PiecesStand : LimitValues → List Run → (begun ps : List Piece) → Type 0
 PiecesStand limits runs begun [] = ⊤
 PiecesStand limits runs begun (p ∷ ps) =
     Stands (spot_after limits runs begun) p × PiecesStand limits runs (begun ++ p ∷ []) ps
 
--- each piece of these runs stands behind those before it, behind the runs before them
+-- each piece of these runs stands after those before it, after the runs before them
 abbrev pub RunsStand : LimitValues → (before runs : List Run) → Type 0
 RunsStand limits before [] = ⊤
 RunsStand limits before (r ∷ runs) = PiecesStand limits before [] (pieces r) × RunsStand limits (before ++ r ∷ []) runs
 
--- NDEF 1.0, messages and chunked payloads: whole runs and the pieces of an open one, each of which stands behind those
+-- NDEF 1.0, messages and chunked payloads: whole runs and the pieces of an open one, each of which stands after those
 -- before it
 pub record AreBefore (limits : LimitValues) (runs : List Run) (begun : List Piece) : Type 0 where
   -- CF is clear in the last piece of a run, and set in the others

@@ -1,4 +1,4 @@
--- The reasons for a refusal: their numbers, their names, and which of those that hold is told.
+-- The reasons for a refusal: their numbers, their names, and which of those that hold is given.
 use Rattle.std.specs.Prelude.{ℕ, List, codes, ◌≡◌, ◌≤◌, ◌⊎◌}
 use Rattle.ndef_format.specs.declared.reason.Reason.{Reason}
 use Rattle.ndef_format.specs.declared.reason.Reason.TheVariants.{ReservedTnf, BeginMissing, BeginAgain, UnchangedOutside, ChangedInside, IdInside, ChunkAtEnd, ChunkOfEmpty, TooManyPieces, TooManyRecords, TypeNotEmpty, TypeEmpty, EmptyNotEmpty, PayloadTooLarge, TextBit, Language, Utf8, Utf16, UriCode, UriMissing, UriAgain, Version, CollisionMissing, DoesNotFit, EndOfInput}

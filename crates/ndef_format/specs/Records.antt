@@ -46,7 +46,7 @@ HasShape _ kind id payload = 0 < kind
 
 -- ---- heads
 
--- NDEF 1.0, record layout: what the octets before TYPE tell
+-- NDEF 1.0, record layout: what the octets before TYPE say
 pub record HeadFields : Type 0 where
   pub first : Bool
   pub last : Bool
@@ -104,7 +104,7 @@ pub record Piece : Type 0 where
 abbrev pub AreOctets : List ℕ → Type 0
 AreOctets = AllByRecursion (λ b. b < 256)
 
--- its parts are octets, as many as its head can tell
+-- its parts are octets, as many as its head can count
 pub record IsPiece (p : Piece) : Type 0 where
   pub tnf : p.tnf < 8
   pub kind : AreOctets p.kind

@@ -14,7 +14,7 @@ use Rattle.ndef_format.specs.declared.reason.Reason.TheVariants.{DoesNotFit, End
 use Rattle.ndef_format.specs.declared.spot.Spot.{Spot}
 use Rattle.ndef_format.specs.declared.refusal.Refusal.{Refusal}
 
--- So many bytes are viable and no message, and one more byte aren't viable, or there is none.
+-- The first `place` bytes are viable and no message, and with one more byte they aren't viable, or there is none.
 pub record IsPlace (set : Sets) (limits : LimitValues) (bytes : List ℕ) (place : ℕ) : Type 0 where
   pub within : place ≤ length bytes
   pub viable : IsViable set limits (take place bytes)
@@ -32,7 +32,7 @@ IsReasonOf holds limits spot m (InPayload head name id content) b reason =
     IsLowest (holds (kind_of item.tnf item.kind) limits.records limits.profile item.payload b) reason
 IsReasonOf holds limits spot m AtEnd b reason = ⊥
 
--- why it is, behind these runs and the pieces of an open one
+-- why it is, after these runs and the pieces of an open one
 abbrev pub IsReason : Conditions → LimitValues → List Run → (begun : List Piece) → Field → ℕ → Reason → Type 0
 IsReason holds limits runs begun = IsReasonOf holds limits (spot_after limits runs begun) (begun_record begun)
 

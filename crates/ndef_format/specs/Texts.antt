@@ -46,11 +46,11 @@ IsUtf16 s = IsSpelled (unmarked s).0 (unmarked s).1
 abbrev pub IsReservedSet : ℕ → Type 0
 IsReservedSet status = 64 ≤ status % 128
 
--- RTD Text 1.0, status octet: bit 7 tells UTF-16
+-- RTD Text 1.0, status octet: bit 7 says UTF-16
 abbrev pub is_wide : ℕ → Bool
 is_wide status = nat_le 128 status
 
--- RTD Text 1.0, status octet: bits 5 to 0 tell the length of the language code
+-- RTD Text 1.0, status octet: bits 5 to 0 give the length of the language code
 abbrev pub code_length : ℕ → ℕ
 code_length status = status % 64
 

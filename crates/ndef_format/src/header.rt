@@ -35,7 +35,7 @@ pub fn tnf_number(header: u8) -> u8
     header & 7
 }
 
-/// How many octets PAYLOAD_LENGTH has (NDEF 1.0, PAYLOAD_LENGTH): 1 with SR, else 4.
+/// The number of octets of PAYLOAD_LENGTH (NDEF 1.0, PAYLOAD_LENGTH): 1 with SR, else 4.
 #[inline(always)]
 pub fn width(header: u8) -> usize
     ensures { result ≡ width header }

@@ -1,12 +1,12 @@
-//! The format of NDEF messages (NFC Forum, NDEF 1.0): the types of what is told of bytes, and in `specs/` what
-//! messages, payloads and refusals are.
+//! The format of NDEF messages (NFC Forum, NDEF 1.0): the types that describe bytes, and in `specs/` what messages,
+//! payloads and refusals are.
 //!
 //! Where to look:
 //!
 //! - `specs/Lib.antt`: the definitions, in the order in which they can be read.
 //! - `tnf.rt`, `kind.rt`, `table.rt`: type name formats, kinds of payloads, nested messages.
 //! - `header.rt`: the bits of the header octet of a piece.
-//! - `profile.rt`: what a reader makes of reserved values. `spot.rt`: where a piece stands.
+//! - `profile.rt`: how a reader takes reserved values. `spot.rt`: where a piece stands.
 //! - `reason.rt`, `refusal.rt`: why and where bytes are refused. `sentence.rt`, `specs/Sentences.antt`: what each
 //!   reason means.
 #![tactic(auto)]

@@ -5,7 +5,7 @@ use crate::Profile;
 /// limits. No piece is both the first of its message and inside a run.
 #[derive(Clone, Copy, Debug, PartialEq, Eq, Hash)]
 pub struct Spot {
-    /// What is made of reserved values.
+    /// How reserved values are read.
     pub profile: Profile,
     /// The piece is the first of its message.
     pub first: bool,

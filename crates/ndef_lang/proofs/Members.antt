@@ -47,13 +47,13 @@ ascii_text_from s k octets some plain is long narrow h =
     let wide : is_wide (get_or s 0 0) ≡ false = lt-leb 128 (get_or s 0 0) narrow in
     text_from s k octets some plain is long p.0 (subst (λ w. IsTextIn w (drop k (behind 1 s))) (sym wide) (ascii_is_utf8 _ p.1))
 
--- a format, a type behind its length, and any octets
+-- a format, a type after its length, and any octets
 pub carrier_from : (s : List ℕ) → AreOctets s → 2 ≤ length s → get_or s 1 0 ≤ length (behind 2 s) → IsCarrier s
 carrier_from s octets some long =
     let rest = octets_behind 2 s octets in
     subst IsCarrier (cut_two s some) (octet_at s 0 octets, (octet_at s 1 octets, any_from (get_or s 1 0) AreOctets (behind 2 s) long rest (octets_drop (get_or s 1 0) (behind 2 s) rest)))
 
--- a reference behind its length k, and n more of them
+-- a reference after its length k, and n more of them
 pub reference_from : (n m k : ℕ) (s : List ℕ) → m ≡ suc n → AreOctets s → 1 ≤ length s → k ≡ get_or s 0 0 → k ≤ length (behind 1 s) → AreReferences n (behind k (behind 1 s)) → AreReferences m s
 reference_from n m k s e octets some is long h =
     let rest = behind 1 s in
@@ -65,7 +65,7 @@ reference_from n m k s e octets some is long h =
 pub no_references : (n : ℕ) (s : List ℕ) → n ≡ 0 → AreOctets s → AreReferences n s
 no_references n s e octets = subst (λ n. AreReferences n s) (sym e) octets
 
--- a power state, a reference behind its length k, and auxiliary references
+-- a power state, a reference after its length k, and auxiliary references
 pub alternative_from : (s : List ℕ) (k : ℕ) → AreOctets s → 2 ≤ length s → k ≡ get_or s 1 0 → k ≤ length (behind 2 s) → 1 ≤ length (behind k (behind 2 s))
     → AreReferences (get_or (behind k (behind 2 s)) 0 0) (behind 1 (behind k (behind 2 s))) → IsAlternative s
 alternative_from s k octets two is long some h =
@@ -136,14 +136,14 @@ pair_at little most second s octets two four is is2 h k l m r =
 
 -- ---- a payload field by field
 
--- a field and what stands behind it
+-- a field and what follows it
 pub field_taken : (state : Leaf) (left k : ℕ) (class : Class) (next : Stage) (s front back : List ℕ) → state ≡ Field left class next → k ≡ left → k ≤ length s → front ≡ take k s → back ≡ drop k s → AllByRecursion (InClass class) front
     → CompletesStage next back → CompletesLeaf state s
 field_taken state left k class next s front back is same long e f h t =
     subst (λ x. CompletesLeaf x s) (sym is) (subst (λ n. Octets (InClass class) n (CompletesStage next) s) same
     (field_from (InClass class) k (CompletesStage next) s long (subst (AllByRecursion (InClass class)) e h) (subst (CompletesStage next) f t)))
 
--- the octet behind it
+-- the octet after it
 pub stage_taken : (next : Stage) (state : Leaf) (s : List ℕ) → 1 ≤ length s → Continues (CompletesStage next) (CompletesLeaf state) (get_or s 0 0 ∷ []) → CompletesLeaf state (behind 1 s) → CompletesStage next s
 stage_taken next state s some f h = subst (CompletesStage next) (cut_one s some) ((f (behind 1 s)).0 h)
 

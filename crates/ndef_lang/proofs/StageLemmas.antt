@@ -37,7 +37,7 @@ one_reason : (why : Reason) (C D : Type 0) (reason : Reason) → (C → D) → O
 one_reason why C D reason f (inl h) = inl (h.0, f h.1)
 one_reason why C D reason f (inr h) = inr h
 
--- after octets it goes on
+-- it continues after octets
 pub text_goes : (why : Reason) (old new : List ℕ → Type 0) (t : List ℕ) → Continues old new t → (u : List ℕ) (b : ℕ) (reason : Reason)
     → OneReason why (Ends old (t ++ u) b) reason ↔ OneReason why (Ends new u b) reason
 text_goes why old new t f u b reason = (

@@ -9,12 +9,12 @@ use Rattle.ndef_lang.specs.declared.utf16.Utf16State.{Utf16State}
 use Rattle.ndef_lang.specs.Machine.Utf16Laws.{alive_lengths}
 use Rattle.ndef_lang.specs.declared.utf16.Utf16State.TheVariants.{Whole}
 
--- whole units complete a text behind whole units
+-- whole units complete a text after whole units
 even_rest : (little paired : Bool) (r : List ℕ) → SpelledRest little paired r → (m : ℕ) × (length r ≡ 2 * m)
 even_rest little true r h = let w = (alive_lengths (Whole little true) refl).all r h in (suc w.0, omega (arith, w.1))
 even_rest little false r h = let w = (alive_lengths (Whole little false) refl).all r h in (w.0, omega (arith, w.1))
 
--- what passes behind whole units is left behind whole characters
+-- what passes after whole units still passes after whole characters
 units_between : (little paired : Bool) (lo hi m : ℕ) → 2 * m ≤ lo → PassesBetween (SpelledRest little paired) lo hi → PassesBetween (SpelledRest little false) (lo - 2 * m) (hi - 2 * m)
 units_between little paired lo hi m l p =
     let k = even_rest little paired p.rest p.passed in

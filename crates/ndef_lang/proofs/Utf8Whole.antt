@@ -28,7 +28,7 @@ follows_text s t r = (
   λ u. behind_chars t.0 r t.1.0 (subst (λ x. IsUtf8 (x ++ r)) (sym t.1.1) u),
 )
 
--- a text at the front, and one behind it
+-- a text at the front, and another after it
 pub text_parts : (bytes : List ℕ) (at n : ℕ) → IsUtf8 (take at bytes) → IsUtf8 (take n (drop at bytes)) → IsUtf8 (take (at + n) bytes)
 text_parts bytes at n front behind = subst IsUtf8 (sym (take_parts bytes at n)) (IsUtf8-append (take at bytes) (take n (drop at bytes)) front behind)
 
@@ -40,7 +40,7 @@ text_between lo hi n l p =
     let t = (are_utf8_lengths Whole).each (hi - n) (omega arith) in
     record { rest = t.0; passed = t.1.0; least = omega (arith, t.1.1); most = omega (arith, t.1.1) }
 
--- what passes still does behind whole characters, or behind none
+-- what passes still passes after whole characters, or after none
 pub front_stepped : (state : Utf8Lang) (bytes : List ℕ) (front lo hi : ℕ) → ((state ≡ Whole) × IsUtf8 (take front bytes)) ⊎ (front ≡ 0) → front ≤ lo → PassesBetween (CompletesUtf8 state) lo hi
     → Continues (CompletesUtf8 state) (CompletesUtf8 state) (take front bytes) × PassesBetween (CompletesUtf8 state) (lo - front) (hi - front)
 front_stepped state bytes front lo hi (inl w) l p =
@@ -49,7 +49,7 @@ front_stepped state bytes front lo hi (inl w) l p =
 front_stepped state bytes front lo hi (inr e) l p =
     subst (λ n. Continues (CompletesUtf8 state) (CompletesUtf8 state) (take n bytes) × PassesBetween (CompletesUtf8 state) (lo - n) (hi - n)) (sym e) (follows_none (CompletesUtf8 state), subst (λ a. PassesBetween (CompletesUtf8 state) a (hi - 0)) (let q : lo ≡ lo - 0 = omega arith in q) (subst (PassesBetween (CompletesUtf8 state) lo) (let q : hi ≡ hi - 0 = omega arith in q) p))
 
--- the octets of an open character were stepped, and whole characters behind them
+-- the octets of an open character were stepped, and whole characters after them
 pub both_stepped : (old mid : Utf8Lang) (bytes : List ℕ) (lo hi begun count front : ℕ) → begun ≤ length bytes → length bytes ≤ lo → StepsAll (CompletesUtf8 old) (CompletesUtf8 mid) (take begun bytes) lo hi count → begun ≤ count
     → ((mid ≡ Whole) × IsUtf8 (take front (drop begun bytes))) ⊎ (front ≡ 0) → front ≤ length (drop begun bytes)
     → Continues (CompletesUtf8 old) (CompletesUtf8 mid) (take (begun + front) bytes) × PassesBetween (CompletesUtf8 mid) (lo - (begun + front)) (hi - (begun + front))
@@ -66,7 +66,7 @@ both_stepped old mid bytes lo hi begun count front l m s n w f =
       subst (λ a. PassesBetween (CompletesUtf8 mid) a (hi - (begun + front))) e (subst (λ b. PassesBetween (CompletesUtf8 mid) (lo - begun - front) b) g t.1),
     )
 
--- the reason of the octet behind those that were stepped
+-- the reason for the octet after those that were stepped
 pub utf8_all_reason : (old new : Utf8Lang) (bytes : List ℕ) (lo hi count : ℕ) → StepsAll (CompletesUtf8 old) (CompletesUtf8 new) bytes lo hi count → count < length bytes → (s : List ℕ) → Utf8Reached old s
     → IsLowest (Utf8Reason (s ++ take count bytes) (get_or bytes count 0)) (utf8_told new)
 utf8_all_reason old new bytes lo hi count t l s h =

@@ -15,7 +15,7 @@ pub record PassesBetween (future : List ℕ → Type 0) (lo hi : ℕ) : Type 0 w
   pub least : lo ≤ length rest
   pub most : length rest ≤ hi
 
--- the new future passes just what the old one passes behind these octets
+-- the new future passes exactly what the old one passes after these octets
 abbrev pub Continues : (old new : List ℕ → Type 0) → List ℕ → Type 0
 Continues old new octets = (r : List ℕ) → new r ↔ old (octets ++ r)
 
@@ -23,20 +23,21 @@ Continues old new octets = (r : List ℕ) → new r ↔ old (octets ++ r)
 abbrev pub Reaches : (old new : List ℕ → Type 0) → List ℕ → Type 0
 Reaches old new octets = (s : List ℕ) → old s → new (s ++ octets)
 
--- what passes behind these octets
+-- what passes after these octets
 abbrev pub Behind : (List ℕ → Type 0) → List ℕ → List ℕ → Type 0
 Behind future octets r = future (octets ++ r)
 
--- So many of these octets were stepped, and one more where that isn't all of them. Before them some list of lo to hi
--- octets passed; behind so many one of what is left of that still does, and so behind fewer. Behind one more none does.
+-- The first `count` of these octets were stepped, and one more where that isn't all of them. Before them some list of
+-- lo to hi octets passed; after `count` of them one of what is left still does, and so after fewer. After one more none
+-- does.
 pub record StepsAll (old new : List ℕ → Type 0) (bytes : List ℕ) (lo hi count : ℕ) : Type 0 where
   pub within : count ≤ length bytes
   pub stepped : Continues old new (take (count + 1) bytes)
   pub fits : PassesBetween (Behind old (take count bytes)) (lo - count) (hi - count)
   pub refused : count < length bytes → PassesBetween new (lo - (count + 1)) (hi - (count + 1)) → ⊥
 
--- So many of these octets were stepped; where some list passed before them, one of what is left of its length passes
--- behind them.
+-- The first `count` of these octets were stepped; where some list passed before them, one of what is left of its length
+-- passes after them.
 pub record StepsFront (old new : List ℕ → Type 0) (bytes : List ℕ) (count : ℕ) : Type 0 where
   pub within : count ≤ length bytes
   pub stepped : Continues old new (take count bytes)
@@ -51,17 +52,17 @@ ReachesEach old new octets = (kind : Kind) (records : ℕ) (profile : Profile)
 abbrev pub AllPass : (List ℕ → Type 0) → Type 0
 AllPass future = (r : List ℕ) → AreOctets r → future r
 
--- What was reached is reached again behind any octets, whatever the kind, the number of records and the profile.
+-- What was reached is reached again after any octets, whatever the kind, the number of records and the profile.
 abbrev pub AllReach : Sets → Type 0
 AllReach reached = (octets : List ℕ) → AreOctets octets → ReachesEach reached reached octets
 
--- Whatever octets were reached, after which something could still follow: the reason is the one of the octet behind
+-- Whatever octets were reached, after which something could still follow: the reason is that of the octet that follows
 -- them.
 abbrev pub TellsWhy : (reached future : List ℕ → Type 0) → (holds : List ℕ → ℕ → Reason → Type 0) → (octet : ℕ) → Reason
     → Type 0
 TellsWhy reached future holds octet reason = (s : List ℕ) → reached s → Passes future → IsLowest (holds s octet) reason
 
--- Whatever octets were reached: the reason is the one of the octet at this place of those that came behind them.
+-- Whatever octets were reached: the reason is that of the octet at this place of those that came after them.
 abbrev pub TellsWhyAt : (reached : List ℕ → Type 0) → (holds : List ℕ → ℕ → Reason → Type 0) → (octets : List ℕ)
     → (place : ℕ) → Reason → Type 0
 TellsWhyAt reached holds octets place reason = (s : List ℕ) → reached s

@@ -38,7 +38,7 @@ reaches_take old mid new bytes at l f g = subst (Reaches old new) (sym (take_mor
 
 -- ---- octets that are left
 
--- the octets behind n of them, as `&bytes[n..]` is read
+-- the octets after n of them, as `&bytes[n..]` is read
 abbrev pub rest : List ℕ → ℕ → List ℕ
 rest bytes n = take (length bytes - n) (drop n bytes)
 
@@ -50,7 +50,7 @@ take_parts bytes n m = sym (take-append-drop n (take (n + m) bytes))
 pub take_rests : (bytes : List ℕ) (n m : ℕ) → take n bytes ++ take m (rest bytes n) ≡ take (n + m) bytes
 take_rests bytes n m = ap (λ x. take n bytes ++ take m x) (take_rest bytes n) ∙ sym (take_parts bytes n m)
 
--- so many are left
+-- their number
 pub rest_length : (bytes : List ℕ) (n : ℕ) → length (rest bytes n) ≡ length bytes - n
 rest_length bytes n = ap length (take_rest bytes n) ∙ length-drop n bytes
 
@@ -64,7 +64,7 @@ pub reaches_rest : (old mid new : List ℕ → Type 0) (bytes : List ℕ) (n m :
 reaches_rest old mid new bytes n m f g = subst (Reaches old new) (take_rests bytes n m)
     (reaches_more old mid new (take n bytes) (take m (rest bytes n)) f g)
 
--- ---- what passes behind octets
+-- ---- what passes after octets
 
 pub passes_behind : (old new : List ℕ → Type 0) (s : List ℕ) (lo hi : ℕ) → Continues old new s → PassesBetween new lo hi
     → PassesBetween (Behind old s) lo hi
@@ -90,7 +90,7 @@ pub passes_none : {future : List ℕ → Type 0} {lo hi : ℕ} → PassesBetween
 passes_none {future} {lo} {hi} p = let least = p.least in let most = p.most
     in record { rest = p.rest; passed = p.passed; least = omega arith; most = omega arith }
 
--- what passes is left behind a front
+-- what passes still passes after a front
 pub front_passes : (old new : List ℕ → Type 0) (bytes : List ℕ) (lo hi n m : ℕ) → length bytes ≤ lo → n ≤ length bytes
     → StepsFront old new (rest bytes n) m → PassesBetween old (lo - n) (hi - n)
     → PassesBetween new (lo - (n + m)) (hi - (n + m))
@@ -198,7 +198,7 @@ steps_through old new bytes lo hi at e f p = record {
     follows_all = subst (Continues old new) (take_all at bytes (omega arith)
         ∙ sym (take_all (at + 1) bytes (omega arith))) f
 
--- behind them there is no more
+-- nothing follows them
 pub all_reached : (old new : List ℕ → Type 0) (bytes : List ℕ) (at : ℕ) → length bytes ≤ at
     → Reaches old new (take at bytes) → Reaches old new (take (at + 1) bytes)
 all_reached old new bytes at l r = subst (Reaches old new)

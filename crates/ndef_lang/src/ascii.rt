@@ -1,4 +1,4 @@
-//! Whether octets are ASCII. Only a true answer tells something.
+//! Whether octets are ASCII. Only a true answer is conclusive.
 ghost use Rattle.std.specs.Prelude.{◌≡◌, ◌<◌, [], ◌∷◌, length, IsTrue};
 ghost use Rattle.std.specs.List.{AllByRecursion};
 ghost use Rattle.ndef_format.specs.Texts.{IsCodeOctet};

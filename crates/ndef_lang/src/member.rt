@@ -1,4 +1,4 @@
-//! Whole payloads: whether they are in their set. Only a true answer tells something.
+//! Whole payloads: whether they are in their set. Only a true answer is conclusive.
 ghost use Rattle.std.specs.Prelude.{◌≡◌, ◌≤◌, ◌<◌, length, take, drop, IsTrue, IsUtf8};
 ghost use Rattle.std.specs.List.{AllByRecursion};
 ghost use Rattle.ndef_format.specs.Texts.{IsSpelled, IsUtf16, IsText, IsTextIn, IsCodeOctet};
@@ -24,7 +24,7 @@ fn are_short_ascii(bytes: &[u8]) -> bool
 /// that is refused at its end isn't tested twice.
 const MOST_AT_ONCE: usize = 16384;
 
-/// Whether it is a UTF-8 text, of any characters. It stays out of line, so that short ASCII goes fast.
+/// Whether it is a UTF-8 text, of any characters. It isn't inlined, so that short ASCII is fast.
 #[inline(never)]
 fn is_long_utf8(bytes: &[u8]) -> bool
     ensures { IsTrue result → IsUtf8 bytes.now }
@@ -74,8 +74,7 @@ pub(crate) fn is_utf16(bytes: &[u8]) -> bool
     }
 }
 
-/// Whether it is a language code of that length and a text. It stays out of line, so that short ASCII goes
-/// fast.
+/// Whether it is a language code of that length and a text. It isn't inlined, so that short ASCII is fast.
 #[inline(never)]
 fn is_coded_text(count: usize, wide: bool, bytes: &[u8]) -> bool
     requires { count ≤ length bytes.now }
@@ -116,7 +115,7 @@ fn is_uri(profile: Profile, payload: &[u8]) -> bool
     (*code <= 0x23 || matches!(profile, Profile::Standard)) && is_utf8(rest)
 }
 
-/// Whether so many references are at the front, each behind its length.
+/// Whether `count` references are at the front, each after its length.
 fn are_references(count: u8, bytes: &[u8]) -> bool
     ensures { IsTrue result → AreReferences count bytes.now }
 {

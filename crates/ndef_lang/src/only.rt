@@ -28,7 +28,7 @@ pub trait PayloadType: Copy {
     /// Which reasons hold of an octet after the octets of a payload before it.
     ghost holds: { Profile → List ℕ → ℕ → Reason → Type 0 };
 
-    /// Whether the payload is seen at once to be one of them. Where it is false, the payload may be one.
+    /// Whether it is clear at once that the payload is one of them. Where it is false, the payload may still be one.
     fn has(_profile: Profile, _payload: &[u8]) -> bool
         ensures { IsTrue result → set _profile _payload.now };
 

@@ -17,7 +17,7 @@ none_of : (r : Result (List ℕ) FromHexError) → ((bytes : List ℕ) → r ≡
 none_of (Ok bytes) never = absurd (never bytes refl)
 none_of (Err e) never = refl
 
--- an odd number of digits stands for none
+-- an odd number of digits gives no bytes
 pub none_of_odd : (s : List ℕ) → (length s % 2 ≡ 0 → ⊥) → result_ok (decode_of s) ≡ None
 none_of_odd s odd = none_of (decode_of s) (λ bytes is. odd (decode_of-ok s bytes is).0)
 
@@ -25,6 +25,6 @@ none_of_odd s odd = none_of (decode_of s) (λ bytes is. odd (decode_of-ok s byte
 pub none_of_bad : (s : List ℕ) → list_all is_hex_digit s ≡ false → result_ok (decode_of s) ≡ None
 none_of_bad s bad = none_of (decode_of s) (λ bytes is. apart (list_all is_hex_digit s) (list_all-from_AllPass is_hex_digit s (decode_of-ok s bytes is).1) bad)
 
--- an even number of digits stands for some
+-- an even number of digits gives some
 pub some_of : (s : List ℕ) → length s % 2 ≡ 0 → list_all is_hex_digit s ≡ true → (bytes : List ℕ) × (result_ok (decode_of s) ≡ Some bytes)
 some_of s even all = let some = decode_of-digits s even (AllPass-from_list_all is_hex_digit s all) in (some.0, ap result_ok some.1)

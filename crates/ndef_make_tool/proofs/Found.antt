@@ -18,7 +18,7 @@ use Rattle.ndef_make_tool.specs.declared.fault.Refused.TheVariants as refused
 use Rattle.ndef_make_tool.proofs.Lists.{mapped_at, mapped_more}
 use Rattle.ndef_make_tool.proofs.Short.{unmade}
 
--- nothing is found before, so what is found behind is the first
+-- nothing is found before, so what is found after is the first
 found_behind : {X : Type 0} (test : X → Bool) (xs ys : List X) → find test xs ≡ None → find test (xs ++ ys) ≡ find test ys
 found_behind test xs ys none = find-append test xs ys ∙ ap (λ o. option_or o (find test ys)) none
 
@@ -54,7 +54,7 @@ found_whole items f g ps n l none = ap (λ qs. find (is_missing items) (flat_map
 
 -- ---- where a reference isn't found
 
--- a fault tells of a reference that is missing
+-- a fault names a reference that is missing
 found_some : (o : Option Text) (fault : Fault) → IsFound o (Err fault) → (r : Text) × (o ≡ Some r)
 found_some o (Refused (refused.NoRecord r)) h = (r, h)
 found_some o (Refused refused.PartTooLong) h = (h.0, h.1)
@@ -73,7 +73,7 @@ found_some o (Refused refused.BadError) h = absurd h
 found_some o (Refused refused.TooManyReferences) h = absurd h
 found_some o (Refused refused.TooManyRecords) h = absurd h
 
--- the same of a fault that is told of another list, where that has the same first reference that is missing
+-- the same of a fault of another list, where that has the same first reference that is missing
 found_as : (o p : Option Text) (fault : Fault) → ((r : Text) → o ≡ Some r → p ≡ Some r) → IsFound o (Err fault) → IsFound p (Err fault)
 found_as o p fault agree h =
     let some = found_some o fault h in subst (λ (x : Option Text). IsFound x (Err fault)) (some.1 ∙ sym (agree some.0 some.1)) h

@@ -26,7 +26,7 @@ carrier_of word name references power cut named =
     ap (option_and_then (λ cut. option_and_then (λ power. ac_of power (slice_split is_comma cut.1)) (power_named cut.0))) cut
     ∙ ap (option_and_then (λ power. ac_of power (slice_split is_comma references))) named
 
--- memory may be wanting where a carrier is said whose references are neither too long nor too many
+-- memory may run out where a carrier is given whose references are neither too long nor too many
 pub carrier_unmade : (word name references : Text) (power : Power) → cut_at is_equals word ≡ Some (name, references) → power_named name ≡ Some power
     → AreReferences (slice_split is_comma references) → MakesSaid MakesAlternative (ac_said word) (Err Memory)
 carrier_unmade word name references power cut named are =

@@ -50,7 +50,7 @@ got_there [] n d e l = absurd (omega arith)
 got_there (x ∷ ps) zero d e l = refl
 got_there (x ∷ ps) (suc n) d e l = got_there ps n d e (omega arith)
 
--- what is before it and behind it
+-- what is before it and after it
 pub mapped_at : {A B : Type 0} (f : A → B) (ps : List A) (n : ℕ) (p : A) → n < length ps → p ≡ get_or ps n p
     → (rest : List B) × (map f ps ≡ map f (take n ps) ++ f p ∷ rest)
 mapped_at f [] n p l e = absurd (omega arith)

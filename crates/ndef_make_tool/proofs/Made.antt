@@ -44,7 +44,7 @@ pub made_fails : {A X : Type 0} (makes : X → Answer → Type 0) (f : A → X) 
     → AreMadeBy makes (map f (take n ps)) items → makes (f p) (Err fault) → FailsBy makes (map f ps) fault
 made_fails makes f ps n p items fault l e are is = fails_at makes f ps n p items fault l e are (unmade (makes (f p)) fault is)
 
--- no records where memory is wanting to keep one
+-- no records where memory to keep one runs out
 pub kept_fails : {A X : Type 0} (makes : X → Answer → Type 0) (f : A → X) (ps : List A) (n : ℕ) (p : A) (items : List Item) (i : Item) → n < length ps → p ≡ get_or ps n p
     → AreMadeBy makes (map f (take n ps)) items → makes (f p) (Ok i) → FailsBy makes (map f ps) Memory
 kept_fails makes f ps n p items i l e are is = fails_at makes f ps n p items Memory l e are (inr (i, is))

@@ -30,7 +30,7 @@ short_more f ps n p l e are is = subst AreShort (sym (mapped_more f ps n p l e))
 pub short_at : {A : Type 0} (f : A → Text) (ps : List A) (n : ℕ) (p : A) → n < length ps → p ≡ get_or ps n p → AreShort (map f ps) → length (f p) < 256
 short_at f ps n p l e are = let split = mapped_at f ps n p l e in short_within (map f (take n ps)) (f p) split.0 (subst AreShort split.1 are)
 
--- what comes of a name that isn't made
+-- the result for a name that isn't made
 abbrev pub unmade : NameError → Result (List ℕ) NameError
 unmade error = Err error
 

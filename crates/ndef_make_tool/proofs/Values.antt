@@ -12,7 +12,7 @@ use Rattle.ndef_types.specs.declared.error.EncodeError.TheVariants.{TooLong}
 use Rattle.ndef_types.specs.Values.{IsTextValue, TextValue, WritesUri, text_payload}
 use Rattle.ndef_make_tool.specs.Records.{MakesItem, MakesText, MakesUri, well_known}
 
--- what comes of a record that isn't made
+-- the result for a record that isn't made
 abbrev pub unmade_item : RecordError → Result Item RecordError
 unmade_item error = Err error
 

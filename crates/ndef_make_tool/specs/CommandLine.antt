@@ -63,7 +63,7 @@ abbrev pub carrier_app : App
 carrier_app = with_rule (with_rule (with_rule (part_app (codes "carrier")) (asked_rule (codes "format")))
     (asked_rule (codes "type"))) (word_rule (codes "id"))
 
--- a subcommand is wanted as the first word, and none is for help
+-- the first word must be a subcommand, and none is for help
 abbrev pub empty_make_app : App
 empty_make_app = let a = new_app (codes "ndef-make") in
     record a {

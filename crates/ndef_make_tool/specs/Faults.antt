@@ -101,7 +101,7 @@ line_of Reading = codes "fault: reading\n"
 line_of TooLong = codes "fault: more than 1048576 bytes of payload\n"
 line_of Memory = codes "fault: memory\n"
 
--- what is told
+-- what is written
 abbrev pub fault_text : Told → Text
 fault_text (told.Text text) = text.now
 fault_text (told.Line line) = line

@@ -37,7 +37,7 @@ power_named name = if bytes_eq name (codes "inactive") then Some power.Inactive
     else (if bytes_eq name (codes "activating") then Some power.Activating
     else (if bytes_eq name (codes "unknown") then Some power.Unknown else None)))
 
--- Connection Handover 1.2, Alternative Carrier record: a carrier reference and the auxiliary references behind it
+-- Connection Handover 1.2, Alternative Carrier record: a carrier reference and the auxiliary references after it
 abbrev pub ac_of : Power → List Text → Option AcValue
 ac_of power [] = None
 ac_of power (reference ∷ auxiliary) =
@@ -93,7 +93,7 @@ MakesError v (Err Memory) = IsErrorData v.reason v.detail
 MakesError v (Err _) = ⊥
 
 -- Connection Handover 1.2, Error record: the record of the error of a word; the usage line where it says none. Memory
--- may be wanting for the octets of its digits
+-- may run out for the octets of its digits
 abbrev pub AsksError : Text → Answer → Type 0
 AsksError word (Err Memory) = (v : ErrorValue) × (error_said word ≡ Some v)
 AsksError word answer = MakesSaid MakesError (error_said word) answer
@@ -111,7 +111,7 @@ abbrev pub side_named : Text → Option Side
 side_named name = if bytes_eq name (codes "request") then Some Request
     else (if bytes_eq name (codes "select") then Some Select else None)
 
--- Connection Handover 1.2, version octet: the minor version of this name, behind the major version 1
+-- Connection Handover 1.2, version octet: the minor version of this name, after the major version 1
 abbrev pub minor_named : Text → Option ℕ
 minor_named name = if bytes_eq name (codes "1.0") then Some 0
     else (if bytes_eq name (codes "1.1") then Some 1

@@ -6,7 +6,7 @@ use Rattle.ndef_message.specs.declared.input.InputError.{InputError}
 use Rattle.ndef_make_tool.specs.Faults.{input_fault}
 use Rattle.ndef_make_tool.specs.declared.fault.Fault.{Fault}
 
--- the whole input, where it has at most 1048576 bytes; of a longer one so many are taken, and no more where something
+-- the whole input, where it has at most 1048576 bytes; of a longer one that many are taken, and no more where something
 -- failed
 abbrev pub IsInput : (before after : SourceState) → Result (List ℕ) InputError → Type 0
 IsInput before after input = IsWholeInput 1048576 before after after.failed input

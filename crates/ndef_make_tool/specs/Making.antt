@@ -31,11 +31,11 @@ use Rattle.ndef_make_tool.specs.declared.options.Subject.TheVariants as subject
 abbrev pub is_reader : AskedPart → Bool
 is_reader part = takes_input (subject_named part.0)
 
--- how many parts take it
+-- the number of parts that take it
 abbrev pub readers_of : List AskedPart → ℕ
 readers_of = count_by is_reader
 
--- it is read for one part, left where none takes it, and asked for in vain by more
+-- it is read for one part, left where none takes it, and refused to more than one
 abbrev pub ReadsFor : ℕ → (before after : SourceState) → Result (List ℕ) Fault → Type 0
 ReadsFor zero before after input = (after ≡ before) × (input ≡ Ok [])
 ReadsFor (suc zero) before after input = IsPayloadInput before after input
@@ -115,7 +115,7 @@ IsWritten parts terminal input (Ok made) =
 IsWritten parts terminal input (Err fault) = FailsAt parts input fault
     ⊎ ((items : List Item) × AreMade parts input items × MakesAll parts terminal items (Err fault))
 
--- the same with what comes of reading
+-- the same with the result of reading
 abbrev pub IsWrittenOf : List AskedPart → (terminal : Bool) → Result (List ℕ) Fault → Result Written Fault → Type 0
 IsWrittenOf parts terminal (Ok input) made = IsWritten parts terminal input made
 IsWrittenOf parts terminal (Err fault) made = made ≡ Err fault
@@ -128,8 +128,8 @@ IsMadeFor (Some parts) terminal before after made =
     (input : Result (List ℕ) Fault) × ReadsFor (readers_of parts) before after input
     × IsWrittenOf parts terminal input made
 
--- what comes of the words and the input: what is written of the message, or why there is none. Memory may be wanting
--- for the words, before the input is read
+-- the result of the words and the input: what is written of the message, or why there is none. Memory may run out for
+-- the words, before the input is read
 abbrev pub IsMade : List Text → (terminal : Bool) → (before after : SourceState) → Result Written Fault → Type 0
 IsMade words terminal before after (Ok made) = IsMadeFor (parts_asked words) terminal before after (Ok made)
 IsMade words terminal before after (Err Memory) =

@@ -64,7 +64,7 @@ is_colon byte = byte == 58
 abbrev pub is_comma : ℕ → Bool
 is_comma byte = byte == 44
 
--- what stands before the first byte of a kind, and what behind it
+-- what stands before the first byte of a kind, and what after it
 abbrev pub cut_at : (ℕ → Bool) → Text → Option (Text × Text)
 cut_at is_cut word =
     if nat_lt (position_or_len is_cut word) (length word)

@@ -21,14 +21,14 @@ use Rattle.ndef_make_tool.specs.Checking.{is_unchecked}
 use Rattle.ndef_make_tool.specs.Making.{AreMade, IsMade, written_as}
 use Rattle.ndef_make_tool.specs.declared.making.Written.{Written}
 
--- RTD Smart Poster 1.0, Connection Handover 1.2: the octets of the message in a payload, behind a version octet
+-- RTD Smart Poster 1.0, Connection Handover 1.2: the octets of the message in a payload, after a version octet
 abbrev pub nested_octets : Kind → List ℕ → List ℕ
 nested_octets kinds.SmartPoster payload = payload
 nested_octets kinds.Request payload = drop 1 payload
 nested_octets kinds.Select payload = drop 1 payload
 nested_octets _ payload = []
 
--- a message in the payload of the record has at most so many records
+-- a message in the payload of the record has at most `records` records
 abbrev pub HoldsFew : (records : ℕ) → Item → Type 0
 HoldsFew records i =
     (inner : List Item) → Spells Strict inner (nested_octets (kind_of i.tnf i.kind) i.payload) → length inner ≤ records

@@ -73,7 +73,7 @@ item_said rows payload = option_map (λ tnf. record {
   payload = payload;
 }) (option_and_then tnf_named (first_of (codes "tnf") rows))
 
--- NDEF 1.0, record layout: the record, where its parts go together and none is too long. Memory is wanting only where
+-- NDEF 1.0, record layout: the record, where its parts go together and none is too long. Memory runs out only where
 -- neither of the two refusals holds
 abbrev pub MakesItem : Item → Answer → Type 0
 MakesItem i (Ok made) = (made ≡ i) × IsShaped i × HasLengths i
@@ -95,12 +95,12 @@ AreMadeBy makes [] [] = ⊤
 AreMadeBy makes (x ∷ xs) (i ∷ items) = makes x (Ok i) × AreMadeBy makes xs items
 AreMadeBy makes _ _ = ⊥
 
--- no record is made, or memory is wanting to keep it
+-- no record is made, or memory to keep it runs out
 abbrev pub IsUnmade : (Answer → Type 0) → Fault → Type 0
 IsUnmade makes Memory = makes (Err Memory) ⊎ ((i : Item) × makes (Ok i))
 IsUnmade makes fault = makes (Err fault)
 
--- the first of which no record is made, and why; memory is wanting only for one that isn't refused
+-- the first of which no record is made, and why; memory runs out only for one that isn't refused
 abbrev pub FailsBy : {X : Type 0} → (X → Answer → Type 0) → List X → Fault → Type 0
 FailsBy {X} makes xs fault =
     (done : List X) × (items : List Item) × (x : X) × (rest : List X) × (xs ≡ done ++ x ∷ rest)

@@ -13,7 +13,7 @@ use Rattle.ndef_make_tool.specs.declared.fault.Refused.TheVariants.{NoRecord, Pa
 use Rattle.ndef_make_tool.specs.declared.options.Subject.{Subject}
 use Rattle.ndef_make_tool.specs.declared.options.Subject.TheVariants as subject
 
--- Connection Handover 1.2, Alternative Carrier record: the references in the word of a carrier, between commas behind
+-- Connection Handover 1.2, Alternative Carrier record: the references in the word of a carrier, between commas after
 -- its equals sign
 abbrev pub references_in : Text → List Text
 references_in word = option_map_or (λ cut. slice_split is_comma cut.1) (cut_at is_equals word) []
@@ -27,7 +27,7 @@ references_for _ rows = []
 abbrev pub references_of : AskedPart → List Text
 references_of part = references_for (subject_named part.0) part.1
 
--- NDEF 1.0, ID: whether a record has this id; the empty one is none's
+-- NDEF 1.0, ID: whether a record has this id; no record has the empty one
 abbrev pub is_id : List Item → Text → Bool
 is_id items id = not (bytes_eq id []) && list_any (λ i. bytes_eq i.id id) items
 

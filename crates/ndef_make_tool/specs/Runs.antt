@@ -46,7 +46,7 @@ PrintsAll text before after result = Sends before after text × (result ≡ stat
 abbrev pub note_line : Text
 note_line = codes "standard output is a terminal: writing hexadecimal digits; --raw writes the bytes\n"
 
--- it is told, where that is so
+-- it is written, where that is so
 abbrev pub Notes : Shown → (before after : SinkState) → Type 0
 Notes DigitsForTerminal before after = Sends before after note_line
 Notes _ before after = after ≡ before

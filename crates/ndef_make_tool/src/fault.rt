@@ -69,7 +69,7 @@ pub enum Fault {
     /// The input is longer than what a run reads.
     #[error("the input is too long")]
     TooLong,
-    /// A growth was refused.
+    /// An allocation failed.
     #[error("no memory")]
     Memory,
 }
@@ -90,7 +90,7 @@ impl From<AllocError> for Fault {
     }
 }
 
-/// What wasn't stored is let go.
+/// Drops what wasn't stored.
 impl<T: Drop> From<AllocFailed<T>> for Fault {
     ghost from_gives = { λ _ fault. fault ≡ Memory };
 

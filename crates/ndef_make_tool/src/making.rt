@@ -47,7 +47,7 @@ fn is_reader(said: &Said<'_>) -> bool
     }
 }
 
-/// How many parts take the input.
+/// The number of parts that take the input.
 fn readers_of(said: &[Said<'_>]) -> usize
     ensures { result ≡ readers_of (map asked_part said.now) }
 {
@@ -134,7 +134,7 @@ fn write_records(alloc: Global, shown: Shown, records: Vec<Record>) -> Result<Wr
     }
 }
 
-/// The words behind the program's name.
+/// The words after the program's name.
 fn words_behind(words: &[String]) -> &[String]
     ensures { map string_bytes result.now ≡ drop 1 (map string_bytes words.now) }
 {

@@ -76,14 +76,14 @@ pub(crate) fn tnf_named(name: &str) -> Option<Tnf>
     }
 }
 
-/// What stands before the first equals sign of a word, and what behind it.
+/// What stands before the first equals sign of a word, and what after it.
 pub(crate) fn cut_at_equals(word: &str) -> Option<(&str, &str)>
     ensures { option_map (λ cut. (cut.0.now, cut.1.now)) result ≡ cut_at is_equals word.now }
 {
     word.split_once('=')
 }
 
-/// What stands before the first colon of a word, and what behind it.
+/// What stands before the first colon of a word, and what after it.
 pub(crate) fn cut_at_colon(word: &str) -> Option<(&str, &str)>
     ensures { option_map (λ cut. (cut.0.now, cut.1.now)) result ≡ cut_at is_colon word.now }
 {

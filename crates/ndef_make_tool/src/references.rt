@@ -12,7 +12,7 @@ use ndef_program::cut_at;
 use ndef_value::{Name, Record};
 use std::alloc::Global;
 
-/// Whether a record has this id; the empty one is none's.
+/// Whether a record has this id; no record has the empty one.
 fn is_id(records: &[Record], id: &[u8]) -> bool
     ensures { result ≡ is_id records.now id.now }
 {

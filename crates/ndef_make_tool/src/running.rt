@@ -21,12 +21,12 @@ fn print<K: Sink>(text: &[u8], sink: &mut K) -> Status
     }
 }
 
-/// What is told where digits are written because they go to a terminal.
+/// What is written where digits are written because they go to a terminal.
 const NOTE: &[u8] = b"standard output is a terminal: writing hexadecimal digits; \
     --raw writes the bytes\n";
 
-/// Tells that digits are written because they go to a terminal, where that is so. Whether it goes out is no
-/// matter for the status.
+/// Says that digits are written because they go to a terminal, where that is so. Whether it goes out doesn't matter for
+/// the status.
 fn note<L: Sink>(shown: Shown, lines: &mut L)
     ensures { L.has_failed lines.old ≡ false
         → Notes shown (sink_state L.Sink lines.old) (sink_state L.Sink lines.new) }
@@ -39,7 +39,7 @@ fn note<L: Sink>(shown: Shown, lines: &mut L)
     }
 }
 
-/// Writes the message of records for which the words ask, or tells why there is none.
+/// Writes the message of records for which the words ask, or says why there is none.
 fn run_for<S: Source, K: Sink, L: Sink>(
     alloc: Global,
     words: &[String],
@@ -66,12 +66,11 @@ fn run_for<S: Source, K: Sink, L: Sink>(
     }
 }
 
-/// Does what the words ask for, of which the first is the program's name: writes the message or a page to
-/// one sink, or tells in the other why there is no message.
+/// Does what the words ask for, of which the first is the program's name: writes the message or a page to one sink, or
+/// says in the other why there is no message.
 ///
-/// After a writing fault of the first the status is `Fault`, and a front of the text is written. To a
-/// terminal the message goes in hexadecimal digits, and the other sink tells so, unless the words say how it
-/// is written.
+/// After a writing fault of the first the status is `Fault`, and a front of the text is written. To a terminal the
+/// message goes in hexadecimal digits, and the other sink says so, unless the words say how it is written.
 pub fn run<S: Source, K: Sink, L: Sink>(
     alloc: Global,
     words: &[String],

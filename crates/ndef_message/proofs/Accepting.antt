@@ -83,7 +83,7 @@ walked_on limits c p o s e =
     let w = walked_snoc limits [] c c [] p (refl, refl) o s in
     subst (Walked limits c (p ∷ []) []) (after_chunk limits c p e) (subst (λ x. Walked limits c (p ∷ []) x (after limits c p)) (ended_none c p e) w)
 
--- the bytes behind a piece are fewer
+-- the bytes after a piece are fewer
 pub split_shorter : (p : Piece) (short : Bool) (rest bytes : List ℕ) → IsSplit p short rest bytes → length rest + 1 ≤ length bytes
 split_shorter p short rest bytes split =
     let long : 1 ≤ length (octets (fields p short) ++ body p) = omega arith in
@@ -302,7 +302,7 @@ module _ {L : Type 0} (language : Ghosts L) (limits : LimitValues) (state : Stat
         viable = s.viable;
       }
 
--- behind whole records an empty one ends the message, or nothing does
+-- after whole records an empty one ends the message, or nothing does
 finished_by : (laws : FormatLaws) (set : Sets) (limits : LimitValues) → IsMember set limits nothing → (last : Bool) (left : ℕ) → Finished laws limits set (outside limits false last left) []
 finished_by laws set limits empty true left = ([], [], tt, (laws.rests_end limits (outside limits false true left) [] [] refl).1 (refl, refl))
 finished_by laws set limits empty false left = let x = close limits false left in (x.0, nothing ∷ [], (empty, tt), x.1)
@@ -312,7 +312,7 @@ module _ (laws : FormatLaws) {L : Type 0} {language : Ghosts L} {limits : LimitV
     {bytes : List ℕ} {given : List Item} {c : Before} (at : IsAtPoint limits bytes given (InHead c [])) (v : IsViable language.set limits bytes)
     {items : List Item} {left : ℕ} (last : Bool) {t : List ℕ} (ends : EndsRecords language.set limits c items left last t)
     (new : State L) {place : Place} (is : place ≡ numbers (outside limits false last left)) (behind : IsBehind limits new place last) where
-  -- the records lead behind them
+  -- the records lead after them
   pub leads_behind : LeadsBetween (Stands language limits new) (bytes ++ t) (given ++ items)
   leads_behind =
       let ps = at.pieces ++ ends.pieces in
@@ -338,7 +338,7 @@ module _ (laws : FormatLaws) {L : Type 0} {language : Ghosts L} {limits : LimitV
           let d = outside limits false false left in
           (InHead d [], (d, refl, inl refl), record { at = record { pieces = ps; done = at.done ++ t; walked = w; spelled = s; split = e; proper = (refl, o refl) }; viable = v; matches = (e1, ee, e2 refl, tt) })
 
--- the record in one piece leads behind it
+-- the record in one piece leads after it
 pub record_passed : (laws : FormatLaws) {L : Type 0} {language : Ghosts L} (limits : LimitValues) → AreInRange limits → ((n : ℕ) (profile : Profile) (s : List ℕ) → language.set Other n profile s ↔ AreOctets s)
     → (old new : State L) (input : List ℕ) (w : WholePiece) (taken : ℕ) → IsFresh old → BeginsWith language.set limits old.place input w → taken ≡ length input - length w.rest.now
     → IsBehind limits new (behind_record limits old.place) (is_set 6 w.header)
@@ -348,7 +348,7 @@ record_passed laws {language = language} limits range others old new input w tak
     let ends = one_record language.set limits old.place input w taken begins is a.c a.place_is a.none a.over in
     leads_behind laws range others a.at a.viable (is_set 6 w.header) ends new (ap (behind_record limits) a.place_is) behind
 
--- ---- so many bytes
+-- ---- this number of bytes
 
 module _ {L : Type 0} (language : Ghosts L) (limits : LimitValues) (state : State L) (front bytes : List ℕ) (n taken : ℕ) (most : n ≤ length bytes) (is : taken ≡ length front)
     (given : List Item) (point : Point) (s : Stands language limits state (front ++ take n bytes) given point) where

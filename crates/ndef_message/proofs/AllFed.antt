@@ -39,7 +39,7 @@ viable_part set limits a b n h v =
     let e : take n (a ++ b) ≡ a ++ take (n - length a) b = ap (λ m. take m (a ++ b)) (sym k) ∙ take-append-add a b (n - length a) in
     viable_front set limits a (take (n - length a) b) (subst (IsViable set limits) e v)
 
--- bytes behind a message complete none
+-- bytes after a message complete none
 none_behind : OneMeaning → (set : Sets) (limits : LimitValues) (bytes : List ℕ) (m n : ℕ) → m < n → n ≤ length bytes → IsAccepted set limits (take m bytes) → IsViable set limits (take n bytes) → ⊥
 none_behind meaning set limits bytes m n h within a v =
     let e = length-take-le m (take n bytes ++ v.0) (omega (arith, length-append (take n bytes) v.0, length-take-le n bytes within)) in
@@ -71,7 +71,7 @@ module _ (meaning : OneMeaning) {Point : Type 0} {set : Sets} (holds : Condition
   no_message : (place : ℕ) → IsPlace set limits (led ++ bytes) place → ¬ IsAccepted set limits led
   no_message place p d = no_prefix_is_deep meaning set limits (led ++ bytes) place (length led) p (subst (IsAccepted set limits) (sym (take_at led bytes (length led) refl)) d)
 
-  -- more are wanted
+  -- more bytes are needed
   told_more : IsViable set limits (led ++ bytes) → ¬ IsAccepted set limits (led ++ bytes) → Leads new (led ++ bytes) → Told fed.More
   told_more v u l =
       let there : IsPlace set limits (led ++ bytes) (length (led ++ bytes)) =
@@ -91,7 +91,7 @@ module _ (meaning : OneMeaning) {Point : Type 0} {set : Sets} (holds : Condition
         (subst (IsViable set limits) same v, subst (λ x. ¬ IsAccepted set limits x) same u),
       )
 
-  -- how many of all the bytes are those of the message
+  -- the number of all the bytes that belong to the message
   ended : (taken : ℕ) → taken ≤ length bytes → IsAccepted set limits (led ++ take taken bytes)
       → (n : ℕ) × (n ≤ length all) × (take n all ≡ led ++ take taken bytes) × (taken ≡ n - length front)
   ended taken h d =
@@ -253,7 +253,7 @@ longest_taken set limits front taken t =
       most = λ h v. t.stops (omega (arith, n)) (subst (IsViable set limits) (take_all (length taken + 1) front (omega (arith, n))) v);
     }
 
--- so many records end
+-- that number of records ends
 pub told_records : (laws : FormatLaws) {L : Type 0} {language : Ghosts L} (c : Checker L language) (records : ℕ) → WhateverLed (CheckerReached c) (λ front given point. records ≡ length given)
     → (limits : LimitValues) (bytes : List ℕ) → WasFed c limits bytes → CountsRecords language.set limits bytes records
 told_records laws {language = language} c records counts limits bytes h =
@@ -274,7 +274,7 @@ told_records laws {language = language} c records counts limits bytes h =
       count = counts front g.led.0 g.led.1 g.led.2 ∙ ap length k.means ∙ length-map k.runs run_record;
     }
 
--- a message at the front has so many
+-- `records` is the number of records of a message at the front
 module _ (laws : FormatLaws) {L : Type 0} {language : Ghosts L} (c : Checker L language) (range : AreInRange c.limits) (records : ℕ) (counts : WhateverLed (CheckerReached c) (λ front given point. records ≡ length given)) where
   -- .. where the bytes led there
   whole_led : (front : List ℕ) (given : List Item) (point : Point) → CheckerReached c front given point → (items : List Item) (count : ℕ) → count ≤ length front → Accepted language.set c.limits items (take count front)
@@ -319,7 +319,7 @@ module _ (laws : FormatLaws) {L : Type 0} {language : Ghosts L} (c : Checker L l
             ]
           ]
 
--- ---- the bytes tell them
+-- ---- the bytes determine them
 
 one_longest : (set : Sets) (limits : LimitValues) (bytes : List ℕ) (m n : ℕ) → IsLongestViable set limits bytes m → IsLongestViable set limits bytes n → m < n → ⊥
 one_longest set limits bytes m n a b h =

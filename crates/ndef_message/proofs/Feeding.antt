@@ -50,18 +50,18 @@ module _ {L : Type 0} (language : Ghosts L) (limits : LimitValues) (state : Stat
   knows_on bytes given point t taken e (inl w) = (w.0, w.1, (e, inl w.3))
   knows_on bytes given point t taken e (inr w) = (given, point_with point w.0, (e, inr w.3))
 
--- what led to the old fields leads on with so many of these bytes to the new ones
+-- what led to the old fields leads, with the first of these bytes, to the new ones
 abbrev pub Sofar : Fronts Point → Fronts Point → List ℕ → ℕ → Type 0
 Sofar old new bytes at = WhateverLed old (λ front given point. Leads new (front ++ take at bytes))
 
--- what led to this front leads on with so many of these bytes to the new fields
+-- what led to this front leads, with the first of these bytes, to the new fields
 abbrev pub Here : Fronts Point → (front bytes : List ℕ) → ℕ → Type 0
 Here new front bytes at = Leads new (front ++ take at bytes)
 
 pub sofar_start : (old : Fronts Point) (bytes : List ℕ) → Sofar old old bytes 0
 sofar_start old bytes front given point x = (given, point, subst (λ y. old y given point) (sym (append-nil front)) x)
 
--- so many bytes behind a front, and some more
+-- the first `at` bytes after a front, and `n` more
 pub some_more : (front bytes : List ℕ) (at n : ℕ) → (front ++ take at bytes) ++ take n (rest bytes at) ≡ front ++ take (at + n) bytes
 some_more front bytes at n = append_assoc front (take at bytes) (take n (rest bytes at)) ∙ ap (λ y. front ++ y) (take_rests bytes at n)
 

@@ -178,7 +178,7 @@ module _ (laws : FormatLaws) (limits : LimitValues) (set : Sets) (any : AreSets 
       regroup h =
           ap (λ y. h ++ (k ++ y)) (sym (append_assoc i z (b ∷ []))) ∙ ap (λ y. h ++ y) (sym (append_assoc k (i ++ z) (b ∷ []))) ∙ sym (append_assoc h (k ++ (i ++ z)) (b ∷ []))
 
-  -- in a head one goes on with the octet
+  -- within a head, some head continues with the octet
   abbrev HeadGoesOn : Point → ℕ → Type 0
   HeadGoesOn (InHead c xs) b = IsViableHead (spot limits.profile c) (xs ++ b ∷ [])
   HeadGoesOn (AtEnd c) b = ⊥
@@ -203,7 +203,7 @@ module _ (laws : FormatLaws) (limits : LimitValues) (set : Sets) (any : AreSets 
       let e : a.done ++ (so_far ++ b ∷ []) ≡ front ++ b ∷ [] = sym (append_assoc a.done so_far (b ∷ [])) ∙ ap (λ y. y ++ b ∷ []) (sym a.split) in
       subst (IsViable set limits) e (viable.viable laws limits set range a.pieces (before point) given a.done a.walked a.spelled (so_far ++ b ∷ []) t.0 next)
 
-  -- the octet behind a front is refused by a condition on heads
+  -- the octet after a front is refused by a condition on heads
   by_head : ConditionsAreInOrder → AreInRange limits → (holds : Conditions) (front : List ℕ) (given : List Item) (point : Point) (b : ℕ) (reason : Reason) → IsAtPoint limits front given point
       → IsViable set limits front → ¬ IsViable set limits (front ++ b ∷ []) → b < 256 → IsReasonAt holds limits point b reason → reason_number reason ≤ 14
   by_head ordered range holds front given (InHead c xs) b reason a v stops octet why = by_reason (reason_for (spot limits.profile c) xs b) refl

@@ -1,4 +1,4 @@
--- What fronts tell.
+-- What fronts determine.
 use Rattle.std.proofs.Common.{◌≡◌, ℕ, ◌<◌, ◌≤◌, inl, inr, refl, sym, ◌∙◌, ap, subst, arith, List, [], ◌∷◌, ◌++◌, length, map, take, append-nil, length-append}
 use Rattle.std.proofs.Math.Seq.{take-append_seam}
 use Rattle.ndef_format.specs.Messages.{run_record}
@@ -25,7 +25,7 @@ not_more set limits front taken others t o h =
     by_refused [] e l g = t.stops g (subst (IsViable set limits) (sym (e ∙ append-nil others)) o.viable)
     by_refused (b ∷ refused) e l g = omega arith
 
--- the front tells which bytes were taken
+-- the front determines which bytes were taken
 one_taken : (set : Sets) (limits : LimitValues) (front taken others : List ℕ) → IsTaken set limits front taken → IsTaken set limits front others → taken ≡ others
 one_taken set limits front taken others t o =
     sym (take-append_seam taken t.refused) ∙ ap (take (length taken)) (sym t.split ∙ o.split) ∙ ap (λ n. take n (others ++ o.refused)) same ∙ take-append_seam others o.refused

@@ -1,4 +1,4 @@
--- What a `fill` says of its source behind the borrow, and the less that its trait asks.
+-- What a `fill` says of its source after the borrow, and the less that its trait asks.
 use Rattle.std.specs.Prelude.{⊤}
 use seplogic.Ra.Ura.{Ura}
 use mathlib.Core.List.{[]}

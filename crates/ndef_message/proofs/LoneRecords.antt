@@ -1,4 +1,4 @@
--- A message of the records that were seen at once.
+-- A message of the records that the fast test found right.
 use Rattle.std.proofs.Common.{refl, sym, subst, ℕ, List, [], false, true}
 use Rattle.std.proofs.lemmas.List.{append-nil}
 use Rattle.ndef_format.specs.Accepted.{Accepted}

@@ -123,7 +123,7 @@ module _ {L : Type 0} (language : Ghosts L) (limits : LimitValues) (range : AreI
             speaks = subst (SpeaksIf language limits state.payload) e a.speaks;
           }
 
--- the pieces lead behind them
+-- the pieces lead after them
 pub chunks_lead : (laws : FormatLaws) {L : Type 0} (language : Ghosts L) (limits : LimitValues) → AreInRange limits → (old new : State L) (place : Place) (t : List ℕ)
     → ((r : List ℕ) → language.future old.payload r → AreOctets r) → IsAtChunk language old → AreChunks limits old.place t place → IsBehindChunks limits old new place
     → WhateverLed (Stands language limits old) (λ bytes given point. Leads (Stands language limits new) (bytes ++ t))

@@ -1,4 +1,4 @@
--- A point that bytes lead to is a field behind whole runs and the pieces of an open one.
+-- A point that bytes lead to is a field after whole runs and the pieces of an open one.
 use Rattle.std.proofs.Common.{◌≡◌, ℕ, Bool, refl, sym, ◌∙◌, ap, subst, List, [], ◌∷◌, ◌++◌, map, append-nil, None, inl, inr}
 use Rattle.ndef_format.specs.Messages.{Item, SpellsPieces, all_pieces, run_record}
 use Rattle.ndef_format.specs.Records.{Piece, Run, octets}

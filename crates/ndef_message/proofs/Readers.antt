@@ -171,7 +171,7 @@ front_more xs s n h begins =
     let more : n + m ≡ length s = omega arith in
     ap (λ k. take k (drop n xs)) (length-drop n s) ∙ sym (drop-take n m xs) ∙ ap (λ k. drop n (take k xs)) more ∙ ap (drop n) begins
 
--- so many of the bytes shown are taken
+-- some of the bytes shown are taken
 left_more : (xs ys s : List ℕ) (limit : Option ℕ) (fresh : Bool) (p n : ℕ) → fresh ≡ false → n ≤ length s → StartsWith ys s → drop p xs ≡ drop n ys → left_of (Some xs) limit fresh (drop n s) p ≡ Some (drop n ys)
 left_more xs ys s limit fresh p n stale h begins e =
     let still : StartsWith (drop p xs) (drop n s) = subst (λ (l : List ℕ). StartsWith l (drop n s)) (sym e) (front_more ys s n h begins) in

@@ -15,7 +15,7 @@ use Rattle.ndef_message.specs.Views.{Viewed, Views, OneView, NeverRefusedInView}
 use Rattle.ndef_message.proofs.ReadBack.{one_front}
 use Rattle.ndef_message.specs.Machine.SeenLaws.{pieces_told, runs_told, follow_of_read, flat_told}
 
--- whole runs are told by their bytes
+-- whole runs are determined by their bytes
 pub whole_told : {bytes : List ℕ} (a : AreRuns bytes) → runs_of (pieces_of bytes) ≡ a.runs
 whole_told {bytes} a = ap runs_of (pieces_told (all_pieces a.runs) bytes a.spelled) ∙ runs_told a.runs (follow_of_read a.runs a.read)
 

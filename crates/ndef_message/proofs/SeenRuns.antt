@@ -1,4 +1,4 @@
--- A run that is read piece by piece, and the runs behind it.
+-- A run that is read piece by piece, and the runs after it.
 use Rattle.std.proofs.Common.{◌≡◌, ℕ, ◌+◌, ◌-◌, ◌<◌, ◌≤◌, take, drop, take_at, drop_at, ◌^◌, true, false, refl, sym, ◌∙◌, ap, ap₂, subst, arith, List, [], ◌∷◌, ◌++◌, length, length-append, append_assoc, append-nil, true≢false, Some, None}
 use Rattle.std.specs.Prelude.{unwrap_or}
 use Rattle.std.specs.List.{AllByRecursion, concat}
@@ -10,7 +10,7 @@ use Rattle.ndef_message.specs.Views.{payloads, only_payload}
 use Rattle.ndef_message.proofs.Rests.{spell_append}
 use Rattle.ndef_message.specs.Machine.SeenLaws.{First, first_of, pieces_told, run_told, run_is}
 
--- these bytes and payload octets of a run were read, some of its pieces are left, and runs behind it
+-- these bytes and payload octets of a run were read, some of its pieces are left, and runs after it
 pub record Going (bytes rest : List ℕ) (size : ℕ) : Type 0 where
   pub run : Run
   pub runs : List Run
@@ -72,7 +72,7 @@ room_of {size = size} g =
     let m = g.read.small in
     omega (arith, n, k, m)
 
--- behind a piece that another one follows
+-- after a piece that another one follows
 pub goes_on : {bytes rest : List ℕ} {size : ℕ} (g : Going bytes rest size) → g.next.chunked ≡ true → (behind : List ℕ) → behind ≡ (next_of g).rest → (n : ℕ) → n ≡ size + length g.next.payload
     → Going bytes behind n
 goes_on {bytes} {rest} {size} g c behind b n e = by_later g.later g.are g.follow (next_of g).more g.counted
@@ -97,7 +97,7 @@ goes_on {bytes} {rest} {size} g c behind b n e = by_later g.later g.are g.follow
       counted = let l = length-append g.next.payload (payload_of (q ∷ later)) in omega (arith, l, k, e);
     }
 
--- behind the last piece of the run
+-- after the last piece of the run
 pub record Over (bytes behind : List ℕ) (size : ℕ) : Type 0 where
   pub front : List ℕ
   pub split : bytes ≡ front ++ behind
@@ -138,7 +138,7 @@ cut_off {bytes} {behind} {front} {back} o f b =
     let size : length o.front ≡ n = omega (arith, e) in
     (f ∙ ap (take n) o.split ∙ take_at o.front behind n size, b ∙ ap (drop n) o.split ∙ drop_at o.front behind n size)
 
--- what is told of both parts
+-- what is known of both parts
 pub told : {bytes behind : List ℕ} {size : ℕ} (o : Over bytes behind size) → runs_of (pieces_of bytes) ≡ run_of o.front ∷ runs_of (pieces_of behind)
 told {bytes} {behind} o =
     let r = o.run.run in

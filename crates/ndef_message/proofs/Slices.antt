@@ -46,9 +46,9 @@ so_far_all : (m : Option Item) (f : HeadFields) (k i z t : List ℕ)
 so_far_all None f k i z t = refl
 so_far_all (Some m) f k i z t = ap (λ y. record m { payload = y }) (append_assoc m.payload z t)
 
--- ---- behind octets that no state of the language stands for
+-- ---- after octets that no state of the language stands for
 
--- the language, each state of which stands behind these octets
+-- the language, each state of which stands after these octets
 abbrev behind : {L : Type 0} → Ghosts L → List ℕ → Ghosts L
 behind language t =
     record language { future = λ state. Behind (language.future state) t; reached = λ state k n profile s. (before : List ℕ) × ((s ≡ before ++ t) × language.reached state k n profile before) }

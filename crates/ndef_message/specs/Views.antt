@@ -10,14 +10,13 @@ use Rattle.ndef_format.specs.Reasons.{Conditions}
 use Rattle.ndef_format.specs.Accepted.{Accepted, IsAccepted}
 use Rattle.ndef_format.specs.Refusals.{Refuses}
 
--- the view of a message: how many bytes it has, its runs, and how reserved values were read
+-- the view of a message: its number of bytes, its runs, and how reserved values were read
 pub record Viewed : Type 0 where
   pub taken : ℕ
   pub runs : List Run
   pub profile : Profile
 
--- NDEF 1.0, messages: what is seen of an input: so many bytes at its front are a message, in these runs; or it is
--- refused.
+-- NDEF 1.0, messages: what is seen of an input: its first `taken` bytes are a message, in these runs; or it is refused.
 abbrev pub Views : Sets → Conditions → LimitValues → (input : List ℕ) → Result Viewed Refusal → Type 0
 Views set holds limits input (Ok v) =
     (v.taken ≤ length input) × ((accepted : Accepted set limits (map run_record v.runs) (take v.taken input))
@@ -35,7 +34,7 @@ only_payload _ = None
 
 -- ---- laws
 
--- these records, in these runs and so many bytes, are what is seen
+-- these records, in these runs and this number of bytes, are what is seen
 pub record IsSeen (v : Viewed) (items : List Item) (runs : List Run) (count : ℕ) : Type 0 where
   pub items_are : items ≡ map run_record v.runs
   pub runs_are : runs ≡ v.runs

@@ -1,5 +1,5 @@
-//! Whole records at the front of a slice, or pieces of an open run, seen at once to be right. What isn't
-//! seen may be right too.
+//! Whole records at the front of a slice, or pieces of an open run, that a fast test finds right. Others may be right
+//! too.
 ghost use Rattle.std.specs.Prelude.{◌≡◌, ◌<◌, ◌≤◌, length, take, true, false, IfSome, IsTrue};
 ghost use Rattle.ndef_format.specs.HeadReasons.{is_set};
 ghost use Rattle.ndef_format.specs.Positions as pieces;
@@ -15,8 +15,8 @@ use ndef_lang::{Kind, OuterLanguage};
 use ndef_piece::{WholePiece, messages_are_walks, whole_piece};
 use ndef_value::Limits;
 
-/// The bytes with which the run at the place goes on to its end, and whether the message ends there;
-/// none where that isn't seen at once. Its payload isn't looked into.
+/// The bytes with which the run at the place continues to its end, and whether the message ends
+/// there; none where that isn't clear at once. Its payload isn't looked into.
 #[inline(never)]
 fn accepted_run(limits: &Limits, place: Place, bytes: &[u8]) -> Option<(usize, bool)>
     requires { place.inside ≡ true }
@@ -40,8 +40,8 @@ fn accepted_run(limits: &Limits, place: Place, bytes: &[u8]) -> Option<(usize, b
     None
 }
 
-/// The piece at the front of the bytes, where it is seen at once that it goes on the run at the place and
-/// another follows it.
+/// The piece at the front of the bytes, where it is clear at once that it continues the run at the place and another
+/// follows it.
 fn whole_chunk<'a>(limits: &Limits, place: &Place, bytes: &'a [u8]) -> Option<WholePiece<'a>>
     requires { place.now.inside ≡ true }
     ensures split { IfSome result (λ w. IsSplit (shown w) (is_set 4 w.header) w.rest.now bytes.now) }
@@ -55,8 +55,8 @@ fn whole_chunk<'a>(limits: &Limits, place: &Place, bytes: &'a [u8]) -> Option<Wh
     Some(piece)
 }
 
-/// As many whole pieces at the front of the bytes as go on the run at the place, each with another behind
-/// it: their bytes, and the place behind them. Their payload isn't looked into.
+/// As many whole pieces at the front of the bytes as continue the run at the place, each with another after it: their
+/// bytes, and the place after them. Their payload isn't looked into.
 pub(crate) fn accepted_chunks(limits: &Limits, place: Place, bytes: &[u8]) -> (usize, Place)
     requires { place.inside ≡ true }
     ensures within { result.0 ≤ length bytes.now }
@@ -103,8 +103,7 @@ pub(crate) fn whole_record<'a, L: OuterLanguage>(
     Some(piece)
 }
 
-/// The bytes of the message at the front of these, where it is a record in one piece that is seen at once to
-/// be right.
+/// The bytes of the message at the front of these, where it is a record in one piece that the fast test finds right.
 pub(crate) fn lone_record<L: OuterLanguage>(limits: &Limits, bytes: &[u8]) -> Option<usize>
     ensures within { IfSome result (λ taken. taken ≤ length bytes.now) }
     ensures message { IfSome result (λ taken. HasRecords L.set limits.now (take taken bytes.now) 1) }
@@ -144,8 +143,8 @@ fn accepted_record<L: OuterLanguage>(
     Some((taken + more, last))
 }
 
-/// As many whole records at the front of the bytes as are seen at once to be right: their bytes, the
-/// place behind them, and whether the message ends there.
+/// As many whole records at the front of the bytes as the fast test finds right: their bytes, the
+/// place after them, and whether the message ends there.
 pub(crate) fn accepted_records<L: OuterLanguage>(
     limits: &Limits,
     place: Place,

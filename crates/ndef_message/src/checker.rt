@@ -148,7 +148,7 @@ impl<L: OuterLanguage> Checker<L> {
             .saturating_sub(self.state.place.records)
     }
 
-    /// How many of them are accepted: all, or all but a refused one.
+    /// The number of them that are accepted: all, or all but a refused one.
     pub(crate) fn accepted_bytes(&self) -> u64
         ensures accepted { WhateverLed (CheckerReached self.now) (λ front given point.
             IsLongestViable L.set (checker_limits self.now) front result) }
@@ -172,8 +172,8 @@ impl<L: OuterLanguage> Checker<L> {
         }
     }
 
-    /// Takes whole records or pieces where that can be done at once, and else the next bytes, as far as
-    /// they are of one field, up to the first that is refused; answers how many, a refused one too.
+    /// Takes whole records or pieces where that can be done at once, else the next bytes of one field, up to the first
+    /// that is refused. Returns the number taken, including a refused one.
     fn advance(&mut self, bytes: &[u8]) -> usize
         requires going { answer_of self.old.state.phase 0 ≡ None }
         requires some { 0 < length bytes.now }
@@ -192,7 +192,7 @@ impl<L: OuterLanguage> Checker<L> {
         self.step(bytes)
     }
 
-    /// Goes on behind the record in one piece at the front of the bytes.
+    /// Continues after the record in one piece at the front of the bytes.
     pub(crate) fn pass_record(&mut self, bytes: &[u8], piece: &WholePiece<'_>)
         requires fresh { IsFresh self.old.state }
         requires begins { BeginsWith L.set self.old.limits self.old.state.place bytes.now piece.now }
@@ -209,8 +209,8 @@ impl<L: OuterLanguage> Checker<L> {
         self.taken += taken as u64;
     }
 
-    /// Takes the next bytes, as far as they are of one field, up to the first that is refused; answers
-    /// how many, a refused one too. It stays out of line, so that whole records go fast.
+    /// Takes the next bytes of one field, up to the first that is refused. Returns the number taken, including a
+    /// refused one. It isn't inlined, so that whole records are fast.
     #[inline(never)]
     pub(crate) fn step(&mut self, bytes: &[u8]) -> usize
         requires going { answer_of self.old.state.phase 0 ≡ None }

@@ -9,8 +9,9 @@ ghost use Rattle.ndef_message.specs.Sources.{Shows, Filled, Drops, Counts, state
 use crate::source::{Source, SourceFault};
 use std::marker::Model;
 
-/// A front, and behind it a pattern for ever. It never fails, and tells no bytes to come: no list is
-/// all of them. So a test sees that a run ends though its input doesn't.
+/// A front, and after it a pattern for ever. It never fails, and its bytes to come are given as
+/// unknown, since no list holds all of them. So a test sees that a run ends though its input
+/// doesn't.
 #[derive(Debug, Drop)]
 pub struct EndlessSource<'a> {
     /// What is left of the front, or of the pattern.
@@ -66,7 +67,7 @@ impl<'a> Source for EndlessSource<'a> {
         ensures* after_borrow { sem 𝓛 (Rests (the_row (record { mir = named 1; lft = [] })) self.entry (λ new.
             Filled (state_of None self.old.taken false) (state_of None new.taken false) new.shown result
             × (new.rest ≡ shown_next self.old) × (new.pattern ≡ self.old.pattern))) }
-        // What is left of the front, or of the pattern, which begins anew where nothing is.
+        // What is left of the front, or of the pattern, which starts again where nothing is left.
         ensures next { IsOkAnd result (λ s. s.now ≡ shown_next self.old) }
         ensures some { IfOk result (λ s. s.now ≢ []) }
     {

@@ -6,9 +6,9 @@ ghost use Rattle.ndef_message.specs.Sinks.{Writes, MarkAfter};
 use crate::sink::{Sink, SinkFault};
 use std::marker::Model;
 
-/// A sink into a slice. It takes at most so many bytes at a `write`, and none beyond the place where
-/// it stops: once it has those before that place it answers a fault. Where the slice is full it answers
-/// 0, and a fault after it. So a test lets each write of a run fail in turn.
+/// A sink into a slice. It takes at most `per` bytes at a `write`, and none beyond the place where it stops: once it
+/// has those before that place it answers a fault. Where the slice is full it answers 0, and a fault after it. So a
+/// test lets each write of a run fail in turn.
 #[derive(Debug, Drop)]
 pub struct FailingSink<'a> {
     room: &'a mut [u8],
@@ -63,7 +63,7 @@ impl<'a> FailingSink<'a> {
         &self.room[..self.count]
     }
 
-    /// How many of so many bytes it takes, where it hasn't stopped.
+    /// The number of the offered bytes that it takes, where it hasn't stopped.
     fn most(&self, offered: usize) -> usize
         requires { is_stopped self.now ≡ false }
         ensures value { result ≡ most_of self.now offered }

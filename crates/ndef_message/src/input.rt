@@ -14,10 +14,10 @@ pub enum InputError {
     /// The source failed, and fails from then on.
     #[error("reading failed")]
     ReadFault,
-    /// More bytes come than were asked for; so many of them were taken.
+    /// More bytes come than were asked for; as many as were asked for were taken.
     #[error("the input is too long")]
     TooLong,
-    /// A growth was refused for a byte that comes next. Fewer bytes than were asked for were taken.
+    /// An allocation failed for a byte that comes next. Fewer bytes than were asked for were taken.
     #[error("no memory")]
     NoMemory,
 }
@@ -38,7 +38,7 @@ impl From<AllocError> for InputError {
     }
 }
 
-/// Reads a source to its end, where it has at most so many bytes.
+/// Reads a source to its end, where it has at most `most` bytes.
 pub fn read_all<S: Source>(
     alloc: Global,
     source: &mut S,

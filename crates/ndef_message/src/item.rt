@@ -23,7 +23,7 @@ use std::marker::Model;
 pub struct Item<'a> {
     /// The bytes of its pieces.
     bytes: &'a [u8],
-    /// How many of them are payload.
+    /// The number of them that are payload.
     length: u32,
 }
 
@@ -38,7 +38,7 @@ impl<'a> Model for Item<'a> {
     ghost invariant = { λ i. AreRun i.bytes.now i.length };
 }
 
-/// The record with which the bytes begin, and the bytes behind it.
+/// The record with which the bytes begin, and the bytes after it.
 pub(crate) fn split_item(bytes: &[u8]) -> (Item<'_>, &[u8])
     requires some { 0 < length bytes.now }
     requires runs { AreRuns bytes.now }
@@ -91,7 +91,7 @@ impl<'a> Item<'a> {
         self.first().id
     }
 
-    /// How many bytes the payload has, those of all pieces together.
+    /// The number of bytes of the payload, those of all pieces together.
     pub fn length(&self) -> u32
         ensures { result ≡ length (run_record self.now).payload }
     {
@@ -119,7 +119,7 @@ impl<'a> Item<'a> {
         }
     }
 
-    /// A copy of the payload, all pieces joined; or `NoMemory` where a growth is refused.
+    /// A copy of the payload, all pieces joined; or `NoMemory` where an allocation fails.
     pub fn joined(&self, alloc: Global) -> Result<Bytes, NoMemory>
         ensures { IfOk result (λ b. b ≡ (run_record self.now).payload) }
     {
@@ -130,7 +130,7 @@ impl<'a> Item<'a> {
         Ok(payload)
     }
 
-    /// A copy of the record; or `NoMemory` where a growth is refused.
+    /// A copy of the record; or `NoMemory` where an allocation fails.
     pub(crate) fn to_record(&self, alloc: Global) -> Result<Record, NoMemory>
         ensures { IfOk result (λ r. r ≡ run_record self.now) }
     {

@@ -8,16 +8,16 @@ use ndef_value::{Message, NoMemory, Profile};
 use std::alloc::Global;
 use std::marker::Model;
 
-/// A message (NDEF 1.0) at the front of a slice, of which nothing is copied: [`view`](crate::view) makes one of
-/// bytes that it has checked. Contracts see how many bytes the message has, the runs of its records,
-/// and the profile with which it was checked.
+/// A message (NDEF 1.0) at the front of a slice, of which nothing is copied: [`view`](crate::view) makes one of bytes
+/// that it has checked. Contracts see the number of bytes of the message, the runs of its records, and the profile with
+/// which it was checked.
 #[derive(Debug, Drop)]
 pub struct View<'a> {
     /// The bytes of the message.
     bytes: &'a [u8],
-    /// How many records it has.
+    /// The number of its records.
     records: u32,
-    /// What was made of reserved values.
+    /// How reserved values were read.
     profile: Profile,
 }
 
@@ -45,28 +45,28 @@ impl<'a> View<'a> {
         }
     }
 
-    /// How many bytes the message has. What follows them in the slice isn't part of it.
+    /// The number of bytes of the message. What follows them in the slice isn't part of it.
     pub fn taken(&self) -> u64
         ensures { result ≡ self.now.taken }
     {
         self.bytes.len() as u64
     }
 
-    /// How many records the message has, 1 to 65535, and at most as many as its limits allowed.
+    /// The number of records of the message, 1 to 65535, and at most as many as its limits allowed.
     pub fn records(&self) -> u32
         ensures { result ≡ length self.now.runs }
     {
         self.records
     }
 
-    /// What was made of reserved values: the profile of the limits that were given.
+    /// How reserved values were read: the profile of the limits that were given.
     pub fn profile(&self) -> Profile
         ensures { result ≡ self.now.profile }
     {
         self.profile
     }
 
-    /// The records of the message, in order, 1 to 65535 of them. Each call begins anew.
+    /// The records of the message, in order, 1 to 65535 of them. Each call starts from the first.
     pub fn items(&self) -> Items<'a>
         ensures value { result ≡ self.now.runs }
         ensures some { 1 ≤ length self.now.runs }
@@ -75,7 +75,7 @@ impl<'a> View<'a> {
         Items::new(self.bytes)
     }
 
-    /// A copy of the message; `NoMemory` where a growth is refused.
+    /// A copy of the message; `NoMemory` where an allocation fails.
     pub fn to_message(&self, alloc: Global) -> Result<Message, NoMemory>
         ensures { IfOk result (λ m. m ≡ map run_record self.now.runs) }
     {

@@ -29,7 +29,7 @@ impl<L: OuterLanguage> State<L> {
         matches!(self.phase, Phase::Head) && self.reader.is_fresh() && !self.place.inside
     }
 
-    /// Goes on behind whole records, where another may begin or the message ends.
+    /// Continues after whole records, where another may begin or the message ends.
     pub(crate) fn go_behind(&mut self, limits: &Limits, place: Place, last: bool)
         requires { place.inside ≡ false }
         ensures { IsBehind limits.now self.new place last }
@@ -43,8 +43,8 @@ impl<L: OuterLanguage> State<L> {
         self.phase = Phase::Head;
     }
 
-    /// Takes as many whole records at the front of the bytes as are seen at once to be right, where one
-    /// may begin; answers how many bytes they have.
+    /// Takes as many whole records at the front of the bytes as the fast test finds right, where one may begin; returns
+    /// their number of bytes.
     fn take_records(&mut self, limits: &Limits, bytes: &[u8]) -> usize
         ensures within { result ≤ length bytes.now }
         ensures none { result ≡ 0 → self.new.phase ≡ self.old.phase }
@@ -73,7 +73,7 @@ impl<L: OuterLanguage> State<L> {
             && self.payload.is_open()
     }
 
-    /// Goes on behind pieces of an open run, where another begins.
+    /// Continues after pieces of an open run, where another begins.
     fn go_behind_chunks(&mut self, limits: &Limits, place: Place)
         requires { place.first ≡ false }
         ensures { IsBehindChunks limits.now self.old self.new place }
@@ -82,8 +82,8 @@ impl<L: OuterLanguage> State<L> {
         self.reader = HeadReader::new(place.spot(limits.profile()));
     }
 
-    /// Takes as many whole pieces at the front of the bytes as go on an open run, each with another behind
-    /// it, where any octets complete its payload; answers how many bytes they have.
+    /// Takes as many whole pieces at the front of the bytes as continue an open run, each with another after it, where
+    /// any octets complete its payload; returns their number of bytes.
     #[inline(never)]
     fn take_chunks(&mut self, limits: &Limits, bytes: &[u8]) -> usize
         ensures within { result ≤ length bytes.now }
@@ -102,8 +102,8 @@ impl<L: OuterLanguage> State<L> {
         taken
     }
 
-    /// Takes whole records at the front of the bytes where one may begin, and pieces of an open run where
-    /// one of them may, as many as are seen at once to be right; answers how many bytes they have.
+    /// Takes whole records at the front of the bytes where one may begin, and pieces of an open run where one of them
+    /// may, as many as the fast test finds right; returns their number of bytes.
     pub(crate) fn take_pieces(&mut self, limits: &Limits, bytes: &[u8]) -> usize
         ensures within { result ≤ length bytes.now }
         ensures none { result ≡ 0 → self.new.phase ≡ self.old.phase }
@@ -116,8 +116,7 @@ impl<L: OuterLanguage> State<L> {
         self.take_records(limits, bytes)
     }
 
-    /// The record in one piece at the front of the bytes, where one may begin and it is seen at once to
-    /// be right.
+    /// The record in one piece at the front of the bytes, where one may begin and the fast test finds it right.
     pub(crate) fn whole_record<'a>(
         &self,
         limits: &Limits,
@@ -132,8 +131,8 @@ impl<L: OuterLanguage> State<L> {
         whole_record::<L>(limits, &self.place, bytes)
     }
 
-    /// Takes the next bytes, after `at` others, as far as they are of one field, up to the first that
-    /// is refused; answers how many, a refused one too.
+    /// Takes the next bytes of one field, after `at` others, up to the first that is refused;
+    /// returns the number taken, including a refused one.
     pub(crate) fn step(&mut self, limits: &Limits, at: u64, bytes: &[u8]) -> usize
         requires led { ∥ SomeLed (Stands L.Language limits.now self.old) ∥₁ }
         requires far { at ≤ 2 ^ 60 }
@@ -169,9 +168,8 @@ impl<L: OuterLanguage> State<L> {
         }
     }
 
-    /// Takes the head of a piece at once, where none of it has come, it is seen to be whole and to stand
-    /// here, and the payload can be completed behind it; answers how many octets it has. Else nothing
-    /// changes.
+    /// Takes the head of a piece at once, if none of it has come, the bytes show that it is whole and may stand here,
+    /// and the payload can be completed after it; returns its number of octets. Else nothing changes.
     fn take_head(&mut self, limits: &Limits, bytes: &[u8]) -> Option<usize>
         requires phase { self.old.phase ≡ Phase.Head }
         requires led { ∥ SomeLed (Stands L.Language limits.now self.old) ∥₁ }
@@ -225,7 +223,7 @@ impl<L: OuterLanguage> State<L> {
         }
     }
 
-    /// Whether the payload of an open run can be completed by a piece whose head goes on so.
+    /// Whether the payload of an open run can be completed by a piece whose head continues so.
     fn head_goes_on(&self) -> bool
         ensures { IsWithinHead self.now → (IsTrue result ↔ CanGoOn L.Language self.now) }
     {
@@ -240,7 +238,7 @@ impl<L: OuterLanguage> State<L> {
         }
     }
 
-    /// Goes on behind a whole head.
+    /// Continues after a whole head.
     fn behind_head(&mut self, limits: &Limits, at: u64, head: Head)
         requires led { ∥ SomeWhole L.Language limits.now self.old head ∥₁ }
         ensures entered { GoesBehind L.Language limits.now self.new at
@@ -254,7 +252,7 @@ impl<L: OuterLanguage> State<L> {
         }
     }
 
-    /// Goes on behind the whole head of a record's first piece, behind which any payload can be completed.
+    /// Continues after the whole head of a record's first piece, after which any payload can be completed.
     fn begin_record(&mut self, limits: &Limits, head: Head)
         requires outside { self.old.place.inside ≡ false }
         ensures stands { BeginsBehind L.Language limits.now self.new
@@ -275,7 +273,7 @@ impl<L: OuterLanguage> State<L> {
     }
 
     /// Takes octets of PAYLOAD, no more than the piece still has, up to the first that is refused;
-    /// answers how many, a refused one too.
+    /// returns the number taken, including a refused one.
     fn in_payload(&mut self, limits: &Limits, at: u64, head: Head, left: u32, bytes: &[u8]) -> usize
         requires phase { self.old.phase ≡ Phase.Payload head left }
         requires led { ∥ SomeLed (Stands L.Language limits.now self.old) ∥₁ }
@@ -357,8 +355,8 @@ impl<L: OuterLanguage> State<L> {
         count
     }
 
-    /// Goes on behind so much of the id and the payload of a piece, if what is left can complete the
-    /// payload; else the octet at `at`, the last one, doesn't fit.
+    /// Continues where `id_left` octets of the id and `left` of the payload of a piece are left, if
+    /// these can complete the payload; else the octet at `at`, the last one, doesn't fit.
     fn enter(&mut self, limits: &Limits, at: u64, head: Head, id_left: u8, left: u32)
         requires led { ∥ SomeBody L.Language limits.now self.old head id_left left ∥₁ }
         ensures entered { EntersBehind L.Language limits.now self.new at
@@ -380,7 +378,7 @@ impl<L: OuterLanguage> State<L> {
         }
     }
 
-    /// Goes on behind so much of the id and the payload of a piece.
+    /// Continues where `id_left` octets of the id and `left` of the payload of a piece are left.
     fn settle(&mut self, limits: &Limits, head: Head, id_left: u8, left: u32)
         ensures stands { SettlesBehind L.Language limits.now self.new
             (InBody L.Language limits.now self.old head id_left left) }

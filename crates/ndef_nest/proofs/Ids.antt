@@ -14,7 +14,7 @@ module _ (member tail : List ℕ → Type 0) where
       subst (λ n. IsBody member n payload tail r ↔ IsBody member id payload tail ((b ∷ t) ++ r)) (let e : id - 1 - length t ≡ id - length (b ∷ t) = omega arith in e)
       (chain (ids_follow (id - 1) payload t are.1 (omega arith) r) (after_id member tail id payload b (t ++ r) are.0 (omega arith)))
 
-  -- where some list passes, one that is shorter by so many does behind so many octets of the id
+  -- where some list passes, one that is n shorter does after n octets of the id
   ids_pass : (id payload lo hi n : ℕ) → n ≤ id → PassesBetween (IsBody member id payload tail) lo hi → PassesBetween (IsBody member (id - n) payload tail) (lo - n) (hi - n)
   ids_pass id payload lo hi n few p =
       let x = p.passed in

@@ -133,7 +133,7 @@ payload_come c body leaf left records m t none are few step x = record {
     regroup : (d h k i z w : List ℕ) → (d ++ (h ++ (k ++ (i ++ z)))) ++ w ≡ d ++ (h ++ (k ++ (i ++ (z ++ w))))
     regroup d h k i z w = simp append_assoc
 
--- why the octet behind these is refused
+-- why the octet after these is refused
 pub told_behind_payload : (one : OneField) (c : Context) (body : Body) (records : ℕ) (m t : List ℕ) (b : ℕ) (r : Reason) → body.id ≡ 0 → AreOctets t → length t < body.payload
     → ((kind : Kind) (profile : Profile) (s : List ℕ) → LeafReached body.leaf kind profile s → IsLowest (PayloadReason kind profile (s ++ t) b) r)
     → IsInBody c body records m → IsLowest (MessageReason c.table records c.profile (m ++ t) b) r

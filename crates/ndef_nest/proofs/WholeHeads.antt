@@ -54,7 +54,7 @@ pub not_version : (phase : Phase) (xs : List ℕ) → IsBetween phase xs → pha
 not_version phases.Version xs h e = h
 not_version _ xs h e = cc
 
--- behind a head that isn't the last, another record may begin
+-- after a head that isn't the last, another record may begin
 pub head_followed : (profile : Profile) (first : Bool) (records : ℕ) (xs : List ℕ) (h : Head) → 0 < records → IsWholeHead (nested_spot profile first records) xs h → h.last || nat_lt 0 (records - 1) ≡ true
 head_followed profile first records xs h some at = by_last h.last refl
   where
@@ -69,7 +69,7 @@ head_followed profile first records xs h some at = by_last h.last refl
         let l : nat_lt 0 (records - 1) ≡ true = grind (arith, nat_tests, eqb_tells) in
         rw (e, l) refl
 
--- what completes the message behind a whole head is what goes on after it
+-- what completes the message after a whole head is what continues it
 pub head_completes : (apart : HeadsAreApart) (c : Context) (first : Bool) (xs : List ℕ) (phase : Phase) (bytes : List ℕ) (h : Head) (count : ℕ) → IsBetween phase xs → 0 < c.records
     → BeginWithHead (nested_spot c.profile (is_first_octet phase first) c.records) bytes h count → Continues (Completes c first xs phase) (CompletesHeaded (fewer c) h) (take count bytes)
 head_completes apart c first xs phase bytes h count between some at r =
@@ -91,7 +91,7 @@ typed_whole profile more last demand of id payload (b ∷ t) r are =
     chain (typed_whole profile more last demand (λ z. of (b ∷ z)) id payload t r are.1) (typed_step profile more last demand of (length t) id payload b (t ++ r) are.0)
 
 module _ (c : Context) (h : Head) (n : Name) (kind : Kind) (t : List ℕ) (are : AreOctets t) (whole : length t ≡ h.kind_length) (is : kind_in c.table h.tnf t ≡ kind) (last : n.last ≡ h.last) (id : n.id ≡ unwrap_or h.id_length 0) (payload : n.payload ≡ h.payload_length) where
-  -- what completes the message behind a head and its type
+  -- what completes the message after a head and its type
   pub type_completes : Continues (CompletesHeaded c h) (CompletesNamed c kind n) t
   type_completes r =
       rw (sym is, last, id, payload, sym whole) (typed_whole c.profile (Later c.profile c.table c.records) h.last c.demand (kind_in c.table h.tnf) (unwrap_or h.id_length 0) h.payload_length t r are)
@@ -128,7 +128,7 @@ name_comes c h n last id payload missing kind records m x = record {
   kind_is = λ more l. kind more ∙ rw (eq-eqb (length more) h.kind_length (l ∙ missing)) (ap (λ g. kind_of g.tnf more) (sym x.read));
 }
 
--- octets that are taken at once, where some list passes behind them
+-- octets that are taken at once, where some list passes after them
 pub front_taken : (old new : List ℕ → Type 0) (bytes : List ℕ) (lo hi count : ℕ) → count ≤ length bytes → Continues old new (take count bytes) → PassesBetween new (lo - count) (hi - count) → StepsAll old new (take count bytes) lo hi count
 front_taken old new bytes lo hi count within f p =
     let t = take count bytes in

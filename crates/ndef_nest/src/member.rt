@@ -1,4 +1,4 @@
-//! Whether whole payloads are nested messages. Only a true answer tells something.
+//! Whether whole payloads are nested messages. Only a true answer is conclusive.
 ghost use Rattle.std.specs.Prelude.{◌≡◌, ◌≤◌, ℕ, suc, IfSome, IsTrue};
 ghost use Rattle.ndef_format.specs.Nested.{IsNest, Nested};
 ghost use Rattle.ndef_nest.specs.Machine.Demands.{Later, RecordsToCome, Tail};
@@ -10,8 +10,8 @@ use ndef_lang::{Language, Leaf};
 use ndef_piece::{heads_are_of_pieces, whole_piece};
 use ndef_value::Profile;
 
-/// What follows the record at the front of the bytes, if it is seen at once that it may stand there: what
-/// is asked of it, whether the message ends there, and the bytes.
+/// What follows the record at the front of the bytes, if it is clear at once that it may stand there: what is asked of
+/// it, whether the message ends there, and the bytes.
 fn behind_record(context: Context, first: bool, bytes: &[u8]) -> Option<(Demand, bool, &[u8])>
     ensures { IfSome result (λ r. (others : ℕ) → context.records ≡ suc others
         → Tail (Later context.profile context.table others) r.1 r.0 r.2.now
@@ -31,7 +31,7 @@ fn behind_record(context: Context, first: bool, bytes: &[u8]) -> Option<(Demand,
     Some((context.demand.after(kind), piece.is_last(), piece.rest))
 }
 
-/// Whether they are a message of at most so many records, each in one piece.
+/// Whether they are a message of at most `records` records, each in one piece.
 fn are_records(table: Table, records: u32, profile: Profile, bytes: &[u8]) -> bool
     ensures { IsTrue result → Nested table records profile bytes.now }
 {

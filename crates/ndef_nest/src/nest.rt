@@ -63,14 +63,14 @@ fn after_version(byte: u8) -> (Phase, Reason)
     }
 }
 
-/// Whether the type may be a well-known one of so many octets.
+/// Whether the type may be a well-known one of `length` octets.
 fn may_have(bounds: &Bounds, length: u8) -> bool
     ensures { result ≡ may_have bounds.now length }
 {
     matches!(bounds.tnf, Tnf::WellKnown) && bounds.kind.0 <= length && length <= bounds.kind.1
 }
 
-/// Why an octet is refused that a head goes on with, if it is.
+/// Why an octet is refused with which a head continues, if it is.
 fn head_reason(demand: Demand, bounds: &Bounds) -> Reason
     ensures { result ≡ head_told demand bounds.now }
 {
@@ -169,7 +169,7 @@ impl Nest {
         }
     }
 
-    /// Behind the head of a record.
+    /// After the head of a record.
     fn behind_head(context: Context, head: &Head) -> Nest
         requires suited { Suits context }
         requires followed { head.now.last || nat_lt 0 context.records ≡ true }
@@ -182,7 +182,7 @@ impl Nest {
         Nest::at(Context { demand, ..context }, phase)
     }
 
-    /// Behind the head of a record and its type.
+    /// After the head of a record and its type.
     fn behind_type(context: Context, head: &Head, name: &[u8]) -> Nest
         requires suited { Suits context }
         requires followed { head.now.last || nat_lt 0 context.records ≡ true }
@@ -195,8 +195,8 @@ impl Nest {
         Nest::at(Context { demand, ..context }, phase)
     }
 
-    /// The head at the front of the bytes, and how many octets it has, where a record may begin and it
-    /// is seen at once that this one does.
+    /// The head at the front of the bytes, and its number of octets, where a record may begin and it is clear at once
+    /// that this one does.
     fn whole_head(&self, bytes: &[u8]) -> Option<(Head, usize)>
         ensures between { IfSome result (λ r. IsBetween self.now.phase self.now.reader.octets) }
         ensures begins { IfSome result (λ r. BeginWithHead (nest_spot self.now) bytes.now r.0 r.1) }
@@ -208,9 +208,9 @@ impl Nest {
         }
     }
 
-    /// Behind the whole head at the front of the bytes, and its type if all of that follows, and how
-    /// many octets they have, where it is seen at once that they stand there, and some `lo` to `hi`
-    /// octets go on so.
+    /// The nest after the whole head at the front of the bytes, and after its type if all of that
+    /// follows, and the number of octets taken, where it is clear at once that they stand there,
+    /// and some `lo` to `hi` octets continue them.
     fn behind_whole(&self, bytes: &[u8], lo: u64, hi: u64) -> Option<(Nest, usize)>
         requires enough { length bytes.now ≤ lo }
         requires ordered { lo ≤ hi }
@@ -240,9 +240,9 @@ impl Nest {
         }
     }
 
-    /// Takes the next octet, or more where they are a whole head, with its type, or of one nested id or
-    /// payload, up to the first that is refused: answers how many were looked at, and how many come
-    /// before it.
+    /// Takes the next octet, or more where they are a whole head, with its type, or of one nested id or payload, up to
+    /// the first that is refused. Returns the number of octets looked at, and the number that come before the refused
+    /// one.
     fn step_some(&mut self, bytes: &[u8], lo: u64, hi: u64) -> (usize, usize)
         requires some { 0 < length bytes.now }
         requires enough { length bytes.now ≤ lo }

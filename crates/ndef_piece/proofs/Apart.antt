@@ -1,4 +1,4 @@
--- Heads are told apart by their octets.
+-- Heads with the same octets are the same.
 use Rattle.std.proofs.Common.{◌≡◌, ℕ, ◌+◌, ◌<◌, Bool, refl, sym, ◌∙◌, ap, arith, List, [], ◌∷◌, ◌++◌, length, Option, Some, length-append}
 use Rattle.std.specs.Prelude.{is_some}
 use Rattle.std.proofs.lemmas.List.{append-nil}
@@ -18,7 +18,7 @@ use Rattle.ndef_piece.specs.HeaderLaws.{octets_size, header, header_parts}
 
 -- ---- heads with one header octet
 
--- what the header octet tells is alike
+-- what the header octet says is alike
 pub record Alike (g h : HeadFields) : Type 0 where
   pub last : g.last ≡ h.last
   pub chunked : g.chunked ≡ h.chunked
@@ -35,7 +35,7 @@ alike g h t u e = record {
   id = sym (header_parts g t).id_there ∙ ap (is_set 3) e ∙ (header_parts h u).id_there;
 }
 
--- a header octet tells the type name format
+-- a header octet gives the type name format
 pub headers_tell : HeadersTell
 headers_tell f b rest h e = let g : b ≡ header f = cc in ap tnf_number g ∙ (header_parts f h.tnf).tnf
 
@@ -97,7 +97,7 @@ open_not_past at (x ∷ xs) o g m l e =
 
 -- ---- one answer to an octet
 
--- a reason is told by its option
+-- equal options of reasons hold equal reasons
 only_reason : (r s : Reason) → Some r ≡ Some s → r ≡ s
 only_reason r s e = cc
 

@@ -129,7 +129,7 @@ module _ (ps : List Piece) (spot other : Spot) where
 
 -- ---- the pieces before a field
 
--- pieces at the front of the same octets, with no piece more in what is behind them, are the same
+-- pieces at the front of the same octets, with no further piece after them, are the same
 same_pieces : (spot other : Spot) (p q : Field) → IsProper spot p → IsProper other q → (d e : List Piece) (a b : List ℕ) → SpellsPieces d a → SpellsPieces e b
     → a ++ octets_so_far p ≡ b ++ octets_so_far q → (d ≡ e) × (octets_so_far p ≡ octets_so_far q)
 same_pieces spot other p q at to [] [] a b h k f = (refl, sym (ap (λ z. z ++ octets_so_far p) h) ∙ f ∙ ap (λ z. z ++ octets_so_far q) k)
@@ -164,7 +164,7 @@ not_begun r (q ∷ x) rest f g e =
     let more : x ≡ r.later ++ rest = cc in
     not_open r.initial.chunked r.later x rest (sym (ap (λ z. z.chunked) same) ∙ g.0) f g.1 more
 
--- CF tells the runs of pieces
+-- CF separates the runs of pieces
 same_runs : (rs ss : List Run) (x y : List Piece) → AllByRecursion (λ r. Follow r.initial.chunked r.later) rs → AllByRecursion (λ r. Follow r.initial.chunked r.later) ss
     → AllByRecursion (λ p. p.chunked ≡ true) x → AllByRecursion (λ p. p.chunked ≡ true) y → all_pieces rs ++ x ≡ all_pieces ss ++ y → (rs ≡ ss) × (x ≡ y)
 same_runs [] [] x y a b g h e = (refl, e)

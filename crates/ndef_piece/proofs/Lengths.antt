@@ -51,7 +51,7 @@ big_has n (a ∷ b ∷ c ∷ d ∷ []) l o p q =
     ([], rw (ea, eb, ec, ed) refl)
 big_has n (a ∷ b ∷ c ∷ d ∷ x ∷ xs) l o p q = absurd (omega arith)
 
--- how many octets a payload length has
+-- the number of octets of a payload length
 abbrev pub octet_count : Bool → ℕ
 octet_count short = cond short 1 4
 

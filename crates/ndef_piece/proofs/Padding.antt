@@ -1,11 +1,11 @@
--- Octets with zeros behind them.
+-- Octets with zeros after them.
 use Rattle.std.proofs.Common.{◌≡◌, ℕ, ◌+◌, ◌-◌, ◌<◌, sym, ◌∙◌, ap, arith, List, ◌++◌, length, take, drop, length-append}
 use Rattle.std.specs.Prelude.{replicate, slice_set}
 use Rattle.std.proofs.lemmas.List.{length_push, length-replicate, take_more_set, take-append-drop, drop_at, drop-set-lt, drop-drop, drop-replicate}
 use Rattle.ndef_piece.specs.Machine.Inside.{padded}
 use Rattle.ndef_piece.specs.Machine.InsideLaws.{octets_counted}
 
--- zeros still stand behind one octet more
+-- zeros still follow after one more octet
 pub zeros_kept : (xs : List ℕ) (i b : ℕ) → i < 7 → xs ≡ padded (take i xs) → slice_set xs i b ≡ padded (take (i + 1) (slice_set xs i b))
 zeros_kept xs i b few zeros =
     let t = take i xs in

@@ -37,7 +37,7 @@ id_at false n (Some d) x k = refl
 id_of : (h : HeadFields) → CanBeSpelled h → cond (is_set 3 (header h)) (Some (slice_index (octets h) (2 + width (header h)))) None ≡ h.id_length
 id_of h l = rw ((header_parts h l.tnf).id_there, (header_parts h l.tnf).short) (id_at h.short h.payload_length h.id_length (header h) h.kind_length)
 
--- a head of the parts that its octets tell is the head
+-- a head of the parts that its octets give is the head
 pub read_back : (h : HeadFields) (xs : List ℕ) → CanBeSpelled h → octets h ≡ xs
     → (first last chunked short : Bool) (t : Tnf) (k n : ℕ) (i : Option ℕ)
     → first ≡ is_set 7 (slice_index xs 0) → last ≡ is_set 6 (slice_index xs 0) → chunked ≡ is_set 5 (slice_index xs 0) → short ≡ is_set 4 (slice_index xs 0)

@@ -1,4 +1,4 @@
--- How many octets a head has.
+-- The number of octets of a head.
 use Rattle.std.proofs.Common.{◌≡◌, ℕ, ◌+◌, ◌<◌, ◌≤◌, Bool, true, false, cond, refl, arith}
 use Rattle.ndef_format.specs.Records.{HeadFields}
 use Rattle.ndef_format.specs.HeadReasons.{is_set, width}

@@ -82,7 +82,7 @@ lengths_open r answer range room s e f = rw f (open_range r.spot r.octets room (
 pub lengths_whole : (r : Reading) (answer : Step) (h : Head) → IsSound r answer → answer ≡ steps.Head h → IsRange r.spot r.octets (h.payload_length, h.payload_length)
 lengths_whole r answer h s e = whole_range r.spot r.octets h (subst (IsSound r) e s)
 
--- readings are told by their parts
+-- readings with equal parts are equal
 pub same_reading : (s t : Spot) (xs ys : List ℕ) (a : Step) → s ≡ t → xs ≡ ys
     → ◌≡◌ {A = Reading} (record { spot = s; octets = xs; answer = a }) (record { spot = t; octets = ys; answer = a })
 same_reading s t xs ys a e f = rw (e, f) refl

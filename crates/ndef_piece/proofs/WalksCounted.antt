@@ -60,7 +60,7 @@ one_left n k = elim (eqb_tells (k - n) 1) [
   | inr x ↦ x.0 ∙ sym (ne_eqb (n + 1) k (λ z. x.1 (omega arith)))
 ]
 
--- what is known behind these runs and these pieces of an open one
+-- what is known after these runs and these pieces of an open one
 abbrev behind : LimitValues → (over : Bool) → List Run → List Piece → Before
 behind limits over runs begun = standing limits (length runs == 0) over (limits.records - length runs) begun
 
@@ -149,7 +149,7 @@ pieces_go_on limits runs begun p b stands = (run_goes_on limits runs begun p b s
 
 -- ---- pieces more
 
--- the runs and the open pieces behind these pieces more
+-- the runs and the open pieces after these further pieces
 record Counted (limits : LimitValues) (runs : List Run) (begun ps : List Piece) (done : List Item) (d : Before) : Type 0 where
   all : List Run
   rest : List Piece
@@ -171,7 +171,7 @@ ended_item : (limits : LimitValues) (over : Bool) (runs : List Run) (begun : Lis
 ended_item limits over runs [] p = joined_one p
 ended_item limits over runs (q ∷ begun) p = joined_more q begun p
 
--- what is known behind a piece with which a run goes on
+-- what is known after a piece with which a run goes on
 chunk_after : (limits : LimitValues) (c : Before) (p : Piece) → p.chunked ≡ true → after limits c p ≡ inside c.records (c.pieces - 1) (c.room - length p.payload) (record_with c.begun p)
 chunk_after limits c p e = ap (λ b. if b then inside c.records (c.pieces - 1) (c.room - length p.payload) (record_with c.begun p) else outside limits false p.last (c.records - 1)) e
 

@@ -6,21 +6,21 @@ use Rattle.ndef_format.specs.Positions.{Stands, Field, spot_after, AreBefore, Is
 
 -- ---- what stands before a field
 
--- NDEF 1.0, chunked payloads: the run whose last piece comes behind these
+-- NDEF 1.0, chunked payloads: the run whose last piece comes after these
 abbrev pub ended_run : (begun : List Piece) → Piece → Run
 ended_run [] p = record { initial = p; later = [] }
 ended_run (q ∷ begun) p = record { initial = q; later = begun ++ p ∷ [] }
 
 -- ---- laws
 
--- The octets before an octet tell its field, and the runs and the pieces before it.
+-- The octets before an octet determine its field, and the runs and the pieces before it.
 abbrev pub OneField : Type 0
 OneField = (limits : LimitValues) (bytes : List ℕ) (runs others : List Run) (begun opened : List Piece)
     (field other : Field)
     → IsAt limits bytes runs begun field → IsAt limits bytes others opened other → (runs ≡ others) × (begun ≡ opened)
     × (field ≡ other)
 
--- A piece that stands behind others goes on with the open run, and where its CF is clear it ends it.
+-- A piece that stands after others goes on with the open run, and where its CF is clear it ends it.
 abbrev pub PiecesGoOn : Type 0
 PiecesGoOn = (limits : LimitValues) (runs : List Run) (begun : List Piece) (p : Piece) → AreBefore limits runs begun
     → Stands (spot_after limits runs begun) p

@@ -14,7 +14,7 @@ AreMessage limits ps = (runs : List Run) × (items : List Item) × (ps ≡ all_p
 abbrev pub BeginMessage : LimitValues → List Piece → Type 0
 BeginMessage limits ps = (more : List Piece) × AreMessage limits (ps ++ more)
 
--- the pieces are those of complete runs and of an open one, at the spot behind them stands just what may come next
+-- the pieces are those of complete runs and of an open one, and the spot after them allows exactly what may come next
 pub record IsPosition (limits : LimitValues) (ps : List Piece) : Type 0 where
   pub runs : List Run
   -- the pieces of the open run, none where no run is open

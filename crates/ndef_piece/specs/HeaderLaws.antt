@@ -95,11 +95,11 @@ flags_size h =
       id_size h.id_length,
     )
 
--- a header octet tells the size of the head
+-- a header octet gives the size of the head
 pub octets_size : (h : HeadFields) → h.tnf < 8 → length (octets h) ≡ size (header h)
 octets_size h t = let p = header_parts h t in rw (p.short, p.id_there) (flags_size h)
 
--- NDEF 1.0, ID_LENGTH: the length that a piece tells of its id, 0 where it has none
+-- NDEF 1.0, ID_LENGTH: the length that a piece gives for its id, 0 where it has none
 pub id_count : (id : Option (List ℕ)) → unwrap_or (option_map length id) 0 ≡ length (unwrap_or id [])
 id_count None = refl
 id_count (Some xs) = refl

@@ -59,17 +59,17 @@ IsRange spot xs range = (n : ℕ) → IsLength spot xs n ↔ ((range.0 ≤ n) ×
 
 -- ---- laws
 
--- No head's octets begin those of another, and each head is told by its octets.
+-- No head's octets begin those of another, and heads with the same octets are the same.
 abbrev pub HeadsAreApart : Type 0
 HeadsAreApart = (f g : HeadFields) (x y : List ℕ) → CanBeSpelled f → CanBeSpelled g → octets f ++ x ≡ octets g ++ y
     → (f ≡ g) × (x ≡ y)
 
--- A head has 3 to 7 octets, as SR and IL tell.
+-- A head has 3 to 7 octets, as SR and IL say.
 abbrev pub HeadsHaveSizes : Type 0
 HeadsHaveSizes = (f : HeadFields) → CanBeSpelled f
     → length (octets f) ≡ 2 + (if f.short then 1 else 4) + (if is_some f.id_length then 1 else 0)
 
--- A header octet tells the type name format of its head.
+-- A header octet gives the type name format of its head.
 abbrev pub HeadersTell : Type 0
 HeadersTell = (f : HeadFields) (header : ℕ) (rest : List ℕ) → CanBeSpelled f → octets f ≡ header ∷ rest
     → tnf_number header ≡ f.tnf

@@ -13,11 +13,11 @@ pub record Before : Type 0 where
   pub first : Bool
   -- the message has ended, and no piece follows
   pub over : Bool
-  -- how many records may still end
+  -- the number of records that may still end
   pub records : ℕ
-  -- how many pieces its record may still have
+  -- the number of pieces that its record may still have
   pub pieces : ℕ
-  -- how many payload bytes its record may still have
+  -- the number of payload bytes that its record may still have
   pub room : ℕ
   -- its record as far as it has come, where a run is open
   pub begun : Option Item

@@ -36,7 +36,7 @@ pub record BeginWithPiece (bytes : List ℕ) : Type 0 where
   pub rest : List ℕ
   pub split : IsSplit piece short rest bytes
 
--- NDEF 1.0, record layout: the fields that a header octet and these lengths tell
+-- NDEF 1.0, record layout: the fields that a header octet and these lengths give
 abbrev pub fields_of : ℕ → (kind id payload : ℕ) → HeadFields
 fields_of header kind id payload = record {
   first = is_set 7 header;
@@ -49,7 +49,7 @@ fields_of header kind id payload = record {
   id_length = if is_set 3 header then Some id else None;
 }
 
--- NDEF 1.0, record layout: the bytes begin with a head that may stand at the spot, of so many octets, read as h
+-- NDEF 1.0, record layout: the bytes begin with a head of `count` octets that may stand at the spot, read as h
 pub record BeginWithHead (spot : Spot) (bytes : List ℕ) (h : Head) (count : ℕ) : Type 0 where
   pub some : 0 < count
   pub within : count ≤ length bytes

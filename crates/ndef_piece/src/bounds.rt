@@ -21,7 +21,7 @@ pub struct Bounds {
     pub chunked: bool,
     /// TNF, the reserved 7 being read as Unknown.
     pub tnf: Tnf,
-    /// How many octets of the head are to come, 0 to 6.
+    /// The number of octets of the head that are still to come, 0 to 6.
     pub left: usize,
     /// The least and the greatest TYPE_LENGTH.
     pub kind: (u8, u8),
@@ -69,7 +69,7 @@ pub(crate) fn front_bounds(spot: &Spot, taken: &[u8]) -> Option<Bounds>
     }
 }
 
-/// The least and the greatest type length of a type name format, after these octets behind the
+/// The least and the greatest type length of a type name format, given these octets after the
 /// header octet.
 fn kind_range(tnf: u8, rest: &[u8]) -> (u8, u8)
     ensures { result ≡ kind_range tnf rest.now }

@@ -109,8 +109,8 @@ impl HeadReader {
         self.count == 0
     }
 
-    /// The head at the front of the bytes, and how many octets it has, where no octet has come and it is
-    /// seen at once that it is whole and may stand at the spot.
+    /// The head at the front of the bytes, and its number of octets, if no octet has come yet and the bytes show at
+    /// once that it is whole and may stand at the spot.
     pub fn whole_head(&self, bytes: &[u8]) -> Option<(Head, usize)>
         ensures fresh { IfSome result (λ r. self.now.octets ≡ []) }
         ensures begins { IfSome result (λ r. BeginWithHead self.now.spot bytes.now r.0 r.1) }

@@ -23,7 +23,7 @@ pub(crate) fn tnf_of(number: u8) -> Tnf
     }
 }
 
-/// The type name format that a header octet tells (NDEF 1.0, TNF), the reserved 7 being read as
+/// The type name format that a header octet gives (NDEF 1.0, TNF). The reserved 7 is read as
 /// Unknown.
 pub fn header_tnf(header: u8) -> Tnf
     ensures { result ≡ tnf_of (tnf_number header) }
@@ -31,7 +31,7 @@ pub fn header_tnf(header: u8) -> Tnf
     tnf_of(tnf_number(header))
 }
 
-/// How many octets the head has.
+/// The number of octets of the head.
 pub(crate) fn size(header: u8) -> usize
     ensures { result ≡ size header }
 {

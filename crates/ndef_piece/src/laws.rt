@@ -9,8 +9,8 @@ ghost use Rattle.ndef_piece.specs.Field.{OneField, PiecesGoOn};
 ghost use Rattle.ndef_piece.specs.Fronts.{FrontsHaveSpots};
 ghost use Rattle.ndef_piece.specs.Rest.{RestsSpell, RestsEnd, RestsPastHeads, RestsWithinHeads, RestsCanFollow};
 
-/// No head's octets begin those of another, and each head is told by its octets, 3 to 7 of them, its
-/// type name format by the first. So only one answer to an octet is right.
+/// No head's octets begin those of another. The octets of a head, 3 to 7, determine it, and the
+/// first gives its type name format. So only one answer to an octet is right.
 pub fn heads_are_apart()
     ensures apart { HeadsAreApart }
     ensures sizes { HeadsHaveSizes }
@@ -41,8 +41,8 @@ pub fn heads_are_of_pieces()
     ensures lengths { LengthsOfPieces }
 {}
 
-/// The octets of a message up to one tell its field, the whole runs before it and the pieces of an
-/// open one. A piece that stands behind them goes on with the open run, or ends it.
+/// The octets of a message up to one determine its field, the whole runs before it and the pieces
+/// of an open one. A piece that stands after them continues the open run, or ends it.
 pub fn fields_are_told()
     ensures one { OneField }
     ensures on { PiecesGoOn }

@@ -1,5 +1,5 @@
 //! The heads of NDEF pieces (NFC Forum, NDEF 1.0): read octet by octet, refused at the first octet that no
-//! valid head can contain there, and written; and whole pieces at the front of a slice. Nothing here takes memory.
+//! valid head can contain there, and written; and whole pieces at the front of a slice. Nothing here allocates memory.
 //!
 //! Where to look:
 //!

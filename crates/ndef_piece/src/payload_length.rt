@@ -5,7 +5,7 @@ ghost use Rattle.ndef_piece.specs.Ranges.{greatest_from, length_front};
 
 use ndef_format::header::{SHORT, is_set, width};
 
-/// The least and the greatest number that so many octets can spell, of which these are the front.
+/// The least and the greatest number of `width` octets, of which these are the front.
 pub(crate) fn least_and_greatest(width: usize, front: &[u8]) -> (u32, u32)
     requires widths { (width ≡ 1) ⊎ (width ≡ 4) }
     requires short { length front.now ≤ width }

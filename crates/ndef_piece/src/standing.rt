@@ -1,4 +1,4 @@
-//! Whether a piece may stand at a spot, by its header octet and its lengths. Only a true answer tells something.
+//! Whether a piece may stand at a spot, by its header octet and its lengths. Only a true answer is conclusive.
 ghost use Rattle.std.specs.Prelude.{◌≡◌, ◌≢◌, ◌≤◌, false, true, IsTrue};
 ghost use Rattle.ndef_format.specs.Records.{HasShape, IsRead, tnf_of};
 ghost use Rattle.ndef_format.specs.HeadReasons.{is_set, tnf_number};
@@ -24,7 +24,7 @@ fn has_shape(profile: Profile, tnf: u8, kind: usize, id: usize, payload: usize) 
     }
 }
 
-/// Whether the flags may stand at the spot, and so many payload bytes have room there.
+/// Whether the flags may stand at the spot, and `payload` bytes have room there.
 pub(crate) fn suits(spot: &Spot, header: u8, payload: usize) -> bool
     ensures begins { IsTrue result → is_set 7 header ≡ spot.now.first }
     ensures chunked { IsTrue result → is_set 5 header ≡ true

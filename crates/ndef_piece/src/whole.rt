@@ -15,7 +15,7 @@ use ndef_value::Tnf;
 /// what follows it there.
 #[derive(Clone, Copy, Debug, PartialEq, Eq, Hash)]
 pub struct WholePiece<'a> {
-    /// The header octet, which tells the reserved type name format 7 too.
+    /// The header octet, which also shows the reserved type name format 7.
     pub header: u8,
     /// TYPE, 0 to 255 bytes.
     pub kind: &'a [u8],
@@ -23,7 +23,7 @@ pub struct WholePiece<'a> {
     pub id: &'a [u8],
     /// PAYLOAD, of this piece alone, 0 to 4294967295 bytes.
     pub payload: &'a [u8],
-    /// The bytes behind the piece.
+    /// The bytes after the piece.
     pub rest: &'a [u8],
 }
 
@@ -63,8 +63,7 @@ fn id_length_at(header: u8, bytes: &[u8]) -> Option<(u8, &[u8])>
     Some((*length, rest))
 }
 
-/// The head at the front of the bytes, and how many octets it has, where it is whole and may stand at the
-/// spot.
+/// The head at the front of the bytes, and its number of octets, where it is whole and may stand at the spot.
 pub(crate) fn head_at(spot: &Spot, bytes: &[u8]) -> Option<(Head, usize)>
     ensures { IfSome result (λ r. BeginWithHead spot.now bytes.now r.0 r.1) }
 {
@@ -95,7 +94,7 @@ pub(crate) fn head_at(spot: &Spot, bytes: &[u8]) -> Option<(Head, usize)>
     Some((head, bytes.len() - rest.len()))
 }
 
-/// So many bytes at the front, and what follows them.
+/// The first `count` bytes, and what follows them.
 fn cut(bytes: &[u8], count: usize) -> Option<(&[u8], &[u8])>
     ensures length { IfSome result (λ r. length r.0.now ≡ count) }
     ensures joined { IfSome result (λ r. bytes.now ≡ r.0.now ++ r.1.now) }
@@ -152,8 +151,8 @@ impl WholePiece<'_> {
         is_set(END, self.header)
     }
 
-    /// Whether it is seen at once that it may stand at the spot and goes on the run there (NDEF 1.0,
-    /// chunked payloads).
+    /// Whether it is clear at once that it may stand at the spot and continues the run there (NDEF
+    /// 1.0, chunked payloads).
     pub fn goes_on_at(&self, spot: &Spot) -> bool
         requires { spot.now.inside ≡ true }
         ensures { IsTrue result → Stands spot.now (shown self.now) }
@@ -164,7 +163,7 @@ impl WholePiece<'_> {
             && suits(spot, self.header, self.payload.len())
     }
 
-    /// Whether it is seen at once that it may stand at the spot and begins a record there.
+    /// Whether it is clear at once that it may stand at the spot and begins a record there.
     pub fn opens_at(&self, spot: &Spot) -> bool
         ensures stands { IsTrue result → Stands spot.now (shown self.now) }
         ensures outside { IsTrue result → spot.now.inside ≡ false }
@@ -178,7 +177,7 @@ impl WholePiece<'_> {
         )
     }
 
-    /// Whether it is seen at once that it may stand at the spot and is a record in one piece.
+    /// Whether it is clear at once that it may stand at the spot and is a record in one piece.
     pub fn is_record_at(&self, spot: &Spot) -> bool
         ensures stands { IsTrue result → Stands spot.now (shown self.now) }
         ensures one { IsTrue result → is_set 5 self.now.header ≡ false }

@@ -9,8 +9,8 @@ use crate::Head;
 use crate::header::header_octet;
 use byteorder::{BigEndian, ByteOrder};
 
-/// Writes the octets of a head (NDEF 1.0, record layout) up to ID_LENGTH, leaves the rest of `out` as
-/// it is, and answers how many they are, 3 to 7. The short form is for at most 255 payload bytes. No
+/// Writes the octets of a head (NDEF 1.0, record layout) up to ID_LENGTH, leaves the rest of `out`
+/// as it is, and returns their number, 3 to 7. The short form is for at most 255 payload bytes. No
 /// head is written with the reserved type name format 7.
 pub fn write_head(head: &Head, out: &mut [u8; 7]) -> usize
     requires { FitsForm head.now.short head.now.payload_length }

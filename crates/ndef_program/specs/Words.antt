@@ -20,7 +20,7 @@ abbrev pub IsStrange : (words : List (List ℕ)) → Option (List ℕ) → Type 
 IsStrange words (Some word) = IsFirstStrange words word
 IsStrange words None = AllByRecursion IsUtf8 words
 
--- why there are no texts of the words: the first that isn't UTF-8; memory is wanting only where all are
+-- why there are no texts of the words: the first that isn't UTF-8; memory runs out only where all are
 abbrev pub AreNoTexts : (words : List (List ℕ)) → WordsFault → Type 0
 AreNoTexts words (fault.NotText word) = IsFirstStrange words word.now
 AreNoTexts words fault.NoMemory = AllByRecursion IsUtf8 words
@@ -34,12 +34,12 @@ abbrev pub SendsUsage : Text → (before after : SinkState) → Status → Type 
 SendsUsage text before after result = GoesOut before.written after.written after.failed text
     × (result ≡ status_after after.failed status.Usage)
 
--- the line for a word that isn't UTF-8 goes out; nothing does where memory is wanting for it
+-- writes the line for a word that isn't UTF-8; writes nothing where memory runs out for it
 abbrev pub TellsWord : (word : List ℕ) → (before after : SinkState) → Status → Type 0
 TellsWord word before after result =
     SendsUsage (word_line word) before after result ⊎ ((after ≡ before) × (result ≡ status.Fault))
 
--- what is told of words that aren't taken as texts, and the status
+-- what is written of words that aren't taken as texts, and the status
 abbrev pub TellsWords : WordsFault → (before after : SinkState) → Status → Type 0
 TellsWords (fault.NotText word) before after result = TellsWord word.now before after result
 TellsWords fault.NoMemory before after result = (after ≡ before) × (result ≡ status.Fault)

@@ -15,7 +15,7 @@ pub enum Status {
     Refused = 1,
     /// The words don't parse.
     Usage = 2,
-    /// Reading or writing failed, memory was wanting, or the input is more than a run handles.
+    /// Reading or writing failed, memory ran out, or the input is more than a run handles.
     Fault = 3,
 }
 

@@ -16,11 +16,11 @@ use std::env::{Env, FillError};
 pub enum WordsFault<'a> {
     /// This word isn't UTF-8.
     NotText(&'a [u8]),
-    /// A growth was refused.
+    /// An allocation failed.
     NoMemory,
 }
 
-/// What comes of reading a word into a room.
+/// The outcome of reading a word into a buffer.
 enum Filled {
     /// Its bytes.
     Word(Bytes),
@@ -30,7 +30,7 @@ enum Filled {
     Missing,
 }
 
-/// Reads a word into a room of so many bytes.
+/// Reads a word into a buffer of `room` bytes.
 fn read_into<E: Env>(
     alloc: Global,
     env: &E,
@@ -98,7 +98,7 @@ fn copies(alloc: Global, words: &[Bytes]) -> Result<Vec<String>, NoMemory>
     Ok(texts)
 }
 
-/// The words as texts. A word that isn't UTF-8 is told before want of memory.
+/// The words as texts. A word that isn't UTF-8 is reported before a lack of memory.
 pub fn texts<'a>(alloc: Global, words: &'a [Bytes]) -> Result<Vec<String>, WordsFault<'a>>
     ensures texts { IfOk result (λ texts. map string_bytes texts.items ≡ words.now) }
     ensures fault { IfErr result (AreNoTexts words.now) }
@@ -144,8 +144,8 @@ fn tell_word<K: Sink>(alloc: Global, word: &[u8], sink: &mut K) -> Status
     }
 }
 
-/// Tells why words aren't taken as texts: writes the line for a word that isn't UTF-8. The status is `Usage`; it is
-/// `Fault` where memory is wanting or writing fails.
+/// Says why words aren't taken as texts: writes the line for a word that isn't UTF-8. The status is `Usage`; it is
+/// `Fault` where memory runs out or writing fails.
 pub fn tell_words<K: Sink>(alloc: Global, fault: WordsFault<'_>, sink: &mut K) -> Status
     ensures { K.has_failed sink.old ≡ false
         → TellsWords fault.entry (sink_state K.Sink sink.old) (sink_state K.Sink sink.new) result }

@@ -1,4 +1,4 @@
--- How many bytes a message has, or a front of one.
+-- The number of bytes of a message, or of a front of one.
 use Rattle.std.proofs.Common.{◌+◌, ◌*◌, ◌≤◌, ◌<◌, ◌^◌, ◌⊎◌, inl, inr, ℕ, List, ◌++◌, length, map, take, Option, length-append, length-take, length-take-le, Ok, arith, mul-le-mul_left}
 use Rattle.ndef_format.specs.Limits.{LimitValues, AreInRange, greatest_length}
 use Rattle.ndef_format.specs.Laws.{MessagesAreBounded}

@@ -51,7 +51,7 @@ check_printed choice number at read records taken text is e n t =
     e ∙ ap (λ x. message_line number at x taken) n ∙ ap (λ x. message_line number at (length read.message) x) (sym t) in
     subst (λ action. IsBlockBy action choice.limits.profile choice.hex number at read text) (sym is) line
 
--- the place of a refusal behind at most 10000 messages can be counted
+-- the place of a refusal after at most 10000 messages can be counted
 pub fits_behind : (limits : LimitValues) (coming : Option (List ℕ)) (count at a b : ℕ) (ending : Ending) → AreInRange limits → count ≤ 10000 → at ≤ count * 2 ^ 49
     → (n : ℕ) × TakesAfter (typed_rules limits) coming ending n × Counts a b n → FitsPlace at ending
 fits_behind limits coming count at a b (Refused r) range few room (n, (e, h), k) = omega (arith, e, h, greatest_small limits range)
@@ -152,7 +152,7 @@ handled_in_part choice a b c v w x first marked count at printed source_failed f
       mark = m;
     }
 
--- the line of the ending behind them
+-- the line of the ending after them
 pub session_ends : (Old New : List Read → Ending → Type 0) (choice : Choice) (v w x : Option (List ℕ)) (first middle new : Bool) (session : Session) (line : Text) (r : Result ℕ WriteFault) (result : Status)
     → ((reads : List Read) → (middle ≡ true → new ≡ true) → Old reads session.ending → New reads session.ending) → Handles Old choice (sink v first) (sink w middle) session
     → line ≡ ending_line choice.action session.at session.ending → Sent 0 w x line r → MarksOf middle new line r → EndsCommand r (status_of session.ending) result

@@ -81,7 +81,7 @@ one_poster items a b (u, x, y, z, hu, hx, hy, hz, e) (u', x', y', z', ku, kx, ky
     let sz = one_said kinds.MediaType (λ (i : Item). i.payload) items z z' hz kz in
     rw (e, d, su, sx, sy, sz) refl
 
--- what is printed of payloads is told by their values
+-- the values of payloads determine what is printed of them
 pub record ValuesAreOne : Type 0 where
   pub texts : OneValue IsText StandsForText
   pub posters : (profile : Profile) → OneValue (IsNest tables.SmartPoster 65535 profile) (StandsForPoster profile)

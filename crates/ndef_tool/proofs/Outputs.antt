@@ -45,7 +45,7 @@ blocks_more choice number at (r ∷ rs) read done block are is =
 
 -- ---- what goes out
 
--- a text behind one that went out
+-- a text after one that went out
 pub goes_behind : (a b c : Option (List ℕ)) (old new : Bool) (done text : Text) (r : Result ℕ WriteFault) → old ≡ false → Appends a b done
     → Sent 0 b c text r → MarksOf old new text r → GoesOut a c new (done ++ text)
 goes_behind a b c old new done text (Ok n) clear d s m =
@@ -77,7 +77,7 @@ goes_no_further a b c new done r d s m =
     none (Err f) s =
         subst (Appends a c) (append-nil (take d.0 done)) (Appends-trans a b c (take d.0 done) [] d.1 (subst (Appends b c) (take-nil (f.written - 0)) s.0))
 
--- the line of an ending behind the blocks
+-- the line of an ending after the blocks
 pub goes_to_end : (a b c : Option (List ℕ)) (middle new : Bool) (done : Text) (action : Action) (base : ℕ) (ending : Ending) (r : Result ℕ WriteFault) → middle ≡ is_writing ending
     → GoesOut a b middle done → Sent 0 b c (ending_line action base ending) r → MarksOf middle new (ending_line action base ending) r
     → GoesOut a c new (done ++ ending_line action base ending)

@@ -145,7 +145,7 @@ pub checked_read : (set : Sets) (holds : Conditions) (limits : LimitValues) (a b
 checked_read set holds limits a b checked h =
     (record { message = h.3.0; taken = checked.taken }, refl, h.3.2, (h.0, h.1, h.2, h.3.1))
 
--- of a message for whose block memory was wanting
+-- of a message for whose block memory ran out
 pub memory_taken : {X : Type 0} (taken_of : X → ℕ) (rules : Rules) (coming left : Option (List ℕ)) (before after : ℕ) (r : Result X Ending) (read : Read) → IsErrAnd r (λ ending. ending ≡ Memory)
     → ReadsFrom rules.set rules.holds rules.limits coming left (Ok read) → read.taken ≤ greatest_length rules.limits → Counts before after read.taken → TakesNext taken_of rules coming before after r
 memory_taken taken_of rules coming left before after (Ok x) read h d few counts = absurd h
@@ -160,7 +160,7 @@ viewed_read set holds limits input rest v h e =
     let split : input ≡ take v.taken input ++ rest = sym (take-append-drop v.taken input) ∙ ap (λ x. take v.taken input ++ x) (sym e) in
     (take v.taken input, split, sym (length-take-le v.taken input h.0), h.1.0)
 
--- what is viewed is read, unless memory is wanting
+-- what is viewed is read, unless memory runs out
 pub viewed_unread : (set : Sets) (holds : Conditions) (limits : LimitValues) (count : ℕ) (input rest : List ℕ) (v : Viewed) (r : Result Read Ending) → IsErrAnd r (λ ending. ending ≡ Memory)
     → ViewsNext (rules_of set holds limits) count input rest (Ok v) → v.taken ≤ greatest_length limits → IsNext (rules_of set holds limits) count (Some input) (Some rest) false r
 viewed_unread set holds limits count input rest v (Ok read) h next few = absurd h

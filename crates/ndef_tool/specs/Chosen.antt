@@ -97,7 +97,7 @@ choice_by app words = unless_fault (fault_of app words) (chosen_of (subcommand_o
 abbrev pub choice_of : List Text → Option Choice
 choice_of words = choice_by ndef_app words
 
--- what comes of the words: the choice, and the usage line exactly where there is none
+-- the outcome of the words: the choice, and the usage line exactly where there is none
 abbrev pub Chooses : List Text → Result Choice WordsError → Type 0
 Chooses words (Ok choice) = choice_of words ≡ Some choice
 Chooses words (Err Usage) = choice_of words ≡ None

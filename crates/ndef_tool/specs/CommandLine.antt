@@ -22,7 +22,7 @@ abbrev pub encode_app : App
 encode_app = with_rule (with_rule (reading_app (codes "encode")) (word_rule (codes "form")))
     (number_rule 4294967295 (codes "chunk"))
 
--- a subcommand is wanted, and none is for help
+-- a subcommand must be given, and none is for help
 abbrev pub empty_ndef_app : App
 empty_ndef_app = let a = new_app (codes "ndef") in
     record a {

@@ -35,7 +35,7 @@ message_line number at records bytes =
     codes "message " ++ decimal number ++ codes " at " ++ decimal at ++ codes ": records " ++ decimal records
     ++ codes ", bytes " ++ decimal bytes ++ codes "\n"
 
--- the place counts behind the bytes of the messages before
+-- the place counts after the bytes of the messages before
 abbrev pub refusal_line : ℕ → Refusal → Text
 refusal_line base r =
     codes "refused at " ++ decimal (base + r.at) ++ codes ": " ++ decimal (reason_number r.reason) ++ codes " "

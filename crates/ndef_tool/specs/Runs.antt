@@ -17,8 +17,7 @@ use Rattle.ndef_tool.specs.declared.ending.Ending.{Ending}
 use Rattle.ndef_program.specs.declared.status.Status.{Status}
 use Rattle.ndef_program.specs.declared.status.Status.TheVariants as status
 
--- what the words and the input come to: a text and a status; nothing is taken of the input where the words choose
--- nothing
+-- the text and the status for the words and the input; nothing is taken of the input where the words choose nothing
 abbrev pub Prints : Result Choice WordsError → (before after : SourceState) → (sink_failed : Bool) → Text → Status
     → Type 0
 Prints (Ok choice) before after sink_failed text st = (reads : List Read) × (ending : Ending)

@@ -30,14 +30,14 @@ abbrev pub IsOn : Option (List ℕ) → Type 0
 IsOn None = ⊤
 IsOn (Some bytes) = bytes ≢ []
 
--- each message is read from the bytes to come behind the one before
+-- each message is read from the bytes to come after the one before
 abbrev pub AreInTurn : Rules → (before after : Option (List ℕ)) → List Read → Type 0
 AreInTurn rules before after [] = Keeps before after
 AreInTurn rules before after (read ∷ reads) =
     (between : Option (List ℕ)) × ReadsFrom rules.set rules.holds rules.limits before between (Ok read)
     × AreInTurn rules between after reads
 
--- why no message is handled behind so many: the input is at its end, or doesn't go on with a message, or is left after
+-- why no message is handled after `count`: the input is at its end, or doesn't go on with a message, or is left after
 -- 10000; or something failed
 abbrev pub Stops : Rules → (count : ℕ) → (before after : Option (List ℕ)) → (source_failed sink_failed : Bool)
     → Ending → Type 0
@@ -54,12 +54,12 @@ Stops rules count before after source_failed sink_failed TooMany =
     (count ≡ 10000) × (source_failed ≡ false) × Keeps before after × IsOn before
 Stops rules count before after source_failed sink_failed _ = ⊥
 
--- memory was wanting
+-- memory ran out
 abbrev pub is_memory : Ending → Bool
 is_memory Memory = true
 is_memory _ = false
 
--- how the messages may end for an action: `check` takes no memory
+-- how the messages may end for an action: `check` allocates no memory
 abbrev pub MayEnd : Action → Ending → Type 0
 MayEnd Check ending = is_memory ending ≡ false
 MayEnd _ _ = ⊤
@@ -73,7 +73,7 @@ pub record IsSession (choice : Choice) (before after : Option (List ℕ)) (sourc
   pub stops : Stops (typed_rules choice.limits) (length reads) between after source_failed sink_failed ending
   pub may : MayEnd choice.action ending
 
--- ---- how many bytes are taken
+-- ---- the number of bytes taken
 
 -- the bytes come next, and are a message
 abbrev pub IsMessageNext : Rules → (coming : Option (List ℕ)) → List ℕ → Type 0
@@ -92,7 +92,7 @@ TakesAfter rules coming Memory n = (n ≤ greatest_length rules.limits)
     × (IsMessageNext rules coming bytes ⊎ NeedsMemory rules.set rules.limits coming bytes)
 TakesAfter rules coming _ n = n ≡ 0
 
--- how many bytes are taken in all, of any source, where the messages have this many
+-- the number of bytes taken in all, of any source, where the messages have this many
 abbrev pub SessionHasTaken : Rules → (at : ℕ) → (coming : Option (List ℕ)) → (before after : ℕ) → Ending → Type 0
 SessionHasTaken rules at coming before after ending =
     (n : ℕ) × TakesAfter rules (option_map (drop at) coming) ending n × Counts before after (at + n)
@@ -126,7 +126,7 @@ pub record Silences (IsRead : List Read → Ending → Type 0) (choice : Choice)
 
 -- ---- step by step
 
--- whether one message more is handled behind so many, where these bytes come next
+-- whether one more message is handled after `count`, where these bytes come next
 abbrev pub HasNext : {X : Type 0} → (count : ℕ) → List ℕ → Result X Ending → Type 0
 HasNext count bytes (Ok x) = (count < 10000) × (bytes ≢ [])
 HasNext count bytes (Err Clean) = bytes ≡ []
@@ -142,13 +142,13 @@ LooksAhead count before after failed (Err TooMany) = (count ≡ 10000) × (faile
 LooksAhead count before after failed (Err Reading) = failed ≡ true
 LooksAhead count before after failed (Err _) = ⊥
 
--- the next message, after so many, or why there is none
+-- the next message, after `count`, or why there is none
 abbrev pub IsNext : Rules → (count : ℕ) → (before after : Option (List ℕ)) → Bool → Result Read Ending → Type 0
 IsNext rules count before after failed (Ok read) = (count < 10000) × (failed ≡ false)
     × ReadsFrom rules.set rules.holds rules.limits before after (Ok read)
 IsNext rules count before after failed (Err ending) = Stops rules count before after failed false ending
 
--- the same of a message that is only checked, for which memory is never wanting
+-- the same of a message that is only checked, for which memory never runs out
 abbrev pub ChecksNext : Rules → (count : ℕ) → (before after : Option (List ℕ)) → Bool → Result Checked Ending → Type 0
 ChecksNext rules count before after failed (Ok checked) = (count < 10000) × (failed ≡ false)
     × ChecksFrom rules.set rules.holds rules.limits before after (Ok checked)
@@ -162,7 +162,7 @@ ViewsNext rules count before after (Ok viewed) = (count < 10000)
 ViewsNext rules count before after (Err ending) =
     Stops rules count (Some before) (Some after) false false ending × (is_memory ending ≡ false)
 
--- how many bytes of the next message are taken, of which `X` tells the number, or how many before the ending
+-- the number of bytes of the next message that are taken, which `X` gives, or the number before the ending
 abbrev pub TakesNext : {X : Type 0} → (X → ℕ) → Rules → (coming : Option (List ℕ)) → (before after : ℕ)
     → Result X Ending → Type 0
 TakesNext taken_of rules coming before after (Ok x) = (taken_of x ≤ greatest_length rules.limits)

@@ -58,7 +58,7 @@ abbrev pub media_name : Option (List ℕ) → Text
 media_name None = codes "none"
 media_name (Some media) = quoted media
 
--- RTD Smart Poster 1.0: how many records a poster has, its URI, and how many titles
+-- RTD Smart Poster 1.0: the number of records of a poster, its URI, and its number of titles
 abbrev pub poster_front : (records : ℕ) → (uri : List ℕ) → (titles : ℕ) → Text
 poster_front records uri titles = codes " poster records " ++ decimal records ++ codes " uri " ++ quoted uri
     ++ codes " titles " ++ decimal titles
@@ -78,7 +78,7 @@ TellsPoster items text =
 
 -- ---- handovers
 
--- Connection Handover 1.2, Handover Request record: the minor version, and how many carriers there are
+-- Connection Handover 1.2, Handover Request record: the minor version, and the number of carriers
 abbrev pub told_request : RequestValue → Text
 told_request v = codes " request version 1." ++ decimal v.minor ++ codes " carriers "
     ++ decimal (length (alternatives v.items))
@@ -88,7 +88,7 @@ abbrev pub told_select : SelectValue → Text
 told_select v = codes " select version 1." ++ decimal v.minor ++ codes " carriers "
     ++ decimal (length (alternatives (unwrap_or v.message [])))
 
--- Connection Handover 1.2, Handover Carrier record: the format and the type, and how many octets of data there are
+-- Connection Handover 1.2, Handover Carrier record: the format and the type, and the number of octets of data
 abbrev pub told_carrier : CarrierValue → Text
 told_carrier v = codes " carrier format " ++ decimal v.format ++ codes " type " ++ quoted v.kind ++ codes " data "
     ++ decimal (length v.carried)

@@ -39,7 +39,7 @@ pub enum WordsError {
     /// They don't parse.
     #[error("the words don't parse")]
     Usage,
-    /// A growth was refused while they were read.
+    /// An allocation failed while they were read.
     #[error("no memory")]
     NoMemory,
 }

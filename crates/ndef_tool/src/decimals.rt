@@ -12,7 +12,7 @@ pub fn push_number(line: &mut Bytes, number: u64) -> Result<(), NoMemory>
     line.extend(buffer.format(number).as_bytes())
 }
 
-/// Appends a word and a number behind it.
+/// Appends a word and a number after it.
 pub fn push_counted(line: &mut Bytes, word: &[u8], number: u64) -> Result<(), NoMemory>
     ensures { OnOk result (line.new ≡ line.old ++ (word.now ++ decimal number)) }
 {

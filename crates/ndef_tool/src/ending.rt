@@ -28,7 +28,7 @@ pub enum Ending {
     Reading,
     /// The sink failed.
     Writing,
-    /// A growth was refused.
+    /// An allocation failed.
     Memory,
     /// Input is left after as many messages as a run handles.
     TooMany,

@@ -25,7 +25,7 @@ fn is_alternative(item: &Record) -> bool
     }
 }
 
-/// How many alternative carriers a message has.
+/// The number of alternative carriers of a message.
 fn count_of(message: &Message) -> u64
     ensures { result ≡ length (alternatives message.now) }
 {
@@ -41,7 +41,7 @@ fn count_of(message: &Message) -> u64
     count
 }
 
-/// Appends the minor version of a request and how many carriers it has.
+/// Appends the minor version of a request and its number of carriers.
 fn push_told_request(line: &mut Bytes, request: &Request) -> Result<(), NoMemory>
     ensures { OnOk result (line.new ≡ line.old ++ told_request request.now) }
 {
@@ -63,7 +63,7 @@ pub fn push_request(
     push_told_request(line, &request)
 }
 
-/// How many carriers a select has.
+/// The number of carriers of a select.
 fn selected_count(select: &Select) -> u64
     ensures { result ≡ length (alternatives (unwrap_or select.now.message [])) }
 {
@@ -73,7 +73,7 @@ fn selected_count(select: &Select) -> u64
     }
 }
 
-/// Appends the minor version of a select and how many carriers it has.
+/// Appends the minor version of a select and its number of carriers.
 fn push_told_select(line: &mut Bytes, select: &Select) -> Result<(), NoMemory>
     ensures { OnOk result (line.new ≡ line.old ++ told_select select.now) }
 {

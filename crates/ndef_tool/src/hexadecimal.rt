@@ -46,7 +46,7 @@ fn is_digit(byte: u8) -> bool
     byte.is_ascii_hexdigit()
 }
 
-/// Why an even number of digits, for whose bytes there was no memory, has no bytes: one of them is none, or else
+/// Why an even number of digits, for whose bytes there was no memory, gives no bytes: one of them is no digit, or else
 /// memory.
 fn without_memory(digits: &[u8]) -> Ending
     requires some { 0 < length digits.now }
@@ -61,7 +61,7 @@ fn without_memory(digits: &[u8]) -> Ending
     Ending::Memory
 }
 
-/// The bytes that the digits of a text stand for. What is wrong with them comes before want of memory.
+/// The bytes that the digits of a text stand for. What is wrong with them comes before a lack of memory.
 fn decode_text(alloc: Global, text: Vec<u8>) -> Result<Vec<u8>, Ending>
     ensures { IsDecoded text.items (bytes_of result) }
 {

@@ -49,7 +49,7 @@ fn push_media(line: &mut Bytes, media: Option<Bytes>) -> Result<(), NoMemory>
     }
 }
 
-/// Appends how many records a poster has, its URI, and how many titles.
+/// Appends the number of records of a poster, its URI, and its number of titles.
 fn push_front(line: &mut Bytes, records: u64, uri: &[u8], titles: u64) -> Result<(), NoMemory>
     ensures { OnOk result (line.new ≡ line.old ++ poster_front records uri.now titles) }
 {

@@ -24,7 +24,7 @@ pub fn message_line(number: u64, at: u64, records: u64, bytes: u64) -> Line
     line
 }
 
-/// The line of a refusal, behind messages of so many bytes.
+/// The line of a refusal, after messages of `base` bytes.
 fn refusal_line(base: u64, refusal: Refusal) -> Line
     requires { base + refusal.at < 2 ^ 64 }
     ensures { result ≡ refusal_line base refusal }
@@ -67,7 +67,7 @@ fn text_line(text: &[u8]) -> Line
     line
 }
 
-/// The line that tells an ending, where one does.
+/// The line for an ending, where it has one.
 fn ending_text(base: u64, ending: Ending) -> Line
     requires { FitsPlace base ending }
     ensures { result ≡ ending_text base ending }
@@ -83,7 +83,7 @@ fn ending_text(base: u64, ending: Ending) -> Line
     }
 }
 
-/// The line of an ending, behind messages of so many bytes, where there is one; `encode` has none.
+/// The line of an ending, after messages of `base` bytes, where there is one; `encode` has none.
 pub fn ending_line(action: Action, base: u64, ending: Ending) -> Line
     requires { FitsPlace base ending }
     ensures { result ≡ ending_line action base ending }

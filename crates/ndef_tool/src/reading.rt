@@ -19,13 +19,13 @@ pub(crate) trait Reading<L: OuterLanguage, S> {
     /// The bytes to come, where they are known.
     ghost coming: { S → Option (List ℕ) };
 
-    /// How many bytes were taken of it, as long as they are fewer than 2 ^ 64.
+    /// The number of bytes taken of it, as long as they are fewer than 2 ^ 64.
     ghost taken: { S → ℕ };
 
     /// Whether a reading has failed.
     ghost has_failed: { S → Bool };
 
-    /// The next message, after so many, or how the messages end here.
+    /// The next message, after `count`, or how the messages end here.
     fn read(alloc: Global, limits: Limits, count: u64, from: &mut S) -> Result<Read, Ending>
         requires { count ≤ MOST }
         ensures next { IsNext (rules_of L.set L.holds limits) count
@@ -33,7 +33,7 @@ pub(crate) trait Reading<L: OuterLanguage, S> {
         ensures taken { TakesNext (λ read. read.taken) (rules_of L.set L.holds limits)
             (coming from.old) (taken from.old) (taken from.new) result };
 
-    /// Checks the next message, after so many, or tells how the messages end here. It takes no memory.
+    /// Checks the next message, after `count`, or says how the messages end here. It allocates no memory.
     fn check(limits: Limits, count: u64, from: &mut S) -> Result<Checked, Ending>
         requires { count ≤ MOST }
         ensures next { ChecksNext (rules_of L.set L.holds limits) count
@@ -107,7 +107,7 @@ impl<'a, L: OuterLanguage> Reading<L, &'a [u8]> for FromBytes {
     }
 }
 
-/// Whether one message more is handled behind so many, where these bytes come next.
+/// Whether one more message is handled after `count`, where these bytes come next.
 fn go_on(count: u64, bytes: &[u8]) -> Result<(), Ending>
     requires { count ≤ MOST }
     ensures { HasNext count bytes.now result }
@@ -131,7 +131,7 @@ fn look_ahead<S: Source>(count: u64, source: &mut S) -> Result<(), Ending>
     go_on(count, bytes)
 }
 
-/// Views the next message of the bytes, after so many, or tells how the messages end here.
+/// Views the next message of the bytes, after `count`, or says how the messages end here.
 fn view_next<'a, L: OuterLanguage>(
     limits: Limits,
     count: u64,

@@ -36,8 +36,8 @@ pub struct Session {
     pub ending: Ending,
 }
 
-/// All that is printed of the next message, after so many, of which so many bytes come before, or how
-/// the messages end here.
+/// All that is printed of the next message, after `count` messages of `at` bytes, or how the
+/// messages end here.
 fn print_next<R: Reading<Typed, S>, S>(
     alloc: Global,
     choice: &Choice,

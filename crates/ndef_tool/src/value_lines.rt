@@ -67,7 +67,7 @@ pub fn push_uri(
     push_told_uri(line, &uri)
 }
 
-/// Appends the format and the type of a handover carrier, and how many octets of data it has.
+/// Appends the format and the type of a handover carrier, and its number of octets of data.
 fn push_told_carrier(line: &mut Bytes, carrier: &Carrier) -> Result<(), NoMemory>
     ensures { OnOk result (line.new ≡ line.old ++ told_carrier carrier.now) }
 {

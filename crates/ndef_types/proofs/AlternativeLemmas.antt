@@ -7,7 +7,7 @@ use Rattle.ndef_types.specs.Values.{AcValue, StandsForAc, StandForAuxiliary, Sta
 
 -- ---- reading names
 
--- behind the first i references of count, m are left, and those read so far stand before what they stand for
+-- after the first i references of count, m are left, and those read so far stand before what they stand for
 pub record NamesLeft (count i : ℕ) (octets left : List ℕ) (names : List (List ℕ)) : Type 0 where
   pub m : ℕ
   pub missing : m + i ≡ count

@@ -1,4 +1,4 @@
--- A handover carrier payload stands for one carrier, and that which is written for a carrier stands for it.
+-- A handover carrier payload stands for one carrier, and what is written for a carrier stands for it.
 use Rattle.std.proofs.Common.{◌≡◌, ℕ, ◌-◌, ◌%◌, ◌≤◌, List, [], ◌∷◌, length, take, drop, get_or, refl, sym, ◌∙◌, arith}
 use Rattle.std.proofs.Math.Seq.{take-append_seam, drop-append_seam}
 use Rattle.std.proofs.lemmas.List.{take_all, length-take-le}
@@ -13,7 +13,7 @@ use Rattle.ndef_types.proofs.RoundTripLemmas.{round_trip}
 
 -- ---- reading
 
--- the octets behind two, as a slice shows them
+-- the octets after two, as a slice shows them
 behind_two : (a b : ℕ) (s : List ℕ) → take (length (a ∷ b ∷ s) - 2) s ≡ s
 behind_two a b s = take_all (length (a ∷ b ∷ s) - 2) s (omega arith)
 

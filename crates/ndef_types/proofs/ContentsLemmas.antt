@@ -35,7 +35,7 @@ lack_more P items n i e f h = rw (take_grows items n i e) (all_more (λ j. P j �
 pub lack_all : (P : Item → Type 0) (items : List Item) (n : ℕ) → length items ≤ n → Lack P (take n items) → Lack P items
 lack_all P items n l h = subst (Lack P) (take_all n items l) h
 
--- a record that is wanted is among those that are
+-- a record that is searched for is among those that are there
 pub filter_some : (P : Item → Bool) (items : List Item) (n : ℕ) (i : Item) → slice_get items n ≡ Some i → P i ≡ true → filter P items ≢ []
 filter_some P [] n i e h none = cc
 filter_some P (j ∷ items) zero i e h none =

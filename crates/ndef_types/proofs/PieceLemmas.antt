@@ -13,7 +13,7 @@ nothing_behind : (octets more : List ℕ) → length more ≡ 0 → octets ++ mo
 nothing_behind octets [] e = append-nil octets
 nothing_behind octets (b ∷ more) e = absurd (omega (arith, e))
 
--- octets that were stepped up to a refused one are the same where more lie behind them
+-- octets that were stepped up to a refused one are the same where more lie after them
 steps_before : (old new : List ℕ → Type 0) (piece behind : List ℕ) (lo hi k : ℕ) → k < length piece → StepsAll old new piece lo hi k → StepsAll old new (piece ++ behind) lo hi k
 steps_before old new piece behind lo hi k l s = record {
   within = omega (arith, length-append piece behind);
@@ -22,7 +22,7 @@ steps_before old new piece behind lo hi k l s = record {
   refused = λ _. s.refused l;
 }
 
--- at the place that the steps tell nothing completes the octets
+-- at the place that the steps give nothing completes the octets
 refused_at : (set new : List ℕ → Type 0) (holds : List ℕ → ℕ → Reason → Type 0) (s : List ℕ) (place : ℕ) (reason : Reason)
     → StepsAll set new s (length s) (length s) place → place < length s → IsLowest (holds (take place s) (get_or s place 0)) reason → IsRefused set holds s place reason
 refused_at set new holds s place reason steps l lowest =
@@ -45,7 +45,7 @@ module _ (payload piece behind : List ℕ) (at left : ℕ) (counted : at + left 
   taken_whole : take (at + length piece) payload ≡ take at payload ++ piece
   taken_whole = taken_in (length piece) (omega arith) ∙ ap (λ s. take at payload ++ s) (take_all (length piece) piece (omega arith))
 
-  -- behind the piece the others are left
+  -- after the piece the others are left
   pub behind_piece : drop (at + length piece) payload ≡ behind
   behind_piece = sym (drop-drop (length piece) at payload) ∙ ap (drop (length piece)) split ∙ drop-append_seam piece behind
 

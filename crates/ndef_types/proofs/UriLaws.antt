@@ -1,4 +1,4 @@
--- A URI payload stands for one URI, and that which is written for a URI stands for it.
+-- A URI payload stands for one URI, and what is written for a URI stands for it.
 use Rattle.std.proofs.Common.{◌≡◌, ℕ, ◌^◌, ◌≤◌, Bool, true, List, [], ◌∷◌, ◌++◌, length, take, drop, get_or, refl, sym, ◌∙◌, ap, subst, arith, zero, suc, length-append}
 use Rattle.std.proofs.Math.Seq.{take-append_seam, drop-append_seam}
 use Rattle.std.proofs.lemmas.Bool.{and_parts, ltb-true}

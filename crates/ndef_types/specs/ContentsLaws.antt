@@ -17,7 +17,7 @@ has_at P [] k i h e = absurd (cc)
 has_at P (j ∷ items) zero i h e = let p : j ≡ i = cc in subst P p h.0
 has_at P (j ∷ items) (suc k) i h e = has_at P items k i h.1 e
 
--- how many of the records are URIs
+-- the number of the records that are URIs
 abbrev pub uris : List Item → ℕ
 uris = count_by (λ i. is_uri (kind_in SmartPoster i.tnf i.kind))
 

@@ -30,14 +30,14 @@ Writing V = V → List ℕ → Type 0
 
 -- ---- what is answered
 
--- NDEF 1.0, PAYLOAD_LENGTH: no payload is this long; or the first octet is told after which nothing of its length is in
--- the set
+-- NDEF 1.0, PAYLOAD_LENGTH: no payload is this long; or the refusal is at the first octet after which nothing of its
+-- length is in the set
 abbrev pub RefusesPayload : Payloads → Reasons → List ℕ → Refusal → Type 0
 RefusesPayload set holds payload refusal =
     ((2 ^ 32 ≤ length payload) × (refusal.at ≡ 0) × (refusal.reason ≡ DoesNotFit))
     ⊎ ((length payload < 2 ^ 32) × IsRefused set holds payload refusal.at refusal.reason)
 
--- the payload is in the set, and stands for the value, unless memory is wanting; or it is refused
+-- the payload is in the set, and stands for the value, unless memory runs out; or it is refused
 abbrev pub DecodesTo : {V : Type 0} → Payloads → Reasons → Meaning V → List ℕ → Result V DecodeError → Type 0
 DecodesTo set holds stands payload (Ok value) = (length payload < 2 ^ 32) × set payload × stands payload value
 DecodesTo set holds stands payload (Err (errors.Refused refusal)) = RefusesPayload set holds payload refusal
@@ -49,7 +49,7 @@ IsTooLong written value = (payload : List ℕ) × written value payload × (2 ^ 
 
 -- ---- laws
 
--- the value comes back, unless memory is wanting
+-- the value comes back, unless memory runs out
 abbrev pub GivesValueBack : {V : Type 0} → V → Result V DecodeError → Type 0
 GivesValueBack value (Ok back) = back ≡ value
 GivesValueBack value (Err (errors.Refused refusal)) = ⊥

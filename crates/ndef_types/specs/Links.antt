@@ -32,7 +32,8 @@ is_handover _ = false
 abbrev pub HasId : List ℕ → Item → Type 0
 HasId id i = i.id ≡ id
 
--- Connection Handover 1.2, carrier data reference: the index of the first record with the id; the empty id is none's
+-- Connection Handover 1.2, carrier data reference: the index of the first record with the id; no record has the empty
+-- id
 abbrev pub IsIndexOf : List Item → List ℕ → Option ℕ → Type 0
 IsIndexOf items id None = (id ≡ []) ⊎ Lack (HasId id) items
 IsIndexOf items id (Some k) = (id ≢ []) × (i : Item) × IsFirstAt (HasId id) items k i
@@ -78,7 +79,7 @@ HasCarriers profile [] = ⊥
 HasCarriers profile (version ∷ bytes) =
     (message : Option (List Item)) × StandsForMessage profile bytes message × (alternatives (records_of message) ≢ [])
 
--- the links of the handover, if there is one, unless memory is wanting; or its payload is refused
+-- the links of the handover, if there is one, unless memory runs out; or its payload is refused
 abbrev pub LinksOf : Profile → List Item → Option Item → Result (List Link) LinkError → Type 0
 LinksOf profile outer None result = result ≡ Ok []
 LinksOf profile outer (Some i) (Ok links) = IsNest (table_of (kind_of i.tnf i.kind)) MOST_RECORDS profile i.payload

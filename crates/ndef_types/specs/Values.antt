@@ -36,11 +36,11 @@ abbrev pub SpellsText : Encoding → List ℕ → List ℕ → Type 0
 SpellsText Utf8 octets text = encode_utf8_all text ≡ octets
 SpellsText Utf16 octets text = spelled (unmarked octets).0 (units_of text) ≡ (unmarked octets).1
 
--- RTD Text 1.0, language code: the octets of it, behind the status octet
+-- RTD Text 1.0, language code: the octets of it, after the status octet
 abbrev pub language_octets : List ℕ → List ℕ
 language_octets payload = take (code_length (slice_index payload 0)) (drop 1 payload)
 
--- RTD Text 1.0, text: the octets behind the language code
+-- RTD Text 1.0, text: the octets after the language code
 abbrev pub encoded_octets : List ℕ → List ℕ
 encoded_octets payload = drop (code_length (slice_index payload 0)) (drop 1 payload)
 
@@ -51,12 +51,12 @@ pub record StandsForText (payload : List ℕ) (v : TextValue) : Type 0 where
   pub text : SpellsText v.encoding (encoded_octets payload) v.text
   pub scalars : all_scalars v.text ≡ true
 
--- RTD Text 1.0, status octet: it tells the encoding and the length of the language code
+-- RTD Text 1.0, status octet: it gives the encoding and the length of the language code
 abbrev pub status_octet : Encoding → ℕ → ℕ
 status_octet Utf8 n = n
 status_octet Utf16 n = 128 + n
 
--- RTD Text 1.0, text; RFC 2781, section 3.2: UTF-16 is written big-endian, behind its mark
+-- RTD Text 1.0, text; RFC 2781, section 3.2: UTF-16 is written big-endian, after its mark
 abbrev pub text_octets : Encoding → List ℕ → List ℕ
 text_octets Utf8 text = encode_utf8_all text
 text_octets Utf16 text = 0xfe ∷ 0xff ∷ spelled false (units_of text)
@@ -142,7 +142,7 @@ power_code Activating = 2
 power_code Unknown = 3
 
 -- Connection Handover 1.2, Alternative Carrier record: a power state, a carrier reference, auxiliary references, and
--- octets behind them
+-- octets after them
 pub record AcValue : Type 0 where
   pub power : Power
   pub reference : List ℕ
@@ -153,20 +153,20 @@ pub record AcValue : Type 0 where
 abbrev pub IsReference : List ℕ → Type 0
 IsReference name = (length name < 256) × AreOctets name
 
--- Connection Handover 1.2, Alternative Carrier record: up to 255 auxiliary references, and any octets behind them
+-- Connection Handover 1.2, Alternative Carrier record: up to 255 auxiliary references, and any octets after them
 pub record IsAcValue (v : AcValue) : Type 0 where
   pub reference : IsReference v.reference
   pub few : length v.auxiliary < 256
   pub auxiliary : AllByRecursion IsReference v.auxiliary
   pub rest : AreOctets v.rest
 
--- Connection Handover 1.2, Auxiliary Data Reference: n references, each behind its length, and the octets behind them
+-- Connection Handover 1.2, Auxiliary Data Reference: n references, each after its length, and the octets after them
 abbrev pub StandForNames : ℕ → List ℕ → List (List ℕ) → List ℕ → Type 0
 StandForNames zero s names rest = (names ≡ []) × (s ≡ rest)
 StandForNames (suc n) (k ∷ s) (x ∷ names) rest = (take k s ≡ x) × StandForNames n (drop k s) names rest
 StandForNames _ _ _ rest = ⊥
 
--- Connection Handover 1.2, Auxiliary Data Reference Count: so many references
+-- Connection Handover 1.2, Auxiliary Data Reference Count: that number of references
 abbrev pub StandForAuxiliary : List ℕ → List (List ℕ) → List ℕ → Type 0
 StandForAuxiliary [] names rest = ⊥
 StandForAuxiliary (n ∷ s) names rest = StandForNames n s names rest
@@ -177,7 +177,7 @@ StandsForAc (octet ∷ n ∷ s) v = (octet % 4 ≡ power_code v.power) × (take 
     × StandForAuxiliary (drop n s) v.auxiliary v.rest
 StandsForAc _ v = ⊥
 
--- Connection Handover 1.2, Alternative Carrier record: a reference behind its length
+-- Connection Handover 1.2, Alternative Carrier record: a reference after its length
 abbrev pub counted : List ℕ → List ℕ
 counted name = length name ∷ name
 

@@ -8,7 +8,8 @@ use ndef_lang::{Kind, Language, refusal_of};
 use ndef_message::Item;
 use ndef_value::{MOST_PAYLOAD, MOST_RECORDS, Profile, Reason, Refusal};
 
-/// The greatest length of a payload, in bytes: what the four octets of PAYLOAD_LENGTH can tell.
+/// The greatest length of a payload, in bytes: the most that the four octets of PAYLOAD_LENGTH can
+/// hold.
 pub(crate) const MOST: usize = MOST_PAYLOAD as usize;
 
 /// Nothing where the payload is in the set of its kind and of at most 4294967295 bytes, else where and

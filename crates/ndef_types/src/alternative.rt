@@ -20,7 +20,7 @@ use std::marker::Model;
 use thiserror::Error;
 
 /// A carrier that a handover offers (Connection Handover 1.2, Alternative Carrier record): its power
-/// state, a carrier reference, up to 255 auxiliary references, and octets behind them.
+/// state, a carrier reference, up to 255 auxiliary references, and octets after them.
 #[derive(Debug, Drop)]
 pub struct Ac {
     power: Power,
@@ -51,7 +51,7 @@ pub struct TooMany {
     pub reference: Name,
     /// The auxiliary references.
     pub auxiliary: Vec<Name>,
-    /// The octets behind them.
+    /// The octets after them.
     pub rest: Bytes,
 }
 
@@ -64,7 +64,7 @@ fn are_references(names: &[Name])
     }
 }
 
-/// So many references, each behind its length, and what is behind them.
+/// `count` references, each after its length, and what is after them.
 fn read_names(alloc: Global, count: u8, octets: &[u8]) -> Result<(Vec<Name>, &[u8]), NoMemory>
     requires { AreReferences count octets.now }
     ensures names { IfOk result (λ read. StandForNames count octets.now read.0.items read.1.now) }
@@ -83,7 +83,7 @@ fn read_names(alloc: Global, count: u8, octets: &[u8]) -> Result<(Vec<Name>, &[u
     Ok((names, left))
 }
 
-/// The auxiliary references behind their count, and what is behind them.
+/// The auxiliary references after their count, and what is after them.
 fn read_auxiliary(alloc: Global, octets: &[u8]) -> Result<(Vec<Name>, &[u8]), NoMemory>
     requires { AreAuxiliary octets.now }
     ensures auxiliary { IfOk result (λ read. StandForAuxiliary octets.now read.0.items read.1.now) }
@@ -110,7 +110,7 @@ pub(crate) fn read_ac(alloc: Global, payload: &[u8]) -> Result<Ac, NoMemory>
     }
 }
 
-/// The number of octets of the references, each behind its length.
+/// The number of octets of the references, each after its length.
 fn names_len(names: &[Name]) -> usize
     requires { length names.now < 256 }
     ensures value { result ≡ length (flat_map counted names.now) }
@@ -123,7 +123,7 @@ fn names_len(names: &[Name]) -> usize
     total
 }
 
-/// Appends a reference behind its length.
+/// Appends a reference after its length.
 fn push_counted(octets: &mut Bytes, name: &Name) -> Result<(), NoMemory>
     ensures { OnOk result (octets.new ≡ octets.old ++ counted name.now) }
 {
@@ -132,7 +132,7 @@ fn push_counted(octets: &mut Bytes, name: &Name) -> Result<(), NoMemory>
     octets.extend(name)
 }
 
-/// Appends references, each behind its length.
+/// Appends references, each after its length.
 fn push_names(octets: &mut Bytes, names: &[Name]) -> Result<(), NoMemory>
     ensures { OnOk result (octets.new ≡ octets.old ++ flat_map counted names.now) }
 {
@@ -143,8 +143,8 @@ fn push_names(octets: &mut Bytes, names: &[Name]) -> Result<(), NoMemory>
 }
 
 impl Ac {
-    /// An alternative carrier of these very parts, or `TooMany` with the parts where there are more than
-    /// 255 auxiliary references. It takes no memory.
+    /// An alternative carrier of exactly these parts, or `TooMany` with the parts where there are more than
+    /// 255 auxiliary references. It allocates no memory.
     pub fn new(
         power: Power,
         reference: Name,
@@ -232,7 +232,7 @@ impl Ac {
         &self.reference
     }
 
-    /// How many auxiliary references there are, 0 to 255.
+    /// The number of auxiliary references, 0 to 255.
     pub fn auxiliary_count(&self) -> usize
         ensures value { result ≡ length self.now.auxiliary }
         ensures ac { IsAcValue self.now }
@@ -248,7 +248,7 @@ impl Ac {
         self.auxiliary.get(index)
     }
 
-    /// The octets behind the references, which the standard reserves.
+    /// The octets after the references, which the standard reserves.
     pub fn rest(&self) -> &[u8]
         ensures value { result.now ≡ self.now.rest }
         ensures ac { IsAcValue self.now }
@@ -257,7 +257,7 @@ impl Ac {
     }
 }
 
-/// Alternative carriers are equal in power state, references and the octets behind them.
+/// Alternative carriers are equal in power state, references and the octets after them.
 impl PartialEq for Ac {
     ghost eq = { ac_eq };
 

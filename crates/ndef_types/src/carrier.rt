@@ -51,7 +51,7 @@ pub fn read_carrier(alloc: Global, payload: &[u8]) -> Result<Carrier, NoMemory>
 }
 
 impl Carrier {
-    /// A carrier of these very parts, its format at most 7. It takes no memory.
+    /// A carrier of exactly these parts, its format at most 7. It allocates no memory.
     pub fn new(format: u8, kind: Name, carried: Bytes) -> Carrier
         requires { format < 8 }
         ensures { result ≡ record { format = format; kind = kind; carried = carried } }

@@ -5,6 +5,6 @@
 pub enum Encoding {
     /// UTF-8 (RFC 3629).
     Utf8,
-    /// UTF-16 (RFC 2781), which is written big-endian behind a byte order mark.
+    /// UTF-16 (RFC 2781), which is written big-endian after a byte order mark.
     Utf16,
 }

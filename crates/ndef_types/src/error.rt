@@ -6,7 +6,7 @@ ghost use Rattle.ndef_types.specs.declared.error.EncodeError.TheVariants as enco
 use ndef_value::{NoMemory, Refusal};
 use thiserror::Error;
 
-/// Why no value was decoded, in the order in which it is told.
+/// Why no value was decoded, in the order in which the reasons are tried.
 #[derive(Clone, Copy, Debug, Drop, PartialEq, Eq, Hash, Error)]
 pub enum DecodeError {
     /// The payload isn't in the set of its type, or has more than 4294967295 bytes. The place is in the
@@ -14,7 +14,7 @@ pub enum DecodeError {
     /// where nothing of its length is.
     #[error(transparent)]
     Refused(Refusal),
-    /// A growth was refused.
+    /// An allocation failed.
     #[error("no memory")]
     NoMemory,
 }
@@ -35,13 +35,13 @@ impl From<NoMemory> for DecodeError {
     }
 }
 
-/// Why no payload was made, in the order in which it is told.
+/// Why no payload was made, in the order in which the reasons are tried.
 #[derive(Clone, Copy, Debug, Drop, PartialEq, Eq, Hash, Error)]
 pub enum EncodeError {
-    /// It would have more than 4294967295 bytes, the most that PAYLOAD_LENGTH tells (NDEF 1.0).
+    /// It would have more than 4294967295 bytes, the most that PAYLOAD_LENGTH can hold (NDEF 1.0).
     #[error("a payload of more than 4294967295 bytes")]
     TooLong,
-    /// A growth was refused.
+    /// An allocation failed.
     #[error("no memory")]
     NoMemory,
 }

@@ -34,13 +34,13 @@ impl Model for HandoverError {
     ghost inverse = { λ v. record { reason = v.reason; detail = v.detail } };
 }
 
-/// Why there is no handover error of a reason and some data, in the order in which it is told.
+/// Why a reason and some data make no handover error, in the order in which the reasons are tried.
 #[derive(Clone, Copy, Debug, Drop, PartialEq, Eq, Hash, Error)]
 pub enum DetailError {
     /// The data isn't as long as the reason asks.
     #[error("the data does not go with the reason")]
     BadShape,
-    /// A growth was refused.
+    /// An allocation failed.
     #[error("no memory")]
     NoMemory,
 }

@@ -59,7 +59,7 @@ impl Model for Links {
 impl Links {
     ghost use Rattle.ndef_types.specs.declared.link.Link.{Link as Each};
 
-    /// None. It takes no memory.
+    /// None. It allocates no memory.
     pub(crate) fn new(alloc: Global) -> Links
         ensures { result ≡ [] }
     {
@@ -75,7 +75,7 @@ impl Links {
         Ok(self.links.push(link)?)
     }
 
-    /// How many there are.
+    /// The number of links.
     pub fn len(&self) -> usize
         ensures { result ≡ length self.now }
     {
@@ -96,7 +96,7 @@ impl Links {
         self.links.get(index)
     }
 
-    /// The links one after another. Each call begins anew.
+    /// The links one after another. Each call starts from the first.
     pub fn iter(&self) -> slice::Iter<'_, Link>
         ensures rest { iter_rest result ≡ self.now }
         ensures bound { length (iter_rest result) < 2 ^ 64 }
@@ -123,14 +123,14 @@ impl<'a> IntoIterator for &'a Links {
     }
 }
 
-/// Why the links of a message aren't known, in the order in which it is told.
+/// Why the links of a message aren't known, in the order in which the reasons are tried.
 #[derive(Clone, Copy, Debug, Drop, PartialEq, Eq, Hash, Error)]
 pub enum LinkError {
     /// The payload of the handover record isn't in its set: the refusal is that of its decoding, and
     /// the place is in that payload.
     #[error(transparent)]
     Refused(Refusal),
-    /// A growth was refused.
+    /// An allocation failed.
     #[error("no memory")]
     NoMemory,
 }
@@ -151,7 +151,7 @@ trait Outer {
     /// The records.
     ghost items: { Self → List Each };
 
-    /// The index of the first record with the id; the empty id is none's.
+    /// The index of the first record with the id; no record has the empty id.
     fn index_of(&self, id: &[u8]) -> Option<usize>
         ensures { IsIndexOf (items self.now) id.now result };
 }
@@ -272,7 +272,7 @@ fn links_of_handover(
 /// The links of a message as a strict reader takes it (Connection Handover 1.2, Alternative Carrier
 /// record): the alternative carriers of its first handover request or select, in order, each with the
 /// index of the record that it refers to. Without a handover or an alternative carrier there are none, and no
-/// memory is taken.
+/// memory is allocated.
 ///
 /// The payload of the handover is refused as `Request::decode` or `Select::decode` refuses it.
 pub fn carriers(alloc: Global, message: &Message) -> Result<Links, LinkError>
@@ -335,7 +335,7 @@ fn links_of_viewed(alloc: Global, outer: &View<'_>, handover: &Item<'_>) -> Resu
 }
 
 /// The links of a message that is viewed, for a reader of the view's profile. Without a handover there are none, and
-/// no memory is taken, nor for a handover that is not chunked and has no alternative carrier. Refusals as for
+/// no memory is allocated, nor for a handover that is not chunked and has no alternative carrier. Refusals as for
 /// `carriers`: they come before `NoMemory`.
 pub fn carriers_view(alloc: Global, view: &View<'_>) -> Result<Links, LinkError>
     ensures links { FindsLinks view.now.profile (map run_record view.now.runs) result }

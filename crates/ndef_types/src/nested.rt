@@ -73,7 +73,7 @@ pub(crate) fn read_optional(
     Ok(Some(message))
 }
 
-/// An octet, and the canonical spelling of a message behind it.
+/// An octet, and the canonical spelling of a message after it.
 pub(crate) fn encode_behind(
     alloc: Global,
     octet: u8,

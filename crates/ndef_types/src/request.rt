@@ -60,7 +60,7 @@ pub fn read_request(alloc: Global, payload: &[u8], profile: Profile) -> Result<R
 }
 
 impl Request {
-    /// A request of the message, as a strict reader takes it, or the message back. It takes no memory.
+    /// A request of the message, as a strict reader takes it, or the message back. It allocates no memory.
     ///
     /// The minor version is at most 15.
     pub fn new(minor: u8, message: Message) -> Result<Request, NotHandover>

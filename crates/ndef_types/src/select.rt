@@ -59,7 +59,7 @@ pub fn read_select(alloc: Global, payload: &[u8], profile: Profile) -> Result<Se
 
 impl Select {
     /// A select of the message, if there is one, as a strict reader takes it, or the message back. It
-    /// takes no memory.
+    /// allocates no memory.
     ///
     /// The minor version is at most 15.
     pub fn new(minor: u8, message: Option<Message>) -> Result<Select, NotHandover>

@@ -147,7 +147,8 @@ impl SmartPoster {
         first_of(Table::SmartPoster, self.message.records(), kind)
     }
 
-    /// A poster of the message, as a strict reader takes it, or the message back. It takes no memory.
+    /// A poster of the message, as a strict reader takes it, or the message back. It allocates no
+    /// memory.
     pub fn new(message: Message) -> Result<SmartPoster, NotPoster>
         ensures { MakesPoster message result }
     {
@@ -210,8 +211,8 @@ impl SmartPoster {
         Some(Action::of(item.payload()[0]))
     }
 
-    /// The size in bytes of what the poster refers to, 0 to 4294967295, as the first size record tells it;
-    /// none without one.
+    /// The size in bytes of what the poster refers to, 0 to 4294967295, as the first size record gives it; none without
+    /// one.
     pub fn size(&self) -> Option<u32>
         ensures { Says kinds.Size size_in self.now result }
     {
@@ -231,8 +232,8 @@ impl SmartPoster {
         }
     }
 
-    /// The media type of what the poster refers to, as the first type record tells it; none without
-    /// one, and then no memory is taken. Else `NoMemory`.
+    /// The media type of what the poster refers to, as the first type record gives it; none without
+    /// one, and then no memory is allocated. Else `NoMemory`.
     pub fn media(&self, alloc: Global) -> Result<Option<Bytes>, NoMemory>
         ensures value { IfOk result (Says kinds.MediaType (λ i. i.payload) self.now) }
         ensures memory { OnErr result (¬ Lack (IsOfKind tables.SmartPoster kinds.MediaType) self.now) }
@@ -243,7 +244,8 @@ impl SmartPoster {
         }
     }
 
-    /// The titles, which are its texts, in order. Without one no memory is taken; else `NoMemory`.
+    /// The titles, which are its texts, in order. Without one no memory is allocated; else
+    /// `NoMemory`.
     pub fn titles(&self, alloc: Global) -> Result<Texts, NoMemory>
         ensures value { IfOk result (StandForTexts (titles self.now)) }
         ensures memory { OnErr result (titles self.now ≢ []) }

@@ -41,7 +41,7 @@ impl Model for Text {
         (record { encoding = t.encoding; language = string_bytes t.language; text = chars (string_bytes t.text) }) };
 }
 
-/// Why there is no text of some parts, in the order in which it is told.
+/// Why some parts make no text, in the order in which the reasons are tried.
 #[derive(Clone, Copy, Debug, Drop, PartialEq, Eq, Hash, Error)]
 pub enum TextError {
     /// A language code of more than 63 bytes.
@@ -50,7 +50,7 @@ pub enum TextError {
     /// A language code that isn't ASCII.
     #[error("a language code that is not ASCII")]
     NotAscii,
-    /// A growth was refused.
+    /// An allocation failed.
     #[error("no memory")]
     NoMemory,
 }
@@ -73,7 +73,7 @@ fn read_utf8(alloc: Global, octets: &[u8]) -> Result<String, NoMemory>
     Ok(String::from_str(alloc, text)?)
 }
 
-/// The encoding that a status octet tells.
+/// The encoding that a status octet gives.
 fn encoding_of(status: u8) -> Encoding
     ensures { is_wide status ≡ is_utf16 result }
 {
@@ -131,7 +131,7 @@ fn status_octet(encoding: Encoding, length: u8) -> u8
     }
 }
 
-/// Whether the octets of a text are at most so many.
+/// Whether the text has at most `most` octets.
 fn octets_fit(encoding: Encoding, text: &str, most: usize) -> bool
     ensures { IsTrue result ↔ (length (text_octets encoding (chars text.now)) ≤ most) }
 {
@@ -185,7 +185,7 @@ impl Text {
     }
 
     /// The text for which the payload of a Text record stands. A UTF-16 text may be big-endian or
-    /// little-endian behind its byte order mark, or big-endian without one; the mark is no part of the
+    /// little-endian after its byte order mark, or big-endian without one; the mark is no part of the
     /// text. `Refused` where the payload isn't in the set of its type or is longer than a payload may
     /// be, else `NoMemory`.
     pub fn decode(alloc: Global, payload: &[u8]) -> Result<Text, DecodeError>
@@ -195,7 +195,7 @@ impl Text {
         Ok(read_text(alloc, payload)?)
     }
 
-    /// The payload of a Text record; UTF-16 is written big-endian behind `FE FF`. `TooLong` comes before
+    /// The payload of a Text record; UTF-16 is written big-endian after `FE FF`. `TooLong` comes before
     /// `NoMemory`.
     pub fn encode(&self, alloc: Global) -> Result<Bytes, EncodeError>
         ensures ok { IfOk result (λ payload. payload ≡ text_payload self.now) }

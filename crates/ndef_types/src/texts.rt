@@ -26,7 +26,7 @@ impl Model for Texts {
 }
 
 impl Texts {
-    /// None. It takes no memory.
+    /// None. It allocates no memory.
     pub(crate) fn new(alloc: Global) -> Texts
         ensures { result ≡ [] }
     {
@@ -42,7 +42,7 @@ impl Texts {
         Ok(self.texts.push(text)?)
     }
 
-    /// How many there are.
+    /// The number of texts.
     pub fn len(&self) -> usize
         ensures { result ≡ length self.now }
     {
@@ -63,7 +63,7 @@ impl Texts {
         self.texts.get(index)
     }
 
-    /// The texts one after another. Each call begins anew.
+    /// The texts one after another. Each call starts from the first.
     pub fn iter(&self) -> slice::Iter<'_, Text>
         ensures rest { iter_rest result ≡ self.now }
         ensures bound { length (iter_rest result) < 2 ^ 64 }

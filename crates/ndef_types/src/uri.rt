@@ -39,7 +39,7 @@ pub fn read_uri(alloc: Global, payload: &[u8], profile: Profile) -> Result<Uri, 
     requires { IsUri profile payload.now }
     ensures { IfOk result (StandsForUri payload.now) }
 {
-    // What is behind the code of a URI is UTF-8.
+    // What is after the code of a URI is UTF-8.
     let rest = unsafe { str::from_utf8_unchecked(&payload[1..]) };
     let mut text = String::from_str(alloc, prefix(payload[0]))?;
     text.push_str(rest)?;

@@ -51,7 +51,7 @@ octets_append (x ∷ xs) ys p q = (p.0, octets_append xs ys p.1 q)
 pub octets_taken : (n : ℕ) (xs : List ℕ) → AreOctets xs → AreOctets (take n xs)
 octets_taken n xs p = octets_front (take n xs) (drop n xs) (subst AreOctets (sym (take-append-drop n xs)) p)
 
--- so many 0 octets
+-- that number of 0 octets
 unfoldable pub zeros : ℕ → List ℕ
 zeros zero = []
 zeros (suc n) = 0 ∷ zeros n

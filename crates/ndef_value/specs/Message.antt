@@ -1,4 +1,4 @@
--- What a message is made of.
+-- What a message consists of.
 use Rattle.std.specs.Prelude.{◌≡◌, ◌<◌, List, [], length, Result, Ok, Err}
 use Rattle.ndef_format.specs.Messages.{Item}
 use Rattle.ndef_format.specs.Canonical.{AreItems}

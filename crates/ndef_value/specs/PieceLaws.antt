@@ -6,7 +6,7 @@ use Rattle.std.proofs.lemmas.Bool.{false≢true}
 use Rattle.ndef_value.specs.ListLaws.{cut_alike}
 use Rattle.ndef_format.specs.Records.{HeadFields, Piece, Run, Follow, fields, body, octets, payload_length_octets, id_length_octets}
 
--- ids of one length are told by their octets
+-- ids of one length with the same octets are the same
 same_id : (i j : Option (List ℕ)) → option_map length i ≡ option_map length j → unwrap_or i [] ≡ unwrap_or j [] → i ≡ j
 same_id None None s e = refl
 same_id None (Some b) s e = cc
@@ -50,7 +50,7 @@ same_fields a a' b b' c c' s t t' k k' n n' i i' e1 e2 e3 e4 e5 e6 e7 = rw (e1, 
 
 -- ---- their bodies
 
--- bodies behind one head, at the front of the same octets, are those of one piece
+-- bodies after one head, at the front of the same octets, are those of one piece
 pub same_body : (p q : Piece) (s : Bool) (x y : List ℕ) → fields p s ≡ fields q s → body p ++ x ≡ body q ++ y → (p ≡ q)
     × (x ≡ y)
 same_body p q s x y e b =
@@ -70,7 +70,7 @@ same_body p q s x y e b =
 
 -- ---- their runs
 
--- the pieces that follow another in its run are told by those that come
+-- the pieces that follow another in its run, and what comes after them, are the same where the pieces in all are
 pub follow_once : (c d : Bool) (l m x y : List Piece) → c ≡ d → Follow c l → Follow d m → l ++ x ≡ m ++ y → (l ≡ m)
     × (x ≡ y)
 follow_once c d [] [] x y q a b e = (refl, e)
@@ -89,7 +89,7 @@ same_run r s e f =
 
 -- ---- their lengths
 
--- how many octets a piece has, by its parts
+-- the number of octets of a piece, by its parts
 pub piece_octets : (p : Piece) (short : Bool) → length (octets (fields p short) ++ body p)
     ≡ 2 + length (payload_length_octets short (length p.payload)) + length (id_length_octets (option_map length p.id))
     + length p.kind + length (unwrap_or p.id []) + length p.payload

@@ -18,7 +18,7 @@ octets_drop zero s h = h
 octets_drop (suc n) [] h = tt
 octets_drop (suc n) (x ∷ s) h = octets_drop n s h.1
 
--- what a pattern leaves behind n elements, and what a range from n on is
+-- what a pattern leaves after n elements, and what a range from n on is
 abbrev pub behind : ℕ → List ℕ → List ℕ
 behind n s = take (length s - n) (drop n s)
 

@@ -30,7 +30,7 @@ impl Model for Bytes {
 }
 
 impl Bytes {
-    /// The empty string. It takes no memory.
+    /// The empty string. It allocates no memory.
     pub fn new(alloc: Global) -> Bytes
         ensures { result ≡ [] }
     {
@@ -39,8 +39,8 @@ impl Bytes {
         }
     }
 
-    /// A copy of the bytes; `NoMemory` where their growth is refused, which of no bytes never comes, since they
-    /// take no memory.
+    /// A copy of the bytes; `NoMemory` where the allocation fails, which never happens for no bytes, since they need no
+    /// memory.
     pub fn from_slice(alloc: Global, bytes: &[u8]) -> Result<Bytes, NoMemory>
         ensures ok { IfOk result (λ b. b ≡ bytes.now) }
         ensures empty { bytes.now ≡ [] → IsOk result }

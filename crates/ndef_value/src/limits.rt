@@ -15,9 +15,9 @@ pub const MOST_RECORDS: u32 = 65535;
 /// The most pieces of a record.
 pub const MOST_PIECES: u32 = 65535;
 
-/// How large a message may be that is read: the bytes of a payload, its pieces joined, 1 to 4294967295;
-/// the records of a message, a nested one too, 1 to 65535; the pieces of a record, 1 to 65535; and what
-/// is made of reserved values. NDEF 1.0 sets no limit but that of its 32-bit lengths.
+/// How large a message that is read may be: the bytes of a payload, its pieces joined, 1 to 4294967295; the records of
+/// a message, a nested one too, 1 to 65535; the pieces of a record, 1 to 65535; and how reserved values are read. NDEF
+/// 1.0 sets no limit but that of its 32-bit lengths.
 #[derive(Clone, Copy, Debug, PartialEq, Eq, Hash)]
 pub struct Limits {
     payload: u32,
@@ -121,7 +121,7 @@ impl Limits {
         self.pieces
     }
 
-    /// What is made of reserved values.
+    /// How reserved values are read.
     pub fn profile(&self) -> Profile
         ensures value { result ≡ self.now.profile }
         ensures range { AreInRange self.now }

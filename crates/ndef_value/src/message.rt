@@ -59,7 +59,7 @@ fn are_items(records: &[Record])
 
 impl Message {
     /// A message of the records, in their order; the records back where there are none or more than
-    /// 65535. It takes no memory.
+    /// 65535. It allocates no memory.
     pub fn new(records: Vec<Record>) -> Result<Message, MessageError>
         ensures { GivesMessage records.items result }
     {
@@ -97,7 +97,7 @@ impl Message {
         self.records.get(index)
     }
 
-    /// The records one after another, 1 to 65535 of them. Each call begins anew.
+    /// The records one after another, 1 to 65535 of them. Each call starts from the first.
     pub fn iter(&self) -> slice::Iter<'_, Record>
         ensures rest { iter_rest result ≡ self.now }
         ensures bound { length (iter_rest result) < 2 ^ 64 }

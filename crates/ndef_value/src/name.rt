@@ -18,7 +18,7 @@ use thiserror::Error;
 /// The bytes that a name holds without memory.
 const INLINE: usize = 32;
 
-/// The type or the id of a record (NDEF 1.0, TYPE and ID): 0 to 255 bytes, as many as a head can tell,
+/// The type or the id of a record (NDEF 1.0, TYPE and ID): 0 to 255 bytes, as many as a head can count,
 /// up to 32 of them inline.
 #[derive(Debug, Drop)]
 pub struct Name {
@@ -42,7 +42,7 @@ pub enum NameError {
     /// There are more than 255 of them.
     #[error("a name of more than 255 bytes")]
     TooLong,
-    /// A growth was refused.
+    /// An allocation failed.
     #[error("no memory")]
     NoMemory,
 }
@@ -56,7 +56,7 @@ impl From<AllocError> for NameError {
 }
 
 impl Name {
-    /// The empty name. It takes no memory.
+    /// The empty name. It allocates no memory.
     pub fn new(alloc: Global) -> Name
         ensures { result ≡ [] }
     {
@@ -66,7 +66,7 @@ impl Name {
     }
 
     /// A copy of the bytes. `TooLong` above 255 bytes, else `NoMemory`, which up to 32 bytes never
-    /// comes, since they take no memory.
+    /// comes, since they need no memory.
     pub fn from_slice(alloc: Global, bytes: &[u8]) -> Result<Name, NameError>
         ensures ok { IfOk result (λ name. name ≡ bytes.now) }
         ensures too_long { IsErrOf result NameError.TooLong ↔ (255 < length bytes.now) }
@@ -106,7 +106,7 @@ impl Name {
         }
     }
 
-    /// The same of any bytes. It stays out of line, so that none or one go fast.
+    /// The same of any bytes. It isn't inlined, so that none or one are fast.
     #[inline(never)]
     fn extend_more(&mut self, bytes: &[u8]) -> Result<(), NoMemory>
         requires { length self.old + length bytes.now ≤ 255 }

@@ -1,8 +1,8 @@
-//! The want of memory.
+//! Out of memory.
 use std::alloc::{AllocError, AllocFailed};
 use thiserror::Error;
 
-/// A growth was refused. What was to grow is as it was before the call, unless that says otherwise.
+/// An allocation failed. What was to grow is as it was before the call, unless that says otherwise.
 #[derive(Clone, Copy, Debug, Drop, PartialEq, Eq, Hash, Error)]
 #[error("no memory")]
 pub struct NoMemory;
@@ -13,7 +13,7 @@ impl From<AllocError> for NoMemory {
     }
 }
 
-/// What wasn't stored is let go.
+/// Drops what wasn't stored.
 impl<T: Drop> From<AllocFailed<T>> for NoMemory {
     fn from(_: AllocFailed<T>) -> NoMemory {
         NoMemory

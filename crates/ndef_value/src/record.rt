@@ -36,7 +36,7 @@ impl Model for Record {
     ghost inverse = { λ v. record { tnf = v.tnf; kind = v.kind; id = v.id; payload = v.payload } };
 }
 
-/// Why there is no record of some parts, in the order in which it is told. Nothing was made.
+/// Why some parts make no record, in the order in which the reasons are tried. Nothing was made.
 #[derive(Clone, Copy, Debug, Drop, PartialEq, Eq, Hash, Error)]
 pub enum RecordError {
     /// The type name format is Unchanged, or the parts don't go with it.
@@ -45,7 +45,7 @@ pub enum RecordError {
     /// A type or an id of more than 255 bytes, or a payload of more than 4294967295.
     #[error("a part is too long")]
     TooLong,
-    /// A growth was refused.
+    /// An allocation failed.
     #[error("no memory")]
     NoMemory,
 }
@@ -82,7 +82,7 @@ fn is_shaped(tnf: Tnf, kind: &[u8], id: &[u8], payload: &[u8]) -> bool
     }
 }
 
-/// Whether each part is as long as a head can tell.
+/// Whether each part is at most as long as the lengths of a head allow.
 fn has_lengths(tnf: Tnf, kind: &[u8], id: &[u8], payload: &[u8]) -> bool
     ensures { IsTrue result
         ↔ HasLengths (record { tnf = tnf; kind = kind.now; id = id.now; payload = payload.now }) }
@@ -91,8 +91,8 @@ fn has_lengths(tnf: Tnf, kind: &[u8], id: &[u8], payload: &[u8]) -> bool
 }
 
 impl Record {
-    /// A record of copies. `BadShape` comes before `TooLong`, and `TooLong` before `NoMemory`, which never comes
-    /// of a type and an id of up to 32 bytes and no payload, since they take no memory.
+    /// A record of copies. `BadShape` comes before `TooLong`, and `TooLong` before `NoMemory`, which never comes for a
+    /// type and an id of up to 32 bytes and no payload, since they need no memory.
     pub fn new(
         alloc: Global,
         tnf: Tnf,
@@ -122,7 +122,7 @@ impl Record {
         Ok(Record::from_parts(tnf, kind, id, payload))
     }
 
-    /// A record of these very parts, which go together. It takes no memory.
+    /// A record of exactly these parts, which go together. It allocates no memory.
     pub fn from_parts(tnf: Tnf, kind: Name, id: Name, payload: Bytes) -> Record
         requires shape { IsShaped (record { tnf = tnf; kind = kind; id = id; payload = payload }) }
         requires lengths { HasLengths (record { tnf = tnf; kind = kind; id = id; payload = payload }) }
@@ -152,7 +152,7 @@ impl Record {
         self.kind.as_slice()
     }
 
-    /// The id (NDEF 1.0, ID), 0 to 255 bytes; the empty one stands for none too.
+    /// The id (NDEF 1.0, ID), 0 to 255 bytes; it is also empty where there is no id.
     pub fn id(&self) -> &[u8]
         ensures value { result.now ≡ self.now.id }
         ensures item { IsItem self.now }

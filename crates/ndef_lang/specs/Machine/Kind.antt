@@ -17,7 +17,7 @@ continued (fronts.Two a b) more = named names (a ∷ b ∷ more)
 continued (fronts.Three a b c) more = named names (a ∷ b ∷ c ∷ more)
 continued fronts.Unknown more = Other
 
--- how many octets are missing of the name
+-- the number of octets that the name still lacks
 abbrev pub missing_of : KindReader → ℕ
 missing_of reader = reader.missing
 
@@ -31,6 +31,6 @@ kind_after reader more = if length more == missing_of reader then continued (fro
 
 -- ---- laws
 
--- A half-read name that a 0 octet is still to come of is of no kind.
+-- A half-read name that still expects a 0 octet is of no kind.
 abbrev pub ZerosAreOther : Type 0
 ZerosAreOther = (reader : KindReader) (front back : List ℕ) → kind_after reader (front ++ 0 ∷ back) ≡ Other

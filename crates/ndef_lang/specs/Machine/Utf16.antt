@@ -71,7 +71,7 @@ utf16_missing (Half false false a) = if is_high_octet a then 3 else 1
 utf16_missing (Half _ _ a) = 1
 utf16_missing Refused = 0
 
--- how many octets complete it
+-- the lengths of what completes it
 abbrev pub utf16_lengths : Utf16State → Lengths
 utf16_lengths state = if utf16_refused state then Never else PairsFrom (utf16_missing state)
 

@@ -35,7 +35,7 @@ abbrev pub utf8_told : Utf8Lang → Reason
 utf8_told Refused = reasons.Utf8
 utf8_told _ = reasons.DoesNotFit
 
--- how many octets complete a text
+-- the lengths of what completes a text
 abbrev pub utf8_lengths : Utf8Lang → Lengths
 utf8_lengths Whole = From 0
 utf8_lengths OneMore = From 1

@@ -1,4 +1,4 @@
--- Whole records at the front of some bytes, seen at once.
+-- Whole records at the front of some bytes, found right by a fast test.
 use Rattle.std.specs.Prelude.{◌≡◌, ◌-◌, ◌<◌, ◌≤◌, ℕ, Bool, true, false, List, [], ◌∷◌, ◌++◌, length, take, None, if◌then◌else◌}
 use Rattle.std.specs.List.{AllByRecursion}
 use Rattle.ndef_format.specs.Records.{Piece, AreOctets, tnf_of}
@@ -42,7 +42,7 @@ pub record BeginsWith (set : Sets) (limits : LimitValues) (place : Place) (bytes
   pub member : IsMember set limits (record_of w)
 
 -- NDEF 1.0, messages: the bytes are whole pieces, from where a record may begin to where one may or the message ends,
--- and so many records may still end then; these records have come, each with a payload of its kind
+-- and `left` records may still end then; these records have come, each with a payload of its kind
 pub record EndsRecords (set : Sets) (limits : LimitValues) (c : Before) (items : List Item) (left : ℕ) (last : Bool)
     (bytes : List ℕ) : Type 0 where
   pub pieces : List Piece
@@ -55,7 +55,7 @@ abbrev pub EndsRecord : Sets → LimitValues → Place → (last : Bool) → Lis
 EndsRecord set limits place last bytes = (c : Before) → place ≡ numbers c → c.begun ≡ None → c.over ≡ false
     → (item : Item) × EndsRecords set limits c (item ∷ []) (c.records - 1) last bytes
 
--- one record has come, by so many of the bytes
+-- one record has come, with the first `taken` of the bytes
 pub record IsTakenRecord (set : Sets) (limits : LimitValues) (place : Place) (bytes : List ℕ) (taken : ℕ)
     (last : Bool) : Type 0 where
   pub some : 0 < taken
@@ -77,7 +77,7 @@ pub record Comes (set : Sets) (limits : LimitValues) (c : Before) (bytes : List 
   pub walked : Walked limits c pieces items there
   pub members : AllByRecursion (IsMember set limits) items
 
--- records have come, by so many of the bytes
+-- records have come, with the first `taken` of the bytes
 pub record AreTakenRecords (set : Sets) (limits : LimitValues) (place : Place) (bytes : List ℕ) (taken : ℕ)
     (place' : Place) (last : Bool) : Type 0 where
   pub within : taken ≤ length bytes
@@ -90,7 +90,7 @@ pub record AreTakenRecords (set : Sets) (limits : LimitValues) (place : Place) (
 abbrev pub with_payload : Item → List ℕ → Item
 with_payload m payload = record m { payload = m.payload ++ payload }
 
--- NDEF 1.0, chunked payloads: the bytes are the pieces that an open run goes on by up to its end, with this payload
+-- NDEF 1.0, chunked payloads: the bytes are the pieces that continue an open run up to its end, with this payload
 pub record EndsRun (limits : LimitValues) (records pieces room : ℕ) (m : Item) (bytes : List ℕ)
     (last : Bool) : Type 0 where
   pub later : List Piece
@@ -105,8 +105,8 @@ abbrev pub IsRunEnd : LimitValues → Place → List ℕ → Bool → Type 0
 IsRunEnd limits place bytes last = (records pieces room : ℕ) (m : Item) → place ≡ numbers (inside records pieces room m)
     → EndsRun limits records pieces room m bytes last
 
--- what is known before a piece of an open run and the record so far, and how far the run goes on by some bytes, with
--- the rest to come
+-- what is known before a piece of an open run and the record so far, and how far some bytes continue the run, with the
+-- rest to come
 pub record RunGoesOn (limits : LimitValues) (c : Before) (m : Item) (place : Place) (bytes rest : List ℕ) : Type 0 where
   pub later : List Piece
   pub payload : List ℕ
@@ -119,7 +119,7 @@ pub record RunGoesOn (limits : LimitValues) (c : Before) (m : Item) (place : Pla
   pub spelled : SpellsPieces later front
   pub walked : Walked limits c later [] (inside c.records pieces_left room_left (with_payload m payload))
 
--- NDEF 1.0, chunked payloads: the bytes are pieces that the run open at the place goes on by, up to this place
+-- NDEF 1.0, chunked payloads: the bytes are pieces that continue the run open at the place, up to this place
 abbrev pub AreChunks : LimitValues → Place → List ℕ → Place → Type 0
 AreChunks limits place bytes place' = (records pieces room : ℕ) (m : Item)
     → place ≡ numbers (inside records pieces room m)

@@ -38,7 +38,7 @@ Takes set limits new front given bytes (took.Refused refusal) = (refusal.at + 1 
     × ((next : Point) × new (front ++ bytes) given next)
 Takes set limits new front given bytes took.Failed = Wants set limits front given bytes
 
--- memory was refused behind these bytes, and nothing is kept
+-- memory was refused after these bytes, and nothing is kept
 pub record Failed (set : Sets) (limits : LimitValues) (place : ℕ) (bytes : List ℕ) (given : List Item)
     (point : Point) : Type 0 where
   pub place_is : place ≡ length bytes

@@ -22,11 +22,11 @@ decoder_limits d = d.checker.limits
 abbrev pub DecoderReached : {L : Type 0} {language : Ghosts L} → Decoder L language → Fronts Point
 DecoderReached d = DecoderKnows d.checker d.failed d.begun
 
--- a growth was refused: for good
+-- an allocation failed: for good
 abbrev pub has_failed : {L : Type 0} {language : Ghosts L} → Decoder L language → Bool
 has_failed d = is_some d.failed
 
--- the message goes on, and no growth was refused, so that a call that began at a place may take some of these bytes
+-- the message goes on, and no allocation failed, so that a call that began at a place may take some of these bytes
 pub record MayTake {L : Type 0} {language : Ghosts L} (d : Decoder L language) (place : ℕ)
     (bytes : List ℕ) : Type 0 where
   pub going : answer_of d.checker.state.phase 0 ≡ None

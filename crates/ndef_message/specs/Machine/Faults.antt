@@ -11,8 +11,8 @@ pub record Failing : Type 0 where
 
 -- ---- a source without an end
 
--- what is left of its front, or of the pattern that comes again and again; how many bytes are shown, and how many were
--- taken
+-- what is left of its front, or of the pattern that repeats for ever; the number of bytes that are shown, and the
+-- number that were taken
 pub record Endless : Type 0 where
   pub rest : List ℕ
   pub pattern : List ℕ
@@ -30,7 +30,8 @@ shown_next s = or_pattern s.rest s.pattern
 
 -- ---- a sink that stops
 
--- what was written into a slice of so many bytes; how many it takes at once, where it stops, and whether it has failed
+-- what was written into a slice of a given length; the most bytes that it takes at once, where it stops, and whether it
+-- has failed
 pub record Stopping : Type 0 where
   pub written : List ℕ
   pub room : ℕ
@@ -52,6 +53,6 @@ abbrev pub up_to : Option ℕ → (count most : ℕ) → ℕ
 up_to None count most = most
 up_to (Some stop) count most = min most (stop - count)
 
--- how many of so many bytes it takes
+-- the number that it takes of the bytes offered
 abbrev pub most_of : Stopping → ℕ → ℕ
 most_of s offered = up_to s.stop (length s.written) (min (min offered s.per) (s.room - length s.written))

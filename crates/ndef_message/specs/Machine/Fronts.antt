@@ -26,9 +26,9 @@ SomeLed {Point} reached = (front : List ℕ) × (given : List Item) × (point : 
 abbrev pub Leads : {Point : Type 0} → Fronts Point → List ℕ → Type 0
 Leads {Point} reached bytes = (given : List Item) × (point : Point) × reached bytes given point
 
--- What is answered to these bytes after that front: the first of them complete a message, so many; or more bytes can
--- still complete one, and these don't; or front and bytes are refused. The new front has the bytes that were taken, a
--- refused one too.
+-- What is answered to these bytes after that front: the first `taken` of them complete a message; or more bytes can
+-- still complete one, and these don't; or front and bytes are refused. The new front has the bytes that were taken,
+-- including a refused one.
 abbrev pub Feeds : {Point : Type 0} → Sets → Conditions → LimitValues → Fronts Point → (front bytes : List ℕ) → Fed
     → Type 0
 Feeds set holds limits new front bytes fed.More =

@@ -19,7 +19,7 @@ given_next limits given c f kind id payload =
     else (if nat_lt (length payload) f.payload_length then given else given
     ++ ending_record c (piece f kind id payload)))
 
--- NDEF 1.0, record layout: the point behind these parts of a piece
+-- NDEF 1.0, record layout: the point after these parts of a piece
 abbrev pub point_next : LimitValues → Before → HeadFields → (kind id payload : List ℕ) → Point
 point_next limits c f kind id payload =
     if nat_lt (length kind) f.kind_length then InType c f kind
@@ -42,7 +42,7 @@ abbrev pub GoesTo : LimitValues → List Item → Before → Parts → List Item
 GoesTo limits given c p given' point' = (given' ≡ given_next limits given c p.fields p.kind p.id p.payload)
     × (point' ≡ point_next limits c p.fields p.kind p.id p.payload)
 
--- the point behind these octets more of its field
+-- the point after these octets more of its field
 abbrev pub point_with : Point → List ℕ → Point
 point_with (InHead c xs) t = InHead c (xs ++ t)
 point_with (InType c f kind) t = InType c f (kind ++ t)

@@ -1,4 +1,4 @@
--- What is kept of the open record, behind octets of one field.
+-- What is kept of the open record, after octets of one field.
 use Rattle.std.specs.Prelude.{◌+◌, ◌<◌, ◌≤◌, ℕ, List, ◌++◌, length, Option, Some, None, unwrap_or, ⊤, ◌⊎◌}
 use Rattle.ndef_format.specs.Messages.{Item}
 use Rattle.ndef_format.specs.declared.tnf.Tnf.{Tnf}
@@ -31,13 +31,13 @@ HasRoom (phases.Type head left kind) o t = length o.kind + length t ≤ 255
 HasRoom (phases.Id head left) o t = length o.id + length t ≤ 255
 HasRoom _ o t = ⊤
 
--- there are such octets of that field, and they may take memory
+-- there are such octets of that field, and they may need memory
 abbrev pub WantsMemory : Phase → Opened → List ℕ → Type 0
 WantsMemory (phases.Type head left kind) o t = (0 < length t) × (32 < length o.kind + length t)
 WantsMemory (phases.Id head left) o t = (0 < length t) × (32 < length o.id + length t)
 WantsMemory (phases.Payload head left) o t = 0 < length t
 WantsMemory _ o t = ⊥
 
--- a copy of the record may take memory
+-- a copy of the record may need memory
 abbrev pub AsksMemory : Item → Type 0
 AsksMemory m = (32 < length m.kind) ⊎ ((32 < length m.id) ⊎ (0 < length m.payload))

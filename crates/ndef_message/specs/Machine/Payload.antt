@@ -9,7 +9,7 @@ use Rattle.ndef_format.specs.Payloads.{Sets}
 abbrev pub completes : Sets → LimitValues → Item → List ℕ → Type 0
 completes set limits m r = set (kind_of m.tnf m.kind) limits.records limits.profile (m.payload ++ r)
 
--- NDEF 1.0, chunked payloads: the most payload octets that can still come to a record, where so many are left of a
--- piece with n of them: in this piece alone, or with CF up to the room that is left after it
+-- NDEF 1.0, chunked payloads: the most payload octets that can still come to a record, where `left` are left of a piece
+-- with n of them: in this piece alone, or with CF up to the room that is left after it
 abbrev pub most_left : (chunked : Bool) → (room n left : ℕ) → ℕ
 most_left chunked room n left = if chunked then left + (room - n) else left

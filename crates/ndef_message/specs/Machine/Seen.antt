@@ -1,4 +1,4 @@
--- What the bytes of whole pieces tell of them: behind the values of views, items and pieces.
+-- What the bytes of whole pieces say of them: in terms of the values of views, items and pieces.
 use Rattle.std.specs.Prelude.{◌≡◌, ℕ, zero, suc, ◌+◌, ◌-◌, ◌^◌, ◌<◌, ◌≤◌, Bool, true, false, List, [], ◌∷◌, length, take, drop, slice_index, Option, Some, None, unwrap_or, if◌then◌else◌}
 use Rattle.std.specs.Int.{w32, from_be_bytes}
 use Rattle.std.specs.List.{AllByRecursion}
@@ -12,12 +12,12 @@ use Rattle.ndef_message.specs.Views.{Viewed}
 
 -- ---- the pieces that bytes spell, by their octets
 
--- NDEF 1.0, PAYLOAD_LENGTH: behind the header and TYPE_LENGTH, one octet with SR, else four
+-- NDEF 1.0, PAYLOAD_LENGTH: after the header and TYPE_LENGTH, one octet with SR, else four
 abbrev pub payload_length_at : (short : Bool) → List ℕ → ℕ
 payload_length_at true bytes = slice_index bytes 2
 payload_length_at false bytes = from_be_bytes w32 (take 4 (drop 2 bytes))
 
--- NDEF 1.0, ID_LENGTH: behind it, with IL
+-- NDEF 1.0, ID_LENGTH: after it, with IL
 abbrev pub id_length_at : (there short : Bool) → List ℕ → Option ℕ
 id_length_at false short bytes = None
 id_length_at true true bytes = Some (slice_index bytes 3)
@@ -36,7 +36,7 @@ fields_with header bytes = record {
   id_length = id_length_at (is_set 3 header) (is_set 4 header) bytes;
 }
 
--- NDEF 1.0, record layout: the piece with this head, and this behind the head
+-- NDEF 1.0, record layout: the piece with this head, and this after the head
 abbrev pub piece_with : HeadFields → List ℕ → Piece
 piece_with f body =
     piece f (take f.kind_length body) (take (unwrap_or f.id_length 0) (drop f.kind_length body))
@@ -46,7 +46,7 @@ piece_with f body =
 unfoldable pub piece_at : List ℕ → Piece
 piece_at bytes = piece_with (fields_with (slice_index bytes 0) bytes) (drop (size (slice_index bytes 0)) bytes)
 
--- NDEF 1.0, record layout: the octets behind the head
+-- NDEF 1.0, record layout: the octets after the head
 abbrev pub body_size : HeadFields → ℕ
 body_size f = f.kind_length + (unwrap_or f.id_length 0 + f.payload_length)
 
@@ -54,7 +54,7 @@ body_size f = f.kind_length + (unwrap_or f.id_length 0 + f.payload_length)
 unfoldable pub size_at : List ℕ → ℕ
 size_at bytes = size (slice_index bytes 0) + body_size (fields_with (slice_index bytes 0) bytes)
 
--- the pieces of some bytes, behind so many octets
+-- the pieces of some bytes, after that number of octets
 abbrev pub pieces_from : ℕ → List ℕ → List Piece
 pieces_from skip [] = []
 pieces_from zero (b ∷ bytes) = piece_at (b ∷ bytes) ∷ pieces_from (size_at (b ∷ bytes) - 1) bytes
@@ -110,7 +110,7 @@ pub record AreRuns (bytes : List ℕ) : Type 0 where
   pub spelled : SpellsPieces (all_pieces runs) bytes
   pub read : AllByRecursion IsSeenRecord runs
 
--- the bytes are those of a message of so many records
+-- the bytes are those of a message of `records` records
 pub record AreChecked (bytes : List ℕ) (records : ℕ) : Type 0 where
   pub whole : AreRuns bytes
   pub records_are : records ≡ length whole.runs

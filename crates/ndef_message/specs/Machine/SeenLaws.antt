@@ -1,4 +1,4 @@
--- What bytes tell of the pieces that they spell.
+-- What bytes say of the pieces that they spell.
 use Rattle.std.proofs.Common.{◌≡◌, ℕ, zero, suc, ◌+◌, ◌-◌, ◌<◌, ◌^◌, Bool, true, false, refl, sym, ◌∙◌, ap, ap₂, arith, List, [], ◌∷◌, ◌++◌, length, length-append, take, drop, take_at, drop_at, append_assoc, Option, Some, None}
 use Rattle.std.specs.Prelude.{unwrap_or, is_some}
 use Rattle.std.specs.Option.{option_map}
@@ -48,7 +48,7 @@ id_told true n (Some d) h k z = refl
 id_told false n None h k z = refl
 id_told false n (Some d) h k z = refl
 
--- the octets of a head tell it, whatever follows
+-- the octets of a head determine it, whatever follows
 head_told : (f : HeadFields) (z : List ℕ) → CanBeSpelled f → fields_with (header f) (octets f ++ z) ≡ f
 head_told f z l =
     let p = header_parts f l.tnf in
@@ -92,7 +92,7 @@ same_piece : (p : Piece) (short : Bool) (k i n : List ℕ) → k ≡ p.kind → 
     → piece (fields p short) k i n ≡ p
 same_piece p short k i n e1 e2 e3 = rw (e1, e2, e3) (ap (λ x. record p { id = x }) (same_id p.id))
 
--- what follows its head tells it
+-- what follows its head determines it
 parts_told : (p : Piece) (short : Bool) (rest : List ℕ) → piece_with (fields p short) (behind_head p rest) ≡ p
 parts_told p short rest =
     let z = behind_head p rest in
@@ -104,7 +104,7 @@ parts_told p short rest =
     (ap (take (unwrap_or (option_map length p.id) 0)) d1 ∙ take_at (unwrap_or p.id []) (p.payload ++ rest) _ (sym n))
     (ap (take (length p.payload)) d2 ∙ take_at p.payload rest _ refl)
 
--- a piece is told by its octets, whatever follows
+-- the octets of a piece determine it, whatever follows
 piece_told : (p : Piece) (short : Bool) (front rest : List ℕ) → SpellsPiece p short front → piece_at (front ++ rest) ≡ p
 unfolding piece_at
 piece_told p short front rest s =
@@ -114,7 +114,7 @@ piece_told p short front rest s =
     let behind : drop (size (header f)) (octets f ++ z) ≡ z = drop_at (octets f) z _ (octets_size f l.tnf) in
     ap piece_at (head_first p short front rest s) ∙ ap₂ piece_with (head_told f z l) behind ∙ parts_told p short rest
 
--- how many octets a piece has is told by them, whatever follows
+-- the octets of a piece determine their number, whatever follows
 size_told : (p : Piece) (short : Bool) (front rest : List ℕ) → SpellsPiece p short front
     → size_at (front ++ rest) ≡ length front
 unfolding size_at
@@ -130,7 +130,7 @@ size_told p short front rest s =
     let m = body_length p in
     ap size_at (head_first p short front rest s) ∙ a ∙ omega (arith, n, o, whole, m)
 
--- the piece at the front of some bytes is told by them, and so is what follows it
+-- the bytes determine the piece at their front, and what follows it
 pub same_split : (p q : Piece) (s t : Bool) (x y bytes : List ℕ) → IsSplit p s x bytes → IsSplit q t y bytes → (p ≡ q)
     × (x ≡ y)
 same_split p q s t x y bytes a b =
@@ -201,13 +201,13 @@ follow_of_run : (profile : Profile) (rs : List Run) → AllByRecursion (IsRun pr
 follow_of_run profile [] h = tt
 follow_of_run profile (r ∷ rs) h = (h.0.follow, follow_of_run profile rs h.1)
 
--- the runs of a message are told by its bytes
+-- the bytes of a message determine its runs
 pub flat_told : (profile : Profile) (rs : List Run) (items : List Item) (bytes : List ℕ)
     → SpellsBy profile rs items bytes → runs_of (pieces_of bytes) ≡ rs
 flat_told profile rs items bytes f = ap runs_of (pieces_told (all_pieces rs) bytes f.spelled)
     ∙ runs_told rs (follow_of_run profile rs f.message.each_run)
 
--- a run of some bytes is told by them
+-- the bytes of a run determine it
 pub run_is : (r : Run) (bytes : List ℕ) → SpellsPieces (pieces r) bytes → run_of bytes ≡ r
 run_is r bytes (short, front, rest, e, s, more) =
     let n = size_told r.initial short front rest s in
@@ -216,7 +216,7 @@ run_is r bytes (short, front, rest, e, s, more) =
 
 -- ---- the first of some pieces
 
--- the bytes are those of this piece, and of these behind it
+-- the bytes are those of this piece, and of these after it
 pub record First (p : Piece) (ps : List Piece) (bytes : List ℕ) : Type 0 where
   pub short : Bool
   pub rest : List ℕ
@@ -240,7 +240,7 @@ pub first_shown : {p : Piece} {ps : List Piece} {bytes : List ℕ} (f : First p 
     (x : List ℕ) → IsSplit q short x bytes → (q ≡ p) × (x ≡ f.rest)
 first_shown {p} {ps} {bytes} f q short x i = same_split q p short f.short x f.rest bytes i f.split
 
--- what is told behind it
+-- what is known after it
 pub told_behind : {p : Piece} {ps : List Piece} {bytes : List ℕ} (f : First p ps bytes)
     → pieces_of bytes ≡ p ∷ pieces_of f.rest
 told_behind {p} f = ap pieces_of f.split.joined ∙ first_told p f.short f.split.front f.rest f.split.spells

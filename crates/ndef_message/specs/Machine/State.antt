@@ -48,7 +48,7 @@ spot_of profile p =
       room = p.room;
     }
 
--- what is kept behind a record
+-- what is kept after a record
 abbrev pub behind_record : LimitValues → Place → Place
 behind_record limits p = record {
   first = false;
@@ -58,7 +58,7 @@ behind_record limits p = record {
   room = limits.payload;
 }
 
--- what is kept behind a piece with so many payload octets, behind which its record goes on
+-- what is kept after a piece with this number of payload octets, after which its record continues
 abbrev pub behind_chunk : Place → ℕ → Place
 behind_chunk p n = record {
   first = false;
@@ -68,7 +68,7 @@ behind_chunk p n = record {
   room = p.room - n;
 }
 
--- what is kept behind a piece with this head
+-- what is kept after a piece with this head
 abbrev pub next : LimitValues → Place → Head → Place
 next limits p h = if h.chunked then behind_chunk p h.payload_length else behind_record limits p
 
@@ -81,7 +81,7 @@ abbrev pub is_done : Phase → Bool
 is_done phases.Done = true
 is_done _ = false
 
--- how many of some bytes were accepted that led to this phase: all, or all but a refused one
+-- the number of some bytes that were accepted and led to this phase: all, or all but a refused one
 abbrev pub accepted : Phase → ℕ → ℕ
 accepted (phases.Refused refusal) count = count - 1
 accepted _ count = count
@@ -90,7 +90,7 @@ accepted _ count = count
 abbrev pub greatest_of : Bounds → ℕ → ℕ
 greatest_of b room = if b.chunked || nat_lt room b.payload.1 then room else b.payload.1
 
--- the payload can be completed by the piece of some head that goes on after these octets
+-- the payload can be completed by the piece of some head that continues these octets
 abbrev pub SomeHead : (List ℕ → Type 0) → Spot → List ℕ → Type 0
 SomeHead pass spot xs = (f : HeadFields) × BeginsHead spot xs f
     × PassesBetween pass f.payload_length (most_left f.chunked spot.room f.payload_length f.payload_length)
@@ -100,7 +100,7 @@ abbrev pub IsWithinHead : {L : Type 0} → State L → Type 0
 IsWithinHead state = (state.reader.octets ≢ []) × (state.reader.spot.room ≡ state.place.room)
     × heads.IsViableHead state.reader.spot state.reader.octets
 
--- the payload of an open run can be completed by the piece of a head that goes on so
+-- the payload of an open run can be completed by the piece of a head that continues so
 abbrev pub CanGoOn : {L : Type 0} (language : Ghosts L) → State L → Type 0
 CanGoOn language state = state.place.inside ≡ true
     → SomeHead (language.future state.payload) state.reader.spot state.reader.octets
@@ -122,7 +122,7 @@ pub record Reads (reader : KindReader) (f : HeadFields) (kind : List ℕ) (left 
       (if length more == left then kind_of (tnf_of f.tnf) (kind ++ more) else Other)
 
 module _ {L : Type 0} (language : Ghosts L) (limits : LimitValues) (state : State L) where
-  -- the fields of the state tell the point
+  -- the fields of the state give the point
   abbrev pub Matches : Point → Type 0
   Matches (InHead c xs) =
       (state.place ≡ numbers c) × (state.phase ≡ phases.Head)
@@ -165,12 +165,12 @@ module _ {L : Type 0} (language : Ghosts L) (limits : LimitValues) (state : Stat
   abbrev pub Reached : List ℕ → List Item → Point → Type 0
   Reached bytes given point = Stands bytes given point ⊎ Stopped bytes given point
 
-  -- these bytes led behind these parts of a piece
+  -- these bytes led after these parts of a piece
   abbrev pub StandsBehind : List ℕ → List Item → Before → HeadFields → (kind id payload : List ℕ) → Type 0
   StandsBehind bytes given c f kind id payload =
       Stands bytes (given_next limits given c f kind id payload) (point_next limits c f kind id payload)
 
-  -- after octets of the field behind these bytes: all of them lead on, or the last of them was refused
+  -- after octets of the field that follows these bytes: all of them lead on, or the last of them was refused
   abbrev pub Onward : List ℕ → List Item → Point → List ℕ → Type 0
   Onward bytes given point t =
       ((given' : List Item) × (point' : Point) × Moves limits given point t given' point'
@@ -207,7 +207,7 @@ module _ {L : Type 0} (language : Ghosts L) (limits : LimitValues) (state : Stat
     pub payload : List ℕ
     pub body : InBody h id_left left bytes given before fields kind id payload
 
-  -- behind a whole head
+  -- after a whole head
   pub record WholeHead (h : Head) (bytes : List ℕ) (given : List Item) (c : Before) (f : HeadFields) : Type 0 where
     pub pieces : List Piece
     pub done : List ℕ
@@ -240,7 +240,7 @@ pub record Came {L : Type 0} (language : Ghosts L) (limits : LimitValues) (refus
 abbrev pub unfit_at : ℕ → Refusal
 unfit_at at = record { at = at; reason = DoesNotFit }
 
--- what is said of bytes that end these records and lead behind parts of a piece, or behind a whole head, by what is
+-- what is said of bytes that end these records and lead after parts of a piece, or after a whole head, by what is
 -- known before the piece
 abbrev pub Bodies : Type 1
 Bodies = List ℕ → List Item → Before → HeadFields → (kind id payload : List ℕ) → Type 0
@@ -249,13 +249,13 @@ abbrev pub WholeHeads : Type 1
 WholeHeads = List ℕ → List Item → Before → HeadFields → Type 0
 
 module _ {L : Type 0} (language : Ghosts L) (limits : LimitValues) (new : State L) where
-  -- it stands behind such parts of a piece, where the bytes can be completed
+  -- it stands after such parts of a piece, where the bytes can be completed
   abbrev pub SettlesBehind : Bodies → Type 0
   SettlesBehind body = (bytes : List ℕ) (given : List Item) (c : Before) (f : HeadFields) (kind id payload : List ℕ)
       → body bytes given c f kind id payload → IsViable language.set limits bytes
       → StandsBehind language limits new bytes given c f kind id payload
 
-  -- it stands behind them, or has refused the last octet of them
+  -- it stands after them, or has refused the last octet of them
   abbrev pub EntersBehind : (at : ℕ) → Bodies → Type 0
   EntersBehind at body = (bytes : List ℕ) (given : List Item) (point : Point) (b : ℕ) (c : Before) (f : HeadFields)
       (kind id payload : List ℕ) → Came language limits (unfit_at at) bytes given point b
@@ -263,20 +263,20 @@ module _ {L : Type 0} (language : Ghosts L) (limits : LimitValues) (new : State 
       → StandsBehind language limits new (bytes ++ b ∷ []) given c f kind id payload
       ⊎ Stopped language limits new (bytes ++ b ∷ []) given point
 
-  -- it stands behind such a whole head, where the records have payloads of their kinds
+  -- it stands after such a whole head, where the records have payloads of their kinds
   abbrev pub BeginsBehind : WholeHeads → Type 0
   BeginsBehind head = (bytes : List ℕ) (given : List Item) (c : Before) (f : HeadFields) → head bytes given c f
       → AllByRecursion (IsMember language.set limits) given
       → StandsBehind language limits new bytes given c f [] [] []
 
-  -- it stands behind such a whole head, or has refused the last octet of it
+  -- it stands after such a whole head, or has refused the last octet of it
   abbrev pub GoesBehind : (at : ℕ) → WholeHeads → Type 0
   GoesBehind at head = (bytes : List ℕ) (given : List Item) (point : Point) (b : ℕ) (c : Before) (f : HeadFields)
       → Came language limits (unfit_at at) bytes given point b → head (bytes ++ b ∷ []) given c f
       → StandsBehind language limits new (bytes ++ b ∷ []) given c f [] [] []
       ⊎ Stopped language limits new (bytes ++ b ∷ []) given point
 
--- these bytes, so many, led there
+-- these bytes, `taken` in number, led there
 abbrev pub Knows : {L : Type 0} (language : Ghosts L) → LimitValues → State L → (taken : ℕ) → List ℕ → List Item → Point
     → Type 0
 Knows language limits state taken bytes given point = (taken ≡ length bytes)

@@ -22,12 +22,12 @@ abbrev pub reader_coming : {R : Type 0} {buffered : BufferedOf R} {reading : Rea
 reader_coming {buffered = buffered} {reading} s =
     left_of (reading.remaining s.reader) (buffered.consumable_len s.reader) s.fresh (bytes_shown s) s.pending
 
--- how many bytes were taken of it
+-- the number of bytes taken of it
 abbrev pub reader_taken : {R : Type 0} {buffered : BufferedOf R} {reading : ReadingOf R} → StdSource R buffered reading
     → ℕ
 reader_taken s = s.count
 
--- how many it shows that are not taken yet
+-- the number of bytes that it shows and that are not taken yet
 abbrev pub reader_shown : {R : Type 0} {buffered : BufferedOf R} {reading : ReadingOf R} → StdSource R buffered reading
     → ℕ
 reader_shown s = s.window.end - s.window.start
@@ -42,7 +42,7 @@ abbrev pub reader_left : {R : Type 0} {buffered : BufferedOf R} {reading : Readi
     → Option (List ℕ)
 reader_left {reading = reading} s = reading.remaining s.reader
 
--- how many bytes were taken of it that its reader has left still
+-- the number of bytes taken of it that its reader still has
 abbrev pub waiting : {R : Type 0} {buffered : BufferedOf R} {reading : ReadingOf R} → StdSource R buffered reading → ℕ
 waiting s = s.pending
 

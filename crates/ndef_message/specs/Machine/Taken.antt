@@ -12,7 +12,7 @@ use Rattle.ndef_message.specs.Decoding.{SoFar}
 use Rattle.ndef_message.specs.declared.checker.Checker.{Checker}
 use Rattle.ndef_message.specs.declared.decoder.Decoder.{Decoder}
 
--- So many of the bytes led there: all of them, or the first that are a message, or the first that can't be completed to
+-- Some of the bytes led there: all of them, or the first that are a message, or the first that can't be completed to
 -- one.
 pub record HaveCome {Point : Type 0} (set : Sets) (limits : LimitValues) (reached : Fronts Point)
     (bytes : List ℕ) : Type 0 where

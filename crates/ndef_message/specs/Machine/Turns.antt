@@ -33,7 +33,7 @@ Turned new brings s before after (turns.Fed event) =
     (after.failed ≡ false) × (bytes : List ℕ) × (count : ℕ) × Shown before after bytes count
     × brings bytes count event × new (onward s bytes count event)
 
--- What a turn did behind a front: the source failed, or has ended, or the bytes that it showed go on, or some of them
+-- What a turn did after a front: the source failed, or has ended, or the bytes that it showed go on, or some of them
 -- end the message, or one of them is refused.
 abbrev pub Looked : {L : Type 0} → Ghosts L → LimitValues → (new : List ℕ → Type 0) → (front : List ℕ)
     → (before after : SourceState) → Look → Type 0
@@ -52,7 +52,7 @@ Looked language limits new front before after (looks.Refused refusal) =
     × (refusal.at < length (front ++ bytes))
     × Refuses language.set language.holds limits (front ++ bytes) refusal
 
--- what a turn of a checker did, behind any front that can be completed
+-- what a turn of a checker did, after any front that can be completed
 abbrev pub LooksOn : {L : Type 0} {language : Ghosts L} (old new : Checker L language) → (before after : SourceState)
     → Look → Type 0
 LooksOn {language = language} old new before after look = WhateverLed (CheckerReached old) (λ front given point.

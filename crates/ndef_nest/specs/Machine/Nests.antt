@@ -1,4 +1,4 @@
--- What completes the payload that a nest reads, and how many octets do.
+-- What completes the payload that a nest reads, and its possible lengths.
 use Rattle.std.specs.Prelude.{◌≡◌, ℕ, ◌^◌, ◌<◌, ◌≤◌, Bool, List, [], ◌∷◌, ◌↔◌, ◌⊎◌}
 use Rattle.ndef_format.specs.declared.spot.Spot.{Spot}
 use Rattle.ndef_format.specs.declared.kind.Kind.{Kind}
@@ -55,20 +55,20 @@ IsGap pass one low = (n : ℕ) → n < 2 ^ 32 → PassesAt pass n ↔ ((n ≡ on
 abbrev pub IsUnreadSelect : Nest → Type 0
 IsUnreadSelect n = (n.context.table ≡ Select) × (n.phase ≡ phases.Version)
 
--- Connection Handover 1.2, version octet: a select behind it
+-- Connection Handover 1.2, version octet: a select after it
 abbrev pub IsVersionedSelect : Nest → Type 0
 IsVersionedSelect n = (n.context.table ≡ Select) × (n.phase ≡ phases.Start)
 
 -- ---- laws
 
 -- The lengths of what completes a payload are those from a least to a greatest, or none. The only exceptions are a
--- select before its version octet, of 1 octet or 4 and more, and behind it, of 0 or 3 and more.
+-- select before its version octet, of 1 octet or 4 and more, and after it, of 0 or 3 and more.
 abbrev pub LengthsHaveRanges : Type 0
 LengthsHaveRanges = (n : Nest)
     → ((span : ℕ × ℕ) × IsSpan (future n) span) ⊎ (IsUnreadSelect n × IsGap (future n) 1 4)
     ⊎ (IsVersionedSelect n × IsGap (future n) 0 3)
 
--- No octet has led to a select before its version octet, and one to a select behind it.
+-- No octet has led to a select before its version octet, and one octet to a select after it.
 abbrev pub SelectsAreTold : Type 0
 SelectsAreTold = (n : Nest) (kind : Kind) (records : ℕ) (profile : Profile) (s : List ℕ)
     → reached n kind records profile s

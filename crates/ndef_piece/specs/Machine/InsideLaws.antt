@@ -1,11 +1,11 @@
--- What a reader shows tells its fields.
+-- What a reader shows determines its fields.
 use Rattle.std.proofs.Common.{◌≡◌, ℕ, ◌-◌, ◌≤◌, refl, sym, ap, arith, List, length, take, length-append}
 use Rattle.std.specs.Prelude.{replicate}
 use Rattle.std.proofs.lemmas.List.{length-take, length-replicate}
 use Rattle.ndef_piece.specs.declared.head_reader.HeadReader.TheInside.{Inside}
 use Rattle.ndef_piece.specs.Machine.Inside.{reading, padded, inside_fields, IsConsistent}
 
--- so many of seven octets are as many
+-- taking `count` of seven octets gives `count` octets
 pub octets_counted : (octets : List ℕ) (count : ℕ) → count ≤ 7 → octets ≡ padded (take count octets)
     → length (take count octets) ≡ count
 octets_counted octets count few zeros =
@@ -18,7 +18,7 @@ octets_counted octets count few zeros =
       length-replicate {A = ℕ} (7 - length t) 0,
     )
 
--- fields are told by their parts
+-- fields with equal parts are equal
 same_fields : (r : Inside) (octets : List ℕ) (count : ℕ) → octets ≡ r.octets → count ≡ r.count
     → ◌≡◌ {A = Inside} (record { spot = r.spot; octets = octets; count = count; answer = r.answer }) r
 same_fields r octets count e f = rw (e, f) refl

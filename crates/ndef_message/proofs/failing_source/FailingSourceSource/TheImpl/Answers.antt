@@ -8,7 +8,7 @@ use base.Logic.{sep}
 use denote.Ref.{NamedLft}
 use mir.Syntax.{erased}
 
--- what is said of the source behind the borrow is what the trait asks, and that nothing else changes
+-- what is said of the source after the borrow is what the trait asks, and that nothing else changes
 pub fill-meets : goal.fill-meets
 fill-meets = λ g c.
     let 𝓛 = g.world.𝓛 in
