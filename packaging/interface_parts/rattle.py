@@ -166,7 +166,7 @@ def groups() -> List[Group]:
 
 
 def read() -> Interface:
-    """The interface as the crates have it, with the names that C has for it as far as Rattle's tell them."""
+    """The interface as the crates have it, with the names that C has for it as far as Rattle's names give them."""
     crates = Crates()
     made = groups()
     by_name = {group.name: group for group in made}

@@ -26,7 +26,7 @@ POSTER = 'poster_titles title poster_media_type poster_icons'
 APPEND = 'append append_text append_uri'
 # Why a face does not reach calls: the reason, and for each face the calls.
 REASONS: Tuple[Tuple[str, Dict[str, str]], ...] = (
-    ('Another call tells all of them at once: ndef_links, ndef_references or ndef_fields.', {
+    ('Another call gives all of them at once: ndef_links, ndef_references or ndef_fields.', {
         'C++': 'link_at field_at next_field', 'Python': 'reference field_at next_field', 'Rust': 'field_at next_field',
         'JavaScript': 'reference link_at field_at next_field', 'Java': 'reference link_at field_at next_field',
         'Go': 'reference link_at field_at next_field'}),
@@ -39,7 +39,7 @@ REASONS: Tuple[Tuple[str, Dict[str, str]], ...] = (
     ('Its classes are those of ndeflib, which has nothing of the kind.', {'Python': 'kind links link_at'}),
     ('A payload is given with its chunks joined, and not where they lie.', {
         'Python': 'pieces', 'JavaScript': 'pieces', 'Java': 'pieces', 'Go': 'pieces'}),
-    ('It tells the fields of messages alone.', {
+    ('It gives the fields of messages alone.', {
         'Python': 'payload_fields', 'Rust': 'payload_fields', 'JavaScript': 'payload_fields', 'Java': 'payload_fields',
         'Go': 'payload_fields'}),
     ('A refusal is an error of the language, so a status has no name there.', {

@@ -215,7 +215,7 @@ def copy(into: Checker, checker: Checker) -> None:
 
 
 def refused(why: Checked, before: int = 0) -> DecodeError:
-    """The error for a refusal of octets that lie behind so many others."""
+    """The error for a refusal of octets that lie after `before` others."""
     return DecodeError(reason_name(why.reason), before + why.place, why.reason)
 
 

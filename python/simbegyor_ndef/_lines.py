@@ -18,8 +18,8 @@ _IN_A_LINE = 8
 
 
 def _messages(octets: bytes) -> Iterator[Tuple[int, int, List[Record]]]:
-    """The messages of the octets, one behind another: where each begins, where it ends, and its records. DecodeError tells a
-    place among all octets."""
+    """The messages of the octets, one after another: where each begins, where it ends, and its records. The place of a
+    DecodeError counts from the first of all octets."""
     stream, at = io.BytesIO(octets), 0
     while at < len(octets):
         try:
@@ -32,7 +32,7 @@ def _messages(octets: bytes) -> Iterator[Tuple[int, int, List[Record]]]:
 
 
 def _moved(error: DecodeError, at: int) -> DecodeError:
-    """The error for octets that lie behind so many others."""
+    """The error for octets that lie after `at` others."""
     return DecodeError(error.reason, at + error.place, error.number)
 
 

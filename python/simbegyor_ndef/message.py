@@ -12,7 +12,7 @@ __all__ = ['message_decoder', 'message_encoder']
 
 # How many octets ahead are looked at first; as many are worth a look at all pieces of a long record.
 _LOOK = 64
-# A record behind which the message ends, so that a checker says whether another record may begin where it stands.
+# A record that ends a message. Fed to a checker, it shows whether another record may begin there.
 _ENDING = Record()._written(library.LAST, 0)
 Known = Mapping[Parts, Type[Record]]
 Told = Optional[Dict[Type[Record], Any]]
@@ -104,8 +104,8 @@ class _Incoming:
 
     def _may_be_whole(self, status: int) -> bool:
         """Whether the octets at hand may be a whole record. Unlike `_is_whole` this takes as long for many pieces as for
-        one. It says no only where another record may not begin behind the octets; and it says yes of a record that isn't
-        whole only where as many octets are wanting as `_ENDING` has."""
+        one. It says no only where another record may not begin after the octets. It says yes of a record that isn't whole
+        only where as many octets are missing as `_ENDING` has."""
         if status != library.MORE:
             return True
         library.copy(self.trial, self.checker)

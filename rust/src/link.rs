@@ -25,7 +25,7 @@ pub struct Link<'a> {
 #[must_use = "an iterator does nothing unless it is used"]
 pub struct Links<'a> {
     message: Message<'a>,
-    /// The payload of the handover: a version octet, alone or with a message behind it.
+    /// The payload of the handover: a version octet, alone or with a message after it.
     handover: Bytes<'a>,
     /// Where the next record of that message begins, if there is one.
     next: Option<Size>,

@@ -15,7 +15,7 @@ def octets(*records):
 
 
 def pieces(count):
-    """A record in this number of pieces of two octets, and an empty record behind it (NDEF 1.0, CF)."""
+    """A record in this number of pieces of two octets, and an empty record after it (NDEF 1.0, CF)."""
     return b'\xb2\x03\x02a/bxx' + (count - 2) * b'\x36\x00\x02xx' + b'\x16\x00\x02xx' + b'\x50\0\0'
 
 
@@ -31,7 +31,7 @@ class Dripping:
 
 
 class Showing(Dripping):
-    """A stream that shows at most so many octets of what comes."""
+    """A stream that shows at most `most` octets of what comes."""
 
     def __init__(self, given, most=1):
         super().__init__(given)
@@ -82,7 +82,7 @@ class Steps(unittest.TestCase):
             self.assertLessEqual(fed, 6 * len(given))
 
     def test_every_case_octet_by_octet(self):
-        """What a stream's records are doesn't depend on what it can show, and no octet behind the message is taken. Where few
+        """What a stream's records are doesn't depend on what it can show, and no octet after the message is taken. Where few
         random messages are asked for, each tenth case is tried."""
         few = 10 if 'NDEF_RANDOM' in os.environ else 1
         for line, typed, given, _, _ in list(cases())[::few]:

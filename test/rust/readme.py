@@ -1,6 +1,6 @@
 #!/usr/bin/env python3
-"""Compares rust/README.md with the examples that it shows: each block of Rust behind a link to an example is its code, and the
-block behind that is what its program prints. The word is the folder of the programs. The last line says how many there are."""
+"""Compares rust/README.md with the examples that it shows: each block of Rust after a link to an example is its code, and the
+block after that is what its program prints. The word is the folder of the programs. The last line says how many there are."""
 import pathlib
 import re
 import subprocess
