@@ -9,7 +9,7 @@ use Rattle.ndef_format.specs.HeadReasons.{is_set}
 use Rattle.ndef_piece.specs.HeaderLaws.{header_parts}
 use Rattle.ndef_piece.specs.Whole.{BeginWithPiece, IsSplit}
 use Rattle.ndef_message.specs.Machine.Seen.{ArePieces, pieces_of}
-use Rattle.ndef_message.specs.Machine.SeenLaws.{First, begins, first_of, first_of_some, first_shown, told_behind, pieces_told}
+use Rattle.ndef_message.specs.Machine.SeenLaws.{First, begins, first_piece_of, first_of_some, first_shown, told_behind, pieces_told}
 use Rattle.ndef_fields.specs.Parts.{Part, joined}
 use Rattle.ndef_fields.specs.Messages.{piece_parts, AreParts, AreNestedParts, IsInnerOwn}
 use Rattle.ndef_fields.specs.Cursors.{parts_along, inner_own, inner_in, outer_own, outer_in, AreOuter, HasPieceContents}
@@ -119,7 +119,7 @@ begun_first : (qs : List Piece) (bytes : List ℕ) → SpellsPieces qs bytes →
 unfolding outer_in
 begun_first [] bytes e h w short rest i = absurd (let n = some_there w short rest bytes i in let k = ap length e in omega (arith, n, k))
 begun_first (p ∷ later) bytes s h w short rest i =
-    let f = first_of p later bytes s in
+    let f = first_piece_of p later bytes s in
     let same = first_shown f w short rest i in
     record {
       parts = first_parts 0 outer_own p later bytes f w short rest i;

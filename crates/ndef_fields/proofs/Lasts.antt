@@ -20,7 +20,7 @@ use Rattle.ndef_fields.specs.Payloads.{leaf_parts, outer_stage, references_parts
 use Rattle.ndef_format.specs.Texts.{code_length}
 use Rattle.ndef_lang.specs.declared.leaf.Stage.{Stage as Layout}
 use Rattle.ndef_lang.specs.declared.leaf.Stage.TheVariants as layouts
-use Rattle.ndef_fields.specs.Stages.{IsFieldCut, stage_parts, next_parts, field_parts}
+use Rattle.ndef_fields.specs.Stages.{IsFieldCut, stage_parts, next_parts, parts_from}
 use Rattle.ndef_fields.specs.Befores.{IsFieldBefore, StandsIn}
 use Rattle.ndef_fields.specs.Lasts.{EndsIn, IsFieldOf, IsInnerField, IsLastBy, IsPayloadLast, kind_there}
 use Rattle.ndef_fields.proofs.Joining.{leaf_staged}
@@ -53,7 +53,7 @@ nothing_next depth layouts.ReferenceLength last = refl
 nothing_next depth layouts.AuxiliaryCount last = refl
 nothing_next depth (layouts.References count) last = no_references depth count
 
-nothing_inside : (depth left : ℕ) (name : FieldName) (next : Layout) (last : FieldName) → field_parts depth left name next last [] ≡ []
+nothing_inside : (depth left : ℕ) (name : FieldName) (next : Layout) (last : FieldName) → parts_from depth left name next last [] ≡ []
 nothing_inside depth left name layouts.End last = refl
 nothing_inside depth left name next last = rw (take-nil left, drop-nil left) (nothing_next depth next last)
 

@@ -1,5 +1,5 @@
 -- The whole pieces at the front of some bytes.
-use Rattle.std.proofs.Common.{◌≡◌, ℕ, ◌-◌, Bool, refl, sym, ◌∙◌, ap, subst, arith, List, [], ◌∷◌, ◌++◌, length, take, take_at, append_assoc, length-append}
+use Rattle.std.proofs.Common.{◌≡◌, ◌≤◌, ℕ, ◌+◌, ◌-◌, Bool, refl, sym, ◌∙◌, ap, subst, arith, List, [], ◌∷◌, ◌++◌, length, take, take_at, append_assoc, length-append}
 use Rattle.std.specs.List.{AllByRecursion}
 use Rattle.std.proofs.lemmas.List.{append-nil}
 use Rattle.ndef_format.specs.Records.{Piece, SpellsPiece}
@@ -59,3 +59,25 @@ pub front_is : (bytes rest : List ℕ) (w : AreWholeBefore bytes rest) → take 
 front_is bytes rest w =
     let n = ap length w.split ∙ length-append w.front rest in
     ap (take (length bytes - length rest)) w.split ∙ take_at w.front rest _ (omega (arith, n))
+
+-- a piece has an octet
+pub split_shorter : (p : Piece) (short : Bool) (rest bytes : List ℕ) → IsSplit p short rest bytes → length rest + 1 ≤ length bytes
+split_shorter p short rest bytes i =
+    let a = ap length i.joined ∙ length-append i.front rest in
+    let b = ap length i.spells.spelled in
+    omega (arith, a, b)
+
+-- ---- how many there are
+
+pub counted_more : (bytes rest next : List ℕ) (w : Piece) (short : Bool) (k : KeepsWhole bytes rest) (i : IsSplit w short next rest)
+    → length (whole_more bytes rest next w short k i).0 ≡ length k.0 + 1
+unfolding whole_more
+counted_more bytes rest next w short (ps, x, s, e) i = length-append ps (w ∷ [])
+
+pub counted_last : (bytes rest : List ℕ) (k : KeepsWhole bytes rest) (h : ¬ BeginWithPiece rest) → length (whole_last bytes rest k h).pieces ≡ length k.0
+unfolding whole_last
+counted_last bytes rest (ps, x, s, e) h = refl
+
+pub counted_first : (bytes : List ℕ) → 0 ≡ length (whole_first bytes).0
+unfolding whole_first
+counted_first bytes = refl

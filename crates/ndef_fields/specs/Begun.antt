@@ -19,7 +19,8 @@ pub record IsLastCursor (at : ℕ) (table : Table) (s : List ℕ) (cursor : Curs
 
 -- the octets that are left, and then those of the nested message, up to the end
 abbrev pub WithinEnd : (at end : ℕ) → Left → Contents → Type 0
-WithinEnd at end left contents = at + length (joined (left_parts 0 left)) + length contents.inner.now ≡ end
+WithinEnd at end left contents =
+    at + length (joined (left_parts 0 left)) + length contents.inner.now ≡ end
 
 -- the fields that are left, of both
 abbrev pub begun_fields : Begun → List Field

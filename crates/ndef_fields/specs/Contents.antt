@@ -15,7 +15,8 @@ abbrev pub stage_by : Option Table → Kind → Stage
 stage_by (Some table) kind = stages.Whole names.Version
 stage_by None kind = outer_stage kind
 
--- RTD Smart Poster 1.0 and Connection Handover 1.2: the field with which the payload begins, before a nested message
+-- RTD Smart Poster 1.0 and Connection Handover 1.2: the field with which the payload begins, before
+-- a nested message
 abbrev pub inside_stage : Kind → Stage
 inside_stage kind = stage_by (table_in kind) kind
 

@@ -19,13 +19,15 @@ use Rattle.ndef_fields.specs.Refusals.{AreWholeBefore, id_given, id_length_width
 
 -- ---- a front of a piece
 
--- NDEF 1.0, PAYLOAD_LENGTH: those of its octets that have come, of a piece that begins with these octets
+-- NDEF 1.0, PAYLOAD_LENGTH: those of its octets that have come, of a piece that begins with these
+-- octets
 abbrev pub payload_length_come : List ℕ → List ℕ
 payload_length_come s = take (width (slice_index s 0)) (drop 2 s)
 
 -- NDEF 1.0, ID_LENGTH: its octet, if it has come
 abbrev pub id_length_come : List ℕ → List ℕ
-id_length_come s = take (id_length_width (slice_index s 0)) (drop (width (slice_index s 0)) (drop 2 s))
+id_length_come s =
+    take (id_length_width (slice_index s 0)) (drop (width (slice_index s 0)) (drop 2 s))
 
 -- NDEF 1.0, TYPE: its octets that have come, after the lengths
 abbrev pub kind_come : List ℕ → List ℕ
@@ -44,7 +46,8 @@ content_come s = content_given (slice_index s 0) (slice_index s 1) (drop 2 s)
 abbrev pub tnf_come : List ℕ → Tnf
 tnf_come s = tnf_of (tnf_number (slice_index s 0))
 
--- NDEF 1.0, record layout: the fields of a front of a piece, with the parts of what has come of its payload
+-- NDEF 1.0, record layout: the fields of a front of a piece, with the parts of what has come of its
+-- payload
 abbrev pub front_parts : ℕ → List ℕ → List Part → List Part
 front_parts depth s payload =
     told depth names.Header (take 1 s)
@@ -70,12 +73,13 @@ pub record IsPieceFront (s : List ℕ) (front : PieceFront) : Type 0 where
 
 -- ---- a front of a payload
 
--- RTD Smart Poster 1.0 and Connection Handover 1.2: the parts of what has come of a payload in a nested message
+-- RTD Smart Poster 1.0 and Connection Handover 1.2: the parts of what has come of a payload in a
+-- nested message
 abbrev pub inner_come : Table → List ℕ → List Part
 inner_come table s = leaf_parts 1 (kind_in table (tnf_come s) (kind_come s)) (content_come s)
 
--- RTD Smart Poster 1.0 and Connection Handover 1.2: the parts of a front of a nested message: those of whole pieces,
--- and those of a front of one more
+-- RTD Smart Poster 1.0 and Connection Handover 1.2: the parts of a front of a nested message: those
+-- of whole pieces, and those of a front of one more
 pub record AreNestedFront (table : Table) (bytes : List ℕ) (parts : List Part) : Type 0 where
   pub rest : List ℕ
   pub whole : AreWholeBefore bytes rest
@@ -83,8 +87,8 @@ pub record AreNestedFront (table : Table) (bytes : List ℕ) (parts : List Part)
   pub spelled : AreParts 1 (IsInnerOwn table) whole.pieces whole.front before
   pub parts_are : parts ≡ before ++ front_parts 1 rest (inner_come table rest)
 
--- RTD Smart Poster 1.0 and Connection Handover 1.2: the parts of a front of a payload that holds a nested message: a
--- version octet in a handover, and the message
+-- RTD Smart Poster 1.0 and Connection Handover 1.2: the parts of a front of a payload that holds a
+-- nested message: a version octet in a handover, and the message
 abbrev pub AreNestFront : Table → List ℕ → List Part → Type 0
 AreNestFront table s parts =
     (inner : List Part) × (parts ≡ told 0 names.Version (take (version_length table) s) ++ inner)
@@ -99,11 +103,13 @@ AreFrontBy None kind s parts = parts ≡ leaf_parts 0 (outer_kind kind) s
 abbrev pub ArePayloadFront : Kind → List ℕ → List Part → Type 0
 ArePayloadFront kind = AreFrontBy (table_in kind) kind
 
--- NDEF 1.0, chunked payloads: the kind of a payload of which a front has come; none in several pieces is looked into
+-- NDEF 1.0, chunked payloads: the kind of a payload of which a front has come; none in several
+-- pieces is looked into
 abbrev pub kind_begun : List ℕ → Kind
 kind_begun s = kind_there (is_set 5 (slice_index s 0)) (kind_of (tnf_come s) (kind_come s))
 
--- NDEF 1.0, messages: the parts of a front of a message: those of whole pieces, and those of a front of one more
+-- NDEF 1.0, messages: the parts of a front of a message: those of whole pieces, and those of a
+-- front of one more
 pub record AreFrontParts (bytes : List ℕ) (parts : List Part) : Type 0 where
   pub rest : List ℕ
   pub whole : AreWholeBefore bytes rest

@@ -28,25 +28,31 @@ EndsIn [] name = ⊥
 EndsIn (part ∷ []) name = name ≡ part.name
 EndsIn (part ∷ next ∷ parts) name = EndsIn (next ∷ parts) name
 
--- RTD Smart Poster 1.0 and Connection Handover 1.2: the name of the octet that stands in this field of a nested message
+-- RTD Smart Poster 1.0 and Connection Handover 1.2: the name of the octet that stands in this field
+-- of a nested message
 abbrev pub IsInnerField : Table → Field → ℕ → FieldName → Type 0
 IsInnerField table (InPayload head kind id content) octet name =
     EndsIn (leaf_parts 1 (kind_in table (tnf_of head.tnf) kind) (content ++ octet ∷ [])) name
 IsInnerField table field octet name = IsNameOf field name
 
--- RTD Smart Poster 1.0 and Connection Handover 1.2: that of the last of these octets of a nested message
+-- RTD Smart Poster 1.0 and Connection Handover 1.2: that of the last of these octets of a nested
+-- message
 abbrev pub IsLastInside : Table → List ℕ → FieldName → Type 0
 IsLastInside table bytes name = (field : Field) (octet : ℕ)
     → StandsIn bytes field octet → IsInnerField table field octet name
 
--- Connection Handover 1.2: the field of the last of these octets of a handover's payload, which begins with its version
+-- Connection Handover 1.2: the field of the last of these octets of a handover's payload, which
+-- begins with its version
 abbrev pub IsHandoverLast : Table → List ℕ → ByteField → Type 0
-IsHandoverLast table (version ∷ octet ∷ s) byte = (byte.depth ≡ 1) × IsLastInside table (octet ∷ s) byte.name
+IsHandoverLast table (version ∷ octet ∷ s) byte =
+    (byte.depth ≡ 1) × IsLastInside table (octet ∷ s) byte.name
 IsHandoverLast table _ byte = (byte.depth ≡ 0) × (byte.name ≡ names.Version)
 
--- RTD Smart Poster 1.0 and Connection Handover 1.2: the same of a payload that holds a nested message
+-- RTD Smart Poster 1.0 and Connection Handover 1.2: the same of a payload that holds a nested
+-- message
 abbrev pub IsNestLast : Table → List ℕ → ByteField → Type 0
-IsNestLast tables.SmartPoster s byte = (byte.depth ≡ 1) × IsLastInside tables.SmartPoster s byte.name
+IsNestLast tables.SmartPoster s byte =
+    (byte.depth ≡ 1) × IsLastInside tables.SmartPoster s byte.name
 IsNestLast table s byte = IsHandoverLast table s byte
 
 -- the same of a payload of a kind, which holds this message or none
@@ -58,19 +64,22 @@ IsLastBy None kind s byte = (byte.depth ≡ 0) × EndsIn (leaf_parts 0 (outer_ki
 abbrev pub IsPayloadLast : Kind → List ℕ → ByteField → Type 0
 IsPayloadLast kind = IsLastBy (table_in kind) kind
 
--- NDEF 1.0, chunked payloads: the kind of the payload of a piece; a payload in several pieces isn't looked into
+-- NDEF 1.0, chunked payloads: the kind of the payload of a piece; a payload in several pieces isn't
+-- looked into
 abbrev pub kind_there : Bool → Kind → Kind
 kind_there chunked kind = if chunked then kinds.Other else kind
 
 -- NDEF 1.0, record layout: the octet stands in this field
 abbrev pub IsFieldOf : Field → ℕ → ByteField → Type 0
 IsFieldOf (InPayload head kind id content) octet byte =
-    IsPayloadLast (kind_there head.chunked (kind_of (tnf_of head.tnf) kind)) (content ++ octet ∷ []) byte
+    IsPayloadLast (kind_there head.chunked (kind_of (tnf_of head.tnf) kind)) (content
+    ++ octet ∷ []) byte
 IsFieldOf field octet byte = (byte.depth ≡ 0) × IsNameOf field byte.name
 
 -- NDEF 1.0, messages: the last of these bytes stands in this field
 abbrev pub IsFieldOfLast : List ℕ → ByteField → Type 0
-IsFieldOfLast bytes byte = (field : Field) (octet : ℕ) → StandsIn bytes field octet → IsFieldOf field octet byte
+IsFieldOfLast bytes byte =
+    (field : Field) (octet : ℕ) → StandsIn bytes field octet → IsFieldOf field octet byte
 
 -- the reason of a refusal rests on a field of the byte, and the byte stands in it
 pub record RestsOn (limits : LimitValues) (input : List ℕ) (refusal : Refusal) (byte : ByteField) : Type 0 where

@@ -1,4 +1,5 @@
--- The fields of a front of a message are those of the definition on which the reasons of refusals rest.
+-- The fields of a front of a message are those of the definition on which the reasons of refusals
+-- rest.
 use Rattle.std.specs.Prelude.{◌≡◌, ℕ, List, [], ◌∷◌, ◌++◌, is_some}
 use Rattle.ndef_format.specs.Records.{HeadFields, Piece, Run, header_octet, id_length_octets, payload_length_octets}
 use Rattle.ndef_format.specs.Limits.{LimitValues}
@@ -17,12 +18,13 @@ head_parts head more =
     ++ (told 0 names.PayloadLength (payload_length_octets head.short head.payload_length)
     ++ (told 0 names.IdLength (id_length_octets head.id_length) ++ more)))
 
--- NDEF 1.0, record layout: the parts of what has come of a piece, where the next octet stands in this field; `payload`
--- are those of its payload
+-- NDEF 1.0, record layout: the parts of what has come of a piece, where the next octet stands in
+-- this field; `payload` are those of its payload
 abbrev pub parts_so_far : Field → (payload : List Part) → List Part
 parts_so_far (InHead front) payload = front_parts 0 front []
 parts_so_far (InType head name) payload = head_parts head (told 0 names.Kind name)
-parts_so_far (InId head name id) payload = head_parts head (told 0 names.Kind name ++ told 0 names.Id id)
+parts_so_far (InId head name id) payload =
+    head_parts head (told 0 names.Kind name ++ told 0 names.Id id)
 parts_so_far (InPayload head name id content) payload =
     head_parts head (told 0 names.Kind name ++ (told 0 names.Id id ++ payload))
 parts_so_far AtEnd payload = []
@@ -34,9 +36,10 @@ pub record AreSoFar (bytes : List ℕ) (parts : List Part) (front : AreFrontPart
   pub rest_is : front.rest ≡ octets_so_far field
   pub parts_are : front_parts 0 front.rest front.payload ≡ parts_so_far field front.payload
 
--- The parts of a front of a message are those of the pieces before the field of the next byte, and of what has come of
--- the piece in which this field is.
+-- The parts of a front of a message are those of the pieces before the field of the next byte, and
+-- of what has come of the piece in which this field is.
 abbrev pub FrontsAreSoFar : Type 0
-FrontsAreSoFar = (limits : LimitValues) (bytes : List ℕ) (parts : List Part) (front : AreFrontParts bytes parts)
+FrontsAreSoFar =
+    (limits : LimitValues) (bytes : List ℕ) (parts : List Part) (front : AreFrontParts bytes parts)
     (runs : List Run) (begun : List Piece) (field : Field) → IsAt limits bytes runs begun field
     → AreSoFar bytes parts front (all_pieces runs ++ begun) field

@@ -83,6 +83,7 @@ fn before_by(header: u8, kind_length: u8, tail: &[u8]) -> Before<'_>
 pub(crate) fn next_field(bytes: &[u8]) -> Before<'_>
     ensures { IsBefore bytes.now result }
 {
+    // For the proof alone.
     heads_are_apart();
     match behind_pieces(bytes) {
         [] => Before::Head(FieldName::Header),

@@ -12,20 +12,26 @@ use ndef_lang::Kind;
 use ndef_piece::header_tnf;
 use ndef_value::Tnf;
 
-/// The octets of the fields of a piece before its payload, as far as they have come.
+/// The octets of the fields of a piece before its payload, as far as they have come (NDEF 1.0, record layout).
 #[derive(Clone, Copy, Debug)]
-pub(crate) struct HeadOctets<'a> {
+pub struct HeadOctets<'a> {
+    /// The header octet, 0 or 1 bytes.
     pub header: &'a [u8],
+    /// TYPE_LENGTH, 0 or 1 bytes.
     pub kind_length: &'a [u8],
+    /// PAYLOAD_LENGTH, at most 1 byte in a short record, else at most 4.
     pub payload_length: &'a [u8],
+    /// ID_LENGTH, 0 or 1 bytes.
     pub id_length: &'a [u8],
+    /// TYPE, at most 255 bytes.
     pub kind: &'a [u8],
+    /// ID, at most 255 bytes.
     pub id: &'a [u8],
 }
 
 /// A piece, as far as it has come.
 #[derive(Clone, Copy, Debug)]
-pub(crate) struct PieceFront<'a> {
+pub struct PieceFront<'a> {
     /// The header octet; 0 where it has not come.
     pub header: u8,
     /// The fields before the payload.
@@ -34,8 +40,8 @@ pub(crate) struct PieceFront<'a> {
     pub content: &'a [u8],
 }
 
-/// The fields of the piece with which these octets begin.
-pub(crate) fn piece_front(octets: &[u8]) -> PieceFront<'_>
+/// The fields of the piece with which these octets begin, as far as they have come (NDEF 1.0, record layout).
+pub fn piece_front(octets: &[u8]) -> PieceFront<'_>
     ensures { IsPieceFront octets.now result }
 {
     let (header, tail) = (first(octets), behind(octets, 2));

@@ -1,5 +1,5 @@
 //! The head of a piece of which only a front has come.
-ghost use Rattle.std.specs.Prelude.{◌≡◌, ◌≤◌, length};
+ghost use Rattle.std.specs.Prelude.{◌≡◌, ◌+◌, ◌≤◌, length};
 ghost use Rattle.ndef_format.specs.HeadReasons.{width};
 ghost use Rattle.ndef_fields.specs.Refusals.{AreWholeBefore, id_given, IsBehindPieces, IsByLengths};
 
@@ -18,6 +18,29 @@ pub(crate) fn behind_pieces(bytes: &[u8]) -> &[u8]
         rest = piece.rest;
     }
     rest
+}
+
+/// The whole pieces at the front of some bytes.
+#[derive(Clone, Copy, Debug)]
+pub struct WholePieces<'a> {
+    /// The number of them.
+    pub count: usize,
+    /// The bytes after them, which begin with no whole piece.
+    pub rest: &'a [u8],
+}
+
+/// The whole pieces at the front of some bytes, and what follows them (NDEF 1.0, messages and record layout).
+pub fn whole_pieces(bytes: &[u8]) -> WholePieces<'_>
+    ensures whole { (whole : AreWholeBefore bytes.now result.rest.now) × (result.count ≡ length whole.pieces) }
+    ensures few { result.count + length result.rest.now ≤ length bytes.now }
+{
+    let mut rest = bytes;
+    let mut count = 0;
+    while let Some(piece) = whole_piece(rest) {
+        rest = piece.rest;
+        count += 1;
+    }
+    WholePieces { count, rest }
 }
 
 /// ID_LENGTH after PAYLOAD_LENGTH; 0 where there is none.

@@ -11,7 +11,8 @@ use Rattle.ndef_format.specs.Records.{Run}
 abbrev pub IsMember : Sets → LimitValues → Item → Type 0
 IsMember set limits m = set (kind_of m.tnf m.kind) limits.records limits.profile m.payload
 
--- NDEF 1.0, messages: the bytes spell these records, within the limits, and each payload is one of its kind
+-- NDEF 1.0, messages: the bytes spell these records, within the limits, and each payload is one of
+-- its kind
 pub record Accepted (set : Sets) (limits : LimitValues) (items : List Item) (bytes : List ℕ) : Type 0 where
   pub runs : List Run
   pub spelling : SpellsBy limits.profile runs items bytes

@@ -54,4 +54,6 @@ whole_pieces first (m ∷ ms) = whole_piece first (is_nil ms) m ∷ whole_pieces
 
 -- each record in one piece, in short form where it can be
 abbrev pub canonical : List Item → List ℕ
-canonical m = flat_map (λ p. octets (fields p (nat_lt (length p.payload) 256)) ++ body p) (whole_pieces true m)
+canonical m =
+    flat_map (λ p. octets (fields p (nat_lt (length p.payload) 256)) ++ body p)
+    (whole_pieces true m)

@@ -36,7 +36,8 @@ pub data HeadField : Type 0 where
 abbrev pub head_field : List ℕ → HeadField
 head_field [] = HeaderOctet
 head_field (header ∷ []) = TypeLength
-head_field (header ∷ kind ∷ xs) = if nat_lt (length xs) (width header) then PayloadLength else IdLength
+head_field (header ∷ kind ∷ xs) =
+    if nat_lt (length xs) (width header) then PayloadLength else IdLength
 
 -- the octet stands in the header
 abbrev pub in_header : HeadField → Bool
@@ -60,8 +61,8 @@ header_of (header ∷ xs) b = header
 
 -- ---- the least payload length
 
--- NDEF 1.0, PAYLOAD_LENGTH: the least number that n octets can spell, most significant first, of which these are the
--- front
+-- NDEF 1.0, PAYLOAD_LENGTH: the least number that n octets can spell, most significant first, of
+-- which these are the front
 abbrev pub least_from : ℕ → List ℕ → ℕ
 least_from n [] = 0
 least_from n (x ∷ xs) = x * 256 ^ (n - 1) + least_from (n - 1) xs
@@ -74,8 +75,8 @@ least (header ∷ kind ∷ xs) = least_from (width header) xs
 
 -- ---- the conditions
 
--- The conditions on an octet b after the octets xs of a head, each with its reason, by their numbers from 1.
--- A 7 gets to TYPE_LENGTH in Standard alone, and is unknown there.
+-- The conditions on an octet b after the octets xs of a head, each with its reason, by their
+-- numbers from 1. A 7 gets to TYPE_LENGTH in Standard alone, and is unknown there.
 abbrev pub conditions : Spot → List ℕ → ℕ → List (Reason × Bool)
 conditions spot xs b =
     let at = head_field xs in

@@ -40,8 +40,8 @@ kind_name Collision = codes "cr"
 kind_name Error = codes "err"
 kind_name Other = []
 
--- RTD Text, RTD URI, RTD Smart Poster and Connection Handover 1.2: the kinds whose payloads are checked in a message;
--- any other record may have any payload
+-- RTD Text, RTD URI, RTD Smart Poster and Connection Handover 1.2: the kinds whose payloads are
+-- checked in a message; any other record may have any payload
 abbrev pub outer_kind : Kind → Kind
 outer_kind Text = Text
 outer_kind Uri = Uri
@@ -70,4 +70,5 @@ NamesHaveKinds = (kind : Kind) → kind_of WellKnown (kind_name kind) ≡ kind
 
 -- No name of a kind has more than three octets or a 0 octet.
 abbrev pub NamesAreShort : Type 0
-NamesAreShort = (kind : Kind) → (length (kind_name kind) ≤ 3) × AllByRecursion (λ b. 0 < b) (kind_name kind)
+NamesAreShort =
+    (kind : Kind) → (length (kind_name kind) ≤ 3) × AllByRecursion (λ b. 0 < b) (kind_name kind)

@@ -1,4 +1,5 @@
--- How large a message may be that is read, and who reads it (limits of the reader, not of the standard).
+-- How large a message may be that is read, and who reads it (limits of the reader, not of the
+-- standard).
 use Rattle.std.specs.Prelude.{ℕ, ◌^◌, ◌<◌, ◌≤◌, List, length, ◌+◌, ◌*◌}
 use Rattle.std.specs.List.{AllByRecursion}
 use Rattle.ndef_format.specs.Records.{pieces, Run}

@@ -58,7 +58,8 @@ pub record IsMessage (profile : Profile) (runs : List Run) (m : List Item) : Typ
 abbrev pub SpellsPieces : List Piece → List ℕ → Type 0
 SpellsPieces [] bytes = bytes ≡ []
 SpellsPieces (p ∷ ps) bytes =
-    (short : Bool) × (front rest : List ℕ) × (bytes ≡ front ++ rest) × SpellsPiece p short front × SpellsPieces ps rest
+    (short : Bool) × (front rest : List ℕ) × (bytes ≡ front ++ rest) × SpellsPiece p short front
+    × SpellsPieces ps rest
 
 -- NDEF 1.0, messages: the bytes spell the items, as these runs
 pub record SpellsBy (profile : Profile) (runs : List Run) (m : List Item) (bytes : List ℕ) : Type 0 where

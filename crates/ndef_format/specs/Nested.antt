@@ -1,4 +1,5 @@
--- Messages inside a payload, and the payloads of their records (RTD Smart Poster 1.0, Connection Handover 1.2).
+-- Messages inside a payload, and the payloads of their records (RTD Smart Poster 1.0, Connection
+-- Handover 1.2).
 use Rattle.std.specs.Prelude.{ℕ, List, IsUtf8, Bool, Option, Some, None, unwrap_or, true, false, if◌then◌else◌, ◌||◌, ◌≡◌, [], ◌∷◌, ⊤, count_by, ◌≤◌, length, ◌<◌, ◌⊎◌}
 use Rattle.std.specs.List.{AllByRecursion}
 use Rattle.ndef_format.specs.Records.{AreOctets, Run}
@@ -15,8 +16,8 @@ use Rattle.ndef_format.specs.declared.table.Table.{Table}
 use Rattle.ndef_format.specs.declared.table.Table.TheVariants.{SmartPoster, Request, Select}
 use Rattle.ndef_format.specs.declared.tnf.Tnf.{Tnf}
 
--- RTD Text, RTD URI, RTD Smart Poster and Connection Handover 1.2: the payloads of a kind, where messages in them
--- aren't read
+-- RTD Text, RTD URI, RTD Smart Poster and Connection Handover 1.2: the payloads of a kind, where
+-- messages in them aren't read
 abbrev pub IsPayload : Kind → Profile → List ℕ → Type 0
 IsPayload kinds.Text profile s = IsText s
 IsPayload kinds.Uri profile s = IsUri profile s
@@ -32,7 +33,8 @@ IsPayload kinds.Request profile s = AreOctets s
 IsPayload kinds.Select profile s = AreOctets s
 IsPayload kinds.Other profile s = AreOctets s
 
--- RTD Smart Poster 1.0 and Connection Handover 1.2: the nested message that a payload of a kind holds, if it holds one
+-- RTD Smart Poster 1.0 and Connection Handover 1.2: the nested message that a payload of a kind
+-- holds, if it holds one
 abbrev pub table_in : Kind → Option Table
 table_in kinds.SmartPoster = Some SmartPoster
 table_in kinds.Request = Some Request
@@ -59,7 +61,8 @@ is_table Request Request = true
 is_table Select Select = true
 is_table _ _ = false
 
--- RTD Smart Poster 1.0 and Connection Handover 1.2: the nested messages in which payloads of the kind are checked
+-- RTD Smart Poster 1.0 and Connection Handover 1.2: the nested messages in which payloads of the
+-- kind are checked
 abbrev pub tables_with : Kind → List Table
 tables_with kinds.Uri = SmartPoster ∷ []
 tables_with kinds.Text = SmartPoster ∷ []
@@ -97,15 +100,16 @@ abbrev pub is_uri : Kind → Bool
 is_uri kinds.Uri = true
 is_uri _ = false
 
--- RTD Smart Poster 1.0: exactly one URI; Connection Handover 1.2: a request begins with its collision resolution
+-- RTD Smart Poster 1.0: exactly one URI; Connection Handover 1.2: a request begins with its
+-- collision resolution
 abbrev pub IsComplete : Table → List Item → Type 0
 IsComplete SmartPoster items = count_by (λ i. is_uri (kind_in SmartPoster i.tnf i.kind)) items ≡ 1
 IsComplete Request [] = ⊥
 IsComplete Request (item ∷ items) = kind_in Request item.tnf item.kind ≡ kinds.Collision
 IsComplete Select items = ⊤
 
--- RTD Smart Poster 1.0 and Connection Handover 1.2: each record has a payload of its kind, and those are there that
--- must be
+-- RTD Smart Poster 1.0 and Connection Handover 1.2: each record has a payload of its kind, and
+-- those are there that must be
 pub record HasContents (table : Table) (profile : Profile) (items : List Item) : Type 0 where
   pub members : AllByRecursion (λ i. IsPayload (kind_in table i.tnf i.kind) profile i.payload) items
   pub complete : IsComplete table items
@@ -127,7 +131,8 @@ Nested table records profile bytes =
 abbrev pub IsVersion : ℕ → Type 0
 IsVersion v = (0x10 ≤ v) × (v < 0x20)
 
--- the payloads that hold a nested message: that of a handover follows a version octet, and a select may have no message
+-- the payloads that hold a nested message: that of a handover follows a version octet, and a select
+-- may have no message
 abbrev pub IsNest : Table → ℕ → Profile → List ℕ → Type 0
 IsNest SmartPoster records profile s = Nested SmartPoster records profile s
 IsNest Request records profile [] = ⊥

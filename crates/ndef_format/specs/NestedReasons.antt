@@ -1,4 +1,5 @@
--- Why an octet is refused in a nested message, and in any payload (RTD Smart Poster 1.0, Connection Handover 1.2).
+-- Why an octet is refused in a nested message, and in any payload (RTD Smart Poster 1.0, Connection
+-- Handover 1.2).
 use Rattle.std.specs.Prelude.{ℕ, Option, Some, None, ◌≡◌, List, [], ◌∷◌, ◌⊎◌, ◌≢◌, true, Bool}
 use Rattle.ndef_format.specs.Limits.{LimitValues}
 use Rattle.ndef_format.specs.Records.{Run, tnf_of}
@@ -17,15 +18,17 @@ use Rattle.ndef_format.specs.declared.table.Table.{Table}
 use Rattle.ndef_format.specs.declared.reason.Reason.TheVariants as reasons
 use Rattle.ndef_format.specs.declared.kind.Kind.{Kind}
 
--- limits of the reader, not of the standards: a nested message has at most this number of records, each in one piece,
--- and any payloads (NDEF 1.0, 2.3.3 allows chunks in any message)
+-- limits of the reader, not of the standards: a nested message has at most this number of records,
+-- each in one piece, and any payloads (NDEF 1.0, 2.3.3 allows chunks in any message)
 abbrev pub nested_limits : (records : ℕ) → Profile → LimitValues
-nested_limits records profile = record { payload = 4294967295; records = records; pieces = 1; profile = profile }
+nested_limits records profile =
+    record { payload = 4294967295; records = records; pieces = 1; profile = profile }
 
 -- one of the records is a URI
 abbrev pub HasUri : List Run → Type 0
 HasUri [] = ⊥
-HasUri (r ∷ runs) = (kind_in SmartPoster (tnf_of r.initial.tnf) r.initial.kind ≡ kinds.Uri) ⊎ HasUri runs
+HasUri (r ∷ runs) =
+    (kind_in SmartPoster (tnf_of r.initial.tnf) r.initial.kind ≡ kinds.Uri) ⊎ HasUri runs
 
 -- RTD Smart Poster 1.0: the field of a last record that no URI comes before says that it isn't one
 abbrev pub IsUriMissing : Field → ℕ → Type 0
@@ -36,7 +39,8 @@ IsUriMissing _ b = ⊥
 
 -- RTD Smart Poster 1.0: a type octet makes the record a URI
 abbrev pub IsUriAgain : Field → ℕ → Type 0
-IsUriAgain (InType head name) b = (tnf_of head.tnf ≡ WellKnown) × (head.kind_length ≡ 1) × (b ≡ 0x55)
+IsUriAgain (InType head name) b =
+    (tnf_of head.tnf ≡ WellKnown) × (head.kind_length ≡ 1) × (b ≡ 0x55)
 IsUriAgain _ b = ⊥
 
 -- Connection Handover 1.2: the field of a first record says that it is no collision resolution
@@ -65,7 +69,8 @@ abbrev pub OfMessage : Table → List Run → Field → ℕ → Reason → Type 
 OfMessage SmartPoster runs field b reason =
     ((reason ≡ reasons.UriMissing) × (HasUri runs → ⊥) × IsUriMissing field b)
     ⊎ ((reason ≡ reasons.UriAgain) × HasUri runs × IsUriAgain field b)
-OfMessage Request runs field b reason = (reason ≡ reasons.CollisionMissing) × (runs ≡ []) × IsCollisionMissing field b
+OfMessage Request runs field b reason =
+    (reason ≡ reasons.CollisionMissing) × (runs ≡ []) × IsCollisionMissing field b
 OfMessage Select runs field b reason = ⊥
 
 -- which reasons hold of the octet b after the octets s of a nested message
@@ -77,9 +82,11 @@ MessageReason table records profile s b reason =
 
 -- which reasons hold of the octet b after the octets s of a payload that holds a nested message
 abbrev pub NestReason : Table → ℕ → Profile → List ℕ → ℕ → Reason → Type 0
-NestReason SmartPoster records profile s b reason = MessageReason SmartPoster records profile s b reason
+NestReason SmartPoster records profile s b reason =
+    MessageReason SmartPoster records profile s b reason
 NestReason table records profile [] b reason = OneReason reasons.Version (IsVersion b → ⊥) reason
-NestReason table records profile (version ∷ s) b reason = MessageReason table records profile s b reason
+NestReason table records profile (version ∷ s) b reason =
+    MessageReason table records profile s b reason
 
 -- the same of a payload of a kind, which holds this message or none
 abbrev pub TypedReasonBy : Option Table → Kind → ℕ → Profile → List ℕ → ℕ → Reason → Type 0

@@ -1,4 +1,5 @@
--- Fields of a payload: a fixed number of octets, or octets after their length (RTD 1.0 and Connection Handover 1.2).
+-- Fields of a payload: a fixed number of octets, or octets after their length (RTD 1.0 and
+-- Connection Handover 1.2).
 use Rattle.std.specs.Prelude.{ℕ, ◌<◌, zero, suc, List, [], ◌∷◌, ◌≡◌, length}
 use Rattle.ndef_format.specs.Records.{AreOctets}
 

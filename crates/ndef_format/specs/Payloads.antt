@@ -10,8 +10,8 @@ use Rattle.ndef_format.specs.declared.table.Table.{Table}
 abbrev pub Sets : Type 1
 Sets = Kind → ℕ → Profile → List ℕ → Type 0
 
--- RTD Text, RTD URI, RTD Smart Poster and Connection Handover 1.2: the payloads of a kind, which hold this message or
--- none
+-- RTD Text, RTD URI, RTD Smart Poster and Connection Handover 1.2: the payloads of a kind, which
+-- hold this message or none
 abbrev pub IsTypedBy : Option Table → Kind → ℕ → Profile → List ℕ → Type 0
 IsTypedBy (Some table) kind records profile s = IsNest table records profile s
 IsTypedBy None kind records profile s = IsPayload (outer_kind kind) profile s

@@ -1,4 +1,5 @@
--- The field of the next octet of a message, and what stands before it (NFC Forum, NDEF 1.0, record layout).
+-- The field of the next octet of a message, and what stands before it (NFC Forum, NDEF 1.0, record
+-- layout).
 use Rattle.std.specs.Prelude.{◌^◌, ◌<◌, unwrap_or, ◌≡◌, ◌≢◌, ◌≤◌, true, false, None, ℕ, ◌+◌, List, ◌∷◌, ◌++◌, [], length, ⊤, Bool, ◌-◌, ◌==◌, ◌&&◌, not, Option, Some}
 use Rattle.std.specs.List.{AllByRecursion}
 use Rattle.ndef_format.specs.Records.{HeadFields, FitsForm, IsRead, HasShape, tnf_of, octets, Piece, IsInitial, IsLater, AreOctets, Run, pieces, Follow}
@@ -26,7 +27,8 @@ pub record MayStand (spot : Spot) (f : HeadFields) : Type 0 where
   pub outside : spot.inside ≡ false → (f.tnf ≢ 6) × (f.chunked ≡ true → f.tnf ≢ 0)
   -- a run goes on unchanged, without an id
   pub inside : spot.inside ≡ true → (f.tnf ≡ 6) × (f.id_length ≡ None)
-  -- where another piece of the record follows, it is not the end of the message, and one more piece is allowed
+  -- where another piece of the record follows, it is not the end of the message, and one more piece
+  -- is allowed
   pub chunked : f.chunked ≡ true → (f.last ≡ false) × (spot.last_piece ≡ false)
   -- where another record follows, one more is allowed
   pub followed : f.chunked ≡ false → f.last ≡ false → spot.last_record ≡ false
@@ -40,8 +42,8 @@ pub record IsOpen (spot : Spot) (xs : List ℕ) : Type 0 where
   pub rest : List ℕ
   pub spelled : octets fields ≡ xs ++ next ∷ rest
 
--- NDEF 1.0, messages and chunked payloads: the rules of a message for one piece, of MB, ME and CF, of the type name
--- formats of runs, of the shape of records, and of the limits
+-- NDEF 1.0, messages and chunked payloads: the rules of a message for one piece, of MB, ME and CF,
+-- of the type name formats of runs, of the shape of records, and of the limits
 pub record Stands (spot : Spot) (p : Piece) : Type 0 where
   -- MB in the first piece of the message and in no other
   pub begins : p.first ≡ spot.first
@@ -51,7 +53,8 @@ pub record Stands (spot : Spot) (p : Piece) : Type 0 where
       × HasShape (tnf_of p.tnf) (length p.kind) (length (unwrap_or p.id [])) (length p.payload)
   -- a middle or terminating piece is unchanged, without type and id
   pub later : spot.inside ≡ true → IsLater p
-  -- where another piece of the record follows, it is not the end of the message, and one more piece is allowed
+  -- where another piece of the record follows, it is not the end of the message, and one more piece
+  -- is allowed
   pub chunked : p.chunked ≡ true → (p.last ≡ false) × (spot.last_piece ≡ false)
   -- where another record follows, one more is allowed
   pub followed : p.chunked ≡ false → p.last ≡ false → spot.last_record ≡ false
@@ -59,8 +62,9 @@ pub record Stands (spot : Spot) (p : Piece) : Type 0 where
 
 -- ---- fields
 
--- NDEF 1.0, record layout: the field of the next octet, and what of its piece came before it: octets of its head; its
--- head, and octets of TYPE; then of ID; then of PAYLOAD. And the end of the message.
+-- NDEF 1.0, record layout: the field of the next octet, and what of its piece came before it:
+-- octets of its head; its head, and octets of TYPE; then of ID; then of PAYLOAD. And the end of the
+-- message.
 pub data Field : Type 0 where
   InHead : (front : List ℕ) → Field
   InType : (head : HeadFields) (name : List ℕ) → Field
@@ -88,9 +92,11 @@ abbrev pub IsProper : Spot → Field → Type 0
 IsProper spot (InHead front) = IsOpen spot front
 IsProper spot (InType head name) = IsPart spot head name [] [] × (length name < head.kind_length)
 IsProper spot (InId head name id) =
-    IsPart spot head name id [] × (length name ≡ head.kind_length) × (length id < unwrap_or head.id_length 0)
+    IsPart spot head name id [] × (length name ≡ head.kind_length)
+    × (length id < unwrap_or head.id_length 0)
 IsProper spot (InPayload head name id content) =
-    IsPart spot head name id content × (length name ≡ head.kind_length) × (length id ≡ unwrap_or head.id_length 0)
+    IsPart spot head name id content × (length name ≡ head.kind_length)
+    × (length id ≡ unwrap_or head.id_length 0)
     × (length content < head.payload_length)
 IsProper spot AtEnd = ⊤
 
@@ -101,7 +107,8 @@ abbrev pub is_between : (begun : List Piece) → Bool
 is_between [] = true
 is_between (p ∷ begun) = false
 
--- NDEF 1.0, messages and chunked payloads: where a piece stands, after whole runs and the pieces of an open one
+-- NDEF 1.0, messages and chunked payloads: where a piece stands, after whole runs and the pieces of
+-- an open one
 abbrev pub spot_after : LimitValues → List Run → (begun : List Piece) → Spot
 spot_after limits runs begun = record {
   profile = limits.profile;
@@ -112,7 +119,8 @@ spot_after limits runs begun = record {
   room = limits.payload - length (payload_of begun);
 }
 
--- each of these pieces stands after those before it, after these runs and the first pieces of an open one
+-- each of these pieces stands after those before it, after these runs and the first pieces of an
+-- open one
 abbrev pub PiecesStand : LimitValues → List Run → (begun ps : List Piece) → Type 0
 PiecesStand limits runs begun [] = ⊤
 PiecesStand limits runs begun (p ∷ ps) =
@@ -121,10 +129,11 @@ PiecesStand limits runs begun (p ∷ ps) =
 -- each piece of these runs stands after those before it, after the runs before them
 abbrev pub RunsStand : LimitValues → (before runs : List Run) → Type 0
 RunsStand limits before [] = ⊤
-RunsStand limits before (r ∷ runs) = PiecesStand limits before [] (pieces r) × RunsStand limits (before ++ r ∷ []) runs
+RunsStand limits before (r ∷ runs) =
+    PiecesStand limits before [] (pieces r) × RunsStand limits (before ++ r ∷ []) runs
 
--- NDEF 1.0, messages and chunked payloads: whole runs and the pieces of an open one, each of which stands after those
--- before it
+-- NDEF 1.0, messages and chunked payloads: whole runs and the pieces of an open one, each of which
+-- stands after those before it
 pub record AreBefore (limits : LimitValues) (runs : List Run) (begun : List Piece) : Type 0 where
   -- CF is clear in the last piece of a run, and set in the others
   pub whole : AllByRecursion (λ r. Follow r.initial.chunked r.later) runs
@@ -136,13 +145,14 @@ pub record AreBefore (limits : LimitValues) (runs : List Run) (begun : List Piec
 abbrev pub NoneLast : List Piece → Type 0
 NoneLast = AllByRecursion (λ p. p.last ≡ false)
 
--- NDEF 1.0, messages: ME is set in none of the pieces before a field, and at the end of the message in the last of them
+-- NDEF 1.0, messages: ME is set in none of the pieces before a field, and at the end of the message
+-- in the last of them
 abbrev pub EndsAt : Field → List Piece → Type 0
 EndsAt AtEnd ps = EndsOnce ps
 EndsAt _ ps = NoneLast ps
 
--- The octets are those of these runs and of the pieces of an open one, and a proper front of one more piece, or all of
--- a message.
+-- The octets are those of these runs and of the pieces of an open one, and a proper front of one
+-- more piece, or all of a message.
 pub record IsAt (limits : LimitValues) (bytes : List ℕ)
     (runs : List Run) (begun : List Piece) (field : Field) : Type 0 where
   pub front : List ℕ
@@ -159,5 +169,6 @@ begun_record (p ∷ begun) = Some (run_record (record { initial = p; later = beg
 
 -- NDEF 1.0, chunked payloads: the record as far as it has come, with these octets of one more piece
 abbrev pub record_so_far : Option Item → HeadFields → (kind id payload : List ℕ) → Item
-record_so_far None f kind id payload = record { tnf = tnf_of f.tnf; kind = kind; id = id; payload = payload }
+record_so_far None f kind id payload =
+    record { tnf = tnf_of f.tnf; kind = kind; id = id; payload = payload }
 record_so_far (Some m) f kind id payload = record m { payload = m.payload ++ payload }

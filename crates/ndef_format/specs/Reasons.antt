@@ -33,7 +33,8 @@ reason_number DoesNotFit = 23
 reason_number EndOfInput = 24
 reason_number CollisionMissing = 25
 
--- the place of a reason among those that are tried: 1 to 22, then the missing collision record, then what doesn't fit
+-- the place of a reason among those that are tried: 1 to 22, then the missing collision record,
+-- then what doesn't fit
 abbrev pub rank_of : Reason → ℕ
 rank_of CollisionMissing = 23
 rank_of DoesNotFit = 24

@@ -1,4 +1,5 @@
--- Records, in one piece or several, and their octets (NFC Forum, NDEF 1.0, record layout and chunked payloads).
+-- Records, in one piece or several, and their octets (NFC Forum, NDEF 1.0, record layout and
+-- chunked payloads).
 use Rattle.std.specs.Prelude.{ℕ, ◌==◌, if◌then◌else◌, ◌<◌, ◌≡◌, Bool, Option, true, false, ◌+◌, ◌*◌, List, [], ◌∷◌, Some, None, ◌++◌, is_some, ⊤, ◌^◌, length, unwrap_or, ◌≢◌}
 use Rattle.std.specs.Int.{w32, to_be_bytes}
 use Rattle.std.specs.List.{AllByRecursion}
@@ -36,8 +37,8 @@ abbrev pub IsRead : Profile → ℕ → Type 0
 IsRead Strict n = n < 7
 IsRead Standard n = n < 8
 
--- NDEF 1.0, TNF: an empty record has no type, id or payload, an unknown type is not written, nor one that is unchanged;
--- that any other has an octet is our choice
+-- NDEF 1.0, TNF: an empty record has no type, id or payload, an unknown type is not written, nor
+-- one that is unchanged; that any other has an octet is our choice
 abbrev pub HasShape : Tnf → (kind id payload : ℕ) → Type 0
 HasShape Empty kind id payload = (kind ≡ 0) × (id ≡ 0) × (payload ≡ 0)
 HasShape Unknown kind id payload = kind ≡ 0
@@ -161,7 +162,8 @@ pub record IsLater (p : Piece) : Type 0 where
   pub kind : p.kind ≡ []
   pub id : p.id ≡ None
 
--- what follows a piece: none where its CF is clear, else middle pieces with CF and a terminating piece without
+-- what follows a piece: none where its CF is clear, else middle pieces with CF and a terminating
+-- piece without
 abbrev pub Follow : Bool → List Piece → Type 0
 Follow chunked [] = chunked ≡ false
 Follow chunked (p ∷ ps) = (chunked ≡ true) × IsLater p × Follow p.chunked ps

@@ -1,4 +1,5 @@
--- The printed texts of type name formats, reasons and refusals, and the type name format of a number.
+-- The printed texts of type name formats, reasons and refusals, and the type name format of a
+-- number.
 use Rattle.std.specs.Prelude.{◌≡◌, ◌<◌, ℕ, Result, Ok, Err, List, codes, ◌++◌, decimal}
 use Rattle.ndef_format.specs.Records.{code}
 use Rattle.ndef_format.specs.Reasons.{reason_name, reason_number}

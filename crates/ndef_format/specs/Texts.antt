@@ -28,8 +28,8 @@ IsUnits us = (cs : List ℕ) × ((all_scalars cs ≡ true) × (units_of cs ≡ u
 abbrev pub IsSpelled : (little : Bool) → List ℕ → Type 0
 IsSpelled little s = (us : List ℕ) × (IsUnits us × (spelled little us ≡ s))
 
--- RFC 2781, section 3.2: whether the text is little-endian, and its octets without the mark; without one it is
--- big-endian
+-- RFC 2781, section 3.2: whether the text is little-endian, and its octets without the mark;
+-- without one it is big-endian
 abbrev pub unmarked : List ℕ → Bool × List ℕ
 unmarked (a ∷ b ∷ s) =
     if a == 0xfe && b == 0xff then (false, s)

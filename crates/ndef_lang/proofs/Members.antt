@@ -3,7 +3,7 @@ use Rattle.std.proofs.Common.{◌≡◌, ℕ, zero, suc, ◌+◌, ◌*◌, ◌/�
 use Rattle.std.proofs.lemmas.Bool.{lt-leb}
 use Rattle.std.specs.List.{AllByRecursion}
 use Rattle.ndef_format.specs.Records.{AreOctets}
-use Rattle.ndef_value.specs.SliceLaws.{behind, behind_drop, octet_at, octets_drop, octets_behind, cut_one, cut_two}
+use Rattle.ndef_value.specs.SliceLaws.{rest_from, behind_drop, octet_at, octets_drop, octets_behind, cut_one, cut_two}
 use Rattle.ndef_format.specs.Octets.{IsOctet, Octets}
 use Rattle.ndef_format.specs.Texts.{IsCodeOctet, IsTextIn, IsText, is_wide, IsSpelled, spelled}
 use Rattle.ndef_format.specs.Handovers.{IsAlternative, AreAuxiliary, AreReferences, IsCarrier}
@@ -29,34 +29,34 @@ any_from (suc n) set [] l h t = absurd (omega arith)
 any_from (suc n) set (x ∷ s) l h t = (h.0, any_from n set s (omega arith) h.1 t)
 
 -- a status octet, a code of length k and a text
-pub text_from : (s : List ℕ) (k : ℕ) → AreOctets s → 1 ≤ length s → get_or s 0 0 % 128 < 64 → k ≡ get_or s 0 0 % 64 → k ≤ length (behind 1 s)
-    → AllByRecursion IsCodeOctet (take k (behind 1 s)) → IsTextIn (is_wide (get_or s 0 0)) (drop k (behind 1 s)) → IsText s
+pub text_from : (s : List ℕ) (k : ℕ) → AreOctets s → 1 ≤ length s → get_or s 0 0 % 128 < 64 → k ≡ get_or s 0 0 % 64 → k ≤ length (rest_from 1 s)
+    → AllByRecursion IsCodeOctet (take k (rest_from 1 s)) → IsTextIn (is_wide (get_or s 0 0)) (drop k (rest_from 1 s)) → IsText s
 text_from s k octets some plain is long code text =
     let status = get_or s 0 0 in
     let wide = is_wide status in
     let small = octet_at s 0 octets in
-    let rest = behind 1 s in
+    let rest = rest_from 1 s in
     let tail : Octets IsCodeOctet (status % 64) (IsTextIn wide) rest = subst (λ k. Octets IsCodeOctet k (IsTextIn wide) rest) is (field_from IsCodeOctet k (IsTextIn wide) rest long code text) in
     subst IsText (cut_one s some) (small, (λ h. omega arith), tail)
 
 -- a status octet of UTF-8, and a code of length k and a text that are ASCII together
-pub ascii_text_from : (s : List ℕ) (k : ℕ) → AreOctets s → 1 ≤ length s → get_or s 0 0 % 128 < 64 → k ≡ get_or s 0 0 % 64 → k ≤ length (behind 1 s)
-    → get_or s 0 0 < 128 → AllByRecursion IsCodeOctet (behind 1 s) → IsText s
+pub ascii_text_from : (s : List ℕ) (k : ℕ) → AreOctets s → 1 ≤ length s → get_or s 0 0 % 128 < 64 → k ≡ get_or s 0 0 % 64 → k ≤ length (rest_from 1 s)
+    → get_or s 0 0 < 128 → AllByRecursion IsCodeOctet (rest_from 1 s) → IsText s
 ascii_text_from s k octets some plain is long narrow h =
-    let p = ascii_parts k (behind 1 s) h in
+    let p = ascii_parts k (rest_from 1 s) h in
     let wide : is_wide (get_or s 0 0) ≡ false = lt-leb 128 (get_or s 0 0) narrow in
-    text_from s k octets some plain is long p.0 (subst (λ w. IsTextIn w (drop k (behind 1 s))) (sym wide) (ascii_is_utf8 _ p.1))
+    text_from s k octets some plain is long p.0 (subst (λ w. IsTextIn w (drop k (rest_from 1 s))) (sym wide) (ascii_is_utf8 _ p.1))
 
 -- a format, a type after its length, and any octets
-pub carrier_from : (s : List ℕ) → AreOctets s → 2 ≤ length s → get_or s 1 0 ≤ length (behind 2 s) → IsCarrier s
+pub carrier_from : (s : List ℕ) → AreOctets s → 2 ≤ length s → get_or s 1 0 ≤ length (rest_from 2 s) → IsCarrier s
 carrier_from s octets some long =
     let rest = octets_behind 2 s octets in
-    subst IsCarrier (cut_two s some) (octet_at s 0 octets, (octet_at s 1 octets, any_from (get_or s 1 0) AreOctets (behind 2 s) long rest (octets_drop (get_or s 1 0) (behind 2 s) rest)))
+    subst IsCarrier (cut_two s some) (octet_at s 0 octets, (octet_at s 1 octets, any_from (get_or s 1 0) AreOctets (rest_from 2 s) long rest (octets_drop (get_or s 1 0) (rest_from 2 s) rest)))
 
 -- a reference after its length k, and n more of them
-pub reference_from : (n m k : ℕ) (s : List ℕ) → m ≡ suc n → AreOctets s → 1 ≤ length s → k ≡ get_or s 0 0 → k ≤ length (behind 1 s) → AreReferences n (behind k (behind 1 s)) → AreReferences m s
+pub reference_from : (n m k : ℕ) (s : List ℕ) → m ≡ suc n → AreOctets s → 1 ≤ length s → k ≡ get_or s 0 0 → k ≤ length (rest_from 1 s) → AreReferences n (rest_from k (rest_from 1 s)) → AreReferences m s
 reference_from n m k s e octets some is long h =
-    let rest = behind 1 s in
+    let rest = rest_from 1 s in
     let tail : AreReferences n (drop (get_or s 0 0) rest) = subst (λ k. AreReferences n (drop k rest)) is (subst (AreReferences n) (behind_drop k rest) h) in
     let l : get_or s 0 0 ≤ length rest = omega arith in
     subst (λ m. AreReferences m s) (sym e) (subst (AreReferences (suc n)) (cut_one s some) (octet_at s 0 octets, any_from (get_or s 0 0) (AreReferences n) rest l (octets_behind 1 s octets) tail))
@@ -66,13 +66,13 @@ pub no_references : (n : ℕ) (s : List ℕ) → n ≡ 0 → AreOctets s → Are
 no_references n s e octets = subst (λ n. AreReferences n s) (sym e) octets
 
 -- a power state, a reference after its length k, and auxiliary references
-pub alternative_from : (s : List ℕ) (k : ℕ) → AreOctets s → 2 ≤ length s → k ≡ get_or s 1 0 → k ≤ length (behind 2 s) → 1 ≤ length (behind k (behind 2 s))
-    → AreReferences (get_or (behind k (behind 2 s)) 0 0) (behind 1 (behind k (behind 2 s))) → IsAlternative s
+pub alternative_from : (s : List ℕ) (k : ℕ) → AreOctets s → 2 ≤ length s → k ≡ get_or s 1 0 → k ≤ length (rest_from 2 s) → 1 ≤ length (rest_from k (rest_from 2 s))
+    → AreReferences (get_or (rest_from k (rest_from 2 s)) 0 0) (rest_from 1 (rest_from k (rest_from 2 s))) → IsAlternative s
 alternative_from s k octets two is long some h =
-    let rest = behind 2 s in
+    let rest = rest_from 2 s in
     let octets_rest = octets_behind 2 s octets in
-    let count = octet_at (behind k rest) 0 (octets_behind k rest octets_rest) in
-    let auxiliary : AreAuxiliary (behind k rest) = subst AreAuxiliary (cut_one (behind k rest) some) (count, h) in
+    let count = octet_at (rest_from k rest) 0 (octets_behind k rest octets_rest) in
+    let auxiliary : AreAuxiliary (rest_from k rest) = subst AreAuxiliary (cut_one (rest_from k rest) some) (count, h) in
     let tail : AreAuxiliary (drop (get_or s 1 0) rest) = subst (λ k. AreAuxiliary (drop k rest)) is (subst AreAuxiliary (behind_drop k rest) auxiliary) in
     let l : get_or s 1 0 ≤ length rest = omega arith in
     subst IsAlternative (cut_two s two) (octet_at s 0 octets, (octet_at s 1 octets, any_from (get_or s 1 0) AreAuxiliary rest l octets_rest tail))
@@ -119,19 +119,19 @@ no_spelled little [] e = ([], (no_units, refl))
 no_spelled little (x ∷ s) e = absurd (omega arith)
 
 -- two octets and the rest, by the most significant one
-pub alone_at : (little : Bool) (most : ℕ) (s : List ℕ) → AreOctets s → 2 ≤ length s → most ≡ most_of little (get_or s 0 0) (get_or s 1 0) → (most < 0xd8) ⊎ (0xe0 ≤ most) → IsSpelled little (behind 2 s) → IsSpelled little s
+pub alone_at : (little : Bool) (most : ℕ) (s : List ℕ) → AreOctets s → 2 ≤ length s → most ≡ most_of little (get_or s 0 0) (get_or s 1 0) → (most < 0xd8) ⊎ (0xe0 ≤ most) → IsSpelled little (rest_from 2 s) → IsSpelled little s
 alone_at little most s octets two is h r =
-    subst (IsSpelled little) (cut_two s two) (unit_alone little _ _ (behind 2 s) (octet_at s 0 octets) (octet_at s 1 octets) (rw is at h) r)
+    subst (IsSpelled little) (cut_two s two) (unit_alone little _ _ (rest_from 2 s) (octet_at s 0 octets) (octet_at s 1 octets) (rw is at h) r)
 
 -- four octets and the rest
-pub pair_at : (little : Bool) (most second : ℕ) (s : List ℕ) → AreOctets s → 2 ≤ length s → 2 ≤ length (behind 2 s) → most ≡ most_of little (get_or s 0 0) (get_or s 1 0)
-    → second ≡ most_of little (get_or (behind 2 s) 0 0) (get_or (behind 2 s) 1 0) → 0xd8 ≤ most → most < 0xdc → 0xdc ≤ second → second < 0xe0
-    → IsSpelled little (behind 2 (behind 2 s)) → IsSpelled little s
+pub pair_at : (little : Bool) (most second : ℕ) (s : List ℕ) → AreOctets s → 2 ≤ length s → 2 ≤ length (rest_from 2 s) → most ≡ most_of little (get_or s 0 0) (get_or s 1 0)
+    → second ≡ most_of little (get_or (rest_from 2 s) 0 0) (get_or (rest_from 2 s) 1 0) → 0xd8 ≤ most → most < 0xdc → 0xdc ≤ second → second < 0xe0
+    → IsSpelled little (rest_from 2 (rest_from 2 s)) → IsSpelled little s
 pair_at little most second s octets two four is is2 h k l m r =
-    let rest = behind 2 s in
+    let rest = rest_from 2 s in
     let octets_rest = octets_behind 2 s octets in
-    let tail : IsSpelled little (get_or s 0 0 ∷ get_or s 1 0 ∷ get_or rest 0 0 ∷ get_or rest 1 0 ∷ behind 2 rest) =
-    unit_pair little _ _ _ _ (behind 2 rest) (octet_at s 0 octets) (octet_at s 1 octets) (octet_at rest 0 octets_rest) (octet_at rest 1 octets_rest) (omega arith) (omega arith) (omega arith) (omega arith) r in
+    let tail : IsSpelled little (get_or s 0 0 ∷ get_or s 1 0 ∷ get_or rest 0 0 ∷ get_or rest 1 0 ∷ rest_from 2 rest) =
+    unit_pair little _ _ _ _ (rest_from 2 rest) (octet_at s 0 octets) (octet_at s 1 octets) (octet_at rest 0 octets_rest) (octet_at rest 1 octets_rest) (omega arith) (omega arith) (omega arith) (omega arith) r in
     subst (IsSpelled little) (cut_two s two) (subst (λ t. IsSpelled little (get_or s 0 0 ∷ get_or s 1 0 ∷ t)) (cut_two rest four) tail)
 
 -- ---- a payload field by field
@@ -144,8 +144,8 @@ field_taken state left k class next s front back is same long e f h t =
     (field_from (InClass class) k (CompletesStage next) s long (subst (AllByRecursion (InClass class)) e h) (subst (CompletesStage next) f t)))
 
 -- the octet after it
-pub stage_taken : (next : Stage) (state : Leaf) (s : List ℕ) → 1 ≤ length s → Continues (CompletesStage next) (CompletesLeaf state) (get_or s 0 0 ∷ []) → CompletesLeaf state (behind 1 s) → CompletesStage next s
-stage_taken next state s some f h = subst (CompletesStage next) (cut_one s some) ((f (behind 1 s)).0 h)
+pub stage_taken : (next : Stage) (state : Leaf) (s : List ℕ) → 1 ≤ length s → Continues (CompletesStage next) (CompletesLeaf state) (get_or s 0 0 ∷ []) → CompletesLeaf state (rest_from 1 s) → CompletesStage next s
+stage_taken next state s some f h = subst (CompletesStage next) (cut_one s some) ((f (rest_from 1 s)).0 h)
 
 pub nothing_left : (s : List ℕ) → length s ≡ 0 → s ≡ []
 nothing_left [] e = refl

@@ -27,7 +27,7 @@ use Rattle.ndef_lang.specs.Machine.Utf8.{CompletesUtf8, utf8_told}
 use Rattle.ndef_lang.specs.Machine.Utf8Laws.{are_utf8_lengths}
 use Rattle.ndef_lang.specs.Machine.Utf16.{CompletesUtf16, utf16_told, utf16_refused, utf16_missing}
 use Rattle.ndef_lang.specs.Machine.Utf16Laws.{alive_lengths, utf16_never}
-use Rattle.ndef_lang.specs.Machine.Leaf.{CompletesStage, CompletesLeaf, Ends, StageReason, FieldReason, Holds, MayLead, ReachedBy, text_stage}
+use Rattle.ndef_lang.specs.Machine.Leaf.{CompletesStage, CompletesLeaf, BeginNothing, StageReason, FieldReason, Holds, MayLead, ReachedBy, text_stage}
 use Rattle.ndef_lang.proofs.Members.{nothing_left}
 use Rattle.ndef_lang.proofs.Reasons.{lowest_broken, lowest_fits}
 
@@ -39,22 +39,22 @@ one_reason why C D reason f (inr h) = inr h
 
 -- it continues after octets
 pub text_goes : (why : Reason) (old new : List ℕ → Type 0) (t : List ℕ) → Continues old new t → (u : List ℕ) (b : ℕ) (reason : Reason)
-    → OneReason why (Ends old (t ++ u) b) reason ↔ OneReason why (Ends new u b) reason
+    → OneReason why (BeginNothing old (t ++ u) b) reason ↔ OneReason why (BeginNothing new u b) reason
 text_goes why old new t f u b reason = (
-  one_reason why (Ends old (t ++ u) b) (Ends new u b) reason (λ e p. e (p.0, rw append_assoc ((f (u ++ b ∷ p.0)).0 p.1))),
-  one_reason why (Ends new u b) (Ends old (t ++ u) b) reason (λ e p. e (p.0, (f (u ++ b ∷ p.0)).1 (rw append_assoc at p.1))),
+  one_reason why (BeginNothing old (t ++ u) b) (BeginNothing new u b) reason (λ e p. e (p.0, rw append_assoc ((f (u ++ b ∷ p.0)).0 p.1))),
+  one_reason why (BeginNothing new u b) (BeginNothing old (t ++ u) b) reason (λ e p. e (p.0, (f (u ++ b ∷ p.0)).1 (rw append_assoc at p.1))),
 )
 
-pub text_alive : (why : Reason) (old new : List ℕ → Type 0) (byte : ℕ) → Continues old new (byte ∷ []) → Passes new → IsLowest (OneReason why (Ends old [] byte)) reasons.DoesNotFit
-text_alive why old new byte f p = lowest_fits why (Ends old [] byte) (λ e. e (p.0, (f p.0).0 p.1))
+pub text_alive : (why : Reason) (old new : List ℕ → Type 0) (byte : ℕ) → Continues old new (byte ∷ []) → Passes new → IsLowest (OneReason why (BeginNothing old [] byte)) reasons.DoesNotFit
+text_alive why old new byte f p = lowest_fits why (BeginNothing old [] byte) (λ e. e (p.0, (f p.0).0 p.1))
 
-pub text_dead : (why : Reason) (old new : List ℕ → Type 0) (byte : ℕ) → rank_of why ≤ 24 → Continues old new (byte ∷ []) → (Passes new → ⊥) → IsLowest (OneReason why (Ends old [] byte)) why
-text_dead why old new byte l f none = lowest_broken why (Ends old [] byte) l (λ p. none (p.0, (f p.0).1 p.1))
+pub text_dead : (why : Reason) (old new : List ℕ → Type 0) (byte : ℕ) → rank_of why ≤ 24 → Continues old new (byte ∷ []) → (Passes new → ⊥) → IsLowest (OneReason why (BeginNothing old [] byte)) why
+text_dead why old new byte l f none = lowest_broken why (BeginNothing old [] byte) l (λ p. none (p.0, (f p.0).1 p.1))
 
 utf8_passes : (state : Utf8Lang) (n : ℕ) → ((r : List ℕ) × (CompletesUtf8 state r × (length r ≡ n))) → Passes (CompletesUtf8 state)
 utf8_passes state n t = (t.0, t.1.0)
 
-pub utf8_lowest : (old : List ℕ → Type 0) (state : Utf8Lang) (b : ℕ) → Continues old (CompletesUtf8 state) (b ∷ []) → IsLowest (OneReason reasons.Utf8 (Ends old [] b)) (utf8_told state)
+pub utf8_lowest : (old : List ℕ → Type 0) (state : Utf8Lang) (b : ℕ) → Continues old (CompletesUtf8 state) (b ∷ []) → IsLowest (OneReason reasons.Utf8 (BeginNothing old [] b)) (utf8_told state)
 utf8_lowest old Whole b f = text_alive reasons.Utf8 old (CompletesUtf8 Whole) b f (utf8_passes Whole 0 ((are_utf8_lengths Whole).each 0 (omega arith)))
 utf8_lowest old OneMore b f = text_alive reasons.Utf8 old (CompletesUtf8 OneMore) b f (utf8_passes OneMore 1 ((are_utf8_lengths OneMore).each 1 (omega arith)))
 utf8_lowest old TwoMore b f = text_alive reasons.Utf8 old (CompletesUtf8 TwoMore) b f (utf8_passes TwoMore 2 ((are_utf8_lengths TwoMore).each 2 (omega arith)))
@@ -65,10 +65,10 @@ utf8_lowest old AfterF0 b f = text_alive reasons.Utf8 old (CompletesUtf8 AfterF0
 utf8_lowest old AfterF4 b f = text_alive reasons.Utf8 old (CompletesUtf8 AfterF4) b f (utf8_passes AfterF4 3 ((are_utf8_lengths AfterF4).each 3 (omega arith)))
 utf8_lowest old Refused b f = text_dead reasons.Utf8 old (CompletesUtf8 Refused) b (omega arith) f (λ p. p.1)
 
-pub utf16_lowest : (old : List ℕ → Type 0) (state : Utf16State) (b : ℕ) → Continues old (CompletesUtf16 state) (b ∷ []) → IsLowest (OneReason reasons.Utf16 (Ends old [] b)) (utf16_told state)
+pub utf16_lowest : (old : List ℕ → Type 0) (state : Utf16State) (b : ℕ) → Continues old (CompletesUtf16 state) (b ∷ []) → IsLowest (OneReason reasons.Utf16 (BeginNothing old [] b)) (utf16_told state)
 utf16_lowest old state b f = by_test (utf16_refused state) refl
   where
-    by_test : (refused : Bool) → utf16_refused state ≡ refused → IsLowest (OneReason reasons.Utf16 (Ends old [] b)) (if refused then reasons.Utf16 else reasons.DoesNotFit)
+    by_test : (refused : Bool) → utf16_refused state ≡ refused → IsLowest (OneReason reasons.Utf16 (BeginNothing old [] b)) (if refused then reasons.Utf16 else reasons.DoesNotFit)
     by_test true d = text_dead reasons.Utf16 old (CompletesUtf16 state) b (omega arith) f (λ p. utf16_never state d p.0 p.1)
     by_test false d = let t = (alive_lengths state d).each (utf16_missing state) (0, omega arith) in text_alive reasons.Utf16 old (CompletesUtf16 state) b f (t.0, t.1.0)
 
@@ -155,7 +155,7 @@ utf8_staged_reason old new bytes lo hi count t l holds s h =
     let b = get_or bytes count 0 in
     let front = take count bytes in
     let p = t.fits in
-    same_lowest (holds (s ++ front) b) (OneReason reasons.Utf8 (Ends (CompletesUtf8 old) front b)) (utf8_told new) (h (front ++ p.rest, p.passed) front b)
+    same_lowest (holds (s ++ front) b) (OneReason reasons.Utf8 (BeginNothing (CompletesUtf8 old) front b)) (utf8_told new) (h (front ++ p.rest, p.passed) front b)
     (utf8_lowest (Behind (CompletesUtf8 old) front) new b (λ r. at_next r (t.stepped r)))
   where
     at_next : (r : List ℕ) → (CompletesUtf8 new r ↔ CompletesUtf8 old (take (count + 1) bytes ++ r)) → CompletesUtf8 new r ↔ CompletesUtf8 old (take count bytes ++ get_or bytes count 0 ∷ r)

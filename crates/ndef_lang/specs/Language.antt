@@ -27,21 +27,22 @@ Reaches old new octets = (s : List ℕ) → old s → new (s ++ octets)
 abbrev pub Behind : (List ℕ → Type 0) → List ℕ → List ℕ → Type 0
 Behind future octets r = future (octets ++ r)
 
--- The first `count` of these octets were stepped, and one more where that isn't all of them. Before them some list of
--- lo to hi octets passed; after `count` of them one of what is left still does, and so after fewer. After one more none
--- does.
+-- The first `count` of these octets were stepped, and one more where that isn't all of them. Before
+-- them some list of lo to hi octets passed; after `count` of them one of what is left still does,
+-- and so after fewer. After one more none does.
 pub record StepsAll (old new : List ℕ → Type 0) (bytes : List ℕ) (lo hi count : ℕ) : Type 0 where
   pub within : count ≤ length bytes
   pub stepped : Continues old new (take (count + 1) bytes)
   pub fits : PassesBetween (Behind old (take count bytes)) (lo - count) (hi - count)
   pub refused : count < length bytes → PassesBetween new (lo - (count + 1)) (hi - (count + 1)) → ⊥
 
--- The first `count` of these octets were stepped; where some list passed before them, one of what is left of its length
--- passes after them.
+-- The first `count` of these octets were stepped; where some list passed before them, one of what
+-- is left of its length passes after them.
 pub record StepsFront (old new : List ℕ → Type 0) (bytes : List ℕ) (count : ℕ) : Type 0 where
   pub within : count ≤ length bytes
   pub stepped : Continues old new (take count bytes)
-  pub fits : (lo hi : ℕ) → count ≤ lo → PassesBetween old lo hi → PassesBetween new (lo - count) (hi - count)
+  pub fits : (lo hi : ℕ) → count ≤ lo → PassesBetween old lo hi
+      → PassesBetween new (lo - count) (hi - count)
 
 -- The octets lead on, whatever the kind, the number of records and the profile.
 abbrev pub ReachesEach : (old new : Sets) → List ℕ → Type 0
@@ -52,25 +53,31 @@ ReachesEach old new octets = (kind : Kind) (records : ℕ) (profile : Profile)
 abbrev pub AllPass : (List ℕ → Type 0) → Type 0
 AllPass future = (r : List ℕ) → AreOctets r → future r
 
--- What was reached is reached again after any octets, whatever the kind, the number of records and the profile.
+-- What was reached is reached again after any octets, whatever the kind, the number of records and
+-- the profile.
 abbrev pub AllReach : Sets → Type 0
 AllReach reached = (octets : List ℕ) → AreOctets octets → ReachesEach reached reached octets
 
--- Whatever octets were reached, after which something could still follow: the reason is that of the octet that follows
--- them.
-abbrev pub TellsWhy : (reached future : List ℕ → Type 0) → (holds : List ℕ → ℕ → Reason → Type 0) → (octet : ℕ) → Reason
+-- Whatever octets were reached, after which something could still follow: the reason is that of the
+-- octet that follows them.
+abbrev pub TellsWhy : (reached future : List ℕ → Type 0) → (holds : List ℕ → ℕ → Reason → Type 0)
+    → (octet : ℕ) → Reason
     → Type 0
-TellsWhy reached future holds octet reason = (s : List ℕ) → reached s → Passes future → IsLowest (holds s octet) reason
+TellsWhy reached future holds octet reason =
+    (s : List ℕ) → reached s → Passes future → IsLowest (holds s octet) reason
 
--- Whatever octets were reached: the reason is that of the octet at this place of those that came after them.
-abbrev pub TellsWhyAt : (reached : List ℕ → Type 0) → (holds : List ℕ → ℕ → Reason → Type 0) → (octets : List ℕ)
+-- Whatever octets were reached: the reason is that of the octet at this place of those that came
+-- after them.
+abbrev pub TellsWhyAt : (reached : List ℕ → Type 0) → (holds : List ℕ → ℕ → Reason → Type 0)
+    → (octets : List ℕ)
     → (place : ℕ) → Reason → Type 0
 TellsWhyAt reached holds octets place reason = (s : List ℕ) → reached s
     → IsLowest (holds (s ++ take place octets) (slice_index octets place)) reason
 
 -- the payloads of each kind are the same
 abbrev pub SameSets : (set other : Sets) → Type 0
-SameSets set other = (kind : Kind) (records : ℕ) (profile : Profile) (s : List ℕ) → set kind records profile s
+SameSets set other =
+    (kind : Kind) (records : ℕ) (profile : Profile) (s : List ℕ) → set kind records profile s
     ↔ other kind records profile s
 
 -- the same reasons hold of each octet

@@ -1,4 +1,5 @@
--- What contracts and proofs say of the states of the machines. The definitions beside this folder don't name them.
+-- What contracts and proofs say of the states of the machines. The definitions beside this folder
+-- don't name them.
 pub mod Kind
 pub mod Leaf
 pub mod LeafLaws

@@ -23,22 +23,22 @@ pub trait PayloadType: Copy {
     ghost use Rattle.ndef_format.specs.declared.reason.Reason.{Reason};
 
     /// The payloads.
-    ghost set: { Profile → List ℕ → Type 0 };
+    ghost payloads: { Profile → List ℕ → Type 0 };
 
     /// Which reasons hold of an octet after the octets of a payload before it.
-    ghost holds: { Profile → List ℕ → ℕ → Reason → Type 0 };
+    ghost reasons: { Profile → List ℕ → ℕ → Reason → Type 0 };
 
     /// Whether it is clear at once that the payload is one of them. Where it is false, the payload may still be one.
     fn has(_profile: Profile, _payload: &[u8]) -> bool
-        ensures { IsTrue result → set _profile _payload.now };
+        ensures { IsTrue result → payloads _profile _payload.now };
 
     /// Before the first octet.
     fn first(_profile: Profile) -> Leaf
-        ensures future { Continues (set _profile) (CompletesLeaf result) [] }
-        ensures goes { GoesOn (holds _profile) [] result };
+        ensures future { Continues (payloads _profile) (CompletesLeaf result) [] }
+        ensures goes { GoesOn (reasons _profile) [] result };
 
     /// A payload is octets.
-    ghost octets: { (profile : Profile) (s : List ℕ) → set profile s → AreOctets s };
+    ghost octets: { (profile : Profile) (s : List ℕ) → payloads profile s → AreOctets s };
 }
 
 /// The language of one type of payload.
@@ -54,17 +54,17 @@ impl<T: PayloadType> Language for Only<T> {
     ghost use Rattle.ndef_lang.specs.Machine.LeafLaws.{completes_leaf_octets, are_leaf_lengths};
     ghost use Rattle.ndef_lang.specs.Machine.Leaf.{CompletesLeaf, ReachedBy, leaf_lengths, leaf_told};
 
-    ghost set = { λ kind records profile s. T.set profile s };
+    ghost payloads = { λ kind records profile s. T.payloads profile s };
 
-    ghost holds = { λ kind records profile s b. T.holds profile s b };
+    ghost reasons = { λ kind records profile s b. T.reasons profile s b };
 
     ghost future = { λ state. CompletesLeaf state.leaf };
 
-    ghost reached = { λ state kind records profile s. ReachedBy state.leaf (T.holds profile) s };
+    ghost reached = { λ state kind records profile s. ReachedBy state.leaf (T.reasons profile) s };
 
     ghost fitting = { λ state. meets (leaf_lengths state.leaf) };
 
-    ghost told = { λ state. leaf_told state.leaf };
+    ghost reason_of_last = { λ state. leaf_told state.leaf };
 
     #[inline(always)]
     fn has(_kind: Kind, _records: u32, profile: Profile, payload: &[u8]) -> bool {
@@ -99,7 +99,7 @@ impl<T: PayloadType> Language for Only<T> {
 
     ghost future_octets = { λ state. completes_leaf_octets state.leaf };
 
-    ghost set_octets = { λ kind records profile s h. T.octets profile s h };
+    ghost payloads_are_octets = { λ kind records profile s h. T.octets profile s h };
 }
 
 /// Texts (RTD Text 1.0).
@@ -110,9 +110,9 @@ impl PayloadType for Texts {
     ghost use Rattle.ndef_format.specs.declared.kind.Kind.TheVariants.{Text};
     ghost use Rattle.ndef_lang.specs.Machine.LeafLaws.{payload_octets};
 
-    ghost set = { λ profile. IsText };
+    ghost payloads = { λ profile. IsText };
 
-    ghost holds = { λ profile. TextReason };
+    ghost reasons = { λ profile. TextReason };
 
     #[inline(always)]
     fn has(profile: Profile, payload: &[u8]) -> bool {
@@ -134,9 +134,9 @@ impl PayloadType for Uris {
     ghost use Rattle.ndef_format.specs.declared.kind.Kind.TheVariants.{Uri};
     ghost use Rattle.ndef_lang.specs.Machine.LeafLaws.{payload_octets};
 
-    ghost set = { IsUri };
+    ghost payloads = { IsUri };
 
-    ghost holds = { UriReason };
+    ghost reasons = { UriReason };
 
     #[inline(always)]
     fn has(profile: Profile, payload: &[u8]) -> bool {
@@ -158,9 +158,9 @@ impl PayloadType for Alternatives {
     ghost use Rattle.ndef_format.specs.declared.kind.Kind.TheVariants.{Alternative};
     ghost use Rattle.ndef_lang.specs.Machine.LeafLaws.{payload_octets};
 
-    ghost set = { λ profile. IsAlternative };
+    ghost payloads = { λ profile. IsAlternative };
 
-    ghost holds = { λ profile s b. NoReason };
+    ghost reasons = { λ profile s b. NoReason };
 
     #[inline(always)]
     fn has(profile: Profile, payload: &[u8]) -> bool {
@@ -182,9 +182,9 @@ impl PayloadType for Errors {
     ghost use Rattle.ndef_format.specs.declared.kind.Kind.TheVariants.{Error};
     ghost use Rattle.ndef_lang.specs.Machine.LeafLaws.{payload_octets};
 
-    ghost set = { λ profile. IsError };
+    ghost payloads = { λ profile. IsError };
 
-    ghost holds = { λ profile s b. NoReason };
+    ghost reasons = { λ profile s b. NoReason };
 
     #[inline(always)]
     fn has(profile: Profile, payload: &[u8]) -> bool {
@@ -206,9 +206,9 @@ impl PayloadType for Carriers {
     ghost use Rattle.ndef_format.specs.declared.kind.Kind.TheVariants.{Carrier};
     ghost use Rattle.ndef_lang.specs.Machine.LeafLaws.{payload_octets};
 
-    ghost set = { λ profile. IsCarrier };
+    ghost payloads = { λ profile. IsCarrier };
 
-    ghost holds = { λ profile s b. NoReason };
+    ghost reasons = { λ profile s b. NoReason };
 
     #[inline(always)]
     fn has(profile: Profile, payload: &[u8]) -> bool {
@@ -227,9 +227,9 @@ impl PayloadType for Carriers {
 pub struct OctetsOf<const N: u32>;
 
 impl<const N: u32> PayloadType for OctetsOf<N> {
-    ghost set = { λ profile. AreOctetsOf N };
+    ghost payloads = { λ profile. AreOctetsOf N };
 
-    ghost holds = { λ profile s b. NoReason };
+    ghost reasons = { λ profile s b. NoReason };
 
     #[inline(always)]
     fn has(_profile: Profile, payload: &[u8]) -> bool {

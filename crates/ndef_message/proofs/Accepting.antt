@@ -284,7 +284,7 @@ module _ {L : Type 0} (language : Ghosts L) (limits : LimitValues) (state : Stat
     pub none : c.begun ≡ None
     pub over : c.over ≡ false
     pub at : IsAtPoint limits bytes given (InHead c [])
-    pub viable : IsViable language.set limits bytes
+    pub viable : IsViable language.payloads limits bytes
 
   pub between : IsFresh state → Stands language limits state bytes given point → AtBetween
   between fresh s =
@@ -308,9 +308,9 @@ finished_by laws set limits empty true left = ([], [], tt, (laws.rests_end limit
 finished_by laws set limits empty false left = let x = close limits false left in (x.0, nothing ∷ [], (empty, tt), x.1)
 
 module _ (laws : FormatLaws) {L : Type 0} {language : Ghosts L} {limits : LimitValues} (range : AreInRange limits)
-    (others : (n : ℕ) (profile : Profile) (s : List ℕ) → language.set Other n profile s ↔ AreOctets s)
-    {bytes : List ℕ} {given : List Item} {c : Before} (at : IsAtPoint limits bytes given (InHead c [])) (v : IsViable language.set limits bytes)
-    {items : List Item} {left : ℕ} (last : Bool) {t : List ℕ} (ends : EndsRecords language.set limits c items left last t)
+    (others : (n : ℕ) (profile : Profile) (s : List ℕ) → language.payloads Other n profile s ↔ AreOctets s)
+    {bytes : List ℕ} {given : List Item} {c : Before} (at : IsAtPoint limits bytes given (InHead c [])) (v : IsViable language.payloads limits bytes)
+    {items : List Item} {left : ℕ} (last : Bool) {t : List ℕ} (ends : EndsRecords language.payloads limits c items left last t)
     (new : State L) {place : Place} (is : place ≡ numbers (outside limits false last left)) (behind : IsBehind limits new place last) where
   -- the records lead after them
   pub leads_behind : LeadsBetween (Stands language limits new) (bytes ++ t) (given ++ items)
@@ -320,15 +320,15 @@ module _ (laws : FormatLaws) {L : Type 0} {language : Ghosts L} {limits : LimitV
       let start_is : bytes ≡ at.done = at.split ∙ append-nil at.done in
       let w = walked_append limits at.pieces ends.pieces (start limits) c d given items at.walked ends.walked in
       let s = spell_append at.pieces ends.pieces at.done t at.spelled ends.spelled in
-      let m = members_append language.set limits given items (given_members laws language.set limits range bytes given (InHead c []) at v) ends.members in
+      let m = members_append language.payloads limits given items (given_members laws language.payloads limits range bytes given (InHead c []) at v) ends.members in
       let all : bytes ++ t ≡ (at.done ++ t) ++ [] = ap (λ x. x ++ t) start_is ∙ sym (append-nil (at.done ++ t)) in
-      let more : IsViable language.set limits (bytes ++ t) = subst (IsViable language.set limits) (sym all) (viable laws limits language.set range ps d (given ++ items) (at.done ++ t) w s [] m (finished_by laws language.set limits ((others limits.records limits.profile []).1 tt) last left)) in
+      let more : IsViable language.payloads limits (bytes ++ t) = subst (IsViable language.payloads limits) (sym all) (viable laws limits language.payloads range ps d (given ++ items) (at.done ++ t) w s [] m (finished_by laws language.payloads limits ((others limits.records limits.profile []).1 tt) last left)) in
       let reader : last ≡ false → new.reader ≡ record { spot = spot limits.profile d; octets = []; answer = steps.More } = λ e. behind.reader_is e ∙ ap (λ x. record { spot = spot_of limits.profile x; octets = []; answer = steps.More }) is in
       let opens : last ≡ false → IsOpen (spot limits.profile d) [] = λ e. subst (λ x. IsOpen (spot_of limits.profile x) []) is (behind.opens e) in
       by_end last ps w s all more (behind.place_is ∙ is) reader opens behind.phase_is
     where
       by_end : (last : Bool) (ps : List Piece) → Walked limits (start limits) ps (given ++ items) (outside limits false last left) → SpellsPieces ps (at.done ++ t) → bytes ++ t ≡ (at.done ++ t) ++ []
-          → IsViable language.set limits (bytes ++ t) → new.place ≡ numbers (outside limits false last left)
+          → IsViable language.payloads limits (bytes ++ t) → new.place ≡ numbers (outside limits false last left)
           → (last ≡ false → new.reader ≡ record { spot = spot limits.profile (outside limits false last left); octets = []; answer = steps.More }) → (last ≡ false → IsOpen (spot limits.profile (outside limits false last left)) [])
           → new.phase ≡ (if last then phases.Done else phases.Head) → LeadsBetween (Stands language limits new) (bytes ++ t) (given ++ items)
       by_end true ps w s e v e1 e2 o ee =
@@ -339,13 +339,13 @@ module _ (laws : FormatLaws) {L : Type 0} {language : Ghosts L} {limits : LimitV
           (InHead d [], (d, refl, inl refl), record { at = record { pieces = ps; done = at.done ++ t; walked = w; spelled = s; split = e; proper = (refl, o refl) }; viable = v; matches = (e1, ee, e2 refl, tt) })
 
 -- the record in one piece leads after it
-pub record_passed : (laws : FormatLaws) {L : Type 0} {language : Ghosts L} (limits : LimitValues) → AreInRange limits → ((n : ℕ) (profile : Profile) (s : List ℕ) → language.set Other n profile s ↔ AreOctets s)
-    → (old new : State L) (input : List ℕ) (w : WholePiece) (taken : ℕ) → IsFresh old → BeginsWith language.set limits old.place input w → taken ≡ length input - length w.rest.now
+pub record_passed : (laws : FormatLaws) {L : Type 0} {language : Ghosts L} (limits : LimitValues) → AreInRange limits → ((n : ℕ) (profile : Profile) (s : List ℕ) → language.payloads Other n profile s ↔ AreOctets s)
+    → (old new : State L) (input : List ℕ) (w : WholePiece) (taken : ℕ) → IsFresh old → BeginsWith language.payloads limits old.place input w → taken ≡ length input - length w.rest.now
     → IsBehind limits new (behind_record limits old.place) (is_set 6 w.header)
     → WhateverLed (Stands language limits old) (λ bytes given point. LeadsBetween (Stands language limits new) (bytes ++ take taken input) (given ++ record_of w ∷ []))
 record_passed laws {language = language} limits range others old new input w taken fresh begins is behind bytes given point s =
     let a = between language limits old bytes given point fresh s in
-    let ends = one_record language.set limits old.place input w taken begins is a.c a.place_is a.none a.over in
+    let ends = one_record language.payloads limits old.place input w taken begins is a.c a.place_is a.none a.over in
     leads_behind laws range others a.at a.viable (is_set 6 w.header) ends new (ap (behind_record limits) a.place_is) behind
 
 -- ---- this number of bytes
@@ -358,7 +358,7 @@ module _ {L : Type 0} (language : Ghosts L) (limits : LimitValues) (state : Stat
 
   -- .. are no more than a message has
   pub taken_bounded : FormatLaws → AreInRange limits → taken + n < 2 ^ 60
-  taken_bounded laws range = omega (arith, viable_bounded laws language.set limits (front ++ take n bytes) s.viable, greatest_small limits range, length-append front (take n bytes), length-take-le n bytes most)
+  taken_bounded laws range = omega (arith, viable_bounded laws language.payloads limits (front ++ take n bytes) s.viable, greatest_small limits range, length-append front (take n bytes), length-take-le n bytes most)
 
 -- ---- from front to front
 

@@ -174,13 +174,13 @@ module _ (meaning : OneMeaning) {Point : Type 0} {set : Sets} (holds : Condition
 
 -- what a checker answers, and that it was fed them
 pub checker_told : OneMeaning → {L : Type 0} {language : Ghosts L} (old new : Checker L language) (bytes : List ℕ) (answer : Fed) → new.limits ≡ old.limits
-    → WhateverLed (CheckerReached old) (λ front given point. Feeds language.set language.holds old.limits (CheckerReached new) front bytes answer)
+    → WhateverLed (CheckerReached old) (λ front given point. Feeds language.payloads language.reasons old.limits (CheckerReached new) front bytes answer)
     → (limits : LimitValues) (front : List ℕ) → WasFed old limits front
-    → WasFed new limits (front ++ bytes) × Tells language.set language.holds limits (front ++ bytes) (length front) answer
+    → WasFed new limits (front ++ bytes) × Tells language.payloads language.reasons limits (front ++ bytes) (length front) answer
 checker_told meaning {language = language} old new bytes answer same feeds limits front h =
     let g = h.1 in
-    let f = subst (λ l. Feeds language.set language.holds l (CheckerReached new) (take g.count front) bytes answer) h.0 (feeds (take g.count front) g.led.0 g.led.1 g.led.2) in
-    let x = told meaning language.holds (CheckerReached new) bytes g answer f in
+    let f = subst (λ l. Feeds language.payloads language.reasons l (CheckerReached new) (take g.count front) bytes answer) h.0 (feeds (take g.count front) g.led.0 g.led.1 g.led.2) in
+    let x = told meaning language.reasons (CheckerReached new) bytes g answer f in
     ((same ∙ h.0, x.0), x.1)
 
 -- before the first byte
@@ -255,12 +255,12 @@ longest_taken set limits front taken t =
 
 -- that number of records ends
 pub told_records : (laws : FormatLaws) {L : Type 0} {language : Ghosts L} (c : Checker L language) (records : ℕ) → WhateverLed (CheckerReached c) (λ front given point. records ≡ length given)
-    → (limits : LimitValues) (bytes : List ℕ) → WasFed c limits bytes → CountsRecords language.set limits bytes records
+    → (limits : LimitValues) (bytes : List ℕ) → WasFed c limits bytes → CountsRecords language.payloads limits bytes records
 told_records laws {language = language} c records counts limits bytes h =
     let g = h.1 in
     let front = take g.count bytes in
-    let k : HasLed language.set limits front g.led.0 = subst (λ l. HasLed language.set l front g.led.0) h.0 (checker_led laws.counted c front g.led.0 g.led.1 g.led.2) in
-    let longest = longest_taken language.set limits front k.taken k.accepted in
+    let k : HasLed language.payloads limits front g.led.0 = subst (λ l. HasLed language.payloads l front g.led.0) h.0 (checker_led laws.counted c front g.led.0 g.led.1 g.led.2) in
+    let longest = longest_taken language.payloads limits front k.taken k.accepted in
     let n = longest.within in
     let e : take (length k.taken) bytes ≡ k.taken =
     sym (take-take (length k.taken) g.count bytes (omega (arith, length-take-le g.count bytes g.within))) ∙ ap (take (length k.taken)) k.accepted.split ∙ take-append_seam k.taken k.accepted.refused in
@@ -277,12 +277,12 @@ told_records laws {language = language} c records counts limits bytes h =
 -- `records` is the number of records of a message at the front
 module _ (laws : FormatLaws) {L : Type 0} {language : Ghosts L} (c : Checker L language) (range : AreInRange c.limits) (records : ℕ) (counts : WhateverLed (CheckerReached c) (λ front given point. records ≡ length given)) where
   -- .. where the bytes led there
-  whole_led : (front : List ℕ) (given : List Item) (point : Point) → CheckerReached c front given point → (items : List Item) (count : ℕ) → count ≤ length front → Accepted language.set c.limits items (take count front)
+  whole_led : (front : List ℕ) (given : List Item) (point : Point) → CheckerReached c front given point → (items : List Item) (count : ℕ) → count ≤ length front → Accepted language.payloads c.limits items (take count front)
       → records ≡ length items
   whole_led front given point k items count h d = by_side k.1
     where
       set : Sets
-      set = language.set
+      set = language.payloads
 
       by_side : Reached language c.limits c.state front given point → records ≡ length items
       by_side (inl s) = by_count (order count (length front))
@@ -297,25 +297,25 @@ module _ (laws : FormatLaws) {L : Type 0} {language : Ghosts L} (c : Checker L l
               counts front given point k ∙ ap length m.0
       by_side (inr s) =
           let r = refuses laws range front [] given point s in
-          absurd (no_prefix_is_deep laws.meaning set c.limits front s.refusal.at count (subst (λ x. Refuses set language.holds c.limits x s.refusal) (append-nil front) r.1).place (items, d))
+          absurd (no_prefix_is_deep laws.meaning set c.limits front s.refusal.at count (subst (λ x. Refuses set language.reasons c.limits x s.refusal) (append-nil front) r.1).place (items, d))
 
-  pub told_message : (limits : LimitValues) (bytes : List ℕ) → WasFed c limits bytes → CountsMessage language.set limits bytes records
+  pub told_message : (limits : LimitValues) (bytes : List ℕ) → WasFed c limits bytes → CountsMessage language.payloads limits bytes records
   told_message limits bytes h items count within d =
       let g = h.1 in
-      let own = subst (λ l. Accepted language.set l items (take count bytes)) (sym h.0) d in
+      let own = subst (λ l. Accepted language.payloads l items (take count bytes)) (sym h.0) d in
       by_count own (order g.count count)
     where
-      by_count : Accepted language.set c.limits items (take count bytes) → (h.1.count < count) ⊎ (count ≤ h.1.count) → records ≡ length items
+      by_count : Accepted language.payloads c.limits items (take count bytes) → (h.1.count < count) ⊎ (count ≤ h.1.count) → records ≡ length items
       by_count own (inr k) =
           let g = h.1 in
-          whole_led (take g.count bytes) g.led.0 g.led.1 g.led.2 items count (omega (arith, length-take-le g.count bytes g.within)) (subst (Accepted language.set c.limits items) (sym (take-take count g.count bytes k)) own)
+          whole_led (take g.count bytes) g.led.0 g.led.1 g.led.2 items count (omega (arith, length-take-le g.count bytes g.within)) (subst (Accepted language.payloads c.limits items) (sym (take-take count g.count bytes k)) own)
       by_count own (inl k) =
           let g = h.1 in
           elim g.settled as (λ _. records ≡ length items) [
             | inl e ↦ absurd (omega (arith, e))
             | inr s ↦ elim s as (λ _. records ≡ length items) [
-              | inl a ↦ absurd (let e = one_length laws.meaning language.set limits bytes g.count count g.within within a (items, d) in omega (arith, e))
-              | inr n ↦ absurd (n (viable_shorter language.set limits g.count count bytes (omega arith) (deep_viable language.set limits (take count bytes) (items, d))))
+              | inl a ↦ absurd (let e = one_length laws.meaning language.payloads limits bytes g.count count g.within within a (items, d) in omega (arith, e))
+              | inr n ↦ absurd (n (viable_shorter language.payloads limits g.count count bytes (omega arith) (deep_viable language.payloads limits (take count bytes) (items, d))))
             ]
           ]
 

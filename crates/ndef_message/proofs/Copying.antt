@@ -62,7 +62,7 @@ done_by true = refl
 done_by false = refl
 
 module _ (laws : FormatLaws) {L : Type 0} {language : Ghosts L} (old new : Checker L language) (same : new.limits ≡ old.limits) (range : AreInRange old.limits)
-    {failed : Option ℕ} (unfailed : failed ≡ None) (o : Opened) (input : List ℕ) (w : WholePiece) (fresh : IsFresh old.state) (begins : BeginsWith language.set old.limits old.state.place input w)
+    {failed : Option ℕ} (unfailed : failed ≡ None) (o : Opened) (input : List ℕ) (w : WholePiece) (fresh : IsFresh old.state) (begins : BeginsWith language.payloads old.limits old.state.place input w)
     (phase_is : new.state.phase ≡ (if is_set 6 w.header then phases.Done else phases.Head))
     (onward : WhateverLed (CheckerReached old) (λ front given point. LeadsBetween (CheckerReached new) (front ++ take (length input - length w.rest.now) input) (given ++ record_of w ∷ [])))
     (bytes : List ℕ) (given : List Item) (point : Point) (was : DecoderKnows old failed o bytes given point) where
@@ -94,13 +94,13 @@ module _ (laws : FormatLaws) {L : Type 0} {language : Ghosts L} (old new : Check
   none_open = known.1 ∙ between_opened point (stood.c, stood.none, inl stood.point_is) ∙ sym (between_opened led.0 led.1)
 
   -- the record has come
-  pub whole_passed : {item : Item} → item ≡ record_of w → {last : Bool} → last ≡ is_set 6 w.header → EndsThere language.set old.limits (bytes ++ t) (given ++ item ∷ []) last
+  pub whole_passed : {item : Item} → item ≡ record_of w → {last : Bool} → last ≡ is_set 6 w.header → EndsThere language.payloads old.limits (bytes ++ t) (given ++ item ∷ []) last
       × AreRecords old.limits (bytes ++ t) (given ++ item ∷ []) × ((next : Point) × DecoderKnows new failed o (bytes ++ t) (given ++ item ∷ []) next)
   whole_passed {item} is {last} e =
       let ends = ends_there laws language new.limits (subst AreInRange (sym same) range) new.state (bytes ++ t) (given ++ record_of w ∷ []) led.0 stands last (ap is_done phase_is ∙ done_by (is_set 6 w.header) ∙ sym e) in
-      subst (λ z. EndsThere language.set old.limits (bytes ++ t) (given ++ z ∷ []) last
+      subst (λ z. EndsThere language.payloads old.limits (bytes ++ t) (given ++ z ∷ []) last
       × AreRecords old.limits (bytes ++ t) (given ++ z ∷ []) × ((next : Point) × DecoderKnows new failed o (bytes ++ t) (given ++ z ∷ []) next)) (sym is) (
-        subst (λ l. EndsThere language.set l (bytes ++ t) (given ++ record_of w ∷ []) last) same ends,
+        subst (λ l. EndsThere language.payloads l (bytes ++ t) (given ++ record_of w ∷ []) last) same ends,
         subst (λ l. AreRecords l (bytes ++ t) (given ++ record_of w ∷ [])) same (records_there laws.counted new.limits (bytes ++ t) (given ++ record_of w ∷ []) led.0 led.1 stands.at),
         (led.0, subst (λ z. DecoderKnows new z o (bytes ++ t) (given ++ record_of w ∷ []) led.0) (sym unfailed) (led.2, none_open)),
       )
@@ -122,7 +122,7 @@ module _ (laws : FormatLaws) {L : Type 0} {language : Ghosts L} (old new : Check
   part k i z a b d = record { goes_on = stood.over; stands = may_stand; kind_octets = a; id_octets = b; payload_octets = d }
 
   -- at the field of one of its bytes
-  wants_at : (point' : Point) (more : List ℕ) → before point' ≡ stood.c → t ≡ octets_at point' ++ more → 0 < length more → IsProperAt old.limits point' → MayGrow (field_of point') → Wants language.set old.limits bytes given t
+  wants_at : (point' : Point) (more : List ℕ) → before point' ≡ stood.c → t ≡ octets_at point' ++ more → 0 < length more → IsProperAt old.limits point' → MayGrow (field_of point') → Wants language.payloads old.limits bytes given t
   wants_at point' more at_c e some proper grows =
       let so_far = octets_at point' in
       let count = length so_far in
@@ -147,13 +147,13 @@ module _ (laws : FormatLaws) {L : Type 0} {language : Ghosts L} (old new : Check
         means = p.means;
         at = p.at;
         grows = grows;
-        viable = viable_front language.set old.limits (bytes ++ take (count + 1) t) (drop (count + 1) t) (subst (IsViable language.set old.limits) all (subst (λ l. IsViable language.set l (bytes ++ t)) same stands.viable));
+        viable = viable_front language.payloads old.limits (bytes ++ take (count + 1) t) (drop (count + 1) t) (subst (IsViable language.payloads old.limits) all (subst (λ l. IsViable language.payloads l (bytes ++ t)) same stands.viable));
       }
 
   id_is : unwrap_or p.id [] ≡ w.id.now
   id_is = sym (ap (λ m. m.id) (record_is w begins.no_id))
 
-  pub copy_wanted : AsksMemory (record_of w) → Wants language.set old.limits bytes given t
+  pub copy_wanted : AsksMemory (record_of w) → Wants language.payloads old.limits bytes given t
   copy_wanted (inl long) =
       let q = begins.split.spells.piece in
       let n = length-take-le 32 w.kind.now (omega arith) in

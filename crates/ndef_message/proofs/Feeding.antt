@@ -39,7 +39,7 @@ module _ {L : Type 0} (language : Ghosts L) (limits : LimitValues) (state : Stat
   pub taken_small : FormatLaws → AreInRange limits → (taken : ℕ) → answer_of state.phase 0 ≡ None → SomeLed (Knows language limits state taken) → taken + 1 ≤ 2 ^ 60
   taken_small laws range taken e w =
       let s = going 0 w.0 w.1 w.2 e w.3.1 in
-      let n = viable_bounded laws language.set limits w.0 s.viable in
+      let n = viable_bounded laws language.payloads limits w.0 s.viable in
       let m = greatest_small limits range in
       let k = w.3.0 in
       omega arith
@@ -73,51 +73,51 @@ sofar_some old mid new bytes at n s f front given point x =
 
 module _ (laws : FormatLaws) {L : Type 0} {language : Ghosts L} (c : Checker L language) (range : AreInRange c.limits) where
   feeds_here : (phase : Phase) → c.state.phase ≡ phase → (front bytes : List ℕ) (given : List Item) (point : Point) (at : ℕ) (answer : Fed) → answer_of phase at ≡ Some answer → at ≤ length bytes
-      → CheckerReached c (front ++ take at bytes) given point → Feeds language.set language.holds c.limits (CheckerReached c) front bytes answer
+      → CheckerReached c (front ++ take at bytes) given point → Feeds language.payloads language.reasons c.limits (CheckerReached c) front bytes answer
   feeds_here phases.Head w front bytes given point at answer e h k = cc
   feeds_here (phases.Type x y z) w front bytes given point at answer e h k = cc
   feeds_here (phases.Id x y) w front bytes given point at answer e h k = cc
   feeds_here (phases.Payload x y) w front bytes given point at answer e h k = cc
   feeds_here phases.Done w front bytes given point at answer e h k =
       let q : fed.Done at ≡ answer = cc in
-      subst (Feeds language.set language.holds c.limits (CheckerReached c) front bytes) q (h, whole k.1, (given, point, k))
+      subst (Feeds language.payloads language.reasons c.limits (CheckerReached c) front bytes) q (h, whole k.1, (given, point, k))
     where
-      whole : Reached language c.limits c.state (front ++ take at bytes) given point → IsAccepted language.set c.limits (front ++ take at bytes)
+      whole : Reached language c.limits c.state (front ++ take at bytes) given point → IsAccepted language.payloads c.limits (front ++ take at bytes)
       whole (inl s) =
           let d = done_point language c.limits c.state point w s.matches in
-          ended laws language.set c.limits range (front ++ take at bytes) given d.0 (subst (IsAtPoint c.limits (front ++ take at bytes) given) d.1 s.at) s.viable
+          ended laws language.payloads c.limits range (front ++ take at bytes) given d.0 (subst (IsAtPoint c.limits (front ++ take at bytes) given) d.1 s.at) s.viable
       whole (inr s) = absurd (let q = sym w ∙ s.phase_is in cc)
   feeds_here (phases.Refused refusal) w front bytes given point at answer e h k =
       let q : fed.Refused refusal ≡ answer = cc in
-      subst (Feeds language.set language.holds c.limits (CheckerReached c) front bytes) q (by_side k.1)
+      subst (Feeds language.payloads language.reasons c.limits (CheckerReached c) front bytes) q (by_side k.1)
     where
-      by_side : Reached language c.limits c.state (front ++ take at bytes) given point → Feeds language.set language.holds c.limits (CheckerReached c) front bytes (fed.Refused refusal)
+      by_side : Reached language c.limits c.state (front ++ take at bytes) given point → Feeds language.payloads language.reasons c.limits (CheckerReached c) front bytes (fed.Refused refusal)
       by_side (inl s) = absurd (not_refused language c.limits c.state refusal point w s.matches)
       by_side (inr s) =
           let same : s.refusal ≡ refusal = (let p = sym s.phase_is ∙ w in cc) in
           let all : (front ++ take at bytes) ++ drop at bytes ≡ front ++ bytes = append_assoc front (take at bytes) (drop at bytes) ∙ ap (λ y. front ++ y) (take-append-drop at bytes) in
           let r = refuses laws range (front ++ take at bytes) (drop at bytes) given point s in
-          let r1 = subst (λ y. (s.refusal.at < length y) × Refuses language.set language.holds c.limits y s.refusal × (front ++ take at bytes ≡ take (s.refusal.at + 1) y)) all r in
-          let r2 = subst (λ y. (y.at < length (front ++ bytes)) × Refuses language.set language.holds c.limits (front ++ bytes) y × (front ++ take at bytes ≡ take (y.at + 1) (front ++ bytes))) same r1 in
+          let r1 = subst (λ y. (s.refusal.at < length y) × Refuses language.payloads language.reasons c.limits y s.refusal × (front ++ take at bytes ≡ take (s.refusal.at + 1) y)) all r in
+          let r2 = subst (λ y. (y.at < length (front ++ bytes)) × Refuses language.payloads language.reasons c.limits (front ++ bytes) y × (front ++ take at bytes ≡ take (y.at + 1) (front ++ bytes))) same r1 in
           (r2.0, r2.1, (given, point, subst (λ y. CheckerReached c y given point) r2.2 k))
 
   module _ (limits : LimitValues) (same : c.limits ≡ limits) (front bytes : List ℕ) (at : ℕ) where
     pub feeds_answer : (answer : Fed) → answer_of c.state.phase at ≡ Some answer → at ≤ length bytes → Leads (CheckerReached c) (front ++ take at bytes)
-        → Feeds language.set language.holds limits (CheckerReached c) front bytes answer
+        → Feeds language.payloads language.reasons limits (CheckerReached c) front bytes answer
     feeds_answer answer e h k =
-        subst (λ l. Feeds language.set language.holds l (CheckerReached c) front bytes answer) same (feeds_here c.state.phase refl front bytes k.0 k.1 at answer e h k.2)
+        subst (λ l. Feeds language.payloads language.reasons l (CheckerReached c) front bytes answer) same (feeds_here c.state.phase refl front bytes k.0 k.1 at answer e h k.2)
 
     pub feeds_more : answer_of c.state.phase at ≡ None → at ≡ length bytes → Leads (CheckerReached c) (front ++ take at bytes)
-        → Feeds language.set language.holds limits (CheckerReached c) front bytes fed.More
+        → Feeds language.payloads language.reasons limits (CheckerReached c) front bytes fed.More
     feeds_more e h k =
         let all : front ++ take at bytes ≡ front ++ bytes = ap (λ y. front ++ y) (take_all at bytes (omega arith)) in
         let s = going language c.limits c.state at (front ++ take at bytes) k.0 k.1 e k.2.1 in
-        let no : ¬ IsAccepted language.set c.limits (front ++ bytes) = λ d.
-        let u = unended laws language.set c.limits range (front ++ take at bytes) k.0 k.1 s.at (subst (IsAccepted language.set c.limits) (sym all) d) in
+        let no : ¬ IsAccepted language.payloads c.limits (front ++ bytes) = λ d.
+        let u = unended laws language.payloads c.limits range (front ++ take at bytes) k.0 k.1 s.at (subst (IsAccepted language.payloads c.limits) (sym all) d) in
         let m = subst (Matches language c.limits c.state) u.1 s.matches in
         not_done language c.limits c.state at e m.1 in
-        subst (λ l. Feeds language.set language.holds l (CheckerReached c) front bytes fed.More) same
-        (subst (IsViable language.set c.limits) all s.viable, no, subst (Leads (CheckerReached c)) all k)
+        subst (λ l. Feeds language.payloads language.reasons l (CheckerReached c) front bytes fed.More) same
+        (subst (IsViable language.payloads c.limits) all s.viable, no, subst (Leads (CheckerReached c)) all k)
 
 -- ---- the first byte
 pub take_one : (xs : List ℕ) → 0 < length xs → take 1 xs ≡ get_or xs 0 0 ∷ []

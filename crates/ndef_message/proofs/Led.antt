@@ -33,16 +33,16 @@ led_by counted set limits taken front given point t at =
     record { taken = taken; accepted = t; runs = p.runs; begun = p.begun; field = field_of point; means = p.means; at = p.at }
 
 pub checker_led : WalksAreCounted → {L : Type 0} {language : Ghosts L} (c : Checker L language)
-    → WhateverLed (CheckerReached c) (λ front given point. HasLed language.set (checker_limits c) front given)
+    → WhateverLed (CheckerReached c) (λ front given point. HasLed language.payloads (checker_limits c) front given)
 checker_led counted {language = language} c front given point (t, inl s) =
-    led_by counted language.set c.limits front front given point (taken_all language.set c.limits front s.viable) s.at
+    led_by counted language.payloads c.limits front front given point (taken_all language.payloads c.limits front s.viable) s.at
 checker_led counted {language = language} c front given point (t, inr s) =
-    led_by counted language.set c.limits s.front front given point (taken_before language.set c.limits front s.front s.byte s.split s.viable s.refused) s.at
+    led_by counted language.payloads c.limits s.front front given point (taken_before language.payloads c.limits front s.front s.byte s.split s.viable s.refused) s.at
 
 pub decoder_led : WalksAreCounted → {L : Type 0} {language : Ghosts L} (d : Decoder L language)
-    → WhateverLed (DecoderReached d) (λ front given point. HasLed language.set (decoder_limits d) front given)
+    → WhateverLed (DecoderReached d) (λ front given point. HasLed language.payloads (decoder_limits d) front given)
 decoder_led counted {language = language} d front given point = by_failed d.failed
   where
-    by_failed : (failed : _) → DecoderKnows d.checker failed d.begun front given point → HasLed language.set (decoder_limits d) front given
+    by_failed : (failed : _) → DecoderKnows d.checker failed d.begun front given point → HasLed language.payloads (decoder_limits d) front given
     by_failed None k = checker_led counted d.checker front given point k.0
-    by_failed (Some at) k = led_by counted language.set d.checker.limits front front given point (taken_all language.set d.checker.limits front k.0.viable) k.0.at
+    by_failed (Some at) k = led_by counted language.payloads d.checker.limits front front given point (taken_all language.payloads d.checker.limits front k.0.viable) k.0.at

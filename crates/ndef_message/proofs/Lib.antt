@@ -27,6 +27,7 @@ pub mod Needing
 pub mod Octets
 pub mod OpenRuns
 pub mod Opening
+pub mod Outcomes
 pub mod Parts
 pub mod Placed
 pub mod Places

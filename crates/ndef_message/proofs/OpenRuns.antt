@@ -60,7 +60,7 @@ speaks_on language limits payload octets_of all reach m z o s = record {
 }
   where
     set_of : List ℕ → Type 0
-    set_of = language.set (kind_of m.tnf m.kind) limits.records limits.profile
+    set_of = language.payloads (kind_of m.tnf m.kind) limits.records limits.profile
 
 -- a run whose payload may end is ended by an empty piece, and its message with it
 finished_inside : (laws : FormatLaws) (set : Sets) (limits : LimitValues) (records count room : ℕ) (m : Item) → room < 2 ^ 32 → completes set limits m [] → Finished laws limits set (inside records count room m) []
@@ -95,7 +95,7 @@ module _ {L : Type 0} (language : Ghosts L) (limits : LimitValues) (range : AreI
     m : Item
     place_is : state.place ≡ numbers (inside records pieces room m)
     at : IsAtPoint limits bytes given (InHead (inside records pieces room m) [])
-    viable_is : IsViable language.set limits bytes
+    viable_is : IsViable language.payloads limits bytes
     speaks : Speaks language limits state.payload m
 
   at_chunk : IsAtChunk language state → Stands language limits state bytes given point → AtChunk
@@ -138,17 +138,17 @@ chunks_lead laws language limits range old new place t octets_of fresh chunks be
     let w : Walked limits (start limits) ps given d = subst (λ x. Walked limits (start limits) ps x d) (append-nil given) (walked_append limits a.at.pieces g.later (start limits) c d given [] a.at.walked g.walked) in
     let spelled : SpellsPieces ps done = spell_append a.at.pieces g.later a.at.done g.front a.at.spelled g.spelled in
     let split : bytes ++ t ≡ done ++ [] = ap (λ x. x ++ t) (a.at.split ∙ append-nil a.at.done) ∙ ap (λ x. a.at.done ++ x) (g.joined ∙ append-nil g.front) ∙ sym (append-nil done) in
-    let members = given_members laws language.set limits range bytes given (InHead c []) a.at a.viable_is in
+    let members = given_members laws language.payloads limits range bytes given (InHead c []) a.at a.viable_is in
     let speaks = speaks_on language limits old.payload octets_of fresh.future fresh.reached a.m g.payload g.octets a.speaks in
     let room = (good_at limits range ps d given w).room in
     let most = range.payload.1 in
-    let finished = finished_inside laws language.set limits a.records g.pieces_left g.room_left m (omega arith) ((speaks.future []).0 (fresh.future [] tt)) in
+    let finished = finished_inside laws language.payloads limits a.records g.pieces_left g.room_left m (omega arith) ((speaks.future []).0 (fresh.future [] tt)) in
     let reader = behind.reader_is ∙ ap (λ x. record { spot = spot_of limits.profile x; octets = []; answer = steps.More }) g.place_is in (
       given,
       InHead d [],
       record {
         at = record { pieces = ps; done = done; walked = w; spelled = spelled; split = split; proper = (refl, subst (λ x. IsOpen (spot_of limits.profile x) []) g.place_is behind.opens) };
-        viable = subst (IsViable language.set limits) (sym split) (viable laws limits language.set range ps d given done w spelled [] members finished);
+        viable = subst (IsViable language.payloads limits) (sym split) (viable laws limits language.payloads range ps d given done w spelled [] members finished);
         matches = (behind.place_is ∙ g.place_is, behind.phase_is ∙ fresh.phase_is, reader, subst (λ x. Speaks language limits x m) (sym behind.payload_is) speaks);
       },
     )

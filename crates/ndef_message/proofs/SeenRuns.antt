@@ -8,7 +8,7 @@ use Rattle.ndef_format.specs.Canonical.{HasLengths}
 use Rattle.ndef_message.specs.Machine.Seen.{AreRun, AreRuns, IsSeenRecord, pieces_of, runs_of, run_of}
 use Rattle.ndef_message.specs.Views.{payloads, only_payload}
 use Rattle.ndef_message.proofs.Rests.{spell_append}
-use Rattle.ndef_message.specs.Machine.SeenLaws.{First, first_of, pieces_told, run_told, run_is}
+use Rattle.ndef_message.specs.Machine.SeenLaws.{First, first_piece_of, pieces_told, run_told, run_is}
 
 -- these bytes and payload octets of a run were read, some of its pieces are left, and runs after it
 pub record Going (bytes rest : List ℕ) (size : ℕ) : Type 0 where
@@ -52,7 +52,7 @@ going_at bytes some a = by_runs a.runs a.spelled a.read
 
 -- the next piece
 pub next_of : {bytes rest : List ℕ} {size : ℕ} (g : Going bytes rest size) → First g.next (g.later ++ all_pieces g.runs) rest
-next_of {rest = rest} g = first_of g.next (g.later ++ all_pieces g.runs) rest g.left
+next_of {rest = rest} g = first_piece_of g.next (g.later ++ all_pieces g.runs) rest g.left
 
 -- the pieces read so far with it
 one_more : {bytes rest : List ℕ} {size : ℕ} (g : Going bytes rest size) → SpellsPieces (g.done ++ g.next ∷ []) (g.front ++ (next_of g).split.front)
@@ -156,7 +156,7 @@ run_seen {bytes} a e = sym (run_is a.run bytes a.spelled) ∙ e
 
 -- its initial piece
 pub initial_of : {bytes : List ℕ} {size : ℕ} (a : AreRun bytes size) → First a.run.initial a.run.later bytes
-initial_of {bytes} a = first_of a.run.initial a.run.later bytes a.spelled
+initial_of {bytes} a = first_piece_of a.run.initial a.run.later bytes a.spelled
 
 pub read_seen : {bytes : List ℕ} {size : ℕ} {r : Run} (a : AreRun bytes size) → run_of bytes ≡ r → IsSeenRecord r
 read_seen a e = subst IsSeenRecord (run_seen a e) a.read

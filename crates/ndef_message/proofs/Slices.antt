@@ -36,8 +36,8 @@ speaks_all : {L : Type 0} (language : Ghosts L) (limits : LimitValues) (old new 
 speaks_all language limits old new m t r f s = record {
   reached = r _ _ _ m.payload s.reached;
   future = λ z. (
-    λ x. subst (λ y. language.set (kind_of m.tnf m.kind) limits.records limits.profile y) (sym (append_assoc m.payload t z)) ((s.future (t ++ z)).0 ((f z).0 x)),
-    λ x. (f z).1 ((s.future (t ++ z)).1 (subst (λ y. language.set (kind_of m.tnf m.kind) limits.records limits.profile y) (append_assoc m.payload t z) x)),
+    λ x. subst (λ y. language.payloads (kind_of m.tnf m.kind) limits.records limits.profile y) (sym (append_assoc m.payload t z)) ((s.future (t ++ z)).0 ((f z).0 x)),
+    λ x. (f z).1 ((s.future (t ++ z)).1 (subst (λ y. language.payloads (kind_of m.tnf m.kind) limits.records limits.profile y) (append_assoc m.payload t z) x)),
   );
 }
 
@@ -57,8 +57,8 @@ speaks_behind : {L : Type 0} (language : Ghosts L) (limits : LimitValues) (state
 speaks_behind language limits state m t s = record {
   reached = (m.payload, (refl, s.reached));
   future = λ z. (
-    λ x. subst (λ y. language.set (kind_of m.tnf m.kind) limits.records limits.profile y) (sym (append_assoc m.payload t z)) ((s.future (t ++ z)).0 x),
-    λ x. (s.future (t ++ z)).1 (subst (λ y. language.set (kind_of m.tnf m.kind) limits.records limits.profile y) (append_assoc m.payload t z) x),
+    λ x. subst (λ y. language.payloads (kind_of m.tnf m.kind) limits.records limits.profile y) (sym (append_assoc m.payload t z)) ((s.future (t ++ z)).0 x),
+    λ x. (s.future (t ++ z)).1 (subst (λ y. language.payloads (kind_of m.tnf m.kind) limits.records limits.profile y) (append_assoc m.payload t z) x),
   );
 }
 
@@ -121,18 +121,18 @@ module _ {L : Type 0} {language : Ghosts L} {limits : LimitValues} {state : Stat
       at_with limits bytes given (InPayload a.c a.f a.kind a.id a.payload) t are (omega arith) (subst (IsAtPoint limits bytes given) a.point_is a.stands.at)
 
 module _ (laws : FormatLaws) {L : Type 0} {language : Ghosts L} {limits : LimitValues} (range : AreInRange limits)
-    (octets_of : (k : Kind) (n : ℕ) (profile : Profile) (s : List ℕ) → language.set k n profile s → AreOctets s)
-    (others : (n : ℕ) (profile : Profile) (s : List ℕ) → language.set Other n profile s ↔ AreOctets s)
+    (octets_of : (k : Kind) (n : ℕ) (profile : Profile) (s : List ℕ) → language.payloads k n profile s → AreOctets s)
+    (others : (n : ℕ) (profile : Profile) (s : List ℕ) → language.payloads Other n profile s ↔ AreOctets s)
     {state : State L} {bytes : List ℕ} {given : List Item} {h : Head} {left : ℕ} {point : Point}
     (a : AtPayload language limits state bytes given h left point)
     (payload' : L) (t : List ℕ) (are : AreOctets t) (few : length t ≤ left) {most count : ℕ} (most_is : most ≡ most_left h.chunked state.place.room h.payload_length left)
     (steps : StepsAll (language.future state.payload) (language.future payload') t left most count)
   where
-    members : AllByRecursion (IsMember language.set limits) given
-    members = given_members laws language.set limits range bytes given point a.stands.at a.stands.viable
+    members : AllByRecursion (IsMember language.payloads limits) given
+    members = given_members laws language.payloads limits range bytes given point a.stands.at a.stands.viable
 
     -- the last of them doesn't end what was viable
-    pub all_viable : (r : (k : Kind) (n : ℕ) (profile : Profile) → Reaches (language.reached state.payload k n profile) (language.reached payload' k n profile) t) → count ≡ length t → IsViable language.set limits (bytes ++ t)
+    pub all_viable : (r : (k : Kind) (n : ℕ) (profile : Profile) → Reaches (language.reached state.payload k n profile) (language.reached payload' k n profile) t) → count ≡ length t → IsViable language.payloads limits (bytes ++ t)
     all_viable r e =
         let d = steps_done steps e in
         body_goes_on laws range (body_all a payload' t are few r d.0) octets_of others members
@@ -140,7 +140,7 @@ module _ (laws : FormatLaws) {L : Type 0} {language : Ghosts L} {limits : LimitV
         (ap (λ n. n - length t) most_is ∙ most_after h.chunked state.place.room h.payload_length left (length t) few) d.1)
 
     -- the octets before the refused one
-    front_viable : (s : List ℕ) → AreOctets s → length s ≡ count → count ≤ left → PassesBetween (Behind (language.future state.payload) s) (left - count) (most - count) → IsViable language.set limits (bytes ++ s)
+    front_viable : (s : List ℕ) → AreOctets s → length s ≡ count → count ≤ left → PassesBetween (Behind (language.future state.payload) s) (left - count) (most - count) → IsViable language.payloads limits (bytes ++ s)
     front_viable s ok e l p =
         body_goes_on laws range (body_behind a s ok (omega arith)) octets_of others members
         (between_at (left - count) (most - count) (left - length s) (most_left h.chunked state.place.room h.payload_length (left - length s)) (omega arith)
@@ -148,7 +148,7 @@ module _ (laws : FormatLaws) {L : Type 0} {language : Ghosts L} {limits : LimitV
 
     -- .. and it
     never_viable : (s : List ℕ) → AreOctets s → length s ≡ count + 1 → count + 1 ≤ left → ((k : Kind) (n : ℕ) (profile : Profile) → Reaches (language.reached state.payload k n profile) (language.reached payload' k n profile) s) → Continues (language.future state.payload) (language.future payload') s
-        → (PassesBetween (language.future payload') (left - (count + 1)) (most - (count + 1)) → ⊥) → IsViable language.set limits (bytes ++ s) → ⊥
+        → (PassesBetween (language.future payload') (left - (count + 1)) (most - (count + 1)) → ⊥) → IsViable language.payloads limits (bytes ++ s) → ⊥
     never_viable s ok e l r f bad v =
         bad (between_at (left - length s) (most_left h.chunked state.place.room h.payload_length (left - length s)) (left - (count + 1)) (most - (count + 1)) (ap (λ n. left - n) e)
         (ap (λ n. most_left h.chunked state.place.room h.payload_length (left - n)) e ∙ sym (ap (λ n. n - (count + 1)) most_is ∙ most_after h.chunked state.place.room h.payload_length left (count + 1) l))
@@ -156,7 +156,7 @@ module _ (laws : FormatLaws) {L : Type 0} {language : Ghosts L} {limits : LimitV
 
     -- one of them is refused
     pub all_stopped : ((k : Kind) (n : ℕ) (profile : Profile) → Reaches (language.reached state.payload k n profile) (language.reached payload' k n profile) (take (count + 1) t)) → count < length t → {at : ℕ} {reason : Reason} → at ≡ length bytes
-        → ((k : Kind) (n : ℕ) (profile : Profile) (s : List ℕ) → language.reached state.payload k n profile s → IsLowest (language.holds k n profile (s ++ take count t) (get_or t count 0)) reason)
+        → ((k : Kind) (n : ℕ) (profile : Profile) (s : List ℕ) → language.reached state.payload k n profile s → IsLowest (language.reasons k n profile (s ++ take count t) (get_or t count 0)) reason)
         → Onward language limits (record state { payload = payload'; phase = phases.Refused (record { at = at + count; reason = reason }) }) bytes given point (take (count + 1) t)
     all_stopped r l {at} {reason} at_is why =
         subst (λ x. Onward language limits (record state { payload = payload'; phase = phases.Refused (record { at = at + count; reason = reason }) }) bytes given x (take (count + 1) t)) (sym a.point_is)
@@ -181,12 +181,12 @@ module _ (laws : FormatLaws) {L : Type 0} {language : Ghosts L} {limits : LimitV
         stop =
             let fits = steps.fits in
             stopped (record state { payload = payload' }) (body_counted laws range (payload_body a))
-            (λ v. never_viable (take (count + 1) t) (octets_taken (count + 1) t are) (length-take-le (count + 1) t (omega arith)) (omega arith) r steps.stepped (steps.refused l) (subst (IsViable language.set limits) split v))
+            (λ v. never_viable (take (count + 1) t) (octets_taken (count + 1) t are) (length-take-le (count + 1) t (omega arith)) (omega arith) r steps.stepped (steps.refused l) (subst (IsViable language.payloads limits) split v))
             record {
               at_is = at_front a (take count t) front_octets (omega (arith, few_front));
               viable = front_viable (take count t) front_octets few_front (omega arith) fits;
               place_is = omega (arith, at_is, few_front, length-append bytes (take count t));
-              reason_is = subst (λ m. IsLowest (language.holds (kind_of m.tnf m.kind) limits.records limits.profile m.payload (get_or t count 0)) reason) (so_far_all a.c.begun a.f a.kind a.id a.payload (take count t))
+              reason_is = subst (λ m. IsLowest (language.reasons (kind_of m.tnf m.kind) limits.records limits.profile m.payload (get_or t count 0)) reason) (so_far_all a.c.begun a.f a.kind a.id a.payload (take count t))
                   (why (kind_of so_far.tnf so_far.kind) limits.records limits.profile so_far.payload a.speaks.reached);
             }
 

@@ -6,7 +6,8 @@ use Rattle.ndef_message.specs.declared.source.Source.{Ghosts as SourceOf}
 
 -- what a contract sees of a source
 abbrev pub source_state : {S : Type 0} (source : SourceOf S) → S → SourceState
-source_state source s = record { coming = source.coming s; taken = source.taken s; failed = source.has_failed s }
+source_state source s =
+    record { coming = source.coming s; taken = source.taken s; failed = source.has_failed s }
 
 -- a sink: the bytes written, where they are known; and whether it has failed
 pub record SinkState : Type 0 where

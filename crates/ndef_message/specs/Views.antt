@@ -16,11 +16,17 @@ pub record Viewed : Type 0 where
   pub runs : List Run
   pub profile : Profile
 
--- NDEF 1.0, messages: what is seen of an input: its first `taken` bytes are a message, in these runs; or it is refused.
-abbrev pub Views : Sets → Conditions → LimitValues → (input : List ℕ) → Result Viewed Refusal → Type 0
-Views set holds limits input (Ok v) =
-    (v.taken ≤ length input) × ((accepted : Accepted set limits (map run_record v.runs) (take v.taken input))
+-- NDEF 1.0, messages: the first `taken` bytes of the input are a message, in these runs
+abbrev pub IsViewOf : Sets → LimitValues → (input : List ℕ) → Viewed → Type 0
+IsViewOf set limits input v =
+    (v.taken ≤ length input)
+    × ((accepted : Accepted set limits (map run_record v.runs) (take v.taken input))
     × (accepted.runs ≡ v.runs)) × (v.profile ≡ limits.profile)
+
+-- NDEF 1.0, messages: what is seen of an input: a message at its front; or it is refused.
+abbrev pub Views : Sets → Conditions → LimitValues → (input : List ℕ) → Result Viewed Refusal
+    → Type 0
+Views set holds limits input (Ok v) = IsViewOf set limits input v
 Views set holds limits input (Err refusal) = Refuses set holds limits input refusal
 
 -- NDEF 1.0, chunked payloads: the payloads of some pieces
@@ -42,11 +48,14 @@ pub record IsSeen (v : Viewed) (items : List Item) (runs : List Run) (count : �
 
 -- What is seen of an input is the only message at its front, in the only runs that spell it.
 abbrev pub OneView : Sets → Conditions → Type 0
-OneView set holds = (limits : LimitValues) (input : List ℕ) (v : Viewed) (items : List Item) (count : ℕ)
-    → Views set holds limits input (Ok v) → count ≤ length input → (d : Accepted set limits items (take count input))
+OneView set holds =
+    (limits : LimitValues) (input : List ℕ) (v : Viewed) (items : List Item) (count : ℕ)
+    → Views set holds limits input (Ok v) → count ≤ length input
+    → (d : Accepted set limits items (take count input))
     → IsSeen v items d.runs count
 
 -- An input that begins with a message is not refused.
 abbrev pub NeverRefusedInView : Sets → Conditions → Type 0
-NeverRefusedInView set holds = (limits : LimitValues) (input : List ℕ) (refusal : Refusal) (count : ℕ)
+NeverRefusedInView set holds =
+    (limits : LimitValues) (input : List ℕ) (refusal : Refusal) (count : ℕ)
     → Views set holds limits input (Err refusal) → ¬ IsAccepted set limits (take count input)

@@ -11,6 +11,7 @@ ghost use Rattle.ndef_message.specs.Machine.State.{spot_of};
 
 use crate::format::format_laws;
 use crate::phase::Place;
+use ndef_format::header::{END, is_set};
 use ndef_lang::{Kind, OuterLanguage};
 use ndef_piece::{WholePiece, messages_are_walks, whole_piece};
 use ndef_value::Limits;
@@ -78,7 +79,7 @@ fn is_record<L: OuterLanguage>(limits: &Limits, place: &Place, piece: &WholePiec
     ensures stands { IsTrue result → pieces.Stands (spot_of limits.now.profile place.now) (shown piece.now) }
     ensures one { IsTrue result → is_set 5 piece.now.header ≡ false }
     ensures outer { IsTrue result → place.now.inside ≡ false }
-    ensures member { IsTrue result → IsMember L.set limits.now (record_of piece.now) }
+    ensures member { IsTrue result → IsMember L.payloads limits.now (record_of piece.now) }
 {
     let profile = limits.profile();
     if !piece.is_record_at(&place.spot(profile)) {
@@ -94,7 +95,7 @@ pub(crate) fn whole_record<'a, L: OuterLanguage>(
     place: &Place,
     bytes: &'a [u8],
 ) -> Option<WholePiece<'a>>
-    ensures { IfSome result (λ w. BeginsWith L.set limits.now place.now bytes.now w) }
+    ensures { IfSome result (λ w. BeginsWith L.payloads limits.now place.now bytes.now w) }
 {
     let piece = whole_piece(bytes)?;
     if !is_record::<L>(limits, place, &piece) {
@@ -106,10 +107,15 @@ pub(crate) fn whole_record<'a, L: OuterLanguage>(
 /// The bytes of the message at the front of these, where it is a record in one piece that the fast test finds right.
 pub(crate) fn lone_record<L: OuterLanguage>(limits: &Limits, bytes: &[u8]) -> Option<usize>
     ensures within { IfSome result (λ taken. taken ≤ length bytes.now) }
-    ensures message { IfSome result (λ taken. HasRecords L.set limits.now (take taken bytes.now) 1) }
+    ensures message { IfSome result (λ taken. HasRecords L.payloads limits.now (take taken bytes.now) 1) }
 {
+    // For the proof alone.
     format_laws(limits);
     messages_are_walks();
+    // Of a message with more records the checker reads the first piece, so it isn't read here.
+    if !is_set(END, *bytes.first()?) {
+        return None;
+    }
     let piece = whole_piece(bytes)?;
     if !piece.is_last() || !is_record::<L>(limits, &Place::start(limits), &piece) {
         return None;
@@ -124,7 +130,7 @@ fn accepted_record<L: OuterLanguage>(
     place: &Place,
     bytes: &[u8],
 ) -> Option<(usize, bool)>
-    ensures { IfSome result (λ r. IsTakenRecord L.set limits.now place.now bytes.now r.0 r.1) }
+    ensures { IfSome result (λ r. IsTakenRecord L.payloads limits.now place.now bytes.now r.0 r.1) }
 {
     let piece = whole_piece(bytes)?;
     let taken = bytes.len() - piece.rest.len();
@@ -150,7 +156,7 @@ pub(crate) fn accepted_records<L: OuterLanguage>(
     place: Place,
     bytes: &[u8],
 ) -> (usize, Place, bool)
-    ensures records { AreTakenRecords L.set limits.now place bytes.now result.0 result.1 result.2 }
+    ensures records { AreTakenRecords L.payloads limits.now place bytes.now result.0 result.1 result.2 }
     ensures outer { place.inside ≡ false → result.1.inside ≡ false }
 {
     let mut at = 0;

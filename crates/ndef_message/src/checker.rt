@@ -40,8 +40,9 @@ impl<L: OuterLanguage> Checker<L> {
         ensures fed { WhateverFed self.old (λ limits front.
             WasFed self.new limits (front ++ bytes.now)) }
         ensures tells { WhateverFed self.old (λ limits front.
-            Tells L.set L.holds limits (front ++ bytes.now) (length front) result) }
+            Tells L.payloads L.reasons limits (front ++ bytes.now) (length front) result) }
     {
+        // For the proof alone.
         one_meaning();
         self.feed_bytes(bytes)
     }
@@ -49,7 +50,7 @@ impl<L: OuterLanguage> Checker<L> {
     /// What the input is, if it ends here.
     pub fn end(&self) -> Result<(), Refusal>
         ensures { WhateverFed self.now (λ limits bytes.
-            TellsEnd L.set L.holds limits bytes result) }
+            TellsEnd L.payloads L.reasons limits bytes result) }
     {
         self.judge_end()
     }
@@ -57,10 +58,11 @@ impl<L: OuterLanguage> Checker<L> {
     /// The records that have ended; after a refusal, before the refused byte.
     pub fn records(&self) -> u32
         ensures counted { WhateverFed self.now (λ limits bytes.
-            CountsRecords L.set limits bytes result) }
+            CountsRecords L.payloads limits bytes result) }
         ensures message { WhateverFed self.now (λ limits bytes.
-            CountsMessage L.set limits bytes result) }
+            CountsMessage L.payloads limits bytes result) }
     {
+        // For the proof alone.
         format_laws(&self.limits);
         self.ended_records()
     }
@@ -69,10 +71,11 @@ impl<L: OuterLanguage> Checker<L> {
     /// many as a message within the limits can have.
     pub fn place(&self) -> u64
         ensures longest { WhateverFed self.now (λ limits bytes.
-            IsLongestViable L.set limits bytes result) }
+            IsLongestViable L.payloads limits bytes result) }
         ensures bound { WhateverFed self.now (λ limits bytes.
             result ≤ greatest_length limits) }
     {
+        // For the proof alone.
         one_meaning();
         self.accepted_bytes()
     }
@@ -88,6 +91,7 @@ impl<L: OuterLanguage> Checker<L> {
         ensures limits { checker_limits result ≡ limits }
         ensures reached { CheckerReached result [] [] (start_point limits) }
     {
+        // For the proof alone.
         format_laws(&limits);
         let place = Place::start(&limits);
         Checker {
@@ -106,8 +110,9 @@ impl<L: OuterLanguage> Checker<L> {
     pub(crate) fn feed_bytes(&mut self, bytes: &[u8]) -> Fed
         ensures limits { checker_limits self.new ≡ checker_limits self.old }
         ensures fed { WhateverLed (CheckerReached self.old) (λ front given point.
-            Feeds L.set L.holds (checker_limits self.old) (CheckerReached self.new) front bytes.now result) }
+            Feeds L.payloads L.reasons (checker_limits self.old) (CheckerReached self.new) front bytes.now result) }
     {
+        // For the proof alone.
         format_laws(&self.limits);
         let mut at = 0;
         while at < bytes.len() {
@@ -125,8 +130,9 @@ impl<L: OuterLanguage> Checker<L> {
     /// What the bytes are, if the input ends with them.
     pub(crate) fn judge_end(&self) -> Result<(), Refusal>
         ensures { WhateverLed (CheckerReached self.now) (λ front given point.
-            Ends L.set L.holds (checker_limits self.now) front result) }
+            Ends L.payloads L.reasons (checker_limits self.now) front result) }
     {
+        // For the proof alone.
         format_laws(&self.limits);
         match self.state.phase {
             Phase::Done => Ok(()),
@@ -142,6 +148,7 @@ impl<L: OuterLanguage> Checker<L> {
     pub(crate) fn ended_records(&self) -> u32
         ensures { WhateverLed (CheckerReached self.now) (λ front given point. result ≡ length given) }
     {
+        // For the proof alone.
         format_laws(&self.limits);
         self.limits
             .records()
@@ -151,9 +158,10 @@ impl<L: OuterLanguage> Checker<L> {
     /// The number of them that are accepted: all, or all but a refused one.
     pub(crate) fn accepted_bytes(&self) -> u64
         ensures accepted { WhateverLed (CheckerReached self.now) (λ front given point.
-            IsLongestViable L.set (checker_limits self.now) front result) }
+            IsLongestViable L.payloads (checker_limits self.now) front result) }
         ensures bound { result ≤ greatest_length (checker_limits self.now) }
     {
+        // For the proof alone.
         format_laws(&self.limits);
         match self.state.phase {
             Phase::Refused { refusal } => refusal.at,
@@ -183,6 +191,7 @@ impl<L: OuterLanguage> Checker<L> {
         ensures onward { WhateverLed (CheckerReached self.old) (λ front given point.
             Leads (CheckerReached self.new) (front ++ take result bytes.now)) }
     {
+        // For the proof alone.
         format_laws(&self.limits);
         let taken = self.state.take_pieces(&self.limits, bytes);
         self.taken += taken as u64;
@@ -195,13 +204,14 @@ impl<L: OuterLanguage> Checker<L> {
     /// Continues after the record in one piece at the front of the bytes.
     pub(crate) fn pass_record(&mut self, bytes: &[u8], piece: &WholePiece<'_>)
         requires fresh { IsFresh self.old.state }
-        requires begins { BeginsWith L.set self.old.limits self.old.state.place bytes.now piece.now }
+        requires begins { BeginsWith L.payloads self.old.limits self.old.state.place bytes.now piece.now }
         ensures limits { self.new.limits ≡ self.old.limits }
         ensures taken { self.new.taken ≡ self.old.taken + (length bytes.now - length piece.now.rest.now) }
         ensures phase { self.new.state.phase ≡ (if is_set 6 piece.now.header then Phase.Done else Phase.Head) }
         ensures onward { WhateverLed (CheckerReached self.old) (λ front given point. LeadsBetween
             (CheckerReached self.new) (front ++ passed bytes.now piece.now) (given ++ record_of piece.now ∷ [])) }
     {
+        // For the proof alone.
         format_laws(&self.limits);
         let taken = bytes.len() - piece.rest.len();
         let place = self.state.place.behind_record(&self.limits);
@@ -223,6 +233,7 @@ impl<L: OuterLanguage> Checker<L> {
             (self.new.taken ≡ length (front ++ take result bytes.now))
             × Onward L.Language self.new.limits self.new.state front given point (take result bytes.now)) }
     {
+        // For the proof alone.
         format_laws(&self.limits);
         let at = self.taken;
         let count = self.state.step(&self.limits, at, bytes);

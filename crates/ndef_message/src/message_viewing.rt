@@ -1,5 +1,7 @@
 //! Views a message, where it lies.
-ghost use Rattle.ndef_message.specs.Views.{Views};
+ghost use Rattle.std.specs.Prelude.{IfErr, IfOk};
+ghost use Rattle.ndef_format.specs.Refusals.{Refuses};
+ghost use Rattle.ndef_message.specs.Views.{IsViewOf};
 
 use crate::accepted::lone_record;
 use crate::format::format_laws;
@@ -14,8 +16,10 @@ use ndef_value::{Limits, Refusal};
 /// Bytes that begin with no such message are refused at the first byte after which no continuation is
 /// one, or where they end too early, with the reason.
 pub fn view<L: OuterLanguage>(bytes: &[u8], limits: Limits) -> Result<View<'_>, Refusal>
-    ensures { Views L.set L.holds limits bytes.now result }
+    ensures message { IfOk result (IsViewOf L.payloads limits bytes.now) }
+    ensures refused { IfErr result (Refuses L.payloads L.reasons limits bytes.now) }
 {
+    // For the proof alone.
     format_laws(&limits);
     if let Some(taken) = lone_record::<L>(&limits, bytes) {
         return Ok(View::new(&bytes[..taken], 1, limits.profile()));

@@ -51,6 +51,7 @@ impl<L: OuterLanguage> State<L> {
         ensures onward { WhateverLed (Stands L.Language limits.now self.old) (λ front given point.
             Leads (Stands L.Language limits.now self.new) (front ++ take result bytes.now)) }
     {
+        // For the proof alone.
         format_laws(limits);
         if !self.is_fresh() {
             return 0;
@@ -91,6 +92,7 @@ impl<L: OuterLanguage> State<L> {
         ensures onward { WhateverLed (Stands L.Language limits.now self.old) (λ front given point.
             Leads (Stands L.Language limits.now self.new) (front ++ take result bytes.now)) }
     {
+        // For the proof alone.
         format_laws(limits);
         if !self.is_at_chunk() {
             return 0;
@@ -123,7 +125,7 @@ impl<L: OuterLanguage> State<L> {
         bytes: &'a [u8],
     ) -> Option<WholePiece<'a>>
         ensures fresh { IfSome result (λ w. IsFresh self.now) }
-        ensures begins { IfSome result (λ w. BeginsWith L.set limits.now self.now.place bytes.now w) }
+        ensures begins { IfSome result (λ w. BeginsWith L.payloads limits.now self.now.place bytes.now w) }
     {
         if !self.is_fresh() {
             return None;
@@ -181,6 +183,7 @@ impl<L: OuterLanguage> State<L> {
             WhateverLed (Stands L.Language limits.now self.old) (λ front given point.
             Onward L.Language limits.now self.new front given point (take count bytes.now))) }
     {
+        // For the proof alone.
         format_laws(limits);
         let (head, count) = self.reader.whole_head(bytes)?;
         if !self.place.inside {
@@ -204,6 +207,7 @@ impl<L: OuterLanguage> State<L> {
             at ≡ length front
             → Onward L.Language limits.now self.new front given point (byte ∷ [])) }
     {
+        // For the proof alone.
         format_laws(limits);
         match self.reader.step(byte) {
             Step::More => {
@@ -244,6 +248,7 @@ impl<L: OuterLanguage> State<L> {
         ensures entered { GoesBehind L.Language limits.now self.new at
             (WholeHead L.Language limits.now self.old head) }
     {
+        // For the proof alone.
         format_laws(limits);
         if self.place.inside {
             self.enter(limits, at, head, 0, head.payload_length);
@@ -258,6 +263,7 @@ impl<L: OuterLanguage> State<L> {
         ensures stands { BeginsBehind L.Language limits.now self.new
             (WholeHead L.Language limits.now self.old head) }
     {
+        // For the proof alone.
         format_laws(limits);
         if head.kind_length > 0 {
             self.phase = Phase::Type {
@@ -286,6 +292,7 @@ impl<L: OuterLanguage> State<L> {
             at ≡ length front
             → Onward L.Language limits.now self.new front given point (take result bytes.now)) }
     {
+        // For the proof alone.
         format_laws(limits);
         let most = self.place.most_left(&head, left);
         let count = self.payload.step_all(bytes, u64::from(left), most);
@@ -310,6 +317,7 @@ impl<L: OuterLanguage> State<L> {
         ensures onward { WhateverLed (Stands L.Language limits.now self.old) (λ front given point.
             Onward L.Language limits.now self.new front given point bytes.now) }
     {
+        // For the proof alone.
         format_laws(limits);
         let count = bytes.len();
         self.settle(limits, head, left - count as u8, head.payload_length);
@@ -336,6 +344,7 @@ impl<L: OuterLanguage> State<L> {
             at ≡ length front
             → Onward L.Language limits.now self.new front given point bytes.now) }
     {
+        // For the proof alone.
         format_laws(limits);
         let count = bytes.len();
         let mut kind = kind;
@@ -362,6 +371,7 @@ impl<L: OuterLanguage> State<L> {
         ensures entered { EntersBehind L.Language limits.now self.new at
             (InBody L.Language limits.now self.old head id_left left) }
     {
+        // For the proof alone.
         format_laws(limits);
         if self
             .payload
@@ -383,6 +393,7 @@ impl<L: OuterLanguage> State<L> {
         ensures stands { SettlesBehind L.Language limits.now self.new
             (InBody L.Language limits.now self.old head id_left left) }
     {
+        // For the proof alone.
         format_laws(limits);
         if id_left > 0 {
             self.phase = Phase::Id {

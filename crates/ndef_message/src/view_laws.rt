@@ -8,8 +8,8 @@ use ndef_value::one_meaning;
 /// There is a view exactly where the bytes begin with a message: such bytes are not refused, and what
 /// is seen is the only message at their front, in the only runs that spell it.
 pub fn views_are_exact<L: OuterLanguage>()
-    ensures refused { NeverRefusedInView L.set L.holds }
-    ensures one { OneView L.set L.holds }
+    ensures refused { NeverRefusedInView L.payloads L.reasons }
+    ensures one { OneView L.payloads L.reasons }
 {
     one_meaning();
     places_are_told::<L>();

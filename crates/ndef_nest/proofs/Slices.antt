@@ -15,7 +15,7 @@ use Rattle.ndef_format.specs.declared.kind.Kind.{Kind}
 use Rattle.ndef_lang.specs.declared.leaf.Leaf.{Leaf}
 use Rattle.ndef_nest.specs.declared.context.Context.{Context}
 use Rattle.ndef_nest.specs.declared.phase.Body.{Body}
-use Rattle.ndef_nest.specs.declared.phase.Phase.{Phase}
+use Rattle.ndef_nest.specs.declared.phase.NestPhase.{NestPhase}
 use Rattle.ndef_format.specs.Nested.{kind_in}
 use Rattle.ndef_nest.specs.Machine.Phases.{Completes}
 use Rattle.ndef_nest.specs.Machine.Demands.{IsBody}
@@ -166,7 +166,7 @@ reason_front holds reason bytes s n count less h =
 
 -- ---- between records no octet of a head was read
 
-pub fresh_steps : (c : Context) (first : Bool) (xs : List ℕ) (old new : Phase) (bytes : List ℕ) (lo hi count : ℕ) → xs ≡ [] → first ≡ false → StepsAll (Completes c false [] old) (Completes c false [] new) bytes lo hi count
+pub fresh_steps : (c : Context) (first : Bool) (xs : List ℕ) (old new : NestPhase) (bytes : List ℕ) (lo hi count : ℕ) → xs ≡ [] → first ≡ false → StepsAll (Completes c false [] old) (Completes c false [] new) bytes lo hi count
     → StepsAll (Completes c first xs old) (Completes c first xs new) bytes lo hi count
 fresh_steps c first xs old new bytes lo hi count e f h = rw (e, f) h
 

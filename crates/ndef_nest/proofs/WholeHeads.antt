@@ -19,8 +19,8 @@ use Rattle.ndef_lang.specs.Machine.Kind.{kind_after, missing_of}
 use Rattle.ndef_nest.specs.declared.context.Context.{Context}
 use Rattle.ndef_nest.specs.declared.demand.Demand.{Demand}
 use Rattle.ndef_nest.specs.declared.phase.Name.{Name}
-use Rattle.ndef_nest.specs.declared.phase.Phase.{Phase}
-use Rattle.ndef_nest.specs.declared.phase.Phase.TheVariants as phases
+use Rattle.ndef_nest.specs.declared.phase.NestPhase.{NestPhase}
+use Rattle.ndef_nest.specs.declared.phase.NestPhase.TheVariants as phases
 use Rattle.ndef_nest.specs.Machine.Demands.{Allows, IsBody, IsTypeField, Later, RecordsToCome, Tail, demand_after, nested_spot}
 use Rattle.ndef_nest.specs.Machine.Phases.{Completes, CompletesHeaded, CompletesNamed, IsBetween, fewer, is_first_octet, is_sound}
 use Rattle.ndef_nest.specs.Machine.Reached.{HasCome, IsHeaded, IsInHead, IsInName, IsNamed}
@@ -30,7 +30,7 @@ use Rattle.ndef_nest.proofs.Reaching.{head_first, past_more, whole_head}
 use Rattle.ndef_nest.proofs.Steps.{chain, head_whole}
 
 -- where a record may begin, what completes the message with some octets is records
-between_completes : (c : Context) (first : Bool) (xs : List ℕ) (phase : Phase) (t r : List ℕ) → IsBetween phase xs → 0 < length t
+between_completes : (c : Context) (first : Bool) (xs : List ℕ) (phase : NestPhase) (t r : List ℕ) → IsBetween phase xs → 0 < length t
     → RecordsToCome c.profile c.table c.records (is_first_octet phase first) c.demand (t ++ r) ↔ Completes c first xs phase (t ++ r)
 between_completes c first xs phases.Start [] r h some = absurd (omega arith)
 between_completes c first xs phases.Start (b ∷ t) r h some = (λ x. inr x, λ z. (elim z [ inl x ↦ absurd (let e = x.1 in cc) | inr x ↦ x ]))
@@ -38,19 +38,19 @@ between_completes c first xs phases.Head t r h some = rw h (λ x. x, λ x. x)
 between_completes c first xs _ t r h some = absurd h
 
 -- where a record may begin, what has come of the message is whole records
-between_come : (c : Context) (first : Bool) (xs : List ℕ) (phase : Phase) (records : ℕ) (m : List ℕ) → IsBetween phase xs → HasCome c first xs phase records m → IsInHead c (is_first_octet phase first) [] records m
+between_come : (c : Context) (first : Bool) (xs : List ℕ) (phase : NestPhase) (records : ℕ) (m : List ℕ) → IsBetween phase xs → HasCome c first xs phase records m → IsInHead c (is_first_octet phase first) [] records m
 between_come c first xs phases.Start records m h x = head_first c records m x.0 x.1
 between_come c first xs phases.Head records m h x = rw h at x
 between_come c first xs _ records m h x = absurd h
 
 -- where a record may begin, one may come
-pub between_some : (c : Context) (first : Bool) (xs : List ℕ) (phase : Phase) → IsBetween phase xs → is_sound c first xs phase ≡ true → 0 < c.records
+pub between_some : (c : Context) (first : Bool) (xs : List ℕ) (phase : NestPhase) → IsBetween phase xs → is_sound c first xs phase ≡ true → 0 < c.records
 between_some c first xs phases.Start h s = some_records c.records s
 between_some c first xs phases.Head h s = some_records c.records s
 between_some c first xs _ h s = absurd h
 
 -- where a record may begin, the version octet has come
-pub not_version : (phase : Phase) (xs : List ℕ) → IsBetween phase xs → phase ≢ phases.Version
+pub not_version : (phase : NestPhase) (xs : List ℕ) → IsBetween phase xs → phase ≢ phases.Version
 not_version phases.Version xs h e = h
 not_version _ xs h e = cc
 
@@ -70,7 +70,7 @@ head_followed profile first records xs h some at = by_last h.last refl
         rw (e, l) refl
 
 -- what completes the message after a whole head is what continues it
-pub head_completes : (apart : HeadsAreApart) (c : Context) (first : Bool) (xs : List ℕ) (phase : Phase) (bytes : List ℕ) (h : Head) (count : ℕ) → IsBetween phase xs → 0 < c.records
+pub head_completes : (apart : HeadsAreApart) (c : Context) (first : Bool) (xs : List ℕ) (phase : NestPhase) (bytes : List ℕ) (h : Head) (count : ℕ) → IsBetween phase xs → 0 < c.records
     → BeginWithHead (nested_spot c.profile (is_first_octet phase first) c.records) bytes h count → Continues (Completes c first xs phase) (CompletesHeaded (fewer c) h) (take count bytes)
 head_completes apart c first xs phase bytes h count between some at r =
     let t = take count bytes in
@@ -78,7 +78,7 @@ head_completes apart c first xs phase bytes h count between some at r =
     (between_completes c first xs phase t r between (omega (arith, at.some, length-take-le count bytes at.within)))
 
 -- what has come of the message with a whole head
-pub head_comes : (c : Context) (first : Bool) (xs : List ℕ) (phase : Phase) (bytes : List ℕ) (h : Head) (count records : ℕ) → IsBetween phase xs → 0 < c.records
+pub head_comes : (c : Context) (first : Bool) (xs : List ℕ) (phase : NestPhase) (bytes : List ℕ) (h : Head) (count records : ℕ) → IsBetween phase xs → 0 < c.records
     → BeginWithHead (nested_spot c.profile (is_first_octet phase first) c.records) bytes h count → Reaches (HasCome c first xs phase records) (IsHeaded (fewer c) h records) (take count bytes)
 head_comes c first xs phase bytes h count records between some at m x =
     whole_head c (fewer c) (is_first_octet phase first) [] records m (nested_spot c.profile (is_first_octet phase first) c.records) (take count bytes) h some refl refl at.whole (between_come c first xs phase records m between x)

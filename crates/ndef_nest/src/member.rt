@@ -17,6 +17,7 @@ fn behind_record(context: Context, first: bool, bytes: &[u8]) -> Option<(Demand,
         → Tail (Later context.profile context.table others) r.1 r.0 r.2.now
         → RecordsToCome context.profile context.table context.records first context.demand bytes.now) }
 {
+    // For the proof alone.
     heads_are_of_pieces();
     let piece = whole_piece(bytes)?;
     if !piece.is_record_at(&context.spot(first)) {

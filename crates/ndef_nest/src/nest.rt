@@ -21,8 +21,8 @@ use crate::Table;
 use crate::context::Context;
 use crate::demand::Demand;
 use crate::member::is_nested;
-use crate::phase::{Phase, headed, typed};
-use crate::span::{Open, least, meets, most};
+use crate::phase::{NestPhase, headed, typed};
+use crate::span::{OpenRecord, least, meets, most};
 use ndef_lang::{Kind, Language};
 use ndef_piece::{
     Bounds, Head, HeadReader, Step, conditions_are_exact, fields_are_told, heads_are_apart,
@@ -36,7 +36,7 @@ use ndef_value::{Profile, Reason, Tnf};
 pub struct Nest {
     context: Context,
     reader: HeadReader,
-    phase: Phase,
+    phase: NestPhase,
     /// Why the octet taken last is refused, if it is.
     told: Reason,
     ghost suited: { suits context.table context.demand ≡ true },
@@ -47,19 +47,19 @@ pub struct Nest {
 }
 
 /// After an octet in the place of the version octet.
-fn after_version(byte: u8) -> (Phase, Reason)
+fn after_version(byte: u8) -> (NestPhase, Reason)
     ensures future { (c : Context) (first : Bool) (xs r : List ℕ)
         → Completes c first xs result.0 r ↔ CompletesVersion c (byte ∷ r) }
     ensures sound { (c : Context) (first : Bool) (xs : List ℕ)
-        → is_sound c first xs Phase.Version ≡ true → is_sound c first xs result.0 ≡ true }
+        → is_sound c first xs NestPhase.Version ≡ true → is_sound c first xs result.0 ≡ true }
     ensures come { (c : Context) (first : Bool) (xs : List ℕ) (records : ℕ)
         → IsNew c records → HasCome c first xs result.0 records [] }
     ensures reason { IsLowest (OneReason reasons.Version (IsVersion byte → ⊥)) result.1 }
 {
     if byte / 16 == 1 {
-        (Phase::Start, Reason::DoesNotFit)
+        (NestPhase::Start, Reason::DoesNotFit)
     } else {
-        (Phase::Refused, Reason::Version)
+        (NestPhase::Refused, Reason::Version)
     }
 }
 
@@ -119,7 +119,7 @@ impl Nest {
         Nest {
             context,
             reader: HeadReader::new(context.spot(true)),
-            phase: Phase::first(table),
+            phase: NestPhase::first(table),
             told: Reason::DoesNotFit,
         }
     }
@@ -130,30 +130,32 @@ impl Nest {
         ensures { result ≡ nest_span self.now }
     {
         match self.phase {
-            Phase::Version | Phase::Start | Phase::Refused => (1, 0),
-            Phase::Head => self.head_span(),
-            Phase::Name(name) => {
+            NestPhase::Version | NestPhase::Start | NestPhase::Refused => (1, 0),
+            NestPhase::Head => self.head_span(),
+            NestPhase::Name(name) => {
                 let demand = self.context.demand;
-                Open::of_name(demand, name).span(demand)
+                OpenRecord::of_name(demand, name).span(demand)
             }
-            Phase::Body(body) => body.span(&self.context),
-            Phase::Ended => (0, 0),
+            NestPhase::Body(body) => body.span(&self.context),
+            NestPhase::Ended => (0, 0),
         }
     }
 
     /// The same in a head.
     fn head_span(&self) -> (u64, u64)
-        requires { self.now.phase ≡ Phase.Head }
+        requires { self.now.phase ≡ NestPhase.Head }
         ensures { result ≡ nest_head_span self.now }
     {
         match self.reader.bounds() {
-            Some(bounds) => Open::of_head(self.context.demand, &bounds).span(self.context.demand),
+            Some(bounds) => OpenRecord::of_head(self.context.demand, &bounds).span(
+                self.context.demand,
+            ),
             None => records_span(&self.context),
         }
     }
 
     /// Where no octet of a head has come.
-    fn at(context: Context, phase: Phase) -> Nest
+    fn at(context: Context, phase: NestPhase) -> Nest
         requires suited { Suits context }
         requires sound { IsSoundBehind context phase }
         ensures future { Continues (CompletesBehind context phase) (future result) [] }
@@ -202,8 +204,8 @@ impl Nest {
         ensures begins { IfSome result (λ r. BeginWithHead (nest_spot self.now) bytes.now r.0 r.1) }
     {
         match self.phase {
-            Phase::Start => HeadReader::new(self.context.spot(true)).whole_head(bytes),
-            Phase::Head => self.reader.whole_head(bytes),
+            NestPhase::Start => HeadReader::new(self.context.spot(true)).whole_head(bytes),
+            NestPhase::Head => self.reader.whole_head(bytes),
             _ => None,
         }
     }
@@ -222,6 +224,7 @@ impl Nest {
         ensures reached { IfSome result (λ r.
             ReachesEach (reached self.now) (reached r.0) (take r.1 bytes.now)) }
     {
+        // For the proof alone.
         heads_are_apart();
         let (head, count) = self.whole_head(bytes)?;
         let context = self.context.fewer();
@@ -259,8 +262,9 @@ impl Nest {
             (NestReason (table_of kind) records profile)
             (take result.0 bytes.now) result.1 (nest_told self.new) }
     {
-        if let Phase::Body(body) = self.phase {
+        if let NestPhase::Body(body) = self.phase {
             if body.id == 0 {
+                // For the proof alone.
                 fields_are_told();
                 let most = bytes.len().min(body.payload as usize);
                 let (phase, told, count) = body.step_all(&self.context, &bytes[..most]);
@@ -286,7 +290,7 @@ impl Nest {
 
     /// Takes an octet of a head.
     fn at_head(&mut self, byte: u8)
-        requires { self.old.phase ≡ Phase.Head }
+        requires { self.old.phase ≡ NestPhase.Head }
         ensures future { Continues (future self.old) (future self.new) (byte ∷ []) }
         ensures come { (records : ℕ) → Reaches (come self.old records) (come self.new records) (byte ∷ []) }
         ensures kept { (self.new.context.table ≡ self.old.context.table)
@@ -295,6 +299,7 @@ impl Nest {
             (MessageReason self.old.context.table records self.old.context.profile)
             byte (nest_told self.new) }
     {
+        // For the proof alone.
         lengths_are_independent();
         heads_are_apart();
         fields_are_told();
@@ -315,7 +320,7 @@ impl Nest {
             }
             Step::Refused(reason) => {
                 self.reader = HeadReader::new(self.context.spot(false));
-                self.phase = Phase::Refused;
+                self.phase = NestPhase::Refused;
                 self.told = reason;
             }
         }
@@ -327,9 +332,9 @@ impl Language for Nest {
     ghost use Rattle.ndef_nest.specs.Machine.SpanLaws.{nest_fits_exactly};
     ghost use Rattle.ndef_nest.specs.Machine.OctetLaws.{nest_completes_octets, nest_octets};
 
-    ghost set = { λ kind. IsNest (table_of kind) };
+    ghost payloads = { λ kind. IsNest (table_of kind) };
 
-    ghost holds = { λ kind. NestReason (table_of kind) };
+    ghost reasons = { λ kind. NestReason (table_of kind) };
 
     ghost future = { future };
 
@@ -337,7 +342,7 @@ impl Language for Nest {
 
     ghost fitting = { nest_fits };
 
-    ghost told = { nest_told };
+    ghost reason_of_last = { nest_told };
 
     #[inline(always)]
     fn has(kind: Kind, records: u32, profile: Profile, payload: &[u8]) -> bool {
@@ -349,32 +354,33 @@ impl Language for Nest {
     }
 
     fn step(&mut self, byte: u8) {
+        // For the proof alone.
         fields_are_told();
         match self.phase {
-            Phase::Version => {
+            NestPhase::Version => {
                 let (phase, told) = after_version(byte);
                 self.phase = phase;
                 self.told = told;
             }
-            Phase::Start => {
+            NestPhase::Start => {
                 self.reader = HeadReader::new(self.context.spot(true));
-                self.phase = Phase::Head;
+                self.phase = NestPhase::Head;
                 self.at_head(byte);
             }
-            Phase::Head => self.at_head(byte),
-            Phase::Name(name) => {
+            NestPhase::Head => self.at_head(byte),
+            NestPhase::Name(name) => {
                 self.told = name.reason(self.context.demand, byte);
                 let (demand, phase) = name.step(&self.context, byte);
                 self.context.demand = demand;
                 self.phase = phase;
             }
-            Phase::Body(body) => {
+            NestPhase::Body(body) => {
                 let (phase, told) = body.step(&self.context, byte);
                 self.phase = phase;
                 self.told = told;
             }
-            Phase::Ended | Phase::Refused => {
-                self.phase = Phase::Refused;
+            NestPhase::Ended | NestPhase::Refused => {
+                self.phase = NestPhase::Refused;
                 self.told = Reason::DoesNotFit;
             }
         }
@@ -395,8 +401,8 @@ impl Language for Nest {
 
     fn fits(&self, lo: u64, hi: u64) -> bool {
         match self.phase {
-            Phase::Version => hi > 0 && start_fits(&self.context, lo.max(1) - 1, hi - 1),
-            Phase::Start => start_fits(&self.context, lo, hi),
+            NestPhase::Version => hi > 0 && start_fits(&self.context, lo.max(1) - 1, hi - 1),
+            NestPhase::Start => start_fits(&self.context, lo, hi),
             _ => meets(self.span(), lo, hi),
         }
     }
@@ -409,5 +415,5 @@ impl Language for Nest {
 
     ghost future_octets = { nest_completes_octets };
 
-    ghost set_octets = { λ kind. nest_octets (table_of kind) };
+    ghost payloads_are_octets = { λ kind. nest_octets (table_of kind) };
 }

@@ -8,7 +8,7 @@ use Rattle.ndef_format.specs.declared.profile.Profile.TheVariants.{Strict, Stand
 use Rattle.ndef_format.specs.declared.spot.Spot.{Spot}
 use Rattle.ndef_format.specs.Positions.{MayStand}
 use Rattle.ndef_format.specs.HeadReasons.{tnf_number, is_strict, reason_for}
-use Rattle.ndef_piece.specs.HeaderLaws.{Parts}
+use Rattle.ndef_piece.specs.HeaderLaws.{HeaderParts}
 use Rattle.ndef_piece.proofs.Sorts.{empty, named, unnamed, sort}
 use Rattle.ndef_piece.proofs.Guards.{and_false, skip}
 
@@ -18,7 +18,7 @@ strict_read Strict n h e = ne_eqb n 7 (λ f. omega arith)
 strict_read Standard n h e = cc
 
 -- no condition holds of the header octet
-pub header_fits : (spot : Spot) (h : HeadFields) (i : Bool) (n : ℕ) → MayStand spot h → Parts n h.first h.last h.chunked h.short i h.tnf
+pub header_fits : (spot : Spot) (h : HeadFields) (i : Bool) (n : ℕ) → MayStand spot h → HeaderParts n h.first h.last h.chunked h.short i h.tnf
     → (spot.inside ≡ true → i ≡ false) → reason_for spot [] n ≡ None
 header_fits spot h i n m p no_id =
     rw (p.begins, p.ends, p.chunked, p.id_there, p.tnf)

@@ -5,7 +5,7 @@ use Rattle.std.specs.Bool.{then_some}
 use Rattle.std.proofs.Math.Seq.{take-append_seam}
 use Rattle.ndef_format.specs.Records.{FitsForm, AreOctets, octets, header_octet, payload_length_octets, id_length_octets}
 use Rattle.ndef_value.specs.ListLaws.{octets_front, octets_back}
-use Rattle.ndef_value.specs.SliceLaws.{behind, cut_two, octet_at, octets_behind}
+use Rattle.ndef_value.specs.SliceLaws.{rest_from, cut_two, octet_at, octets_behind}
 use Rattle.ndef_format.specs.HeadReasons.{is_set}
 use Rattle.ndef_piece.specs.Heads.{head}
 use Rattle.ndef_format.specs.Positions.{CanBeSpelled, MayStand}
@@ -31,7 +31,7 @@ then_is false i = refl
 
 -- its octets, one after another, are a head that may stand
 pub head_from : (spot : Spot) (bytes : List ℕ) (h : Head) → AreOctets bytes → 2 ≤ length bytes → (n i : ℕ) (r1 rest : List ℕ) → n < 2 ^ 32 → FitsForm (is_set 4 (get_or bytes 0 0)) n
-    → behind 2 bytes ≡ payload_length_octets (is_set 4 (get_or bytes 0 0)) n ++ r1 → r1 ≡ id_length_octets (if is_set 3 (get_or bytes 0 0) then Some i else None) ++ rest
+    → rest_from 2 bytes ≡ payload_length_octets (is_set 4 (get_or bytes 0 0)) n ++ r1 → r1 ≡ id_length_octets (if is_set 3 (get_or bytes 0 0) then Some i else None) ++ rest
     → head (fields_of (get_or bytes 0 0) (get_or bytes 1 0) i n) ≡ h
     → (CanBeSpelled (fields_of (get_or bytes 0 0) (get_or bytes 1 0) i n) → MayStand spot (fields_of (get_or bytes 0 0) (get_or bytes 1 0) i n))
     → BeginWithHead spot bytes h (length bytes - length rest)
@@ -41,7 +41,7 @@ head_from spot bytes h all two n i r1 rest small form e1 e2 read stands =
     let f = fields_of header kind i n in
     let pl = payload_length_octets (is_set 4 header) n in
     let il = id_length_octets f.id_length in
-    let b0 : behind 2 bytes ≡ pl ++ (il ++ rest) = e1 ∙ ap (λ x. pl ++ x) e2 in
+    let b0 : rest_from 2 bytes ≡ pl ++ (il ++ rest) = e1 ∙ ap (λ x. pl ++ x) e2 in
     let o0 : AreOctets (pl ++ (il ++ rest)) = subst AreOctets b0 (octets_behind 2 bytes all) in
     let o1 = octets_front il rest (octets_back pl _ o0) in
     let header_is : header_octet f.first f.last f.chunked f.short (is_some f.id_length) f.tnf ≡ header =

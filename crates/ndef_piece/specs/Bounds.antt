@@ -14,7 +14,8 @@ use Rattle.ndef_piece.specs.Ranges.{range_of}
 abbrev pub IsIn : ℕ → ℕ × ℕ → Type 0
 IsIn n range = (range.0 ≤ n) × (n ≤ range.1)
 
--- the fields have these flags, and lengths in these ranges, and `count` of their octets are still to come
+-- the fields have these flags, and lengths in these ranges, and `count` of their octets are still
+-- to come
 pub record AreWithin (f : HeadFields) (count : ℕ) (b : Bounds) : Type 0 where
   pub left : count ≡ b.left
   pub last : f.last ≡ b.last
@@ -29,10 +30,12 @@ pub record AreWithin (f : HeadFields) (count : ℕ) (b : Bounds) : Type 0 where
 pub record AreBounds (spot : Spot) (xs : List ℕ) (b : Bounds) : Type 0 where
   pub sound : (f : HeadFields) (begun : BeginsHead spot xs f) → AreWithin f (length begun.rest) b
   pub full : (kind id payload : ℕ) → IsIn kind b.kind → IsIn id b.id → IsIn payload b.payload
-      → (f : HeadFields) × BeginsHead spot xs f × (f.kind_length ≡ kind) × (unwrap_or f.id_length 0 ≡ id)
+      → (f : HeadFields) × BeginsHead spot xs f × (f.kind_length ≡ kind)
+      × (unwrap_or f.id_length 0 ≡ id)
       × (f.payload_length ≡ payload)
 
--- NDEF 1.0, TYPE_LENGTH: the type lengths of a type name format, given these octets after the header octet
+-- NDEF 1.0, TYPE_LENGTH: the type lengths of a type name format, given these octets after the
+-- header octet
 abbrev pub kind_range : ℕ → List ℕ → ℕ × ℕ
 kind_range tnf [] = if nat_lt 0 tnf && nat_lt tnf 5 then (1, 255) else (0, 0)
 kind_range tnf (kind ∷ xs) = (kind, kind)
@@ -79,4 +82,5 @@ BoundsOfFronts = (spot : Spot) (header : ℕ) (xs : List ℕ) → IsOpen spot (h
 
 -- The bounds of a whole head are its lengths.
 abbrev pub BoundsOfHeads : Type 0
-BoundsOfHeads = (spot : Spot) (xs : List ℕ) (h : Head) → IsWholeHead spot xs h → AreBounds spot xs (bounds_at h)
+BoundsOfHeads =
+    (spot : Spot) (xs : List ℕ) (h : Head) → IsWholeHead spot xs h → AreBounds spot xs (bounds_at h)

@@ -17,12 +17,14 @@ ended_run (q ∷ begun) p = record { initial = q; later = begun ++ p ∷ [] }
 abbrev pub OneField : Type 0
 OneField = (limits : LimitValues) (bytes : List ℕ) (runs others : List Run) (begun opened : List Piece)
     (field other : Field)
-    → IsAt limits bytes runs begun field → IsAt limits bytes others opened other → (runs ≡ others) × (begun ≡ opened)
+    → IsAt limits bytes runs begun field → IsAt limits bytes others opened other → (runs ≡ others)
+    × (begun ≡ opened)
     × (field ≡ other)
 
 -- A piece that stands after others goes on with the open run, and where its CF is clear it ends it.
 abbrev pub PiecesGoOn : Type 0
-PiecesGoOn = (limits : LimitValues) (runs : List Run) (begun : List Piece) (p : Piece) → AreBefore limits runs begun
+PiecesGoOn = (limits : LimitValues) (runs : List Run) (begun : List Piece) (p : Piece)
+    → AreBefore limits runs begun
     → Stands (spot_after limits runs begun) p
     → (p.chunked ≡ true → AreBefore limits runs (begun ++ p ∷ []))
     × (p.chunked ≡ false → AreBefore limits (runs ++ ended_run begun p ∷ []) [])

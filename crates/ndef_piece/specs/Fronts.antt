@@ -14,7 +14,8 @@ AreMessage limits ps = (runs : List Run) × (items : List Item) × (ps ≡ all_p
 abbrev pub BeginMessage : LimitValues → List Piece → Type 0
 BeginMessage limits ps = (more : List Piece) × AreMessage limits (ps ++ more)
 
--- the pieces are those of complete runs and of an open one, and the spot after them allows exactly what may come next
+-- the pieces are those of complete runs and of an open one, and the spot after them allows exactly
+-- what may come next
 pub record IsPosition (limits : LimitValues) (ps : List Piece) : Type 0 where
   pub runs : List Run
   -- the pieces of the open run, none where no run is open
@@ -30,5 +31,6 @@ pub record IsPosition (limits : LimitValues) (ps : List Piece) : Type 0 where
 -- Wherever a message within the limits may be cut between pieces there is a spot,
 -- and the pieces that may stand at it are those with which some message within the limits goes on.
 abbrev pub FrontsHaveSpots : Type 0
-FrontsHaveSpots = (limits : LimitValues) (ps : List Piece) → AreInRange limits → BeginMessage limits ps
+FrontsHaveSpots =
+    (limits : LimitValues) (ps : List Piece) → AreInRange limits → BeginMessage limits ps
     → IsPosition limits ps

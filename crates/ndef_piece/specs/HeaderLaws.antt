@@ -41,7 +41,7 @@ at_tnf : (b e c s i t : ℕ) → t < 8 → (128 * b + 64 * e + 32 * c + 16 * s +
 at_tnf b e c s i t h = omega arith
 
 -- each part of a header octet
-pub record Parts (n : ℕ) (b e c s i : Bool) (t : ℕ) : Type 0 where
+pub record HeaderParts (n : ℕ) (b e c s i : Bool) (t : ℕ) : Type 0 where
   pub begins : is_set 7 n ≡ b
   pub ends : is_set 6 n ≡ e
   pub chunked : is_set 5 n ≡ c
@@ -50,7 +50,7 @@ pub record Parts (n : ℕ) (b e c s i : Bool) (t : ℕ) : Type 0 where
   pub tnf : tnf_number n ≡ t
 
 -- the parts of a header octet are those that it was made of
-pub octet_parts : (b e c s i : Bool) (t : ℕ) → t < 8 → Parts (header_octet b e c s i t) b e c s i t
+pub octet_parts : (b e c s i : Bool) (t : ℕ) → t < 8 → HeaderParts (header_octet b e c s i t) b e c s i t
 octet_parts b e c s i t u = record {
   begins = ap (λ x. x == 1) (at_7 (bit b) (bit e) (bit c) (bit s) (bit i) t (bit_below b) (bit_below e) (bit_below c)
       (bit_below s) (bit_below i) u) ∙ bit_test b;
@@ -71,7 +71,7 @@ header h = header_octet h.first h.last h.chunked h.short (is_some h.id_length) h
 
 -- the parts of its header octet
 pub header_parts : (h : HeadFields) → h.tnf < 8
-    → Parts (header h) h.first h.last h.chunked h.short (is_some h.id_length) h.tnf
+    → HeaderParts (header h) h.first h.last h.chunked h.short (is_some h.id_length) h.tnf
 header_parts h t = octet_parts h.first h.last h.chunked h.short (is_some h.id_length) h.tnf t
 
 -- ---- sizes

@@ -61,7 +61,9 @@ IsRange spot xs range = (n : ℕ) → IsLength spot xs n ↔ ((range.0 ≤ n) ×
 
 -- No head's octets begin those of another, and heads with the same octets are the same.
 abbrev pub HeadsAreApart : Type 0
-HeadsAreApart = (f g : HeadFields) (x y : List ℕ) → CanBeSpelled f → CanBeSpelled g → octets f ++ x ≡ octets g ++ y
+HeadsAreApart =
+    (f g : HeadFields) (x y : List ℕ) → CanBeSpelled f → CanBeSpelled g → octets f ++ x ≡ octets g
+    ++ y
     → (f ≡ g) × (x ≡ y)
 
 -- A head has 3 to 7 octets, as SR and IL say.
@@ -71,5 +73,6 @@ HeadsHaveSizes = (f : HeadFields) → CanBeSpelled f
 
 -- A header octet gives the type name format of its head.
 abbrev pub HeadersTell : Type 0
-HeadersTell = (f : HeadFields) (header : ℕ) (rest : List ℕ) → CanBeSpelled f → octets f ≡ header ∷ rest
+HeadersTell =
+    (f : HeadFields) (header : ℕ) (rest : List ℕ) → CanBeSpelled f → octets f ≡ header ∷ rest
     → tnf_number header ≡ f.tnf

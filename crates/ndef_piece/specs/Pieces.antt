@@ -10,25 +10,33 @@ use Rattle.ndef_format.specs.Positions.{MayStand, IsOpen, Stands}
 
 -- A piece may stand at a spot exactly where its head may.
 abbrev pub HeadsOfPieces : Type 0
-HeadsOfPieces = (spot : Spot) (p : Piece) (short : Bool) → IsPiece p → FitsForm short (length p.payload) → Stands spot p
+HeadsOfPieces =
+    (spot : Spot) (p : Piece) (short : Bool) → IsPiece p → FitsForm short (length p.payload)
+    → Stands spot p
     ↔ MayStand spot (fields p short)
 
 -- Each head that may stand is that of some piece, with any type, id and payload of its lengths.
 abbrev pub PiecesOfHeads : Type 0
-PiecesOfHeads = (spot : Spot) (f : HeadFields) (p : Piece) → IsPiece p → fields p f.short ≡ f → MayStand spot f
+PiecesOfHeads =
+    (spot : Spot) (f : HeadFields) (p : Piece) → IsPiece p → fields p f.short ≡ f → MayStand spot f
     → Stands spot p × SpellsPiece p f.short (octets f ++ body p)
 
 -- Where the bytes of a piece that may stand go on after an open front with b, b is not refused.
 -- Where they are a whole head then, it is the head of the piece.
 abbrev pub HeadsOfBytes : Type 0
-HeadsOfBytes = (spot : Spot) (p : Piece) (short : Bool) (bytes xs rest : List ℕ) (b : ℕ) → SpellsPiece p short bytes
+HeadsOfBytes =
+    (spot : Spot) (p : Piece) (short : Bool) (bytes xs rest : List ℕ) (b : ℕ)
+    → SpellsPiece p short bytes
     → Stands spot p
     → IsOpen spot xs → bytes ≡ (xs ++ b ∷ []) ++ rest
-    → IsViableHead spot (xs ++ b ∷ []) × ((h : Head) → IsWholeHead spot (xs ++ b ∷ []) h → (h ≡ head (fields p short))
+    → IsViableHead spot (xs ++ b ∷ [])
+    × ((h : Head) → IsWholeHead spot (xs ++ b ∷ []) h → (h ≡ head (fields p short))
     × (rest ≡ body p))
 
--- The payload lengths of the heads that go on after some octets are those of the pieces whose heads do.
+-- The payload lengths of the heads that go on after some octets are those of the pieces whose heads
+-- do.
 abbrev pub LengthsOfPieces : Type 0
 LengthsOfPieces = (spot : Spot) (xs : List ℕ) (n : ℕ) → IsLength spot xs n
-    ↔ ((p : Piece) × (short : Bool) × (rest : List ℕ) × IsPiece p × FitsForm short (length p.payload) × Stands spot p
+    ↔ ((p : Piece) × (short : Bool) × (rest : List ℕ) × IsPiece p
+    × FitsForm short (length p.payload) × Stands spot p
     × (length p.payload ≡ n) × (octets (fields p short) ≡ xs ++ rest))

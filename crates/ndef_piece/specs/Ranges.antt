@@ -3,8 +3,8 @@ use Rattle.std.specs.Prelude.{ℕ, ◌+◌, ◌-◌, ◌*◌, ◌^◌, ◌==◌,
 use Rattle.ndef_format.specs.declared.spot.Spot.{Spot}
 use Rattle.ndef_format.specs.HeadReasons.{tnf_number, width, least_from}
 
--- NDEF 1.0, PAYLOAD_LENGTH: the greatest number that n octets can spell, most significant first, of which these are the
--- front
+-- NDEF 1.0, PAYLOAD_LENGTH: the greatest number that n octets can spell, most significant first, of
+-- which these are the front
 abbrev pub greatest_from : ℕ → List ℕ → ℕ
 greatest_from n [] = 256 ^ n - 1
 greatest_from n (x ∷ xs) = x * 256 ^ (n - 1) + greatest_from (n - 1) xs

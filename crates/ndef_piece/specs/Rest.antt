@@ -16,7 +16,8 @@ Rest limits c bytes items = (ps : List Piece) × Walk limits c ps items × Spell
 -- From the start they are the messages within the limits.
 abbrev pub RestsSpell : Type 0
 RestsSpell = (limits : LimitValues) (items : List Item) (bytes : List ℕ) → AreInRange limits
-    → Rest limits (start limits) bytes items ↔ ((runs : List Run) × SpellsBy limits.profile runs items bytes
+    → Rest limits (start limits) bytes items ↔ ((runs : List Run)
+    × SpellsBy limits.profile runs items bytes
     × IsWithin limits runs)
 
 -- Where the message is over, nothing follows.
@@ -24,10 +25,11 @@ abbrev pub RestsEnd : Type 0
 RestsEnd = (limits : LimitValues) (c : Before) (bytes : List ℕ) (items : List Item) → c.over ≡ true
     → Rest limits c bytes items ↔ ((bytes ≡ []) × (items ≡ []))
 
--- Past a head that may stand: type, id and payload of some piece that has it, and what completes the message after that
--- piece.
+-- Past a head that may stand: type, id and payload of some piece that has it, and what completes
+-- the message after that piece.
 abbrev pub RestsPastHeads : Type 0
-RestsPastHeads = (limits : LimitValues) (c : Before) (f : HeadFields) (bytes : List ℕ) (items : List Item)
+RestsPastHeads =
+    (limits : LimitValues) (c : Before) (f : HeadFields) (bytes : List ℕ) (items : List Item)
     → c.over ≡ false → MayStand (spot limits.profile c) f
     → Rest limits c (octets f ++ bytes) items
     ↔ ((p : Piece) × (later : List ℕ) × (rest : List Item) × IsPiece p × (fields p f.short ≡ f)
@@ -36,13 +38,15 @@ RestsPastHeads = (limits : LimitValues) (c : Before) (f : HeadFields) (bytes : L
 
 -- Within a head another octet follows, and it is one with which some head goes on.
 abbrev pub RestsWithinHeads : Type 0
-RestsWithinHeads = (limits : LimitValues) (c : Before) (xs bytes : List ℕ) (items : List Item) → c.over ≡ false
+RestsWithinHeads =
+    (limits : LimitValues) (c : Before) (xs bytes : List ℕ) (items : List Item) → c.over ≡ false
     → IsOpen (spot limits.profile c) xs
     → Rest limits c (xs ++ bytes) items → (b : ℕ) × (more : List ℕ) × (bytes ≡ b ∷ more)
     × IsViableHead (spot limits.profile c) (xs ++ b ∷ [])
 
 -- After any head that may stand the message can be completed.
 abbrev pub RestsCanFollow : Type 0
-RestsCanFollow = (limits : LimitValues) (c : Before) (f : HeadFields) → AreInRange limits → c.over ≡ false
+RestsCanFollow =
+    (limits : LimitValues) (c : Before) (f : HeadFields) → AreInRange limits → c.over ≡ false
     → c.room < 2 ^ 32 → MayStand (spot limits.profile c) f
     → (bytes : List ℕ) × (items : List Item) × Rest limits c (octets f ++ bytes) items

@@ -56,8 +56,10 @@ spot profile c = record {
 
 -- NDEF 1.0, chunked payloads: the record as far as it has come with this piece
 abbrev pub record_with : Option Item → Piece → Item
-record_with None p = record { tnf = tnf_of p.tnf; kind = p.kind; id = unwrap_or p.id []; payload = p.payload }
-record_with (Some m) p = record { tnf = m.tnf; kind = m.kind; id = m.id; payload = m.payload ++ p.payload }
+record_with None p =
+    record { tnf = tnf_of p.tnf; kind = p.kind; id = unwrap_or p.id []; payload = p.payload }
+record_with (Some m) p =
+    record { tnf = m.tnf; kind = m.kind; id = m.id; payload = m.payload ++ p.payload }
 
 -- NDEF 1.0, CF: the record that the piece ends, if it does
 abbrev pub ending_record : Before → Piece → List Item
@@ -69,18 +71,21 @@ after limits c p =
     if p.chunked then inside c.records (c.pieces - 1) (c.room - length p.payload) (record_with c.begun p)
     else outside limits false p.last (c.records - 1)
 
--- NDEF 1.0, messages: these pieces stand in turn, end these records, and the last of them ends the message
+-- NDEF 1.0, messages: these pieces stand in turn, end these records, and the last of them ends the
+-- message
 abbrev pub Walk : LimitValues → Before → List Piece → List Item → Type 0
 Walk limits c [] items = (c.over ≡ true) × (items ≡ [])
 Walk limits c (p ∷ ps) items =
-    (c.over ≡ false) × Stands (spot limits.profile c) p × (rest : List Item) × (items ≡ ending_record c p ++ rest)
+    (c.over ≡ false) × Stands (spot limits.profile c) p × (rest : List Item)
+    × (items ≡ ending_record c p ++ rest)
     × Walk limits (after limits c p) ps rest
 
 -- NDEF 1.0, messages: these pieces stand in turn, end these records, and then d is known
 abbrev pub Walked : LimitValues → Before → List Piece → List Item → Before → Type 0
 Walked limits c [] items d = (items ≡ []) × (d ≡ c)
 Walked limits c (p ∷ ps) items d =
-    (c.over ≡ false) × Stands (spot limits.profile c) p × (rest : List Item) × (items ≡ ending_record c p ++ rest)
+    (c.over ≡ false) × Stands (spot limits.profile c) p × (rest : List Item)
+    × (items ≡ ending_record c p ++ rest)
     × Walked limits (after limits c p) ps rest d
 
 -- what is known where these are the pieces of the open run, none where no run is open
@@ -117,14 +122,17 @@ WalksAreCut = (limits : LimitValues) (c : Before) (ps qs : List Piece) (items : 
     ↔ ((done rest : List Item) × (d : Before) × (items ≡ done ++ rest) × Walked limits c ps done d
     × Walk limits d qs rest)
 
--- The payload of an open run as far as it has come goes before what its pieces to come bring, and decides nothing else.
+-- The payload of an open run as far as it has come goes before what its pieces to come bring, and
+-- decides nothing else.
 abbrev pub RunsGoOn : Type 0
 RunsGoOn = (limits : LimitValues) (records pieces room : ℕ) (m : Item) (ps : List Piece) (items : List Item)
     → Walk limits (inside records pieces room m) ps items
-    ↔ ((payload : List ℕ) × (rest : List Item) × (items ≡ record m { payload = m.payload ++ payload } ∷ rest)
+    ↔ ((payload : List ℕ) × (rest : List Item)
+    × (items ≡ record m { payload = m.payload ++ payload } ∷ rest)
     × Walk limits (inside records pieces room (record m { payload = [] })) ps (record m { payload = payload } ∷ rest))
 
--- What is known after a walk follows from the runs that it has completed, and from the pieces of the one that it is in.
+-- What is known after a walk follows from the runs that it has completed, and from the pieces of
+-- the one that it is in.
 abbrev pub WalksAreCounted : Type 0
 WalksAreCounted = (limits : LimitValues) (ps : List Piece) (done : List Item) (d : Before)
     → Walked limits (start limits) ps done d
@@ -132,6 +140,8 @@ WalksAreCounted = (limits : LimitValues) (ps : List Piece) (done : List Item) (d
 
 -- A message that is not over can be ended by one piece, with any payload that has room.
 abbrev pub WalksCanEnd : Type 0
-WalksCanEnd = (limits : LimitValues) (c : Before) (payload : List ℕ) → c.over ≡ false → AreOctets payload
+WalksCanEnd =
+    (limits : LimitValues) (c : Before) (payload : List ℕ) → c.over ≡ false → AreOctets payload
     → length payload ≤ c.room → c.room < 2 ^ 32
-    → (p : Piece) × IsPiece p × (p.payload ≡ payload) × Walk limits c (p ∷ []) (record_with c.begun p ∷ [])
+    → (p : Piece) × IsPiece p × (p.payload ≡ payload)
+    × Walk limits c (p ∷ []) (record_with c.begun p ∷ [])

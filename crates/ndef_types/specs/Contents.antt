@@ -1,4 +1,5 @@
--- The records of nested messages, one after another (NFC Forum, RTD Smart Poster 1.0 and Connection Handover 1.2).
+-- The records of nested messages, one after another (NFC Forum, RTD Smart Poster 1.0 and Connection
+-- Handover 1.2).
 use Rattle.std.specs.Prelude.{◌≡◌, ◌<◌, ℕ, List, [], take, slice_get, Option, Some, None, ⊤}
 use Rattle.std.specs.List.{AllByRecursion}
 use Rattle.ndef_format.specs.Messages.{Item, SpellsBy}
@@ -34,20 +35,23 @@ IsOfKind table kind i = kind_in table i.tnf i.kind ≡ kind
 
 -- ---- records in order
 
--- RTD Smart Poster 1.0: no second URI; Connection Handover 1.2: a request begins with its collision resolution
+-- RTD Smart Poster 1.0: no second URI; Connection Handover 1.2: a request begins with its collision
+-- resolution
 abbrev pub MayFollow : Table → List Item → Kind → Type 0
 MayFollow SmartPoster before kind = kind ≡ kinds.Uri → Lack (IsOfKind SmartPoster kinds.Uri) before
 MayFollow Request before kind = before ≡ [] → kind ≡ kinds.Collision
 MayFollow Select before kind = ⊤
 
--- RTD Smart Poster 1.0 and Connection Handover 1.2: the record has a payload of its kind, and may follow those before
+-- RTD Smart Poster 1.0 and Connection Handover 1.2: the record has a payload of its kind, and may
+-- follow those before
 pub record IsInOrder (table : Table) (before : List Item) (i : Item) : Type 0 where
   pub payload : IsPayload (kind_in table i.tnf i.kind) Strict i.payload
   pub place : MayFollow table before (kind_in table i.tnf i.kind)
 
 -- each of the first n records is in order
 abbrev pub AreInOrder : Table → List Item → ℕ → Type 0
-AreInOrder table items n = (k : ℕ) → k < n → (i : Item) → slice_get items k ≡ Some i → IsInOrder table (take k items) i
+AreInOrder table items n =
+    (k : ℕ) → k < n → (i : Item) → slice_get items k ≡ Some i → IsInOrder table (take k items) i
 
 -- the first record that isn't
 pub record IsFirstWrong (table : Table) (items : List Item) (index : ℕ) : Type 0 where

@@ -30,17 +30,20 @@ Writing V = V → List ℕ → Type 0
 
 -- ---- what is answered
 
--- NDEF 1.0, PAYLOAD_LENGTH: no payload is this long; or the refusal is at the first octet after which nothing of its
--- length is in the set
+-- NDEF 1.0, PAYLOAD_LENGTH: no payload is this long; or the refusal is at the first octet after
+-- which nothing of its length is in the set
 abbrev pub RefusesPayload : Payloads → Reasons → List ℕ → Refusal → Type 0
 RefusesPayload set holds payload refusal =
     ((2 ^ 32 ≤ length payload) × (refusal.at ≡ 0) × (refusal.reason ≡ DoesNotFit))
     ⊎ ((length payload < 2 ^ 32) × IsRefused set holds payload refusal.at refusal.reason)
 
 -- the payload is in the set, and stands for the value, unless memory runs out; or it is refused
-abbrev pub DecodesTo : {V : Type 0} → Payloads → Reasons → Meaning V → List ℕ → Result V DecodeError → Type 0
-DecodesTo set holds stands payload (Ok value) = (length payload < 2 ^ 32) × set payload × stands payload value
-DecodesTo set holds stands payload (Err (errors.Refused refusal)) = RefusesPayload set holds payload refusal
+abbrev pub DecodesTo : {V : Type 0} → Payloads → Reasons → Meaning V → List ℕ → Result V DecodeError
+    → Type 0
+DecodesTo set holds stands payload (Ok value) =
+    (length payload < 2 ^ 32) × set payload × stands payload value
+DecodesTo set holds stands payload (Err (errors.Refused refusal)) =
+    RefusesPayload set holds payload refusal
 DecodesTo set holds stands payload (Err errors.NoMemory) = (length payload < 2 ^ 32) × set payload
 
 -- NDEF 1.0, PAYLOAD_LENGTH: what is written for the value is longer than a payload
@@ -56,19 +59,23 @@ GivesValueBack value (Err (errors.Refused refusal)) = ⊥
 GivesValueBack value (Err errors.NoMemory) = ⊤
 
 -- What was written for a value is decoded to it.
-abbrev pub ValuesRoundTrip : {V : Type 0} → Payloads → Reasons → Meaning V → (values : V → Type 0) → Writing V → Type 0
+abbrev pub ValuesRoundTrip : {V : Type 0} → Payloads → Reasons → Meaning V → (values : V → Type 0)
+    → Writing V → Type 0
 ValuesRoundTrip {V} set holds stands values written =
-    (value : V) (payload : List ℕ) (result : Result V DecodeError) → values value → written value payload
+    (value : V) (payload : List ℕ) (result : Result V DecodeError) → values value
+    → written value payload
     → length payload < 2 ^ 32
     → DecodesTo set holds stands payload result → GivesValueBack value result
 
 -- A payload stands for at most one value.
 abbrev pub OneValue : {V : Type 0} → Payloads → Meaning V → Type 0
-OneValue {V} set stands = (payload : List ℕ) (v w : V) → set payload → stands payload v → stands payload w → v ≡ w
+OneValue {V} set stands =
+    (payload : List ℕ) (v w : V) → set payload → stands payload v → stands payload w → v ≡ w
 
 -- Each payload of the set stands for a value.
 abbrev pub EachHasValue : {V : Type 0} → Payloads → Meaning V → (values : V → Type 0) → Type 0
-EachHasValue {V} set stands values = (payload : List ℕ) → set payload → (v : V) × (values v × stands payload v)
+EachHasValue {V} set stands values =
+    (payload : List ℕ) → set payload → (v : V) × (values v × stands payload v)
 
 -- One payload is written for each value.
 abbrev pub OnePayload : {V : Type 0} → (values : V → Type 0) → Writing V → Type 0
@@ -81,19 +88,23 @@ abbrev pub WritesPayloads : {V : Type 0} → Payloads → (values : V → Type 0
 WritesPayloads {V} set values written =
     (value : V) (payload : List ℕ) → values value → written value payload → set payload
 
--- Each payload of the set stands for exactly one value, and what was written for a value is decoded to it.
-pub record AreExact {V : Type 0} (set : Payloads) (holds : Reasons) (stands : Meaning V) (values : V → Type 0)
+-- Each payload of the set stands for exactly one value, and what was written for a value is decoded
+-- to it.
+pub record AreExact {V : Type 0} (set : Payloads) (holds : Reasons) (stands : Meaning V) (values : V
+    → Type 0)
     (written : Writing V) : Type 0 where
   pub one : OneValue set stands
   pub each : EachHasValue set stands values
   pub round_trip : ValuesRoundTrip set holds stands values written
 
--- RTD Smart Poster 1.0 and Connection Handover 1.2: each payload that holds a nested message stands for exactly one
--- value, and what was written for a value is decoded, for either profile, to it
-pub record NestsAreExact {V : Type 0} (table : Table) (stands : Profile → Meaning V) (values : V → Type 0)
+-- RTD Smart Poster 1.0 and Connection Handover 1.2: each payload that holds a nested message stands
+-- for exactly one value, and what was written for a value is decoded, for either profile, to it
+pub record NestsAreExact {V : Type 0} (table : Table) (stands : Profile → Meaning V) (values : V
+    → Type 0)
     (written : Writing V) : Type 0 where
   pub one : (profile : Profile) → OneValue (IsNest table MOST_RECORDS profile) (stands profile)
-  pub each : (profile : Profile) → EachHasValue (IsNest table MOST_RECORDS profile) (stands profile) values
+  pub each : (profile : Profile)
+      → EachHasValue (IsNest table MOST_RECORDS profile) (stands profile) values
   pub round_trip : (profile : Profile) →
       ValuesRoundTrip (IsNest table MOST_RECORDS profile) (NestReason table MOST_RECORDS profile) (stands profile)
       values written

@@ -21,16 +21,19 @@ text_eq = eq_of_both (on (λ t. t.encoding) encodings.ghosts.eq)
 
 -- RTD Text 1.0: the encoding, the language code and the text
 abbrev pub text_hash : TextValue → HashWrites
-text_hash t = encoding_hashes.ghosts.hash_input t.encoding ++ (fed.str t.language ++ fed.str (encode_utf8_all t.text))
+text_hash t =
+    encoding_hashes.ghosts.hash_input t.encoding
+    ++ (fed.str t.language ++ fed.str (encode_utf8_all t.text))
 
--- Connection Handover 1.2, Alternative Carrier record: the power state, the references and the octets after them are
--- equal
+-- Connection Handover 1.2, Alternative Carrier record: the power state, the references and the
+-- octets after them are equal
 abbrev pub ac_eq : AcValue → AcValue → Bool
 ac_eq = eq_of_both (on (λ a. a.power) powers.ghosts.eq)
     (eq_of_both (on (λ a. a.reference) octets_eq)
     (eq_of_both (on (λ a. a.auxiliary) (pointwise octets_eq)) (on (λ a. a.rest) octets_eq)))
 
--- Connection Handover 1.2, Alternative Carrier record: the power state, the references and the octets after them
+-- Connection Handover 1.2, Alternative Carrier record: the power state, the references and the
+-- octets after them
 abbrev pub ac_hash : AcValue → HashWrites
 ac_hash a =
     power_hashes.ghosts.hash_input a.power ++ (fed.slice fed.u8 a.reference

@@ -41,16 +41,19 @@ WritesRequest v payload = payload ≡ version_octet v.minor ∷ canonical v.item
 abbrev pub MakesRequest : ℕ → List Item → Result RequestValue NotHandover → Type 0
 MakesRequest minor items (Ok request) = (request ≡ record { minor = minor; items = items })
     × HasContents tables.Request Strict items
-MakesRequest minor items (Err fault) = (fault.message ≡ items) × IsFirstWrong tables.Request items fault.index
+MakesRequest minor items (Err fault) =
+    (fault.message ≡ items) × IsFirstWrong tables.Request items fault.index
 
--- Connection Handover 1.2, Collision Resolution record, which is the first: two octets, most significant first
+-- Connection Handover 1.2, Collision Resolution record, which is the first: two octets, most
+-- significant first
 abbrev pub IsCollisionOf : List Item → ℕ → Type 0
 IsCollisionOf [] number = ⊥
 IsCollisionOf (i ∷ items) number = number ≡ from_be_bytes w16 i.payload
 
 -- ---- selects
 
--- Connection Handover 1.2, Handover Select record: a minor version, and the records of a message, if there is one
+-- Connection Handover 1.2, Handover Select record: a minor version, and the records of a message,
+-- if there is one
 pub record SelectValue : Type 0 where
   pub minor : ℕ
   pub message : Option (List Item)

@@ -1,5 +1,5 @@
--- The links of a message: the alternative carriers of its handover, and the records that they refer to (NFC Forum,
--- Connection Handover 1.2).
+-- The links of a message: the alternative carriers of its handover, and the records that they refer
+-- to (NFC Forum, Connection Handover 1.2).
 use Rattle.std.specs.Prelude.{◌≡◌, ◌≢◌, ◌^◌, ◌<◌, ℕ, Bool, true, false, List, [], ◌∷◌, length, map, filter, slice_get, Option, Some, None, ⊤, ◌⊎◌, Result, Ok, Err}
 use Rattle.ndef_format.specs.Messages.{Item, run_record}
 use Rattle.ndef_format.specs.Records.{Run}
@@ -32,8 +32,8 @@ is_handover _ = false
 abbrev pub HasId : List ℕ → Item → Type 0
 HasId id i = i.id ≡ id
 
--- Connection Handover 1.2, carrier data reference: the index of the first record with the id; no record has the empty
--- id
+-- Connection Handover 1.2, carrier data reference: the index of the first record with the id; no
+-- record has the empty id
 abbrev pub IsIndexOf : List Item → List ℕ → Option ℕ → Type 0
 IsIndexOf items id None = (id ≡ []) ⊎ Lack (HasId id) items
 IsIndexOf items id (Some k) = (id ≢ []) × (i : Item) × IsFirstAt (HasId id) items k i
@@ -47,11 +47,12 @@ is_alternative _ = false
 abbrev pub alternatives : List Item → List Item
 alternatives = filter (λ i. is_alternative (kind_of i.tnf i.kind))
 
--- Connection Handover 1.2: the links are those of the alternative carriers, in order, each with the index of the record
--- that it refers to
+-- Connection Handover 1.2: the links are those of the alternative carriers, in order, each with the
+-- index of the record that it refers to
 abbrev pub AreLinks : List Item → List Item → List Link → Type 0
 AreLinks outer [] [] = ⊤
-AreLinks outer (i ∷ items) (l ∷ links) = StandsForAc i.payload l.ac × IsIndexOf outer l.ac.reference l.index
+AreLinks outer (i ∷ items) (l ∷ links) =
+    StandsForAc i.payload l.ac × IsIndexOf outer l.ac.reference l.index
     × AreLinks outer items links
 AreLinks outer _ _ = ⊥
 
@@ -65,24 +66,27 @@ abbrev pub records_of : Option (List Item) → List Item
 records_of None = []
 records_of (Some items) = items
 
--- Connection Handover 1.2: the links to records of the outer message in the payload of a handover, a version octet and
--- a message
+-- Connection Handover 1.2: the links to records of the outer message in the payload of a handover,
+-- a version octet and a message
 abbrev pub StandsForLinks : Profile → List Item → List ℕ → List Link → Type 0
 StandsForLinks profile outer [] links = ⊥
 StandsForLinks profile outer (version ∷ bytes) links =
     (message : Option (List Item)) × StandsForMessage profile bytes message
     × AreLinks outer (alternatives (records_of message)) links
 
--- Connection Handover 1.2: the payload of a handover, a version octet and a message, has an alternative carrier
+-- Connection Handover 1.2: the payload of a handover, a version octet and a message, has an
+-- alternative carrier
 abbrev pub HasCarriers : Profile → List ℕ → Type 0
 HasCarriers profile [] = ⊥
 HasCarriers profile (version ∷ bytes) =
-    (message : Option (List Item)) × StandsForMessage profile bytes message × (alternatives (records_of message) ≢ [])
+    (message : Option (List Item)) × StandsForMessage profile bytes message
+    × (alternatives (records_of message) ≢ [])
 
 -- the links of the handover, if there is one, unless memory runs out; or its payload is refused
 abbrev pub LinksOf : Profile → List Item → Option Item → Result (List Link) LinkError → Type 0
 LinksOf profile outer None result = result ≡ Ok []
-LinksOf profile outer (Some i) (Ok links) = IsNest (table_of (kind_of i.tnf i.kind)) MOST_RECORDS profile i.payload
+LinksOf profile outer (Some i) (Ok links) =
+    IsNest (table_of (kind_of i.tnf i.kind)) MOST_RECORDS profile i.payload
     × StandsForLinks profile outer i.payload links
 LinksOf profile outer (Some i) (Err (errors.Refused refusal)) =
     RefusesPayload (IsNest (table_of (kind_of i.tnf i.kind)) MOST_RECORDS profile)
@@ -95,11 +99,14 @@ abbrev pub FindsLinks : Profile → List Item → Result (List Link) LinkError �
 FindsLinks profile outer result = (i : Option Item) × IsFirstOf IsHandoverRecord outer i
     × LinksOf profile outer i result
 
--- Connection Handover 1.2: the first handover request or select of a message has an alternative carrier
+-- Connection Handover 1.2: the first handover request or select of a message has an alternative
+-- carrier
 abbrev pub HasLinks : Profile → List Item → Type 0
-HasLinks profile outer = (i : Item) × IsFirstOf IsHandoverRecord outer (Some i) × HasCarriers profile i.payload
+HasLinks profile outer =
+    (i : Item) × IsFirstOf IsHandoverRecord outer (Some i) × HasCarriers profile i.payload
 
--- NDEF 1.0, chunked payloads: the first handover request or select among the records of some runs is chunked
+-- NDEF 1.0, chunked payloads: the first handover request or select among the records of some runs
+-- is chunked
 pub record HandoverIsChunked (runs : List Run) : Type 0 where
   pub index : ℕ
   pub run : Run

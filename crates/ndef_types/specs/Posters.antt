@@ -41,7 +41,8 @@ plain i = record i {
 
 -- RTD Smart Poster 1.0: the payload is the message, but for reserved codes
 abbrev pub StandsForPoster : Profile → List ℕ → List Item → Type 0
-StandsForPoster profile payload items = (runs : List Run) × (read : List Item) × SpellsBy profile runs read payload
+StandsForPoster profile payload items =
+    (runs : List Run) × (read : List Item) × SpellsBy profile runs read payload
     × (items ≡ map plain read)
 
 -- NDEF 1.0: the payload that is written is the canonical spelling
@@ -56,7 +57,8 @@ pub record LacksUri (items : List Item) (index : ℕ) : Type 0 where
   pub before : AreInOrder SmartPoster items index
   pub uri : Lack (IsOfKind SmartPoster kinds.Uri) items
 
--- a poster of the message; or the message back, with the first record that is wrong, or the number of records
+-- a poster of the message; or the message back, with the first record that is wrong, or the number
+-- of records
 abbrev pub MakesPoster : List Item → Result (List Item) NotPoster → Type 0
 MakesPoster items (Ok poster) = (poster ≡ items) × HasContents SmartPoster Strict items
 MakesPoster items (Err fault) = (fault.message ≡ items)
@@ -71,7 +73,8 @@ Says kind value items result = (i : Option Item) × IsFirstOf (IsOfKind SmartPos
 
 -- RTD Smart Poster 1.0, recommended action record: do, save for later, open for editing
 abbrev pub action_of : ℕ → Action
-action_of octet = if octet == 0 then Do else (if octet == 1 then Save else (if octet == 2 then Open else Other octet))
+action_of octet =
+    if octet == 0 then Do else (if octet == 1 then Save else (if octet == 2 then Open else Other octet))
 
 -- RTD Smart Poster 1.0, recommended action record: the action of a record
 abbrev pub action_in : Item → Action
@@ -83,7 +86,9 @@ size_in i = from_be_bytes w32 i.payload
 
 -- RTD Smart Poster 1.0, URI record: that for which its payload stands
 abbrev pub IsUriOf : List Item → List ℕ → Type 0
-IsUriOf items uri = (i : Item) × IsFirstOf (IsOfKind SmartPoster kinds.Uri) items (Some i) × StandsForUri i.payload uri
+IsUriOf items uri =
+    (i : Item) × IsFirstOf (IsOfKind SmartPoster kinds.Uri) items (Some i)
+    × StandsForUri i.payload uri
 
 -- the kind is that of a text
 abbrev pub is_text : Kind → Bool

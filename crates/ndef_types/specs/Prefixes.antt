@@ -14,7 +14,8 @@ prefixes =
     ∷ codes "irdaobex://" ∷ codes "file://" ∷ codes "urn:epc:id:" ∷ codes "urn:epc:tag:"
     ∷ codes "urn:epc:pat:" ∷ codes "urn:epc:raw:" ∷ codes "urn:epc:" ∷ codes "urn:nfc:" ∷ []
 
--- RTD URI 1.0, URI identifier codes: the prefix of a code; a reserved code is read as 0, which has the empty one
+-- RTD URI 1.0, URI identifier codes: the prefix of a code; a reserved code is read as 0, which has
+-- the empty one
 unfoldable pub prefix_of : ℕ → List ℕ
 prefix_of code = slice_index_or prefixes code []
 

@@ -10,15 +10,16 @@ use Rattle.ndef_format.specs.Texts.{units_of, spelled, unit_octets}
 pub same_unit : (u v : ℕ) → u / 256 ≡ v / 256 → u % 256 ≡ v % 256 → u ≡ v
 same_unit u v p q = omega arith
 
-big_octets : (u : ℕ) → u < 65536 → to_be_bytes w16 u ≡ (u / 256) ∷ (u % 256) ∷ []
-big_octets u h = let x : u / 256 % 256 ≡ u / 256 = omega arith in λ i. x i ∷ (u % 256) ∷ []
+big_unit_octets : (u : ℕ) → u < 65536 → to_be_bytes w16 u ≡ (u / 256) ∷ (u % 256) ∷ []
+big_unit_octets u h = let x : u / 256 % 256 ≡ u / 256 = omega arith in λ i. x i ∷ (u % 256) ∷ []
 
 -- one unit more of some
 pub spelled_more : (us : List ℕ) (u i : ℕ) (front octets : List ℕ) → i < length us → u ≡ get_or us i 0 → u < 65536
     → octets ≡ front ++ spelled false (take i us)
     → octets ++ to_be_bytes w16 u ≡ front ++ spelled false (take (i + 1) us)
 spelled_more us u i front octets l e small h =
-    (λ k. h k ++ big_octets u small k) ∙ append_assoc front (spelled false (take i us)) ((u / 256) ∷ (u % 256) ∷ [])
+    (λ k. h k ++ big_unit_octets u small k)
+    ∙ append_assoc front (spelled false (take i us)) ((u / 256) ∷ (u % 256) ∷ [])
     ∙ ap (λ t. front ++ t) (ap (λ v. spelled false (take i us) ++ (v / 256) ∷ (v % 256) ∷ []) e
     ∙ sym (flat_map-append (unit_octets false) (take i us) (get_or us i 0 ∷ []))
     ∙ ap (spelled false) (sym (take_more us i 0 l)))

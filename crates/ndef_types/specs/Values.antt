@@ -1,4 +1,5 @@
--- What payloads stand for, and what is written (NFC Forum, RTD Text 1.0, RTD URI 1.0 and Connection Handover 1.2).
+-- What payloads stand for, and what is written (NFC Forum, RTD Text 1.0, RTD URI 1.0 and Connection
+-- Handover 1.2).
 use Rattle.std.specs.Prelude.{◌≡◌, ℕ, zero, suc, ◌+◌, ◌%◌, ◌<◌, ◌≤◌, Bool, true, false, List, [], ◌∷◌, ◌++◌, length, take, drop, slice_index, IsAscii, encode_utf8_all}
 use Rattle.std.specs.List.{AllByRecursion, flat_map}
 use Rattle.std.specs.Str.{all_scalars}
@@ -20,7 +21,8 @@ pub record TextValue : Type 0 where
   pub language : List ℕ
   pub text : List ℕ
 
--- RTD Text 1.0, language code: up to 63 octets of ASCII; RFC 3629, section 3: the characters are scalar values
+-- RTD Text 1.0, language code: up to 63 octets of ASCII; RFC 3629, section 3: the characters are
+-- scalar values
 pub record IsTextValue (v : TextValue) : Type 0 where
   pub short : length v.language ≤ 63
   pub language : IsAscii v.language
@@ -31,7 +33,8 @@ abbrev pub is_utf16 : Encoding → Bool
 is_utf16 Utf8 = false
 is_utf16 Utf16 = true
 
--- RTD Text 1.0, text: the octets are those of these characters; the byte order mark of UTF-16 isn't one of them
+-- RTD Text 1.0, text: the octets are those of these characters; the byte order mark of UTF-16 isn't
+-- one of them
 abbrev pub SpellsText : Encoding → List ℕ → List ℕ → Type 0
 SpellsText Utf8 octets text = encode_utf8_all text ≡ octets
 SpellsText Utf16 octets text = spelled (unmarked octets).0 (units_of text) ≡ (unmarked octets).1
@@ -63,7 +66,8 @@ text_octets Utf16 text = 0xfe ∷ 0xff ∷ spelled false (units_of text)
 
 -- RTD Text 1.0: the payload of a text
 abbrev pub text_payload : TextValue → List ℕ
-text_payload v = status_octet v.encoding (length v.language) ∷ (v.language ++ text_octets v.encoding v.text)
+text_payload v =
+    status_octet v.encoding (length v.language) ∷ (v.language ++ text_octets v.encoding v.text)
 
 -- RTD Text 1.0: what is written for a text
 abbrev pub WritesText : TextValue → List ℕ → Type 0
@@ -106,22 +110,26 @@ WritesError v payload = payload ≡ error_payload v
 
 -- ---- handover carriers
 
--- Connection Handover 1.2, Handover Carrier record: a carrier type format, a carrier type and carrier data
+-- Connection Handover 1.2, Handover Carrier record: a carrier type format, a carrier type and
+-- carrier data
 pub record CarrierValue : Type 0 where
   pub format : ℕ
   pub kind : List ℕ
   pub carried : List ℕ
 
--- Connection Handover 1.2, Handover Carrier record: a format of three bits, up to 255 octets of type, and any octets
+-- Connection Handover 1.2, Handover Carrier record: a format of three bits, up to 255 octets of
+-- type, and any octets
 pub record IsCarrierValue (v : CarrierValue) : Type 0 where
   pub format : v.format < 8
   pub short : length v.kind < 256
   pub kind : AreOctets v.kind
   pub carried : AreOctets v.carried
 
--- Connection Handover 1.2, Handover Carrier record: the five high bits of the first octet are reserved, and ignored
+-- Connection Handover 1.2, Handover Carrier record: the five high bits of the first octet are
+-- reserved, and ignored
 abbrev pub StandsForCarrier : List ℕ → CarrierValue → Type 0
-StandsForCarrier (format ∷ n ∷ s) v = (format % 8 ≡ v.format) × (take n s ≡ v.kind) × (drop n s ≡ v.carried)
+StandsForCarrier (format ∷ n ∷ s) v =
+    (format % 8 ≡ v.format) × (take n s ≡ v.kind) × (drop n s ≡ v.carried)
 StandsForCarrier _ v = ⊥
 
 -- Connection Handover 1.2, Handover Carrier record: the payload of a carrier, its reserved bits 0
@@ -141,8 +149,8 @@ power_code Active = 1
 power_code Activating = 2
 power_code Unknown = 3
 
--- Connection Handover 1.2, Alternative Carrier record: a power state, a carrier reference, auxiliary references, and
--- octets after them
+-- Connection Handover 1.2, Alternative Carrier record: a power state, a carrier reference,
+-- auxiliary references, and octets after them
 pub record AcValue : Type 0 where
   pub power : Power
   pub reference : List ℕ
@@ -153,17 +161,20 @@ pub record AcValue : Type 0 where
 abbrev pub IsReference : List ℕ → Type 0
 IsReference name = (length name < 256) × AreOctets name
 
--- Connection Handover 1.2, Alternative Carrier record: up to 255 auxiliary references, and any octets after them
+-- Connection Handover 1.2, Alternative Carrier record: up to 255 auxiliary references, and any
+-- octets after them
 pub record IsAcValue (v : AcValue) : Type 0 where
   pub reference : IsReference v.reference
   pub few : length v.auxiliary < 256
   pub auxiliary : AllByRecursion IsReference v.auxiliary
   pub rest : AreOctets v.rest
 
--- Connection Handover 1.2, Auxiliary Data Reference: n references, each after its length, and the octets after them
+-- Connection Handover 1.2, Auxiliary Data Reference: n references, each after its length, and the
+-- octets after them
 abbrev pub StandForNames : ℕ → List ℕ → List (List ℕ) → List ℕ → Type 0
 StandForNames zero s names rest = (names ≡ []) × (s ≡ rest)
-StandForNames (suc n) (k ∷ s) (x ∷ names) rest = (take k s ≡ x) × StandForNames n (drop k s) names rest
+StandForNames (suc n) (k ∷ s) (x ∷ names) rest =
+    (take k s ≡ x) × StandForNames n (drop k s) names rest
 StandForNames _ _ _ rest = ⊥
 
 -- Connection Handover 1.2, Auxiliary Data Reference Count: that number of references
@@ -171,7 +182,8 @@ abbrev pub StandForAuxiliary : List ℕ → List (List ℕ) → List ℕ → Typ
 StandForAuxiliary [] names rest = ⊥
 StandForAuxiliary (n ∷ s) names rest = StandForNames n s names rest
 
--- Connection Handover 1.2, Alternative Carrier record: the six high bits of the first octet are reserved, and ignored
+-- Connection Handover 1.2, Alternative Carrier record: the six high bits of the first octet are
+-- reserved, and ignored
 abbrev pub StandsForAc : List ℕ → AcValue → Type 0
 StandsForAc (octet ∷ n ∷ s) v = (octet % 4 ≡ power_code v.power) × (take n s ≡ v.reference)
     × StandForAuxiliary (drop n s) v.auxiliary v.rest

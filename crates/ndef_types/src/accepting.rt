@@ -16,9 +16,9 @@ pub(crate) const MOST: usize = MOST_PAYLOAD as usize;
 /// why it is refused.
 #[inline(always)]
 pub fn accept<L: Language>(kind: Kind, profile: Profile, payload: &[u8]) -> Result<(), Refusal>
-    ensures ok { OnOk result ((length payload.now < 2 ^ 32) × L.set kind MOST_RECORDS profile payload.now) }
+    ensures ok { OnOk result ((length payload.now < 2 ^ 32) × L.payloads kind MOST_RECORDS profile payload.now) }
     ensures err { IfErr result
-        (RefusesPayload (L.set kind MOST_RECORDS profile) (L.holds kind MOST_RECORDS profile) payload.now) }
+        (RefusesPayload (L.payloads kind MOST_RECORDS profile) (L.reasons kind MOST_RECORDS profile) payload.now) }
 {
     if payload.len() > MOST {
         return Err(Refusal {
@@ -42,9 +42,9 @@ pub(crate) fn accept_item<L: Language>(
     item: &Item<'_>,
 ) -> Result<(), Refusal>
     ensures ok { OnOk result (let payload = (run_record item.now).payload in
-        (length payload < 2 ^ 32) × L.set kind MOST_RECORDS profile payload) }
-    ensures err { IfErr result (RefusesPayload (L.set kind MOST_RECORDS profile)
-        (L.holds kind MOST_RECORDS profile) (run_record item.now).payload) }
+        (length payload < 2 ^ 32) × L.payloads kind MOST_RECORDS profile payload) }
+    ensures err { IfErr result (RefusesPayload (L.payloads kind MOST_RECORDS profile)
+        (L.reasons kind MOST_RECORDS profile) (run_record item.now).payload) }
 {
     if let Some(payload) = item.whole() {
         return accept::<L>(kind, profile, payload);

@@ -60,6 +60,7 @@ fn are_references(names: &[Name])
     ensures { AllByRecursion IsReference names.now }
 {
     for name in names {
+        // For the proof alone.
         let _name = name.as_slice();
     }
 }
@@ -162,6 +163,7 @@ impl Ac {
                 rest,
             });
         }
+        // For the proof alone.
         let _reference = reference.as_slice();
         let _rest = rest.as_slice();
         are_references(&auxiliary);

@@ -56,6 +56,7 @@ impl Carrier {
         requires { format < 8 }
         ensures { result ≡ record { format = format; kind = kind; carried = carried } }
     {
+        // For the proof alone.
         let _kind = kind.as_slice();
         let _carried = carried.as_slice();
         Carrier {

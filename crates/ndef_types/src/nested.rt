@@ -82,6 +82,7 @@ pub(crate) fn encode_behind(
     ensures ok { IfOk result (λ payload. payload ≡ octet ∷ canonical message.now) }
     ensures too_long { IsErrOf result EncodeError.TooLong ↔ (2 ^ 32 ≤ 1 + length (canonical message.now)) }
 {
+    // For the proof alone.
     short_is_canonical();
     if encoded_length(message, Form::Short) >= MOST as u64 {
         return Err(EncodeError::TooLong);

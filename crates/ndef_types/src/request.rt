@@ -50,6 +50,7 @@ pub fn read_request(alloc: Global, payload: &[u8], profile: Profile) -> Result<R
     requires { IsNest tables.Request MOST_RECORDS profile payload.now }
     ensures { IfOk result (StandsForRequest profile payload.now) }
 {
+    // For the proof alone.
     strict_contents_are_read();
     let version = payload[0];
     let message = read_nested(alloc, behind_first(payload), profile)?;

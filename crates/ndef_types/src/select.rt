@@ -48,6 +48,7 @@ pub fn read_select(alloc: Global, payload: &[u8], profile: Profile) -> Result<Se
     requires { IsNest tables.Select MOST_RECORDS profile payload.now }
     ensures { IfOk result (StandsForSelect profile payload.now) }
 {
+    // For the proof alone.
     strict_contents_are_read();
     let version = payload[0];
     let message = read_optional(alloc, behind_first(payload), profile)?;

@@ -188,6 +188,7 @@ impl SmartPoster {
         ensures ok { IfOk result (WritesPoster self.now) }
         ensures too_long { IsErrOf result EncodeError.TooLong ↔ (2 ^ 32 ≤ length (canonical self.now)) }
     {
+        // For the proof alone.
         short_is_canonical();
         if encoded_length(&self.message, Form::Short) > MOST as u64 {
             return Err(EncodeError::TooLong);

@@ -19,21 +19,21 @@ octets_drop (suc n) [] h = tt
 octets_drop (suc n) (x ∷ s) h = octets_drop n s h.1
 
 -- what a pattern leaves after n elements, and what a range from n on is
-abbrev pub behind : ℕ → List ℕ → List ℕ
-behind n s = take (length s - n) (drop n s)
+abbrev pub rest_from : ℕ → List ℕ → List ℕ
+rest_from n s = take (length s - n) (drop n s)
 
-pub behind_drop : (n : ℕ) (s : List ℕ) → behind n s ≡ drop n s
+pub behind_drop : (n : ℕ) (s : List ℕ) → rest_from n s ≡ drop n s
 behind_drop n s = take_all (length s - n) (drop n s) (omega (arith, length-drop n s))
 
-pub octets_behind : (n : ℕ) (s : List ℕ) → AreOctets s → AreOctets (behind n s)
+pub octets_behind : (n : ℕ) (s : List ℕ) → AreOctets s → AreOctets (rest_from n s)
 octets_behind n s h = subst AreOctets (sym (behind_drop n s)) (octets_drop n s h)
 
 -- the first elements and the rest
-pub cut_one : (s : List ℕ) → 1 ≤ length s → get_or s 0 0 ∷ behind 1 s ≡ s
+pub cut_one : (s : List ℕ) → 1 ≤ length s → get_or s 0 0 ∷ rest_from 1 s ≡ s
 cut_one [] h = absurd (omega arith)
 cut_one (x ∷ s) h = ap (λ t. x ∷ t) (behind_drop 1 (x ∷ s))
 
-pub cut_two : (s : List ℕ) → 2 ≤ length s → get_or s 0 0 ∷ get_or s 1 0 ∷ behind 2 s ≡ s
+pub cut_two : (s : List ℕ) → 2 ≤ length s → get_or s 0 0 ∷ get_or s 1 0 ∷ rest_from 2 s ≡ s
 cut_two [] h = absurd (omega arith)
 cut_two (x ∷ []) h = absurd (omega arith)
 cut_two (x ∷ y ∷ s) h = ap (λ t. x ∷ y ∷ t) (behind_drop 2 (x ∷ y ∷ s))

@@ -53,6 +53,7 @@ fn are_items(records: &[Record])
     ensures { AllByRecursion IsItem records.now }
 {
     for item in records {
+        // For the proof alone.
         let _tnf = item.tnf();
     }
 }

@@ -122,8 +122,8 @@ leaf_lengths (Refused reason) = Never
 -- ---- why an octet is refused
 
 -- the octets u and b begin nothing that passes
-abbrev pub Ends : (List ℕ → Type 0) → List ℕ → ℕ → Type 0
-Ends future u b = Passes (λ r. future (u ++ b ∷ r)) → ⊥
+abbrev pub BeginNothing : (List ℕ → Type 0) → List ℕ → ℕ → Type 0
+BeginNothing future u b = Passes (λ r. future (u ++ b ∷ r)) → ⊥
 
 -- which reasons hold of an octet of a field
 abbrev pub ClassReason : Class → ℕ → Reason → Type 0
@@ -132,8 +132,8 @@ ClassReason classes.Code b = OneReason reasons.Language (0x7f < b)
 
 -- which reasons hold of the octet b after the octets u
 abbrev pub StageReason : Stage → List ℕ → ℕ → Reason → Type 0
-StageReason stages.Utf8 u b = OneReason reasons.Utf8 (Ends IsUtf8 u b)
-StageReason stages.Utf16 u b = OneReason reasons.Utf16 (Ends IsUtf16 u b)
+StageReason stages.Utf8 u b = OneReason reasons.Utf8 (BeginNothing IsUtf8 u b)
+StageReason stages.Utf16 u b = OneReason reasons.Utf16 (BeginNothing IsUtf16 u b)
 StageReason stages.Status u b = TextReason u b
 StageReason (stages.UriCode profile) u b = UriReason profile u b
 StageReason _ u b = NoReason
@@ -145,8 +145,8 @@ FieldReason class (suc n) next (c ∷ u) b = FieldReason class n next u b
 
 abbrev pub Holds : Leaf → List ℕ → ℕ → Reason → Type 0
 Holds (Field left class next) u b = FieldReason class left next u b
-Holds (Utf8 text) u b = OneReason reasons.Utf8 (Ends (CompletesUtf8 text) u b)
-Holds (Utf16 text) u b = OneReason reasons.Utf16 (Ends (CompletesUtf16 text) u b)
+Holds (Utf8 text) u b = OneReason reasons.Utf8 (BeginNothing (CompletesUtf8 text) u b)
+Holds (Utf16 text) u b = OneReason reasons.Utf16 (BeginNothing (CompletesUtf16 text) u b)
 Holds (Refused reason) u b = NoReason
 
 -- after the octets s these reasons are those of the state

@@ -32,9 +32,9 @@ text_in_octets : (wide : Bool) (r : List ℕ) → IsTextIn wide r → AreOctets 
 text_in_octets true r h = utf16_octets r h
 text_in_octets false r h = utf8_octets r h
 
-text_octets : (r : List ℕ) → IsText r → AreOctets r
-text_octets [] h = absurd h
-text_octets (b ∷ s) h =
+text_is_octets : (r : List ℕ) → IsText r → AreOctets r
+text_is_octets [] h = absurd h
+text_is_octets (b ∷ s) h =
     let text = IsTextIn (is_wide b) in
     (h.0, field_octets IsCodeOctet (λ b h. omega arith) (code_length b) text (text_in_octets (is_wide b)) s h.2)
 
@@ -59,7 +59,7 @@ stage_octets stages.End r h = subst AreOctets (sym h) tt
 stage_octets stages.Any r h = h
 stage_octets stages.Utf8 r h = utf8_octets r h
 stage_octets stages.Utf16 r h = utf16_octets r h
-stage_octets stages.Status r h = text_octets r h
+stage_octets stages.Status r h = text_is_octets r h
 stage_octets (stages.UriCode profile) r h = uri_octets profile r h
 stage_octets stages.ErrorReason r h = error_octets r h
 stage_octets stages.CarrierKindLength r h = counted_octets AreOctets (λ r h. h) r h
@@ -68,7 +68,7 @@ stage_octets stages.AuxiliaryCount r h = auxiliary_octets r h
 stage_octets (stages.References count) r h = references_octets count r h
 
 pub payload_octets : (kind : Kind) (profile : Profile) (s : List ℕ) → IsPayload kind profile s → AreOctets s
-payload_octets kinds.Text profile s h = text_octets s h
+payload_octets kinds.Text profile s h = text_is_octets s h
 payload_octets kinds.Uri profile s h = uri_octets profile s h
 payload_octets kinds.Action profile s h = h.0
 payload_octets kinds.Size profile s h = h.0

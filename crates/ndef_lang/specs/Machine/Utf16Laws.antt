@@ -317,9 +317,9 @@ first_length a (b ∷ r) d h =
       ]
     ]
 
-first_lengths : (a : ℕ) → begins_none false false a ≡ false
+first_octet_lengths : (a : ℕ) → begins_none false false a ≡ false
     → AreLengths (λ r. IsUtf16 (a ∷ r)) (PairsFrom (utf16_missing (First a)))
-first_lengths a f = let l = begins_some false false a f in let d = (or_parts (is_low_octet a) (nat_le 256 a) f).0
+first_octet_lengths a f = let l = begins_some false false a f in let d = (or_parts (is_low_octet a) (nat_le 256 a) f).0
     in record {
       all = λ r h. first_length a r d h;
       each = λ k h. let t = some_big a l d k h in (
@@ -426,7 +426,7 @@ utf16_never Refused d r h = h
 pub alive_lengths : (state : Utf16State) → utf16_refused state ≡ false
     → AreLengths (CompletesUtf16 state) (PairsFrom (utf16_missing state))
 alive_lengths Start d = utf16_start_lengths
-alive_lengths (First a) d = first_lengths a d
+alive_lengths (First a) d = first_octet_lengths a d
 alive_lengths (Whole little paired) d = whole_lengths little paired
 alive_lengths (Half little paired a) d = half_lengths little paired a d
 alive_lengths Refused d = absurd (cc)

@@ -51,8 +51,8 @@ pub record EndsRecords (set : Sets) (limits : LimitValues) (c : Before) (items :
   pub members : AllByRecursion (IsMember set limits) items
 
 -- one record has come, from the place
-abbrev pub EndsRecord : Sets → LimitValues → Place → (last : Bool) → List ℕ → Type 0
-EndsRecord set limits place last bytes = (c : Before) → place ≡ numbers c → c.begun ≡ None → c.over ≡ false
+abbrev pub BringsRecord : Sets → LimitValues → Place → (last : Bool) → List ℕ → Type 0
+BringsRecord set limits place last bytes = (c : Before) → place ≡ numbers c → c.begun ≡ None → c.over ≡ false
     → (item : Item) × EndsRecords set limits c (item ∷ []) (c.records - 1) last bytes
 
 -- one record has come, with the first `taken` of the bytes
@@ -61,7 +61,7 @@ pub record IsTakenRecord (set : Sets) (limits : LimitValues) (place : Place) (by
   pub some : 0 < taken
   pub within : taken ≤ length bytes
   pub outer : place.inside ≡ false
-  pub ends : EndsRecord set limits place last (take taken bytes)
+  pub ends : BringsRecord set limits place last (take taken bytes)
 
 -- no record or more have come, and this place is reached
 pub record Comes (set : Sets) (limits : LimitValues) (c : Before) (bytes : List ℕ) (place' : Place)

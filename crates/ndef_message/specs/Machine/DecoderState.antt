@@ -50,5 +50,5 @@ pub record Failed (set : Sets) (limits : LimitValues) (place : ℕ) (bytes : Lis
 abbrev pub DecoderKnows : {L : Type 0} {language : Ghosts L} → Checker L language
     → (failed : Option ℕ) (open_record : Opened) → Fronts Point
 DecoderKnows c None o bytes given point = CheckerReached c bytes given point × (o ≡ opened_at point)
-DecoderKnows {language = language} c (Some at) o bytes given point = Failed language.set c.limits at bytes given point
-    × (o ≡ no_octets)
+DecoderKnows {language = language} c (Some at) o bytes given point =
+    Failed language.payloads c.limits at bytes given point × (o ≡ no_octets)

@@ -31,7 +31,7 @@ pub record MayTake {L : Type 0} {language : Ghosts L} (d : Decoder L language) (
     (bytes : List ℕ) : Type 0 where
   pub going : answer_of d.checker.state.phase 0 ≡ None
   pub unfailed : d.failed ≡ None
-  pub begun : ∥ SomeLed (Failed language.set d.checker.limits place) ∥₁
+  pub begun : ∥ SomeLed (Failed language.payloads d.checker.limits place) ∥₁
   pub some : 0 < length bytes
 
 -- a call that began at a place took some of these bytes, which its checker has counted, and answers so
@@ -46,5 +46,5 @@ pub record HasTaken {L : Type 0} {language : Ghosts L} (old new : Decoder L lang
   pub refused : (refusal : Refusal) → answer ≡ took.Refused refusal
       → new.checker.state.phase ≡ phases.Refused refusal
   pub takes : WhateverLed (DecoderReached old) (λ front given point.
-      Takes language.set old.checker.limits (DecoderReached new) front given
+      Takes language.payloads old.checker.limits (DecoderReached new) front given
       (take (new.checker.taken - old.checker.taken) bytes) answer)

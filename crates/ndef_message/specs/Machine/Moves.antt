@@ -11,7 +11,7 @@ use Rattle.ndef_message.specs.Machine.Points.{Point, InHead, InType, InId, InPay
 abbrev pub point_after : Before → Point
 point_after c = if c.over then AtEnd c else InHead c []
 
--- the records ended, and the next point, where the head and these parts of a piece have come
+-- the records ended, and the next point, where the head and these parts_with of a piece have come
 abbrev pub given_next : LimitValues → List Item → Before → HeadFields → (kind id payload : List ℕ) → List Item
 given_next limits given c f kind id payload =
     if nat_lt (length kind) f.kind_length then given
@@ -19,7 +19,7 @@ given_next limits given c f kind id payload =
     else (if nat_lt (length payload) f.payload_length then given else given
     ++ ending_record c (piece f kind id payload)))
 
--- NDEF 1.0, record layout: the point after these parts of a piece
+-- NDEF 1.0, record layout: the point after these parts_with of a piece
 abbrev pub point_next : LimitValues → Before → HeadFields → (kind id payload : List ℕ) → Point
 point_next limits c f kind id payload =
     if nat_lt (length kind) f.kind_length then InType c f kind
@@ -34,8 +34,8 @@ pub record Parts : Type 0 where
   pub id : List ℕ
   pub payload : List ℕ
 
-abbrev pub parts : HeadFields → (kind id payload : List ℕ) → Parts
-parts f kind id payload = record { fields = f; kind = kind; id = id; payload = payload }
+abbrev pub parts_with : HeadFields → (kind id payload : List ℕ) → Parts
+parts_with f kind id payload = record { fields = f; kind = kind; id = id; payload = payload }
 
 -- these are the records ended and the point then
 abbrev pub GoesTo : LimitValues → List Item → Before → Parts → List Item → Point → Type 0
@@ -55,12 +55,12 @@ abbrev pub Moves : LimitValues → List Item → Point → List ℕ → List Ite
 Moves limits given (InHead c xs) t given' point' =
     ((given' ≡ given) × (point' ≡ InHead c (xs ++ t)))
     ⊎ ((f : HeadFields) × MayStand (spot limits.profile c) f × (octets f ≡ xs ++ t)
-    × GoesTo limits given c (parts f [] [] []) given' point')
+    × GoesTo limits given c (parts_with f [] [] []) given' point')
 Moves limits given (InType c f kind) t given' point' = (length kind + length t ≤ f.kind_length)
-    × GoesTo limits given c (parts f (kind ++ t) [] []) given' point'
+    × GoesTo limits given c (parts_with f (kind ++ t) [] []) given' point'
 Moves limits given (InId c f kind id) t given' point' = (length id + length t ≤ unwrap_or f.id_length 0)
-    × GoesTo limits given c (parts f kind (id ++ t) []) given' point'
+    × GoesTo limits given c (parts_with f kind (id ++ t) []) given' point'
 Moves limits given (InPayload c f kind id payload) t given' point' =
     (length payload + length t ≤ f.payload_length)
-    × GoesTo limits given c (parts f kind id (payload ++ t)) given' point'
+    × GoesTo limits given c (parts_with f kind id (payload ++ t)) given' point'
 Moves limits given (AtEnd c) t given' point' = ⊥

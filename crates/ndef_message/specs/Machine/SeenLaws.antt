@@ -49,8 +49,8 @@ id_told false n None h k z = refl
 id_told false n (Some d) h k z = refl
 
 -- the octets of a head determine it, whatever follows
-head_told : (f : HeadFields) (z : List ℕ) → CanBeSpelled f → fields_with (header f) (octets f ++ z) ≡ f
-head_told f z l =
+head_is_known : (f : HeadFields) (z : List ℕ) → CanBeSpelled f → fields_with (header f) (octets f ++ z) ≡ f
+head_is_known f z l =
     let p = header_parts f l.tnf in
     let n : payload_length_at (is_set 4 (header f)) (octets f ++ z) ≡ f.payload_length =
     ap (λ s. payload_length_at s (octets f ++ z)) p.short
@@ -84,13 +84,13 @@ head_first p short front rest s =
     ∙ ap (λ x. octets (fields p short) ++ x) (append_assoc p.kind (unwrap_or p.id [] ++ p.payload) rest
     ∙ ap (λ x. p.kind ++ x) (append_assoc (unwrap_or p.id []) p.payload rest))
 
-same_id : (i : Option (List ℕ)) → id_of (option_map length i) (unwrap_or i []) ≡ i
-same_id None = refl
-same_id (Some x) = refl
+id_is_same : (i : Option (List ℕ)) → id_of (option_map length i) (unwrap_or i []) ≡ i
+id_is_same None = refl
+id_is_same (Some x) = refl
 
 same_piece : (p : Piece) (short : Bool) (k i n : List ℕ) → k ≡ p.kind → i ≡ unwrap_or p.id [] → n ≡ p.payload
     → piece (fields p short) k i n ≡ p
-same_piece p short k i n e1 e2 e3 = rw (e1, e2, e3) (ap (λ x. record p { id = x }) (same_id p.id))
+same_piece p short k i n e1 e2 e3 = rw (e1, e2, e3) (ap (λ x. record p { id = x }) (id_is_same p.id))
 
 -- what follows its head determines it
 parts_told : (p : Piece) (short : Bool) (rest : List ℕ) → piece_with (fields p short) (behind_head p rest) ≡ p
@@ -112,7 +112,8 @@ piece_told p short front rest s =
     let z = behind_head p rest in
     let l = piece_head p short front s in
     let behind : drop (size (header f)) (octets f ++ z) ≡ z = drop_at (octets f) z _ (octets_size f l.tnf) in
-    ap piece_at (head_first p short front rest s) ∙ ap₂ piece_with (head_told f z l) behind ∙ parts_told p short rest
+    ap piece_at (head_first p short front rest s) ∙ ap₂ piece_with (head_is_known f z l) behind
+    ∙ parts_told p short rest
 
 -- the octets of a piece determine their number, whatever follows
 size_told : (p : Piece) (short : Bool) (front rest : List ℕ) → SpellsPiece p short front
@@ -124,7 +125,7 @@ size_told p short front rest s =
     let l = piece_head p short front s in
     let n = id_count p.id in
     let a : size_at (octets f ++ z) ≡ size (header f) + body_size f = ap (λ f'. size (header f) + body_size f')
-    (head_told f z l) in
+    (head_is_known f z l) in
     let o = octets_size f l.tnf in
     let whole = ap length s.spelled ∙ length-append (octets f) (body p) in
     let m = body_length p in
@@ -223,14 +224,14 @@ pub record First (p : Piece) (ps : List Piece) (bytes : List ℕ) : Type 0 where
   pub split : IsSplit p short rest bytes
   pub more : SpellsPieces ps rest
 
-pub first_of : (p : Piece) (ps : List Piece) (bytes : List ℕ) → SpellsPieces (p ∷ ps) bytes → First p ps bytes
-first_of p ps bytes (short, front, rest, e, s, more) =
+pub first_piece_of : (p : Piece) (ps : List Piece) (bytes : List ℕ) → SpellsPieces (p ∷ ps) bytes → First p ps bytes
+first_piece_of p ps bytes (short, front, rest, e, s, more) =
     record { short = short; rest = rest; split = record { front = front; spells = s; joined = e }; more = more }
 
 pub first_of_some : (ps : List Piece) (bytes : List ℕ) → 0 < length bytes → SpellsPieces ps bytes → (p : Piece)
     × (later : List Piece) × First p later bytes
 first_of_some [] bytes n e = absurd (let h = ap length e in omega (arith, n, h))
-first_of_some (p ∷ ps) bytes n s = (p, ps, first_of p ps bytes s)
+first_of_some (p ∷ ps) bytes n s = (p, ps, first_piece_of p ps bytes s)
 
 pub begins : {p : Piece} {ps : List Piece} {bytes : List ℕ} → First p ps bytes → BeginWithPiece bytes
 begins {p} f = record { piece = p; short = f.short; rest = f.rest; split = f.split }

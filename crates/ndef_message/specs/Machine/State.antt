@@ -108,7 +108,7 @@ CanGoOn language state = state.place.inside ≡ true
 -- the language has read the payload of the record so far
 pub record Speaks {L : Type 0} (language : Ghosts L) (limits : LimitValues) (payload : L) (m : Item) : Type 0 where
   pub reached : language.reached payload (kind_of m.tnf m.kind) limits.records limits.profile m.payload
-  pub future : (r : List ℕ) → language.future payload r ↔ completes language.set limits m r
+  pub future : (r : List ℕ) → language.future payload r ↔ completes language.payloads limits m r
 
 -- it has, where a record is open
 abbrev pub SpeaksIf : {L : Type 0} (language : Ghosts L) → LimitValues → (payload : L) → Option Item → Type 0
@@ -143,7 +143,7 @@ module _ {L : Type 0} (language : Ghosts L) (limits : LimitValues) (state : Stat
   -- these bytes led here, and none was refused
   pub record Stands (bytes : List ℕ) (given : List Item) (point : Point) : Type 0 where
     pub at : IsAtPoint limits bytes given point
-    pub viable : IsViable language.set limits bytes
+    pub viable : IsViable language.payloads limits bytes
     pub matches : Matches point
 
   -- these bytes led here, and the last one was refused
@@ -153,12 +153,12 @@ module _ {L : Type 0} (language : Ghosts L) (limits : LimitValues) (state : Stat
     pub refusal : Refusal
     pub split : bytes ≡ front ++ byte ∷ []
     pub at : IsAtPoint limits front given point
-    pub viable : IsViable language.set limits front
-    pub refused : ¬ IsViable language.set limits bytes
+    pub viable : IsViable language.payloads limits front
+    pub refused : ¬ IsViable language.payloads limits bytes
     pub phase_is : state.phase ≡ phases.Refused refusal
     pub place_is : refusal.at ≡ length front
     pub counted : state.place.records + length given ≡ limits.records
-    pub reason : IsReasonAt language.holds limits point byte refusal.reason
+    pub reason : IsReasonAt language.reasons limits point byte refusal.reason
 
   -- these bytes led here: they end these records, and this is the point before the next byte, or before the one that
   -- was refused
@@ -232,9 +232,9 @@ module _ {L : Type 0} (language : Ghosts L) (limits : LimitValues) (state : Stat
 pub record Came {L : Type 0} (language : Ghosts L) (limits : LimitValues) (refusal : Refusal) (bytes : List ℕ)
     (given : List Item) (point : Point) (b : ℕ) : Type 0 where
   pub at_is : IsAtPoint limits bytes given point
-  pub viable : IsViable language.set limits bytes
+  pub viable : IsViable language.payloads limits bytes
   pub place_is : refusal.at ≡ length bytes
-  pub reason_is : IsReasonAt language.holds limits point b refusal.reason
+  pub reason_is : IsReasonAt language.reasons limits point b refusal.reason
 
 -- an octet there doesn't fit
 abbrev pub unfit_at : ℕ → Refusal
@@ -252,7 +252,7 @@ module _ {L : Type 0} (language : Ghosts L) (limits : LimitValues) (new : State 
   -- it stands after such parts of a piece, where the bytes can be completed
   abbrev pub SettlesBehind : Bodies → Type 0
   SettlesBehind body = (bytes : List ℕ) (given : List Item) (c : Before) (f : HeadFields) (kind id payload : List ℕ)
-      → body bytes given c f kind id payload → IsViable language.set limits bytes
+      → body bytes given c f kind id payload → IsViable language.payloads limits bytes
       → StandsBehind language limits new bytes given c f kind id payload
 
   -- it stands after them, or has refused the last octet of them
@@ -266,7 +266,7 @@ module _ {L : Type 0} (language : Ghosts L) (limits : LimitValues) (new : State 
   -- it stands after such a whole head, where the records have payloads of their kinds
   abbrev pub BeginsBehind : WholeHeads → Type 0
   BeginsBehind head = (bytes : List ℕ) (given : List Item) (c : Before) (f : HeadFields) → head bytes given c f
-      → AllByRecursion (IsMember language.set limits) given
+      → AllByRecursion (IsMember language.payloads limits) given
       → StandsBehind language limits new bytes given c f [] [] []
 
   -- it stands after such a whole head, or has refused the last octet of it

@@ -25,7 +25,7 @@ pub record HaveCome {Point : Type 0} (set : Sets) (limits : LimitValues) (reache
 -- a checker with these limits was fed these bytes, those with them that it did not look at
 abbrev pub WasFed : {L : Type 0} {language : Ghosts L} → Checker L language → LimitValues → List ℕ → Type 0
 WasFed {language = language} c limits bytes = (checker_limits c ≡ limits)
-    × HaveCome language.set limits (CheckerReached c) bytes
+    × HaveCome language.payloads limits (CheckerReached c) bytes
 
 -- a decoder with these limits has read so far
 abbrev pub HasRead : {L : Type 0} {language : Ghosts L} → Decoder L language → LimitValues → SoFar → Type 0

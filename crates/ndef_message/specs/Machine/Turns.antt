@@ -42,19 +42,19 @@ Looked language limits new front before after looks.End =
     (after.failed ≡ false) × Gave before after [] × IfSome before.coming (λ input. input ≡ []) × new front
 Looked language limits new front before after looks.More =
     (after.failed ≡ false) × (bytes : List ℕ) × (0 < length bytes) × Gave before after bytes
-    × IsViable language.set limits (front ++ bytes) × (¬ IsAccepted language.set limits (front ++ bytes))
+    × IsViable language.payloads limits (front ++ bytes) × (¬ IsAccepted language.payloads limits (front ++ bytes))
     × new (front ++ bytes)
 Looked language limits new front before after looks.Done =
     (after.failed ≡ false) × (bytes : List ℕ) × Gave before after bytes
-    × IsAccepted language.set limits (front ++ bytes) × new (front ++ bytes)
+    × IsAccepted language.payloads limits (front ++ bytes) × new (front ++ bytes)
 Looked language limits new front before after (looks.Refused refusal) =
     (after.failed ≡ false) × (bytes : List ℕ) × Shown before after bytes (refusal.at - length front)
     × (refusal.at < length (front ++ bytes))
-    × Refuses language.set language.holds limits (front ++ bytes) refusal
+    × Refuses language.payloads language.reasons limits (front ++ bytes) refusal
 
 -- what a turn of a checker did, after any front that can be completed
 abbrev pub LooksOn : {L : Type 0} {language : Ghosts L} (old new : Checker L language) → (before after : SourceState)
     → Look → Type 0
 LooksOn {language = language} old new before after look = WhateverLed (CheckerReached old) (λ front given point.
-    IsViable language.set (checker_limits old) front
+    IsViable language.payloads (checker_limits old) front
     → Looked language (checker_limits old) (Leads (CheckerReached new)) front before after look)

@@ -6,7 +6,7 @@ use Rattle.ndef_format.specs.Records.{AreOctets}
 use Rattle.ndef_format.specs.declared.profile.Profile.{Profile}
 use Rattle.ndef_format.specs.declared.reason.Reason.{Reason}
 use Rattle.ndef_nest.specs.declared.nest.Nest.{Nest}
-use Rattle.ndef_nest.specs.declared.phase.Phase.TheVariants as phases
+use Rattle.ndef_nest.specs.declared.phase.NestPhase.TheVariants as phases
 use Rattle.ndef_format.specs.declared.table.Table.TheVariants.{Select}
 use Rattle.ndef_format.specs.Nested.{table_of}
 use Rattle.ndef_nest.specs.Machine.Demands.{nested_spot}

@@ -19,11 +19,11 @@ octets_counted octets count few zeros =
     )
 
 -- fields with equal parts are equal
-same_fields : (r : Inside) (octets : List ℕ) (count : ℕ) → octets ≡ r.octets → count ≡ r.count
+same_inside_fields : (r : Inside) (octets : List ℕ) (count : ℕ) → octets ≡ r.octets → count ≡ r.count
     → ◌≡◌ {A = Inside} (record { spot = r.spot; octets = octets; count = count; answer = r.answer }) r
-same_fields r octets count e f = rw (e, f) refl
+same_inside_fields r octets count e f = rw (e, f) refl
 
 -- they are those that it has
 pub fields_are_told : (r : Inside) → IsConsistent r → inside_fields (reading r) ≡ r
-fields_are_told r c = same_fields r (padded (take r.count r.octets)) (length (take r.count r.octets)) (sym c.zeros)
-    (octets_counted r.octets r.count c.few c.zeros)
+fields_are_told r c = same_inside_fields r (padded (take r.count r.octets)) (length (take r.count r.octets))
+    (sym c.zeros) (octets_counted r.octets r.count c.few c.zeros)

@@ -11,7 +11,7 @@ use Rattle.ndef_message.proofs.accepted.accepted_record.Goals as goal
 
 pub returns : goal.returns
 returns g c =
-    let set = g.L.Language.set in
+    let set = g.L.Language.payloads in
     let l = c.args.limits.now in
     let w = c.in_ok-piece.piece in
     let p = shown w in
@@ -29,7 +29,7 @@ returns g c =
 
 pub returns-then-not-is_chunked : goal.returns-then-not-is_chunked
 returns-then-not-is_chunked g c =
-    let set = g.L.Language.set in
+    let set = g.L.Language.payloads in
     let l = c.args.limits.now in
     let place = c.args.place.now in
     let is = c.is_record.ensures in

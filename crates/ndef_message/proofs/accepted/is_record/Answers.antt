@@ -18,5 +18,5 @@ returns g c =
       stands = λ h. subst (λ x. pieces.Stands x (shown w)) spot (at.stands yes);
       one = λ h. at.one yes;
       outer = λ h. sym (ap (λ x. x.inside) spot) ∙ at.outside yes;
-      member = λ h. member_at g.L.Language.set _ _ _ _ _ _ w.payload.now kind c.records.ensures.value c.profile-profile.ensures.value (c.has.ensures h);
+      member = λ h. member_at g.L.Language.payloads _ _ _ _ _ _ w.payload.now kind c.records.ensures.value c.profile-profile.ensures.value (c.has.ensures h);
     }

@@ -35,8 +35,8 @@ returns-then-count-piece-clause-err g c =
     let L = g.L.Language in
     let l = c.loop-piece in
     let payload = (run_record c.args.item.now).payload in
-    let set = L.set c.args.kind 65535 c.args.profile in
-    let holds = L.holds c.args.kind 65535 c.args.profile in
+    let set = L.payloads c.args.kind 65535 c.args.profile in
+    let holds = L.reasons c.args.kind 65535 c.args.profile in
     let lowest = c.step_all-count.ensures.reason c.if-count-piece.true c.args.kind 65535 c.args.profile _ l.invariant.reached in
     inr (
       omega arith,
@@ -53,7 +53,7 @@ loop-piece-preserved g c =
     let piece = c.in-Some-piece.piece.now in
     let behind = concat c.next.new.self in
     let split = l.invariant.rest ∙ ap concat c.in-Some-piece.ensures.steps in
-    let set = L.set c.args.kind 65535 c.args.profile in
+    let set = L.payloads c.args.kind 65535 c.args.profile in
     let new = L.future c.step_all-count.new.self in
     let old_reached = L.reached l.state c.args.kind 65535 c.args.profile in
     let reached = L.reached c.step_all-count.new.self c.args.kind 65535 c.args.profile in
@@ -79,6 +79,6 @@ returns-clause-ok g c =
     let L = g.L.Language in
     let l = c.loop-piece in (
       omega arith,
-      lemmas.all_in (L.set c.args.kind 65535 c.args.profile) (L.future l.state) (run_record c.args.item.now).payload l.at l.left l.invariant.counted
+      lemmas.all_in (L.payloads c.args.kind 65535 c.args.profile) (L.future l.state) (run_record c.args.item.now).payload l.at l.left l.invariant.counted
           (l.invariant.rest ∙ ap concat c.in-None.ensures.steps.0) l.invariant.stepped l.invariant.fits,
     )

@@ -11,7 +11,7 @@ invariant-loop-piece g l =
     record {
       counted : l.at + l.left ≡ length payload;
       rest : drop l.at payload ≡ concat l.piece-iterator;
-      stepped : Continues (L.set l.fn.kind 65535 l.fn.profile) (L.future l.state) (take l.at payload);
+      stepped : Continues (L.payloads l.fn.kind 65535 l.fn.profile) (L.future l.state) (take l.at payload);
       reached : L.reached l.state l.fn.kind 65535 l.fn.profile (take l.at payload);
       fits : PassesBetween (L.future l.state) l.left l.left;
     }
