@@ -1,0 +1,6 @@
+pub mod Counts
+pub mod Nests
+pub mod References
+pub mod Sames
+pub mod Tests
+pub mod Truths

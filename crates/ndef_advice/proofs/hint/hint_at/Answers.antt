@@ -1,0 +1,12 @@
+use Rattle.ndef_advice.specs.Hints.{Applies}
+use Rattle.ndef_advice.specs.declared.hint.Hint.TheVariants.{MessageAt, CodeLeftOut, StandardProfile}
+use Rattle.ndef_advice.proofs.Tests.{not_true}
+use Rattle.ndef_advice.proofs.hint.hint_at.Goals as goal
+
+pub returns-clause-none : goal.returns-clause-none
+returns-clause-none c = λ hint.
+    elim hint as (λ h. Applies c.args.limits c.args.bytes.now c.args.refusal h → ⊥) [
+      | MessageAt place ↦ λ a. c.in_default.ensures.none place a
+      | CodeLeftOut ↦ λ a. not_true c.if-is_code_left_out.false (c.is_code_left_out.ensures.1 a)
+      | StandardProfile ↦ λ a. not_true c.if-is_for_standard.false (c.is_for_standard.ensures.1 (a.0, a.2))
+    ]

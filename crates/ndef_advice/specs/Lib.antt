@@ -1,0 +1,10 @@
+pub mod Begun
+pub mod Hints
+pub mod Lengths
+pub mod Misfits
+pub mod RecordRemarks
+pub mod Remarks
+pub mod TextRemarks
+pub mod Truths
+pub mod Wants
+pub mod Wordings

@@ -1,0 +1,141 @@
+-- The sentence for what was wanted.
+use Rattle.std.specs.Prelude.{ℕ, ◌++◌, ◌==◌, if◌then◌else◌, List, codes, decimal}
+use Rattle.ndef_format.specs.Kinds.{kind_name}
+use Rattle.ndef_format.specs.Sentences.{reason_sentence}
+use Rattle.ndef_format.specs.declared.kind.Kind.{Kind}
+use Rattle.ndef_format.specs.declared.kind.Kind.TheVariants as kinds
+use Rattle.ndef_format.specs.declared.reason.Reason.{Reason}
+use Rattle.ndef_fields.specs.Names.{name_text}
+use Rattle.ndef_fields.specs.declared.name.FieldName.{FieldName}
+use Rattle.ndef_fields.specs.declared.name.FieldName.TheVariants as names
+use Rattle.ndef_advice.specs.declared.wanted.Wanted.{Wanted}
+use Rattle.ndef_advice.specs.declared.wanted.Wanted.TheVariants as wanted
+
+-- ---- words
+
+-- a number, and the noun that it counts
+abbrev pub counted : ℕ → (one more : List ℕ) → List ℕ
+counted n one more = decimal n ++ (if n == 1 then one else more)
+
+-- a number of octets
+abbrev pub octets_text : ℕ → List ℕ
+octets_text n = counted n (codes " octet") (codes " octets")
+
+-- what was given, as the end of a sentence
+abbrev pub given_text : ℕ → List ℕ
+given_text n = counted n (codes " was given.") (codes " were given.")
+
+-- what is left in the payload, as the end of a sentence
+abbrev pub left_text : ℕ → List ℕ
+left_text n = counted n (codes " is left in the payload.") (codes " are left in the payload.")
+
+-- RTD 1.0, well-known types: a payload of this kind, as the subject of a sentence
+abbrev pub kind_noun : Kind → List ℕ
+kind_noun kinds.Text = codes "A text"
+kind_noun kinds.Uri = codes "A URI"
+kind_noun kinds.SmartPoster = codes "A smart poster"
+kind_noun kinds.Request = codes "A handover request"
+kind_noun kinds.Select = codes "A handover select"
+kind_noun kinds.Carrier = codes "A handover carrier"
+kind_noun kinds.Action = codes "An action"
+kind_noun kinds.Size = codes "A size"
+kind_noun kinds.MediaType = codes "A media type"
+kind_noun kinds.Alternative = codes "An alternative carrier"
+kind_noun kinds.Collision = codes "A collision record"
+kind_noun kinds.Error = codes "An error"
+kind_noun kinds.Other = codes "A payload"
+
+-- the same, with the name of the kind
+abbrev pub kind_text : Kind → List ℕ
+kind_text kind = kind_noun kind ++ codes " (`" ++ kind_name kind ++ codes "`)"
+
+-- a field, within a sentence
+abbrev pub field_text : FieldName → List ℕ
+field_text names.Payload = codes "the payload"
+field_text name = name_text name
+
+-- ---- sentences
+
+-- NDEF 1.0, record layout: octets of a field are missing
+abbrev pub missing_text : FieldName → ℕ → List ℕ
+missing_text name n =
+    octets_text n ++ codes " of " ++ field_text name ++ (if n == 1 then codes " is missing." else codes " are missing.")
+
+-- a kind of payload has a length
+abbrev pub length_text : Kind → (there given : ℕ) → List ℕ
+length_text kind there given =
+    kind_text kind ++ codes " has " ++ octets_text there ++ codes "; " ++ given_text given
+
+-- a kind of payload has a least length
+abbrev pub least_text : Kind → (least given : ℕ) → List ℕ
+least_text kind least given =
+    kind_text kind ++ codes " has at least " ++ octets_text least ++ codes "; " ++ given_text given
+
+-- Connection Handover 1.2, Handover Select record: its version alone, or a message after it
+abbrev pub select_text : (given : ℕ) → List ℕ
+select_text given = codes "A handover select (`Hs`) has 1 octet, or at least 4; " ++ given_text given
+
+-- Connection Handover 1.2, Error record: the data of a reason has a length
+abbrev pub error_text : (reason there given : ℕ) → List ℕ
+error_text reason there given =
+    codes "The data of error reason " ++ decimal reason ++ codes " has " ++ octets_text there
+    ++ codes "; " ++ given_text given
+
+-- a field of a payload is longer than what is left
+abbrev pub shorter_text : FieldName → (size left : ℕ) → List ℕ
+shorter_text name size left =
+    codes "The " ++ name_text name ++ codes " has " ++ octets_text size ++ codes "; " ++ left_text left
+
+-- Connection Handover 1.2, Alternative Carrier record: its auxiliary references don't fit
+abbrev pub auxiliary_text : (count left : ℕ) → List ℕ
+auxiliary_text count left =
+    counted count (codes " auxiliary reference has") (codes " auxiliary references have") ++ codes " at least "
+    ++ octets_text count ++ codes "; " ++ left_text left
+
+-- NDEF 1.0, record layout: a record doesn't fit the payload that holds its message
+abbrev pub record_text : (least left : ℕ) → List ℕ
+record_text least left = codes "This record has at least " ++ octets_text least ++ codes "; " ++ left_text left
+
+-- NDEF 1.0, ME: the last record ends before the payload that holds its message
+abbrev pub last_text : (size left : ℕ) → List ℕ
+last_text size left =
+    codes "This record is the last (ME) and has " ++ octets_text size ++ codes "; " ++ left_text left
+
+-- NDEF 1.0, ME: another record doesn't fit the payload
+abbrev pub next_text : (left : ℕ) → List ℕ
+next_text left =
+    codes "Another record has to follow (ME is clear), of at least 3 octets" ++ codes "; " ++ left_text left
+
+-- RTD Smart Poster 1.0: none of the records is a URI
+abbrev pub poster_text : (number : ℕ) → List ℕ
+poster_text number =
+    codes "Record " ++ decimal number ++ codes " is the last of this smart poster, and none is a URI (`U`)."
+
+-- RTD Smart Poster 1.0: two of the records are URIs
+abbrev pub second_text : (number : ℕ) → List ℕ
+second_text number = codes "Record " ++ decimal number ++ codes " is a second URI (`U`) in this smart poster."
+
+-- NDEF 1.0, RTD Text 1.0, RTD URI 1.0, RTD Smart Poster 1.0 and Connection Handover 1.2: the sentence for what was
+-- wanted, or what the reason means
+abbrev pub wanted_text : Reason → Wanted → List ℕ
+wanted_text reason wanted.Nothing = reason_sentence reason
+wanted_text reason wanted.Message = codes "A message is missing: the input has no bytes."
+wanted_text reason wanted.NextRecord = codes "Another record is missing: none of those before has ME set."
+wanted_text reason (wanted.Missing name n) = missing_text name n
+wanted_text reason (wanted.FixedLength kind there given) = length_text kind there given
+wanted_text reason (wanted.LeastLength kind least given) = least_text kind least given
+wanted_text reason (wanted.SelectLength given) = select_text given
+wanted_text reason (wanted.ErrorLength error there given) = error_text error there given
+wanted_text reason (wanted.ShorterField name size left) = shorter_text name size left
+wanted_text reason wanted.EvenText = codes "The text in UTF-16 has an odd number of octets."
+wanted_text reason wanted.WholeCharacter = codes "The payload ends within a character of the text."
+wanted_text reason wanted.AuxiliaryCount =
+    codes "The alternative carrier ends before its number of auxiliary references."
+wanted_text reason (wanted.FewerAuxiliary count left) = auxiliary_text count left
+wanted_text reason (wanted.ShorterRecord least left) = record_text least left
+wanted_text reason (wanted.LongerLast size left) = last_text size left
+wanted_text reason (wanted.RoomForNext left) = next_text left
+wanted_text reason (wanted.UriInPoster number) = poster_text number
+wanted_text reason (wanted.OneUri number) = second_text number
+wanted_text reason wanted.CollisionFirst =
+    codes "This request must begin with a collision record (`cr`); it has none."

@@ -1,0 +1,68 @@
+//! The lengths of payloads, by their kinds.
+ghost use Rattle.std.specs.Prelude.{◌≡◌};
+ghost use Rattle.ndef_advice.specs.Lengths.{error_length, fixed_length, least_length, least_nest};
+
+use ndef_format::Table;
+use ndef_lang::Kind;
+
+/// The length of each payload of a kind, where they have one (RTD Smart Poster 1.0, Connection Handover 1.2).
+pub(crate) fn fixed_length(kind: Kind) -> Option<u64>
+    ensures { result ≡ fixed_length kind }
+{
+    match kind {
+        Kind::Size => Some(4),
+        Kind::Action => Some(1),
+        Kind::Collision => Some(2),
+        Kind::Other
+        | Kind::Text
+        | Kind::Uri
+        | Kind::SmartPoster
+        | Kind::Request
+        | Kind::Select
+        | Kind::Carrier
+        | Kind::MediaType
+        | Kind::Alternative
+        | Kind::Error => None,
+    }
+}
+
+/// The length of the shortest payload of a kind (RTD Text 1.0, RTD URI 1.0, Connection Handover 1.2).
+pub(crate) fn least_length(kind: Kind) -> u64
+    ensures { result ≡ least_length kind }
+{
+    match kind {
+        Kind::Text | Kind::Uri | Kind::Error => 1,
+        Kind::Carrier => 2,
+        Kind::Alternative => 3,
+        Kind::Other
+        | Kind::SmartPoster
+        | Kind::Request
+        | Kind::Select
+        | Kind::Action
+        | Kind::Size
+        | Kind::MediaType
+        | Kind::Collision => 0,
+    }
+}
+
+/// The length of the shortest payload that holds this message (RTD Smart Poster 1.0, Connection Handover 1.2).
+pub(crate) fn least_nest(table: Table) -> u64
+    ensures { result ≡ least_nest table }
+{
+    match table {
+        Table::SmartPoster => 5,
+        Table::Request => 8,
+        Table::Select => 1,
+    }
+}
+
+/// The length of the data of an error reason, where it has one (Connection Handover 1.2, Error record).
+pub(crate) fn error_length(reason: u8) -> Option<u64>
+    ensures { result ≡ error_length reason }
+{
+    match reason {
+        1 | 3 => Some(1),
+        2 => Some(4),
+        _ => None,
+    }
+}
