@@ -1,16 +1,17 @@
 -- The records that are ahead in a message of one piece a record.
 use Rattle.std.proofs.Common.{◌≡◌, ℕ, suc, ◌+◌, ◌<◌, ◌∷◌, [], take, drop, refl, sym, ◌∙◌, ap, subst, arith, Bool, ne_eqb, true≢false, List, drop_at, ◌++◌, length, length-append, length-drop, map, append_assoc, append-nil, take_at, Some, inl, inr}
 use Rattle.std.specs.List.{AllByRecursion}
-use Rattle.std.specs.Prelude.{◌==◌, true, slice_get, unwrap_or}
+use Rattle.std.specs.Prelude.{◌==◌, true, slice_get}
 use Rattle.std.proofs.lemmas.List.{drop-drop, map-append}
 use Rattle.ndef_format.specs.Messages.{Item, SpellsPieces, all_pieces, payload_of, run_record}
-use Rattle.ndef_format.specs.Records.{IsRun, Piece, Run, tnf_of}
+use Rattle.ndef_format.specs.Records.{IsRun, Piece, Run}
 use Rattle.ndef_format.specs.declared.profile.Profile.{Profile}
 use Rattle.ndef_format.specs.declared.profile.Profile.TheVariants.{Standard}
 use Rattle.ndef_piece.specs.Heads.{HeadsAreApart}
 use Rattle.ndef_piece.specs.Whole.{IsSplit, BeginWithPiece}
 use Rattle.ndef_types.specs.Contents.{IsFirstOf, IsFirstAt, Lack}
 use Rattle.ndef_c.specs.Nested.{IsFound, IsInPieces, MayBeInPieces, StandsAt, StandsBehind}
+use Rattle.ndef_c.specs.Sought.{IsOfPiece}
 use Rattle.ndef_c.specs.Walks.{BeginsWithRun, LieBetween, Lies}
 use Rattle.ndef_c.specs.declared.nested.Found.{Found}
 use Rattle.ndef_c.proofs.Followed.{same_split, split_size}
@@ -41,13 +42,6 @@ ahead_at profile items bytes h = record {
 pub ahead_in : (profile : Profile) (items : List Item) (bytes : List ℕ) → MayBeInPieces profile items bytes → Ahead items bytes []
 ahead_in profile items bytes (inl h) = record { left = []; all = h.0; each = tt; single = tt; spelled = h.1 }
 ahead_in profile items bytes (inr h) = ahead_at profile items bytes h
-
--- the record of a piece
-pub record IsOfPiece (i : Item) (p : Piece) : Type 0 where
-  pub tnf : i.tnf ≡ tnf_of p.tnf
-  pub kind : i.kind ≡ p.kind
-  pub id : i.id ≡ unwrap_or p.id []
-  pub payload : i.payload ≡ p.payload
 
 alone : (r : Run) → r.later ≡ [] → IsOfPiece (run_record r) r.initial
 alone r e = record { tnf = refl; kind = refl; id = refl; payload = ap (λ ps. r.initial.payload ++ payload_of ps) e ∙ append-nil r.initial.payload }

@@ -4,7 +4,7 @@ use Rattle.std.specs.Int.{w32, to_be_bytes}
 use Rattle.std.proofs.lemmas.Nat.{from_be_bytes-to_be_bytes_4}
 use Rattle.ndef_format.specs.Records.{AreOctets}
 use Rattle.std.proofs.lemmas.List.{take_all}
-use Rattle.ndef_value.specs.SliceLaws.{behind, behind_drop}
+use Rattle.ndef_value.specs.SliceLaws.{rest_from, behind_drop}
 use Rattle.ndef_c.specs.Walks.{Lies}
 use Rattle.ndef_c.specs.ErrorWrites.{IsErrorOf, error_of}
 
@@ -27,9 +27,9 @@ number_error number h = record {
 }
 
 -- what stands after some octets lies there
-pub lies_behind : (n : ℕ) (s : List ℕ) → n ≤ length s → Lies s n (length (behind n s)) (behind n s)
+pub lies_behind : (n : ℕ) (s : List ℕ) → n ≤ length s → Lies s n (length (rest_from n s)) (rest_from n s)
 lies_behind n s h = record {
   within = omega (arith, h, ap length (behind_drop n s), length-drop n s);
-  are = ap (take (length (behind n s))) (sym (behind_drop n s)) ∙ take_all (length (behind n s)) (behind n s) (omega arith);
+  are = ap (take (length (rest_from n s))) (sym (behind_drop n s)) ∙ take_all (length (rest_from n s)) (rest_from n s) (omega arith);
   count_is = refl;
 }

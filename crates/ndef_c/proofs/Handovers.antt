@@ -1,5 +1,5 @@
 -- The records of handovers.
-use Rattle.std.proofs.Common.{◌≡◌, ◌≢◌, ℕ, zero, suc, ◌+◌, ◌-◌, ◌<◌, ◌↔◌, ◌∷◌, [], drop, get_or, refl, sym, ◌∙◌, ap, subst, arith, Bool, true, false, true≢false, List, length, Some, inl, inr}
+use Rattle.std.proofs.Common.{◌≡◌, ◌≢◌, ℕ, zero, suc, ◌+◌, ◌-◌, ◌<◌, ◌∷◌, [], drop, get_or, refl, sym, ◌∙◌, ap, subst, arith, Bool, true, false, true≢false, List, length, Some, inl, inr}
 use Rattle.std.specs.Int.{w16, from_be_bytes}
 use Rattle.std.specs.List.{AllByRecursion}
 use Rattle.std.specs.Prelude.{slice_get, if◌then◌else◌}
@@ -40,14 +40,6 @@ each_alternative P (i ∷ items) h = keep (is_carrier i) P i (alternatives items
 alternative_kind : (kind : Kind) → is_alternative kind ≡ true → kind ≡ kinds.Alternative
 alternative_kind kinds.Alternative e = refl
 alternative_kind _ e = absurd (true≢false (sym e))
-
-checked_carrier : (kind : Kind) → is_alternative (checked Request kind) ≡ is_alternative kind
-checked_carrier kinds.Alternative = refl
-checked_carrier _ = refl
-
--- the message of a request checks the alternative carriers
-pub of_carrier : (i : Item) → (is_carrier i ≡ true) ↔ IsOfKind Request kinds.Alternative i
-of_carrier i = (λ e. ap (checked Request) (alternative_kind (kind_of i.tnf i.kind) e), λ e. sym (checked_carrier (kind_of i.tnf i.kind)) ∙ ap is_alternative e)
 
 alternative_there : (table : Table) (profile : Profile) (payload : List ℕ) → table ≢ SmartPoster → IsPayload (checked table kinds.Alternative) profile payload → IsAlternative payload
 alternative_there SmartPoster profile payload t h = absurd (t refl)

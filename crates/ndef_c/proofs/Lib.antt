@@ -39,3 +39,4 @@ pub mod Stepped
 pub mod Texts
 pub mod TitleTexts
 pub mod Walked
+pub mod WantedRecords

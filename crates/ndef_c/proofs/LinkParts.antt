@@ -1,23 +1,25 @@
 -- A link of a handover, by the place of its alternative carrier.
-use Rattle.std.proofs.Common.{◌≡◌, ℕ, ◌+◌, ◌<◌, ◌^◌, ◌∙◌, ap, Bool, true, List, length, length-drop, drop, get_or, refl, sym, subst, arith, Some}
+use Rattle.std.proofs.Common.{◌≡◌, ℕ, ◌+◌, ◌<◌, ◌^◌, ◌∙◌, ap, List, length, length-drop, drop, get_or, refl, sym, subst, arith, Some}
+use Rattle.std.specs.List.{AllByRecursion}
 use Rattle.ndef_format.specs.Messages.{Item}
-use Rattle.ndef_format.specs.Records.{Piece, Run, tnf_of}
+use Rattle.ndef_format.specs.Records.{Run}
 use Rattle.ndef_format.specs.Handovers.{IsAlternative}
-use Rattle.ndef_format.specs.Kinds.{kind_of}
-use Rattle.ndef_piece.specs.Heads.{HeadsAreApart}
-use Rattle.ndef_piece.specs.Whole.{IsSplit}
-use Rattle.ndef_types.specs.Links.{alternatives, is_alternative}
+use Rattle.ndef_format.specs.declared.profile.Profile.TheVariants.{Standard}
+use Rattle.ndef_piece.specs.declared.whole.WholePiece.{WholePiece}
+use Rattle.ndef_types.specs.Links.{alternatives}
 use Rattle.ndef_types.specs.Values.{AcValue, StandsForAc}
+use Rattle.ndef_c.specs.Handovers.{HasMessage}
 use Rattle.ndef_c.specs.Links.{BeginsWithRuns, IsLinkAt, MayHaveLinks, TellsRecord}
 use Rattle.ndef_c.specs.Nested.{CarrierLies}
+use Rattle.ndef_c.specs.Sought.{IsWantedAt}
 use Rattle.ndef_c.specs.Walks.{Lies}
 use Rattle.ndef_c.specs.declared.link.NdefLink.{NdefLink}
 use Rattle.ndef_c.specs.declared.nested.Found.{Found}
-use Rattle.ndef_c.proofs.Ahead.{Ahead, Before, found_of, reached, shown_at}
+use Rattle.ndef_c.proofs.Ahead.{found_of}
 use Rattle.ndef_c.proofs.Alternatives.{ac_at}
-use Rattle.ndef_c.proofs.Filtered.{filter_at}
-use Rattle.ndef_c.proofs.Handovers.{Handover, is_alternative_at, is_carrier}
+use Rattle.ndef_c.proofs.Handovers.{Handover, handover_of, is_alternative_at, is_carrier}
 use Rattle.ndef_c.proofs.Places.{lies_behind, lies_within}
+use Rattle.ndef_c.proofs.WantedRecords.{index_of_wanted, wanted_behind}
 
 -- the alternative carrier with the index lies there in the message
 abbrev pub IsCarrier : (payload : List ℕ) → Handover payload → ℕ → Found → Type 0
@@ -62,16 +64,16 @@ link_is bytes payload may h index f out v l at count stands refers =
       refers = refers may.message.0 may.message.1;
     }
 
--- the piece that is shown is the next alternative carrier
-pub carrier_here : HeadsAreApart → (payload : List ℕ) (h : Handover payload) (done : List Item) (rest : List ℕ) → Ahead h.items rest done → (p : Piece) (short : Bool) (behind : List ℕ) → IsSplit p short behind rest
-    → is_alternative (kind_of (tnf_of p.tnf) p.kind) ≡ true → (f : Found) → f.payload.now ≡ p.payload
-    → (message : List ℕ) → message ≡ drop 1 payload → Lies message f.at (length p.payload) p.payload
-    → (at : ℕ) → Before (drop 1 payload) at done → rest ≡ drop at (drop 1 payload) → f.at + length p.payload + length behind ≡ length message → IsCarrier payload h (length (alternatives done)) f
-carrier_here apart payload h done rest a p short behind s e f same message m lies at before rest_is end =
-    let r = reached apart a p short behind s in
-    let k : is_carrier r.item ≡ true = (λ j. is_alternative (kind_of (r.is.tnf j) (r.is.kind j))) ∙ e in (
-      r.item,
-      filter_at is_carrier h.items done r.item r.within k,
-      found_of (λ xs. length (alternatives xs) ≡ length (alternatives done)) (drop 1 payload) r.item f p.payload same r.is.payload (subst (λ b. Lies b f.at (length p.payload) p.payload) m lies)
-          (done, refl, shown_at (drop 1 payload) at f.at before r.one rest_is p short s r.is.payload (end ∙ ap length m)),
-    )
+-- the records of a handover
+abbrev pub handover_with : (bytes payload : List ℕ) (items : List Item) → MayHaveLinks bytes payload × HasMessage Standard items payload × AllByRecursion (λ i. IsAlternative i.payload) (alternatives items) → Handover payload
+handover_with bytes payload items h = record { some = (handover_of payload h.0.handover).some; items = items; records = h.1; each = h.2 }
+
+-- the piece is the alternative carrier with the index
+pub carrier_here : (payload : List ℕ) (h : Handover payload) (index : ℕ) (w : WholePiece) → IsWantedAt is_carrier (drop 1 payload) h.items index w → (f : Found) → f.payload.now ≡ w.payload.now
+    → (message : List ℕ) → message ≡ drop 1 payload → Lies message f.at (length w.payload.now) w.payload.now → f.at + length w.payload.now + length w.rest.now ≡ length message → IsCarrier payload h index f
+carrier_here payload h index w i f same message m lies end = (
+  i.item,
+  index_of_wanted is_carrier (drop 1 payload) h.items index w i,
+  found_of (λ xs. length (alternatives xs) ≡ index) (drop 1 payload) i.item f w.payload.now same i.of_piece.payload (subst (λ b. Lies b f.at (length w.payload.now) w.payload.now) m lies)
+      (wanted_behind is_carrier (drop 1 payload) h.items index w i f.at (end ∙ ap length m)),
+)

@@ -8,8 +8,8 @@ use Rattle.ndef_message.specs.declared.form.Form.{Form}
 use Rattle.ndef_message.specs.declared.form.Form.TheVariants.{Short}
 use Rattle.ndef_message.specs.Cut.{first_piece}
 use Rattle.ndef_message.specs.Written.{is_short, written_piece}
-use Rattle.ndef_message.specs.WrittenLaws.{first_is}
-use Rattle.ndef_c.specs.Writes.{LastBegins, piece_octets, record_octets}
+use Rattle.ndef_message.specs.WrittenLaws.{first_piece_is}
+use Rattle.ndef_c.specs.Writes.{LastBegins, octets_of_piece, record_octets}
 
 behind_front : (head kind id part : List ℕ) → (head ++ (kind ++ (id ++ []))) ++ part ≡ head ++ (kind ++ (id ++ part))
 behind_front head kind id part = simp (append-nil, append_assoc)
@@ -17,10 +17,10 @@ behind_front head kind id part = simp (append-nil, append_assoc)
 -- the front of the piece, and the payload after it, are the octets of the record
 pub whole_as : (form : Form) (first last : Bool) (m : Item) (head : Head) (part : List ℕ) → part ≡ m.payload
     → written_fields head ≡ fields (first_piece first last false m part) (is_short form (length part))
-    → piece_octets head m.kind m.id [] ++ part ≡ record_octets form first last None m
+    → octets_of_piece head m.kind m.id [] ++ part ≡ record_octets form first last None m
 whole_as form first last m head part e w =
     behind_front (octets (written_fields head)) m.kind m.id part
-    ∙ first_is form first last false m part (written_fields head) m.kind m.id w refl refl
+    ∙ first_piece_is form first last false m part (written_fields head) m.kind m.id w refl refl
     ∙ sym (append-nil (written_piece form (first_piece first last false m part)))
     ∙ ap (λ p. written_piece form (first_piece first last false m p) ++ []) e
 

@@ -12,8 +12,8 @@ use Rattle.ndef_message.specs.declared.form.Form.{Form}
 use Rattle.ndef_message.specs.Cut.{first_piece, later_piece, later_pieces, all_parts, cut_run, cut_runs, none_left}
 use Rattle.ndef_message.specs.CutLaws.{all_parts-none, all_parts-some, none_left-all_parts}
 use Rattle.ndef_message.specs.Written.{written_piece, is_short}
-use Rattle.ndef_message.specs.WrittenLaws.{first_is, later_is, first-step, later-step, later-end, whole_run}
-use Rattle.ndef_c.specs.Writes.{LastBegins, piece_octets, record_octets, octets_by, one_by_one, asked_octets, form_of, is_first, is_last, size_of}
+use Rattle.ndef_message.specs.WrittenLaws.{first_piece_is, later_is, first-step, later-step, later-end, whole_run}
+use Rattle.ndef_c.specs.Writes.{LastBegins, octets_of_piece, record_octets, octets_by, one_by_one, asked_octets, form_of, is_first, is_last, size_of}
 use Rattle.ndef_c.specs.declared.writing.NdefWriting.{NdefWriting}
 use Rattle.ndef_c.specs.declared.writing.Way.{Way}
 
@@ -23,14 +23,14 @@ left_octets form last size rest = flat_map (written_piece form) (later_pieces la
 
 pub first_octets : (form : Form) (first last alone : Bool) (size : ℕ) (m : Item) (head : Head) (part rest : List ℕ) → 1 ≤ size → part ≡ take size m.payload → rest ≡ drop size m.payload → alone ≡ (length rest == 0)
     → written_fields head ≡ fields (first_piece first (alone && last) (not alone) m part) (is_short form (length part))
-    → piece_octets head m.kind m.id part ++ left_octets form last size rest ≡ record_octets form first last (Some size) m
+    → octets_of_piece head m.kind m.id part ++ left_octets form last size rest ≡ record_octets form first last (Some size) m
 first_octets form first last alone size m head part rest h e f n w =
-    ap (λ x. x ++ left_octets form last size rest) (first_is form first (alone && last) (not alone) m part (written_fields head) m.kind m.id w refl refl)
+    ap (λ x. x ++ left_octets form last size rest) (first_piece_is form first (alone && last) (not alone) m part (written_fields head) m.kind m.id w refl refl)
     ∙ first-step form first last alone size m m.payload part rest h refl e f n
 
 pub later_octets : (form : Form) (last ends : Bool) (size : ℕ) (rest part later : List ℕ) (head : Head) → 1 ≤ size → 0 < length rest → part ≡ take size rest → later ≡ drop size rest → ends ≡ (length later == 0)
     → written_fields head ≡ fields (later_piece (ends && last) (not ends) part) (is_short form (length part))
-    → piece_octets head [] [] part ++ left_octets form last size later ≡ left_octets form last size rest
+    → octets_of_piece head [] [] part ++ left_octets form last size later ≡ left_octets form last size rest
 later_octets form last ends size rest part later head h some e f n w =
     ap (λ x. x ++ left_octets form last size later) (later_is form (ends && last) (not ends) part (written_fields head) w)
     ∙ later-step form last ends size rest part later h some e f n
@@ -76,7 +76,7 @@ pub record Cutting (form : Form) (first last : Bool) (size : ℕ) (m : Item) (re
   pub at_is : at ≡ length (flat_map (written_piece form) told)
 
 pub cutting_at : (form : Form) (first last alone : Bool) (size : ℕ) (m : Item) (head : Head) (part rest : List ℕ) → 1 ≤ size → part ≡ take size m.payload → rest ≡ drop size m.payload → alone ≡ (length rest == 0)
-    → written_fields head ≡ fields (first_piece first (alone && last) (not alone) m part) (is_short form (length part)) → Cutting form first last size m rest (piece_octets head m.kind m.id part) 0
+    → written_fields head ≡ fields (first_piece first (alone && last) (not alone) m part) (is_short form (length part)) → Cutting form first last size m rest (octets_of_piece head m.kind m.id part) 0
 cutting_at form first last alone size m head part rest h e f n w =
     let none : alone ≡ none_left (all_parts size rest) = n ∙ sym (none_left-all_parts size rest h) in
     let piece = first_piece first (alone && last) (not alone) m part in
@@ -86,13 +86,13 @@ cutting_at form first last alone size m head part rest h e f n w =
       pieces_are = sym (
           ap (λ b. first_piece first (b && last) (not b) m part ∷ later_pieces last (all_parts size rest)) none
           ∙ ap₂ (λ p l. first_piece first (none_left (all_parts size l) && last) (not (none_left (all_parts size l))) m p ∷ later_pieces last (all_parts size l)) e f);
-      written = first_is form first (alone && last) (not alone) m part (written_fields head) m.kind m.id w refl refl ∙ sym (append-nil (written_piece form piece));
+      written = first_piece_is form first (alone && last) (not alone) m part (written_fields head) m.kind m.id w refl refl ∙ sym (append-nil (written_piece form piece));
       at_is = refl;
     }
 
 pub cutting_on : {form : Form} {first last : Bool} {size : ℕ} {m : Item} {rest done : List ℕ} {at : ℕ} (ends : Bool) (part later : List ℕ) (head : Head) → Cutting form first last size m rest done at → 1 ≤ size → 0 < length rest
     → part ≡ take size rest → later ≡ drop size rest → ends ≡ (length later == 0) → written_fields head ≡ fields (later_piece (ends && last) (not ends) part) (is_short form (length part))
-    → Cutting form first last size m later (done ++ piece_octets head [] [] part) (length done)
+    → Cutting form first last size m later (done ++ octets_of_piece head [] [] part) (length done)
 cutting_on {form} {first} {last} {size} {m} {rest} {done} {at} ends part later head c h some e f n w =
     let none : ends ≡ none_left (all_parts size later) = n ∙ sym (none_left-all_parts size later h) in
     let piece = later_piece (ends && last) (not ends) part in
@@ -100,7 +100,7 @@ cutting_on {form} {first} {last} {size} {m} {rest} {done} {at} ends part later h
     ap (later_pieces last) (all_parts-some size rest h some)
     ∙ sym (ap (λ b. later_piece (b && last) (not b) part ∷ later_pieces last (all_parts size later)) none
     ∙ ap₂ (λ p l. later_piece (none_left (all_parts size l) && last) (not (none_left (all_parts size l))) p ∷ later_pieces last (all_parts size l)) e f) in
-    let here : piece_octets head [] [] part ≡ flat_map (written_piece form) (piece ∷ []) =
+    let here : octets_of_piece head [] [] part ≡ flat_map (written_piece form) (piece ∷ []) =
     later_is form (ends && last) (not ends) part (written_fields head) w ∙ sym (append-nil (written_piece form piece)) in
     record {
       told = c.told ++ c.piece ∷ [];

@@ -12,17 +12,17 @@ use Rattle.ndef_message.specs.declared.form.Form.{Form}
 use Rattle.ndef_message.specs.Cut.{first_piece}
 use Rattle.ndef_message.specs.Written.{is_short}
 use Rattle.ndef_c.specs.Links.{BeginsWithRuns}
-use Rattle.ndef_c.specs.Rewrites.{IsWhole, IsWritable, records_of}
+use Rattle.ndef_c.specs.Rewrites.{IsWhole, IsWritable, run_records}
 use Rattle.ndef_c.specs.Runs.{IsFirstRun}
 use Rattle.ndef_c.specs.Walks.{is_last_run}
-use Rattle.ndef_c.specs.Writes.{one_by_one, piece_octets, record_octets}
+use Rattle.ndef_c.specs.Writes.{one_by_one, octets_of_piece, record_octets}
 use Rattle.ndef_c.specs.declared.run.FirstRun.{FirstRun}
 use Rattle.ndef_c.proofs.Made.{whole_as}
 use Rattle.ndef_c.proofs.Messages.{Left, Onward, id_of}
 
 -- the octets of the first of some records, and of the others
 next_octets : (form : Form) (first : Bool) (run : Run) (more : List Run)
-    → one_by_one form first None (records_of (run ∷ more)) ≡ record_octets form first (is_last_run more) None (run_record run) ++ one_by_one form false None (records_of more)
+    → one_by_one form first None (run_records (run ∷ more)) ≡ record_octets form first (is_last_run more) None (run_record run) ++ one_by_one form false None (run_records more)
 next_octets form first run [] = refl
 next_octets form first run (r ∷ more) = refl
 
@@ -39,26 +39,26 @@ item_is {bytes} {found} x = with_parts _ _ _ _ _ _ (run_record x.run).payload (a
 -- the front of the piece, and the joined payload after it, are the octets of the record
 front_and_payload : {bytes : List ℕ} {found : FirstRun} (x : IsFirstRun bytes found) (form : Form) (first : Bool) (head : Head)
     → written_fields head ≡ fields (first_piece first found.last false (run_record x.run) (run_record x.run).payload) (is_short form (length (run_record x.run).payload))
-    → piece_octets head found.first.kind.now found.first.id.now [] ++ (run_record x.run).payload ≡ record_octets form first found.last None (run_record x.run)
+    → octets_of_piece head found.first.kind.now found.first.id.now [] ++ (run_record x.run).payload ≡ record_octets form first found.last None (run_record x.run)
 front_and_payload {bytes} {found} x form first head e =
-    ap₂ (λ k i. piece_octets head k i [] ++ (run_record x.run).payload) (ap (λ q. q.kind) x.initial) (sym (id_of found x))
+    ap₂ (λ k i. octets_of_piece head k i [] ++ (run_record x.run).payload) (ap (λ q. q.kind) x.initial) (sym (id_of found x))
     ∙ whole_as form first found.last (run_record x.run) head (run_record x.run).payload refl e
 
 -- what is written of a record, and of those after it
 pub record Part (form : Form) (first : Bool) (left : List Run) (run : Run) (more : List Run) (part : List ℕ) : Type 0 where
   pub are : left ≡ run ∷ more
-  pub octets : one_by_one form first None (records_of left) ≡ part ++ one_by_one form false None (records_of more)
+  pub octets : one_by_one form first None (run_records left) ≡ part ++ one_by_one form false None (run_records more)
 
 pub part_of : {bytes found_at : List ℕ} {runs done : List Run} {at next : ℕ} {found : FirstRun} (l : Left bytes runs at done) (x : IsFirstRun found_at found) (o : Onward bytes runs next done x.run) (form : Form) (first : Bool) (head : Head)
     → written_fields head ≡ fields (first_piece first found.last false (run_record x.run) (run_record x.run).payload) (is_short form (length (run_record x.run).payload))
-    → Part form first l.more x.run o.more (piece_octets head found.first.kind.now found.first.id.now [] ++ (run_record x.run).payload)
+    → Part form first l.more x.run o.more (octets_of_piece head found.first.kind.now found.first.id.now [] ++ (run_record x.run).payload)
 part_of {bytes} {found_at} {runs} {done} {at} {next} {found} l x o form first head e =
     let are : l.more ≡ x.run ∷ o.more = append_cancel_left done l.more (x.run ∷ o.more) (sym l.all ∙ o.all) in
     record {
       are = are;
-      octets = ap (λ rs. one_by_one form first None (records_of rs)) are ∙ next_octets form first x.run o.more
-          ∙ ap (λ b. record_octets form first b None (run_record x.run) ++ one_by_one form false None (records_of o.more)) (sym (x.last ∙ o.ends))
-          ∙ ap (λ y. y ++ one_by_one form false None (records_of o.more)) (sym (front_and_payload x form first head e));
+      octets = ap (λ rs. one_by_one form first None (run_records rs)) are ∙ next_octets form first x.run o.more
+          ∙ ap (λ b. record_octets form first b None (run_record x.run) ++ one_by_one form false None (run_records o.more)) (sym (x.last ∙ o.ends))
+          ∙ ap (λ y. y ++ one_by_one form false None (run_records o.more)) (sym (front_and_payload x form first head e));
     }
 
 -- those that are left after it
@@ -77,53 +77,53 @@ all-append : (P : Item → Type 0) (xs : List Item) (i : Item) → AllByRecursio
 all-append P [] i h p = (p, tt)
 all-append P (x ∷ xs) i h p = (h.0, all-append P xs i h.1 p)
 
-pub writable_on : (done : List Run) (run : Run) → AllByRecursion IsWritable (records_of done) → IsWritable (run_record run) → AllByRecursion IsWritable (records_of (done ++ run ∷ []))
-writable_on done run h p = subst (AllByRecursion IsWritable) (sym (map-append run_record done (run ∷ []))) (all-append IsWritable (records_of done) (run_record run) h p)
+pub writable_on : (done : List Run) (run : Run) → AllByRecursion IsWritable (run_records done) → IsWritable (run_record run) → AllByRecursion IsWritable (run_records (done ++ run ∷ []))
+writable_on done run h p = subst (AllByRecursion IsWritable) (sym (map-append run_record done (run ∷ []))) (all-append IsWritable (run_records done) (run_record run) h p)
 
 all_there : (P : Item → Type 0) (xs : List Item) (i : Item) (more : List Item) → AllByRecursion P (xs ++ i ∷ more) → P i
 all_there P [] i more h = h.0
 all_there P (x ∷ xs) i more h = all_there P xs i more h.1
 
-pub writable_there : (runs done : List Run) (run : Run) (more : List Run) → runs ≡ done ++ run ∷ more → AllByRecursion IsWritable (records_of runs) → IsWritable (run_record run)
+pub writable_there : (runs done : List Run) (run : Run) (more : List Run) → runs ≡ done ++ run ∷ more → AllByRecursion IsWritable (run_records runs) → IsWritable (run_record run)
 writable_there runs done run more e h =
-    all_there IsWritable (records_of done) (run_record run) (records_of more) (subst (AllByRecursion IsWritable) (ap records_of e ∙ map-append run_record done (run ∷ more)) h)
+    all_there IsWritable (run_records done) (run_record run) (run_records more) (subst (AllByRecursion IsWritable) (ap run_records e ∙ map-append run_record done (run ∷ more)) h)
 
 -- ---- the number of bytes
 
 -- the piece has those of its front and those of the payload
-pub part_length : {bytes : List ℕ} {found : FirstRun} (x : IsFirstRun bytes found) (head : Head) (front : ℕ) → front ≡ length (piece_octets head found.first.kind.now found.first.id.now [])
-    → length (piece_octets head found.first.kind.now found.first.id.now [] ++ (run_record x.run).payload) ≡ front + found.payload
+pub part_length : {bytes : List ℕ} {found : FirstRun} (x : IsFirstRun bytes found) (head : Head) (front : ℕ) → front ≡ length (octets_of_piece head found.first.kind.now found.first.id.now [])
+    → length (octets_of_piece head found.first.kind.now found.first.id.now [] ++ (run_record x.run).payload) ≡ front + found.payload
 part_length {bytes} {found} x head front e =
-    let n = length-append (piece_octets head found.first.kind.now found.first.id.now []) (run_record x.run).payload in
+    let n = length-append (octets_of_piece head found.first.kind.now found.first.id.now []) (run_record x.run).payload in
     let p = x.payload in
     omega (arith, n, p, e)
 
 pub sum_on : {form : Form} {first : Bool} {left : List Run} {run : Run} {more : List Run} {part : List ℕ} → Part form first left run more part → (total size sum whole : ℕ) → length part ≡ size → sum ≡ total + size
-    → total + length (one_by_one form first None (records_of left)) ≡ whole → sum + length (one_by_one form false None (records_of more)) ≡ whole
+    → total + length (one_by_one form first None (run_records left)) ≡ whole → sum + length (one_by_one form false None (run_records more)) ≡ whole
 sum_on {form} {first} {left} {run} {more} {part} p total size sum whole n s e =
-    let k = ap length p.octets ∙ length-append part (one_by_one form false None (records_of more)) in
+    let k = ap length p.octets ∙ length-append part (one_by_one form false None (run_records more)) in
     omega (arith, k, n, s, e)
 
-pub sum_all : (form : Form) (more : List Run) (sum whole : ℕ) → more ≡ [] → sum + length (one_by_one form false None (records_of more)) ≡ whole → sum ≡ whole
+pub sum_all : (form : Form) (more : List Run) (sum whole : ℕ) → more ≡ [] → sum + length (one_by_one form false None (run_records more)) ≡ whole → sum ≡ whole
 sum_all form more sum whole none e =
-    let k = ap (λ rs. length (one_by_one form false None (records_of rs))) none in
+    let k = ap (λ rs. length (one_by_one form false None (run_records rs))) none in
     omega (arith, k, e)
 
 -- ---- what is written so far
 
 pub octets_on : {form : Form} {first : Bool} {left : List Run} {run : Run} {more : List Run} {part : List ℕ} → Part form first left run more part → (done whole : List ℕ)
-    → done ++ one_by_one form first None (records_of left) ≡ whole → (done ++ part) ++ one_by_one form false None (records_of more) ≡ whole
+    → done ++ one_by_one form first None (run_records left) ≡ whole → (done ++ part) ++ one_by_one form false None (run_records more) ≡ whole
 octets_on {form} {first} {left} {run} {more} {part} p done whole e =
-    append_assoc done part (one_by_one form false None (records_of more)) ∙ ap (λ y. done ++ y) (sym p.octets) ∙ e
+    append_assoc done part (one_by_one form false None (run_records more)) ∙ ap (λ y. done ++ y) (sym p.octets) ∙ e
 
-pub octets_all : (form : Form) (more : List Run) (done whole : List ℕ) → more ≡ [] → done ++ one_by_one form false None (records_of more) ≡ whole → done ≡ whole
-octets_all form more done whole none e = sym (append-nil done) ∙ ap (λ rs. done ++ one_by_one form false None (records_of rs)) (sym none) ∙ e
+pub octets_all : (form : Form) (more : List Run) (done whole : List ℕ) → more ≡ [] → done ++ one_by_one form false None (run_records more) ≡ whole → done ≡ whole
+octets_all form more done whole none e = sym (append-nil done) ∙ ap (λ rs. done ++ one_by_one form false None (run_records rs)) (sym none) ∙ e
 
 pub part_within : {form : Form} {first : Bool} {left : List Run} {run : Run} {more : List Run} {part : List ℕ} → Part form first left run more part → (done whole : List ℕ)
-    → done ++ one_by_one form first None (records_of left) ≡ whole → length done + length part ≤ length whole
+    → done ++ one_by_one form first None (run_records left) ≡ whole → length done + length part ≤ length whole
 part_within {form} {first} {left} {run} {more} {part} p done whole e =
-    let k = ap length p.octets ∙ length-append part (one_by_one form false None (records_of more)) in
-    let n = sym (length-append done (one_by_one form first None (records_of left))) ∙ ap length e in
+    let k = ap length p.octets ∙ length-append part (one_by_one form false None (run_records more)) in
+    let n = sym (length-append done (one_by_one form first None (run_records left))) ∙ ap length e in
     omega (arith, k, n)
 
 -- ---- whether a record can be in one piece

@@ -11,7 +11,7 @@ use Rattle.ndef_message.specs.declared.form.Form.TheVariants.{Short}
 use Rattle.ndef_message.specs.Written.{ShortIsCanonical, written_piece}
 use Rattle.ndef_c.specs.Made.{made_item}
 use Rattle.ndef_c.specs.Rooms.{IsPut}
-use Rattle.ndef_c.specs.Series.{IsWritten, behind, left_octets, middle_octets}
+use Rattle.ndef_c.specs.Series.{IsWritten, place_after, left_octets, middle_octets}
 use Rattle.ndef_c.specs.Writes.{one_by_one, record_octets}
 use Rattle.ndef_c.specs.declared.making.Made.{Made}
 use Rattle.ndef_c.specs.declared.series_writing.Place.{Place}
@@ -78,9 +78,9 @@ place_of : (a b k l : ℕ) (f g : Bool) → a ≡ b → k ≡ l → f ≡ g → 
 place_of a b k l f g d e h = rw (d, e, h) refl
 
 -- after records and others after them
-pub behind_on : (p : Place) (xs ys : List Item) → behind (behind p xs) ys ≡ behind p (xs ++ ys)
+pub behind_on : (p : Place) (xs ys : List Item) → place_after (place_after p xs) ys ≡ place_after p (xs ++ ys)
 behind_on p xs ys =
-    let q = behind p xs in
+    let q = place_after p xs in
     let e = ap length (left_on p.first p.left xs ys) in
     let n = length-append (left_octets p.first p.left xs) (left_octets q.first q.left ys) in
     let k = length-append xs ys in
@@ -96,7 +96,7 @@ written_on {p} {q} {r} {xs} {ys} {old} {mid} {new} h w v = record {
   put = subst (λ t. IsPut p.at t old new) (ap (λ s. left_octets p.first p.left xs ++ left_octets s.first s.left ys) w.next ∙ sym (left_on p.first p.left xs ys))
       (put_on p.at q.at (left_octets p.first p.left xs) (left_octets q.first q.left ys) old mid new h w.put (ap (λ s. s.at) w.next) v.put);
   size = v.size ∙ w.size;
-  next = v.next ∙ ap (λ s. behind s ys) w.next ∙ behind_on p xs ys;
+  next = v.next ∙ ap (λ s. place_after s ys) w.next ∙ behind_on p xs ys;
 }
 
 -- after some of the records there is room for those that follow

@@ -14,11 +14,12 @@ use Rattle.ndef_types.specs.Contents.{IsOfKind}
 use Rattle.ndef_types.specs.ContentsLaws.{has_at}
 use Rattle.ndef_types.specs.Posters.{is_text}
 use Rattle.ndef_c.specs.Posters.{HasPosterRecords}
+use Rattle.ndef_c.specs.Sought.{IsOfPiece}
 use Rattle.ndef_c.specs.Titles.{IsPosterPayload, LiesAsText}
 use Rattle.ndef_c.specs.Walks.{Lies}
 use Rattle.ndef_c.specs.declared.nested.Found.{Found}
 use Rattle.ndef_c.specs.declared.text.NdefText.{NdefText}
-use Rattle.ndef_c.proofs.Ahead.{IsOfPiece, get_behind}
+use Rattle.ndef_c.proofs.Ahead.{get_behind}
 
 abbrev pub is_title : Item → Bool
 is_title i = is_text (kind_in SmartPoster i.tnf i.kind)

@@ -19,23 +19,24 @@ IsPartWithin size part = part.at + part.length ≤ size
 abbrev pub MayBeReference : (size : ℕ) → NdefPart → Type 0
 MayBeReference size part = IsPartWithin size part × (part.length < 256)
 
--- Connection Handover 1.2, Alternative Carrier record: a power state of two bits, a carrier data reference and up to
--- 255 auxiliary ones
+-- Connection Handover 1.2, Alternative Carrier record: a power state of two bits, a carrier data
+-- reference and up to 255 auxiliary ones
 pub record MayBeAlternative (power : ℕ) (bytes : List ℕ) (parts : List NdefPart) : Type 0 where
   pub two_bits : power < 4
   pub some : 1 ≤ length parts
   pub few : length parts ≤ 256
   pub references : All (MayBeReference (length bytes)) parts
 
--- Connection Handover 1.2, Alternative Carrier record: it has this power state and these references, and nothing after
--- them
+-- Connection Handover 1.2, Alternative Carrier record: it has this power state and these
+-- references, and nothing after them
 pub record IsAlternativeOf (power : ℕ) (bytes : List ℕ) (parts : List NdefPart) (v : AcValue) : Type 0 where
   pub value : IsAcValue v
   pub power_is : power_code v.power ≡ power
   pub references_are : references v ≡ map (part_of bytes) parts
   pub rest : v.rest ≡ []
 
--- Connection Handover 1.2, Alternative Carrier record: what is written for the alternative carrier, which is read as it
+-- Connection Handover 1.2, Alternative Carrier record: what is written for the alternative carrier,
+-- which is read as it
 pub record WritesAlternative (v : AcValue) (payload : List ℕ) : Type 0 where
   pub is : WritesAc v payload
   pub in_set : IsAlternative payload

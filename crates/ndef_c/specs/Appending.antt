@@ -11,7 +11,8 @@ use Rattle.ndef_c.specs.Texts.{MayBeText, asked_text}
 
 -- NDEF 1.0, record layout: the record of a well-known type
 abbrev pub well_known : Kind → (id payload : List ℕ) → Item
-well_known kind id payload = record { tnf = WellKnown; kind = kind_name kind; id = id; payload = payload }
+well_known kind id payload =
+    record { tnf = WellKnown; kind = kind_name kind; id = id; payload = payload }
 
 -- RTD Text 1.0: a text in a language, and 1 for UTF-16
 pub record Asked : Type 0 where

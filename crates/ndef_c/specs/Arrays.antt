@@ -6,12 +6,14 @@ use Rattle.ndef_c.specs.declared.status.TheConstants.{OK, NO_ROOM}
 abbrev pub set_over : {T : Type 0} → List T → List T → List T
 set_over told before = told ++ drop (length told) before
 
--- `many` elements, of which this holds, are written where the array has room, else it is unchanged; their number is
--- given
-pub record GivesMany {T : Type 0} (holds : List T → Type 0) (many : ℕ) (before after : List T) (count status : ℕ)
+-- `many` elements, of which this holds, are written where the array has room, else it is unchanged;
+-- their number is given
+pub record GivesMany {T : Type 0} (holds : List T
+    → Type 0) (many : ℕ) (before after : List T) (count status : ℕ)
     : Type 0 where
   pub count_is : count ≡ many
-  pub fits : many ≤ length before → (status ≡ OK) × (told : List T) × holds told × (length told ≡ many)
+  pub fits : many ≤ length before → (status ≡ OK) × (told : List T) × holds told
+      × (length told ≡ many)
       × (after ≡ set_over told before)
   pub too_small : length before < many → (status ≡ NO_ROOM) × (after ≡ before)
 

@@ -51,7 +51,8 @@ reopened h =
     let bytes = take h.built.length h.room in
     slice_set bytes h.built.last_at (slice_index bytes h.built.last_at - 64)
 
--- NDEF 1.0, MB and ME: the octets of a record that is the last of its message, and its first where none was there
+-- NDEF 1.0, MB and ME: the octets of a record that is the last of its message, and its first where
+-- none was there
 abbrev pub appended_octets : (first : Bool) → NdefWriting → Item → List ℕ
 appended_octets first how m = record_octets (form_of how) first true (size_of how) m
 
@@ -71,8 +72,10 @@ pub record IsGrown (octets : List ℕ) (begins : ℕ → Type 0) (before after :
   pub begins_at : begins at
   pub last_at : after.last_at ≡ before.length + at
 
--- the octets are written after the message where there is room, else nothing changes; the length of both is given
-pub record GivesAppended (octets : List ℕ) (begins : ℕ → Type 0) (before after : Holding) (count status : ℕ)
+-- the octets are written after the message where there is room, else nothing changes; the length of
+-- both is given
+pub record GivesAppended (octets : List ℕ) (begins : ℕ
+    → Type 0) (before after : Holding) (count status : ℕ)
     : Type 0 where
   pub count_is : count ≡ before.built.length + length octets
   pub fits : count ≤ length before.room → (status ≡ OK)

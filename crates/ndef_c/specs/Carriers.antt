@@ -5,7 +5,8 @@ use Rattle.ndef_types.specs.Values.{CarrierValue, StandsForCarrier}
 use Rattle.ndef_c.specs.Walks.{Lies}
 use Rattle.ndef_c.specs.declared.carrier.NdefCarrier.{NdefCarrier}
 
--- Connection Handover 1.2, Handover Carrier record: the payload is that of a carrier, and where its parts lie
+-- Connection Handover 1.2, Handover Carrier record: the payload is that of a carrier, and where its
+-- parts lie
 pub record IsCarrierAt (payload : List ℕ) (out : NdefCarrier) : Type 0 where
   pub in_set : IsCarrier payload
   pub short : length payload < 2 ^ 32
@@ -17,8 +18,8 @@ pub record IsCarrierAt (payload : List ℕ) (out : NdefCarrier) : Type 0 where
   pub kind_place : out.type_at ≡ 2
   pub carried_place : out.data_at ≡ out.type_at + out.type_length
 
--- Connection Handover 1.2, Handover Carrier record: a format of three bits and a type of up to 255 octets that leave
--- room in a payload
+-- Connection Handover 1.2, Handover Carrier record: a format of three bits and a type of up to 255
+-- octets that leave room in a payload
 pub record MayBeCarrier (format : ℕ) (kind carried : List ℕ) : Type 0 where
   pub three_bits : format < 8
   pub short : length kind < 256

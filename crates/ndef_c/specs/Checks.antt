@@ -1,5 +1,5 @@
 -- What a check of some bytes answers.
-use Rattle.std.specs.Prelude.{◌≡◌, ℕ, ◌≤◌, ◌%◌, ◌==◌, Ok, length, ◌⊎◌, if◌then◌else◌, List}
+use Rattle.std.specs.Prelude.{◌≡◌, ℕ, ◌<◌, ◌≤◌, ◌%◌, ◌==◌, Ok, length, ◌⊎◌, if◌then◌else◌, List}
 use Rattle.ndef_format.specs.Limits.{LimitValues, AreInRange}
 use Rattle.ndef_format.specs.Reasons.{reason_number, Conditions}
 use Rattle.ndef_format.specs.declared.refusal.Refusal.{Refusal}
@@ -28,6 +28,14 @@ limits_of n = record {
 -- they are in range, and no unknown flag is set
 abbrev pub MayBeSet : NdefLimits → Type 0
 MayBeSet n = AreInRange (limits_of n) × (n.flags ≤ 3)
+
+-- the flag NDEF_OPAQUE is clear, so payloads are checked
+abbrev pub ChecksPayloads : NdefLimits → Type 0
+ChecksPayloads n = n.flags < 2
+
+-- the flag NDEF_OPAQUE is set, so any payload will do
+abbrev pub LeavesPayloads : NdefLimits → Type 0
+LeavesPayloads n = 2 ≤ n.flags
 
 -- NDEF 1.0, messages: the bytes begin with a message of this number of bytes and records
 pub record TakesMessage (set : Sets) (holds : Conditions) (limits : LimitValues) (bytes : List ℕ)

@@ -1,15 +1,15 @@
 -- Which handover errors may be written, and what is written of them.
 use Rattle.std.specs.Prelude.{◌≡◌, ℕ, ◌<◌, ◌+◌, ◌^◌, ◌⊎◌, List, length}
 use Rattle.ndef_types.specs.Values.{ErrorValue, IsErrorValue, WritesError}
-use Rattle.ndef_c.specs.Errors.{number_in}
+use Rattle.ndef_c.specs.Errors.{detail_number}
 use Rattle.ndef_c.specs.Payloads.{GivesFor}
 
 -- Connection Handover 1.2, Error record: the error of this reason with these data
 abbrev pub error_of : (reason : ℕ) → List ℕ → ErrorValue
 error_of reason detail = record { reason = reason; detail = detail }
 
--- Connection Handover 1.2, Error record: a reason of one octet and the data that go with it, which leave room in a
--- payload
+-- Connection Handover 1.2, Error record: a reason of one octet and the data that go with it, which
+-- leave room in a payload
 pub record MayBeError (reason : ℕ) (detail : List ℕ) : Type 0 where
   pub error : IsErrorValue (error_of reason detail)
   pub fits : 1 + length detail < 2 ^ 32
@@ -22,7 +22,7 @@ MayBeNumber reason number = (reason ≡ 2) ⊎ (((reason ≡ 1) ⊎ (reason ≡ 
 pub record IsErrorOf (reason number : ℕ) (v : ErrorValue) : Type 0 where
   pub error : IsErrorValue v
   pub reason_is : v.reason ≡ reason
-  pub number_is : number_in reason v.detail ≡ number
+  pub number_is : detail_number reason v.detail ≡ number
 
 -- what is written for that error is given
 pub record GivesError (reason number : ℕ) (before after : List ℕ) (count status : ℕ) : Type 0 where

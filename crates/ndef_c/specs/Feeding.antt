@@ -1,12 +1,12 @@
 -- What is answered of a message whose bytes come in parts.
-use Rattle.std.specs.Prelude.{◌≡◌, ◌≢◌, ℕ, ◌<◌, ◌≤◌, ◌==◌, ◌⊎◌, ◌↔◌, if◌then◌else◌, List, length}
+use Rattle.std.specs.Prelude.{◌≡◌, ◌≢◌, ℕ, ◌==◌, ◌⊎◌, ◌↔◌, if◌then◌else◌, List, length}
 use Rattle.ndef_format.specs.Records.{AreOctets}
 use Rattle.ndef_format.specs.Limits.{LimitValues}
 use Rattle.ndef_format.specs.Payloads.{Sets, IsTypedPayload}
 use Rattle.ndef_format.specs.Reasons.{Conditions, NoReason}
 use Rattle.ndef_format.specs.NestedReasons.{TypedReason}
 use Rattle.ndef_message.specs.Machine.Taken.{WasFed}
-use Rattle.ndef_c.specs.Checks.{limits_of, MayBeSet, ChecksTo}
+use Rattle.ndef_c.specs.Checks.{ChecksPayloads, ChecksTo, LeavesPayloads, MayBeSet, limits_of}
 use Rattle.ndef_c.specs.declared.status.TheConstants.{OK, REFUSED, BAD_ARGUMENT, MORE}
 use Rattle.ndef_c.specs.declared.limits.NdefLimits.{NdefLimits}
 use Rattle.ndef_c.specs.declared.checking.NdefChecked.{NdefChecked}
@@ -15,30 +15,35 @@ use Rattle.ndef_c.specs.declared.feeding.Looking.{Looking}
 use Rattle.ndef_c.specs.declared.feeding.Looking.TheVariants as looking
 
 -- the limits by which a checker was begun, and all the bytes that it was fed since
-pub record SoFar : Type 0 where
+pub record FedSoFar : Type 0 where
   pub limits : NdefLimits
   pub bytes : List ℕ
 
--- a checker with these limits was fed these bytes, where the limits are any; 2 asks for a look into no payload
+-- a checker with these limits was fed these bytes, where the limits are any; 2 asks for a look into
+-- no payload
 abbrev pub HasLooked : Looking → NdefLimits → List ℕ → Type 0
 HasLooked looking.Nothing limits bytes = ¬ MayBeSet limits
-HasLooked (looking.Typed c) limits bytes = MayBeSet limits × (limits.flags < 2) × WasFed c (limits_of limits) bytes
-HasLooked (looking.Opaque c) limits bytes = MayBeSet limits × (2 ≤ limits.flags) × WasFed c (limits_of limits) bytes
+HasLooked (looking.Typed c) limits bytes =
+    MayBeSet limits × ChecksPayloads limits × WasFed c (limits_of limits) bytes
+HasLooked (looking.Opaque c) limits bytes =
+    MayBeSet limits × LeavesPayloads limits × WasFed c (limits_of limits) bytes
 
 -- it was begun by these limits, and fed these bytes since
-abbrev pub IsFed : NdefChecker → SoFar → Type 0
+abbrev pub IsFed : NdefChecker → FedSoFar → Type 0
 IsFed checker so_far = HasLooked checker.looking so_far.limits so_far.bytes
 
 -- what a checker answers that is begun by these limits
 abbrev pub BeginsTo : NdefLimits → (status : ℕ) → Type 0
-BeginsTo limits status = (MayBeSet limits × (status ≡ OK)) ⊎ ((¬ MayBeSet limits) × (status ≡ BAD_ARGUMENT))
+BeginsTo limits status =
+    (MayBeSet limits × (status ≡ OK)) ⊎ ((¬ MayBeSet limits) × (status ≡ BAD_ARGUMENT))
 
--- what a check answers where a checker answers so: it doesn't separate bytes that end too early from others
+-- what a check answers where a checker answers so: it doesn't separate bytes that end too early
+-- from others
 abbrev pub checked_status : ℕ → ℕ
 checked_status status = if status == MORE then REFUSED else status
 
--- NDEF 1.0, messages: what is answered of all the bytes so far is what a check of them answers, and that more are
--- needed where they are refused only because they end.
+-- NDEF 1.0, messages: what is answered of all the bytes so far is what a check of them answers, and
+-- that more are needed where they are refused only because they end.
 pub record FeedsTo (set : Sets) (holds : Conditions) (limits : LimitValues) (bytes : List ℕ) (status : ℕ)
     (out : NdefChecked) : Type 0 where
   pub checks : ChecksTo set holds limits bytes (checked_status status) out
@@ -55,14 +60,16 @@ NoCondition kind records profile s b = NoReason
 pub record AnswersFed (limits : NdefLimits) (bytes : List ℕ) (status : ℕ) (before after : NdefChecked) : Type 0 where
   pub bad : (status ≡ BAD_ARGUMENT) ↔ (¬ MayBeSet limits)
   pub kept : status ≡ BAD_ARGUMENT → after ≡ before
-  pub typed : MayBeSet limits → limits.flags < 2
+  pub typed : MayBeSet limits → ChecksPayloads limits
       → FeedsTo IsTypedPayload TypedReason (limits_of limits) bytes status after
-  pub opaque : MayBeSet limits → 2 ≤ limits.flags → FeedsTo AnyPayload NoCondition (limits_of limits) bytes status after
+  pub opaque : MayBeSet limits → LeavesPayloads limits
+      → FeedsTo AnyPayload NoCondition (limits_of limits) bytes status after
 
 -- ---- law
 
 -- A check of all the bytes so far answers the same, except that it has no status for needing more.
 abbrev pub FeedsAreChecks : Sets → Conditions → Type 0
-FeedsAreChecks set holds = (limits : LimitValues) (bytes : List ℕ) (fed checked : ℕ) (out other : NdefChecked)
+FeedsAreChecks set holds =
+    (limits : LimitValues) (bytes : List ℕ) (fed checked : ℕ) (out other : NdefChecked)
     → FeedsTo set holds limits bytes fed out → ChecksTo set holds limits bytes checked other
     → (checked ≡ checked_status fed) × (other ≡ out)

@@ -12,7 +12,7 @@ use Rattle.ndef_fields.specs.declared.field.Field.{Field}
 use Rattle.ndef_fields.specs.declared.name.FieldName.{FieldName}
 use Rattle.ndef_fields.specs.declared.name.FieldName.TheVariants as names
 use Rattle.ndef_c.specs.Arrays.{set_over}
-use Rattle.ndef_c.specs.Checks.{ChecksTo, MayBeSet}
+use Rattle.ndef_c.specs.Checks.{ChecksPayloads, ChecksTo, MayBeSet}
 use Rattle.ndef_c.specs.Rooms.{Gives}
 use Rattle.ndef_c.specs.declared.checking.NdefChecked.{NdefChecked}
 use Rattle.ndef_c.specs.declared.fields.NdefField.{NdefField}
@@ -65,26 +65,27 @@ pub record GivesFieldName (number : ℕ) (before after : List ℕ) (count status
 
 -- the limits may be set, and payloads are looked into
 abbrev pub MayTellFields : NdefLimits → Type 0
-MayTellFields n = MayBeSet n × (n.flags < 2)
+MayTellFields n = MayBeSet n × ChecksPayloads n
 
 -- a field as numbers
 abbrev pub numbers_of : Field → NdefField
 numbers_of f = record { at = f.at; length = f.length; depth = f.depth; name = field_number f.name }
 
--- NDEF 1.0, messages: what a check answers of the bytes, and the fields of the message with which they begin, or those
--- before the refused byte
+-- NDEF 1.0, messages: what a check answers of the bytes, and the fields of the message with which
+-- they begin, or those before the refused byte
 pub record AreFieldsChecked (limits : LimitValues) (bytes : List ℕ) (checked : ℕ) (why : NdefChecked)
     (told : List Field) : Type 0 where
   pub checks : ChecksTo IsTypedPayload TypedReason limits bytes checked why
   pub whole : checked ≡ OK → (a : AreFields limits bytes told) × (a.count ≡ why.place)
   pub before : checked ≡ REFUSED → AreFieldsBefore (take why.place bytes) told
 
--- the fields are written where the array has room, and the answer is that of the check; else the array is unchanged;
--- their number is given
+-- the fields are written where the array has room, and the answer is that of the check; else the
+-- array is unchanged; their number is given
 pub record GivesEach (told : List Field) (checked : ℕ) (before after : List NdefField) (count status : ℕ)
     : Type 0 where
   pub count_is : count ≡ length told
-  pub fits : length told ≤ length before → (status ≡ checked) × (after ≡ set_over (map numbers_of told) before)
+  pub fits : length told ≤ length before → (status ≡ checked)
+      × (after ≡ set_over (map numbers_of told) before)
   pub too_small : length before < length told → (status ≡ NO_ROOM) × (after ≡ before)
 
 -- NDEF 1.0, messages: the fields of the message are given, or those before the refused byte
@@ -95,7 +96,8 @@ pub record GivesFields (limits : LimitValues) (bytes : List ℕ) (before after :
   pub are : AreFieldsChecked limits bytes checked why told
   pub gives : GivesEach told checked before after count status
 
--- NDEF 1.0, TYPE and chunked payloads: the fields of the joined payload of a record with this type are given
+-- NDEF 1.0, TYPE and chunked payloads: the fields of the joined payload of a record with this type
+-- are given
 pub record GivesPayloadFields (tnf : ℕ) (kind payload : List ℕ) (before after : List NdefField) (count status : ℕ)
     : Type 0 where
   pub told : List Field
@@ -116,8 +118,8 @@ pub record IsFieldWith (told : List Field) (place : ℕ) (f : Field) : Type 0 wh
 abbrev pub GivesWith : (told : List Field) (place : ℕ) (after : NdefField) → Type 0
 GivesWith told place after = (f : Field) × IsFieldWith told place f × (after ≡ numbers_of f)
 
--- NDEF 1.0, messages: the field in which the byte at the place stands is given, of the message or before the refused
--- byte; none where the place is after
+-- NDEF 1.0, messages: the field in which the byte at the place stands is given, of the message or
+-- before the refused byte; none where the place is after
 pub record GivesFieldAt (limits : LimitValues) (bytes : List ℕ) (place : ℕ) (before after : NdefField) (status : ℕ)
     (why : NdefChecked) : Type 0 where
   pub checked : ℕ

@@ -11,8 +11,8 @@ use Rattle.ndef_c.specs.declared.finding.Walk.TheVariants.{Found, Ended, Broken}
 use Rattle.ndef_c.specs.declared.record.NdefRecord.{NdefRecord}
 
 -- NDEF 1.0, TNF and TYPE: the record has this type name format and this type
-abbrev pub HasType : (tnf : ℕ) → (kind : List ℕ) → Item → Type 0
-HasType tnf kind i = (code i.tnf ≡ tnf) × (i.kind ≡ kind)
+abbrev pub IsOfType : (tnf : ℕ) → (kind : List ℕ) → Item → Type 0
+IsOfType tnf kind i = (code i.tnf ≡ tnf) × (i.kind ≡ kind)
 
 -- NDEF 1.0, ID: the record has this id, which isn't empty
 abbrev pub HasIdOf : List ℕ → Item → Type 0
@@ -20,24 +20,27 @@ HasIdOf id i = (id ≢ []) × (i.id ≡ id)
 
 -- one or the other
 abbrev pub Has : Wanted → Item → Type 0
-Has (OfKind tnf kind) i = HasType tnf kind.now i
+Has (OfKind tnf kind) i = IsOfType tnf kind.now i
 Has (WithId id) i = HasIdOf id.now i
 
 -- what is sought of records
 abbrev pub Sought : Type 1
 Sought = Item → Type 0
 
--- NDEF 1.0, ME: the record of the run hasn't what is searched for, and isn't the last of its message
+-- NDEF 1.0, ME: the record of the run hasn't what is searched for, and isn't the last of its
+-- message
 abbrev pub IsPassed : Sought → Run → Type 0
 IsPassed P run = (¬ P (run_record run)) × (ends_message run.initial run.later ≡ false)
 
--- NDEF 1.0, messages: from a place up to another lie records, one after another, that are all passed
+-- NDEF 1.0, messages: from a place up to another lie records, one after another, that are all
+-- passed
 pub record PassesTo (P : Sought) (bytes : List ℕ) (at next : ℕ) : Type 0 where
   pub runs : List Run
   pub between : LieBetween bytes at runs next
   pub passed : AllByRecursion (IsPassed P) runs
 
--- NDEF 1.0, messages: of the records from the place on, up to the last of the message, it is the first that is sought
+-- NDEF 1.0, messages: of the records from the place on, up to the last of the message, it is the
+-- first that is sought
 pub record FindsAt (P : Sought) (bytes : List ℕ) (at : ℕ) (out : NdefRecord) : Type 0 where
   pub next : ℕ
   pub passes : PassesTo P bytes at next
@@ -52,7 +55,8 @@ pub record HasFirst (P : Sought) (bytes : List ℕ) (at next : ℕ) : Type 0 whe
   pub begins : BeginsWithRun run rest (drop next bytes)
   pub has : P (run_record run)
 
--- NDEF 1.0, messages: none of the records from the place on, up to the last of the message, has what is searched for
+-- NDEF 1.0, messages: none of the records from the place on, up to the last of the message, has
+-- what is searched for
 pub record HasNone (P : Sought) (bytes : List ℕ) (at : ℕ) : Type 0 where
   pub next : ℕ
   pub passes : PassesTo P bytes at next
@@ -62,7 +66,8 @@ pub record HasNone (P : Sought) (bytes : List ℕ) (at : ℕ) : Type 0 where
   pub lacks : ¬ P (run_record run)
   pub ends : ends_message run.initial run.later ≡ true
 
--- NDEF 1.0, messages: before any of them is sought or the last, no record begins where the one before it ends
+-- NDEF 1.0, messages: before any of them is sought or the last, no record begins where the one
+-- before it ends
 pub record BreaksOff (P : Sought) (bytes : List ℕ) (at : ℕ) : Type 0 where
   pub next : ℕ
   pub passes : PassesTo P bytes at next

@@ -25,8 +25,8 @@ followed_octets first [] = []
 followed_octets first (a ∷ others) =
     record_octets (form_of a.how) first false (size_of a.how) a.item ++ followed_octets false others
 
--- NDEF 1.0, messages: the room begins with these records and a last one, each written as it was asked, and the holding
--- says so
+-- NDEF 1.0, messages: the room begins with these records and a last one, each written as it was
+-- asked, and the holding says so
 pub record HoldsRecords (records : List Appended) (last : Appended) (h : Holding) : Type 0 where
   pub within : h.built.length ≤ length h.room
   pub bytes : take h.built.length h.room
@@ -52,9 +52,11 @@ FirstIsHeld = (a : Appended) (before after : Holding) (count : ℕ) → IsUnbuil
 -- Each further one is its last record, after those that were there.
 abbrev pub OthersAreHeld : Type 0
 OthersAreHeld = (records : List Appended) (last a : Appended) (before after : Holding) (count : ℕ)
-    → HoldsRecords records last before → IsAppended a before after count → HoldsRecords (records ++ last ∷ []) a after
+    → HoldsRecords records last before → IsAppended a before after count
+    → HoldsRecords (records ++ last ∷ []) a after
 
--- NDEF 1.0, messages: The records that a room holds, each in the form and the pieces that were asked, are a message.
+-- NDEF 1.0, messages: The records that a room holds, each in the form and the pieces that were
+-- asked, are a message.
 abbrev pub HeldAreAMessage : Type 0
 HeldAreAMessage = (profile : Profile) (records : List Appended) (last : Appended) (h : Holding)
     → HoldsRecords records last h → AllByRecursion (λ a. IsItem a.item) (records ++ last ∷ [])

@@ -16,7 +16,8 @@ use Rattle.ndef_c.specs.declared.handover_making.NdefSelectWriting.{NdefSelectWr
 use Rattle.ndef_c.specs.declared.handover_parts.NdefAlternativeWriting.{NdefAlternativeWriting}
 use Rattle.ndef_c.specs.declared.part.NdefPart.{NdefPart}
 
--- Connection Handover 1.2: the alternative carriers of a handover, whose references are parts of some bytes
+-- Connection Handover 1.2: the alternative carriers of a handover, whose references are parts of
+-- some bytes
 pub record CarriersAsked : Type 0 where
   pub bytes : List ℕ
   pub references : List NdefPart
@@ -36,12 +37,14 @@ carrier_items c = map (alternative_item c.bytes c.references) c.alternatives
 
 -- ---- requests
 
--- Connection Handover 1.2, Handover Request record: the collision resolution, and the alternative carriers
+-- Connection Handover 1.2, Handover Request record: the collision resolution, and the alternative
+-- carriers
 abbrev pub request_items : (collision : ℕ) → CarriersAsked → List Item
-request_items collision c = well_known kinds.Collision [] (to_be_bytes w16 collision) ∷ carrier_items c
+request_items collision c =
+    well_known kinds.Collision [] (to_be_bytes w16 collision) ∷ carrier_items c
 
--- Connection Handover 1.2, Handover Request record: a minor version of four bits and a number of two octets, no more
--- records than a message has, and no more octets than a payload
+-- Connection Handover 1.2, Handover Request record: a minor version of four bits and a number of
+-- two octets, no more records than a message has, and no more octets than a payload
 pub record MayBeRequest (minor collision : ℕ) (c : CarriersAsked) : Type 0 where
   pub four_bits : minor < 16
   pub two_octets : collision < 65536
@@ -59,10 +62,11 @@ pub record GivesRequest (minor collision : ℕ) (c : CarriersAsked) (before afte
   pub may : MayBeRequest minor collision c
   pub gives : GivesFor WritesRequest (request_of minor collision c) before after count status
 
--- Connection Handover 1.2, Handover Request record: the records of a request that may be written are those of a request
--- for a strict reader
+-- Connection Handover 1.2, Handover Request record: the records of a request that may be written
+-- are those of a request for a strict reader
 abbrev pub WrittenRequestsAreRead : Type 0
-WrittenRequestsAreRead = (minor collision : ℕ) (c : CarriersAsked) → MayBeRequest minor collision c → AreOctets c.bytes
+WrittenRequestsAreRead =
+    (minor collision : ℕ) (c : CarriersAsked) → MayBeRequest minor collision c → AreOctets c.bytes
     → IsRequestValue (request_of minor collision c)
 
 -- ---- selects
@@ -93,8 +97,8 @@ select_asked how carriers = record { how = how; carriers = carriers }
 abbrev pub select_items : SelectAsked → List Item
 select_items s = carrier_items s.carriers ++ error_items s.how s.carriers.bytes
 
--- Connection Handover 1.2, Handover Select record: a minor version of four bits, no more records than a message has,
--- and no more octets than a payload
+-- Connection Handover 1.2, Handover Select record: a minor version of four bits, no more records
+-- than a message has, and no more octets than a payload
 pub record MayBeSelect (s : SelectAsked) : Type 0 where
   pub four_bits : s.how.minor < 16
   pub carriers : MayBeCarriers s.carriers
@@ -116,7 +120,8 @@ pub record GivesSelect (s : SelectAsked) (before after : List ℕ) (count status
   pub may : MayBeSelect s
   pub gives : GivesFor WritesSelect (select_of s) before after count status
 
--- Connection Handover 1.2, Handover Select record: the records of a select that may be written are those of a select
--- for a strict reader
+-- Connection Handover 1.2, Handover Select record: the records of a select that may be written are
+-- those of a select for a strict reader
 abbrev pub WrittenSelectsAreRead : Type 0
-WrittenSelectsAreRead = (s : SelectAsked) → MayBeSelect s → AreOctets s.carriers.bytes → IsSelectValue (select_of s)
+WrittenSelectsAreRead =
+    (s : SelectAsked) → MayBeSelect s → AreOctets s.carriers.bytes → IsSelectValue (select_of s)

@@ -8,11 +8,13 @@ use Rattle.ndef_c.specs.Contents.{alternative_payload}
 use Rattle.ndef_c.specs.declared.handover_parts.NdefAlternativeWriting.{NdefAlternativeWriting}
 use Rattle.ndef_c.specs.declared.part.NdefPart.{NdefPart}
 
--- Connection Handover 1.2, Alternative Carrier record: its own references, the first of all, in the number that it has
+-- Connection Handover 1.2, Alternative Carrier record: its own references, the first of all, in the
+-- number that it has
 abbrev pub own_references : List NdefPart → NdefAlternativeWriting → List NdefPart
 own_references all a = take a.references (drop a.first all)
 
--- Connection Handover 1.2, Alternative Carrier record: its references are some of all, and may be written
+-- Connection Handover 1.2, Alternative Carrier record: its references are some of all, and may be
+-- written
 pub record MayBeCarried (bytes : List ℕ) (all : List NdefPart) (a : NdefAlternativeWriting) : Type 0 where
   pub within : a.first + a.references ≤ length all
   pub may : MayBeAlternative a.power bytes (own_references all a)

@@ -7,7 +7,8 @@ use Rattle.ndef_format.specs.declared.table.Table.{Table}
 use Rattle.ndef_format.specs.declared.table.Table.TheVariants.{Request, Select}
 use Rattle.ndef_c.specs.declared.handover_writing.TheConstants.{REQUEST, SELECT}
 
--- Connection Handover 1.2, version octet: the major version in the high four bits, the minor one in the low four
+-- Connection Handover 1.2, version octet: the major version in the high four bits, the minor one in
+-- the low four
 abbrev pub version_of : (major minor : ℕ) → ℕ
 version_of major minor = 16 * major + minor
 
@@ -17,8 +18,8 @@ AsksForHandover number Request = number ≡ REQUEST
 AsksForHandover number Select = number ≡ SELECT
 AsksForHandover number _ = ⊥
 
--- Connection Handover 1.2, Handover Request and Select records: a version octet and a message that a strict reader
--- takes, which leave room in a payload
+-- Connection Handover 1.2, Handover Request and Select records: a version octet and a message that
+-- a strict reader takes, which leave room in a payload
 pub record MayBeHandover (number major minor : ℕ) (message : List ℕ) : Type 0 where
   pub table : Table
   pub asked : AsksForHandover number table

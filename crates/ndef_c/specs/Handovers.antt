@@ -17,28 +17,31 @@ use Rattle.ndef_c.specs.Walks.{Lies}
 use Rattle.ndef_c.specs.declared.request.NdefRequest.{NdefRequest}
 use Rattle.ndef_c.specs.declared.select.NdefSelect.{NdefSelect}
 
--- Connection Handover 1.2, Handover Request and Select records: the payload is that of a request or of a select
+-- Connection Handover 1.2, Handover Request and Select records: the payload is that of a request or
+-- of a select
 abbrev pub IsHandoverPayload : List ℕ → Type 0
-IsHandoverPayload payload = IsNest Request MOST_RECORDS Standard payload ⊎ IsNest Select MOST_RECORDS Standard payload
+IsHandoverPayload payload =
+    IsNest Request MOST_RECORDS Standard payload ⊎ IsNest Select MOST_RECORDS Standard payload
 
--- Connection Handover 1.2, Handover Request and Select records: after the version octet these records, a select may
--- have none
+-- Connection Handover 1.2, Handover Request and Select records: after the version octet these
+-- records, a select may have none
 abbrev pub HasMessage : Profile → List Item → List ℕ → Type 0
 HasMessage profile items payload = MayBeInPieces profile items (drop 1 payload)
 
--- Connection Handover 1.2, Handover Request and Select records: the message is these records, each with a payload of
--- its kind, and those are there that must be
+-- Connection Handover 1.2, Handover Request and Select records: the message is these records, each
+-- with a payload of its kind, and those are there that must be
 pub record AreHandoverContents (table : Table) (profile : Profile) (items : List Item) (message : List ℕ) : Type 0 where
   pub pieces : MayBeInPieces profile items message
   pub contents : HasContents table profile items
 
--- Connection Handover 1.2, version octet: the major version in the high four bits, the minor one in the others
+-- Connection Handover 1.2, version octet: the major version in the high four bits, the minor one in
+-- the others
 pub record TellsVersion (payload : List ℕ) (major minor : ℕ) : Type 0 where
   pub octet : slice_index payload 0 ≡ 16 * major + minor
   pub four_bits : minor < 16
 
--- Connection Handover 1.2, Handover Request record: the payload is that of a request: its version, its random number,
--- and its alternative carriers
+-- Connection Handover 1.2, Handover Request record: the payload is that of a request: its version,
+-- its random number, and its alternative carriers
 pub record IsRequestAt (profile : Profile) (payload : List ℕ) (out : NdefRequest) : Type 0 where
   pub in_set : IsNest Request MOST_RECORDS profile payload
   pub short : length payload < 2 ^ 32
@@ -48,16 +51,18 @@ pub record IsRequestAt (profile : Profile) (payload : List ℕ) (out : NdefReque
   pub collision : IsCollisionOf items out.collision
   pub carriers : out.carriers ≡ length (alternatives items)
 
--- Connection Handover 1.2, Error record: its reason, and where its data lies, after the version octet, the records in
--- front of it and its reason; or 0s for none
+-- Connection Handover 1.2, Error record: its reason, and where its data lies, after the version
+-- octet, the records in front of it and its reason; or 0s for none
 abbrev pub TellsError : List ℕ → Option Item → (has reason at count : ℕ) → Type 0
 TellsError payload None has reason at count = (has ≡ 0) × (reason ≡ 0) × (at ≡ 0) × (count ≡ 0)
 TellsError payload (Some i) has reason at count =
-    (has ≡ 1) × (v : ErrorValue) × StandsForError i.payload v × (reason ≡ v.reason) × Lies payload at count v.detail
-    × (place : ℕ) × StandsBehind (Lack (IsOfKind Select kinds.Error)) (drop 1 payload) i place × (at ≡ place + 2)
+    (has ≡ 1) × (v : ErrorValue) × StandsForError i.payload v × (reason ≡ v.reason)
+    × Lies payload at count v.detail
+    × (place : ℕ) × StandsBehind (Lack (IsOfKind Select kinds.Error)) (drop 1 payload) i place
+    × (at ≡ place + 2)
 
--- Connection Handover 1.2, Handover Select record: the payload is that of a select: its version, its first error, and
--- its alternative carriers
+-- Connection Handover 1.2, Handover Select record: the payload is that of a select: its version,
+-- its first error, and its alternative carriers
 pub record IsSelectAt (profile : Profile) (payload : List ℕ) (out : NdefSelect) : Type 0 where
   pub in_set : IsNest Select MOST_RECORDS profile payload
   pub short : length payload < 2 ^ 32

@@ -24,8 +24,8 @@ is_icon i = is_media i.tnf
 abbrev pub icons : List Item → List Item
 icons = filter is_icon
 
--- RTD Smart Poster 1.0, icon record: the media type and the image of the icon with the index lie there, and between
--- them its id
+-- RTD Smart Poster 1.0, icon record: the media type and the image of the icon with the index lie
+-- there, and between them its id
 pub record IsIconAt (payload : List ℕ) (items : List Item) (index : ℕ) (out : NdefIcon) : Type 0 where
   pub icon : Item
   pub is : slice_get (icons items) index ≡ Some icon

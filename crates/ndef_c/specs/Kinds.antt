@@ -26,8 +26,9 @@ kind_number kinds.Alternative = 10
 kind_number kinds.Collision = 11
 kind_number kinds.Error = 12
 
--- RTD Smart Poster 1.0 and Connection Handover 1.2: the kind of a record in a message of its own, or in that within the
--- payload of a poster, a request or a select; no other payload holds a message
+-- RTD Smart Poster 1.0 and Connection Handover 1.2: the kind of a record in a message of its own,
+-- or in that within the payload of a poster, a request or a select; no other payload holds a
+-- message
 abbrev pub kind_within : ℕ → Kind → Kind
 kind_within within kind =
     if within == kind_number kinds.Other then outer_kind kind
@@ -39,7 +40,8 @@ kind_within within kind =
 abbrev pub type_part : NdefRecord → NdefPart
 type_part r = record { at = r.type_at; length = r.type_length }
 
--- NDEF 1.0, TNF and TYPE: the type lies within the bytes, and the type name format is one of a record
+-- NDEF 1.0, TNF and TYPE: the type lies within the bytes, and the type name format is one of a
+-- record
 pub record HasType (bytes : List ℕ) (r : NdefRecord) : Type 0 where
   pub within : IsPartWithin (length bytes) (type_part r)
   pub known : r.tnf ≤ 5

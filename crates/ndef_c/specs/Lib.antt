@@ -27,12 +27,15 @@ pub mod Pieces
 pub mod PosterParts
 pub mod PosterWrites
 pub mod Posters
+pub mod Remarks
 pub mod Rewrites
 pub mod Rooms
 pub mod Runs
 pub mod Series
+pub mod Sought
 pub mod Statuses
 pub mod Texts
 pub mod Titles
 pub mod Walks
+pub mod Whys
 pub mod Writes

@@ -1,5 +1,5 @@
 -- What is said of the links of a message.
-use Rattle.std.specs.Prelude.{◌≡◌, ◌≢◌, ℕ, ◌+◌, ◌^◌, ◌<◌, ◌≤◌, List, [], ◌∷◌, length, map, take, drop, slice_get, Option, Some, None, Ok}
+use Rattle.std.specs.Prelude.{◌≡◌, ◌≢◌, ℕ, ◌+◌, ◌^◌, ◌<◌, ◌≤◌, List, [], length, map, take, drop, slice_get, Option, Some, None, Ok}
 use Rattle.ndef_format.specs.Messages.{Item, run_record}
 use Rattle.ndef_format.specs.Limits.{LimitValues}
 use Rattle.ndef_format.specs.Records.{Run}
@@ -20,7 +20,8 @@ use Rattle.ndef_c.specs.declared.message.Place.{Place}
 
 -- ---- the records of a message
 
--- NDEF 1.0, messages: the bytes begin with these runs, one after another, and the last of them alone ends the message
+-- NDEF 1.0, messages: the bytes begin with these runs, one after another, and the last of them
+-- alone ends the message
 pub record BeginsWithRuns (runs : List Run) (bytes : List ℕ) : Type 0 where
   pub some : runs ≢ []
   pub end : ℕ
@@ -38,11 +39,12 @@ pub record IsPlaceOf (bytes : List ℕ) (runs : List Run) (p : Place) : Type 0 w
   pub rest : List ℕ
   pub begins : BeginsWithRun run rest (drop p.at bytes)
 
--- Connection Handover 1.2, carrier data reference: the place of the first record with the id; no record has the empty
--- id
+-- Connection Handover 1.2, carrier data reference: the place of the first record with the id; no
+-- record has the empty id
 abbrev pub FindsRecord : List ℕ → List Run → List ℕ → Option Place → Type 0
 FindsRecord bytes runs id None = IsIndexOf (map run_record runs) id None
-FindsRecord bytes runs id (Some p) = IsIndexOf (map run_record runs) id (Some p.index) × IsPlaceOf bytes runs p
+FindsRecord bytes runs id (Some p) =
+    IsIndexOf (map run_record runs) id (Some p.index) × IsPlaceOf bytes runs p
 
 -- ---- links
 
@@ -51,10 +53,12 @@ abbrev pub TellsPlace : Option Place → (has index at : ℕ) → Type 0
 TellsPlace None has index at = (has ≡ 0) × (index ≡ 0) × (at ≡ 0)
 TellsPlace (Some p) has index at = (has ≡ 1) × (index ≡ p.index) × (at ≡ p.at)
 
--- Connection Handover 1.2, carrier data reference: the record of the message to which it refers, if there is one
+-- Connection Handover 1.2, carrier data reference: the record of the message to which it refers, if
+-- there is one
 abbrev pub TellsRecord : List ℕ → List Run → List ℕ → NdefLink → Type 0
 TellsRecord bytes runs reference out =
-    (p : Option Place) × FindsRecord bytes runs reference p × TellsPlace p out.has_record out.record_index out.record_at
+    (p : Option Place) × FindsRecord bytes runs reference p
+    × TellsPlace p out.has_record out.record_index out.record_at
 
 -- the bytes begin with a message, and the payload is that of a handover
 pub record MayHaveLinks (bytes payload : List ℕ) : Type 0 where
@@ -62,8 +66,8 @@ pub record MayHaveLinks (bytes payload : List ℕ) : Type 0 where
   pub short : length payload < 2 ^ 32
   pub message : HasRuns bytes
 
--- Connection Handover 1.2, Alternative Carrier record: the one with the index lies there in the payload, and refers to
--- that record
+-- Connection Handover 1.2, Alternative Carrier record: the one with the index lies there in the
+-- payload, and refers to that record
 pub record IsLinkAt (bytes payload : List ℕ) (index : ℕ) (out : NdefLink) : Type 0 where
   pub handover : IsHandoverPayload payload
   pub short : length payload < 2 ^ 32
@@ -91,7 +95,8 @@ pub record HasNoLink (bytes payload : List ℕ) (index : ℕ) : Type 0 where
   pub records : HasMessage Standard items payload
   pub beyond : length (alternatives items) ≤ index
 
--- Connection Handover 1.2, Alternative Carrier record: each link is given, in the order of the alternative carriers
+-- Connection Handover 1.2, Alternative Carrier record: each link is given, in the order of the
+-- alternative carriers
 pub record GivesLinks (bytes payload : List ℕ) (before after : List NdefLink) (count status : ℕ) : Type 0 where
   pub may : MayHaveLinks bytes payload
   pub items : List Item
@@ -116,7 +121,8 @@ pub record AreLinksTold (bytes payload : List ℕ) (links : List Link) : Type 0 
 
 -- Of a message that a check takes and its handover the links that it has are given.
 abbrev pub LinksAreTold : Sets → Conditions → Type 0
-LinksAreTold set holds = (limits : LimitValues) (bytes : List ℕ) (v : Viewed) (handover : Item) (links : List Link)
+LinksAreTold set holds =
+    (limits : LimitValues) (bytes : List ℕ) (v : Viewed) (handover : Item) (links : List Link)
     → Views set holds limits bytes (Ok v)
     → IsHandoverRecord handover → length handover.payload < 2 ^ 32
     → LinksOf limits.profile (map run_record v.runs) (Some handover) (Ok links)

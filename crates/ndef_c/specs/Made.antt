@@ -15,7 +15,8 @@ item_with tnf kind id payload = record { tnf = tnf; kind = kind; id = id; payloa
 
 -- NDEF 1.0, record layout: the record
 abbrev pub made_item : Made → Item
-made_item m = record { tnf = m.tnf; kind = m.kind.now; id = m.id.now; payload = content_octets m.content }
+made_item m =
+    record { tnf = m.tnf; kind = m.kind.now; id = m.id.now; payload = content_octets m.content }
 
 -- a piece can hold its lengths, and that of its payload is known
 pub record IsMade (m : Made) : Type 0 where
@@ -23,6 +24,7 @@ pub record IsMade (m : Made) : Type 0 where
   pub lengths : HasLengths (made_item m)
   pub bytes : m.bytes ≡ length (content_octets m.content)
 
--- NDEF 1.0, record layout: the octets of a record in one piece, in the short form where that can hold its length
+-- NDEF 1.0, record layout: the octets of a record in one piece, in the short form where that can
+-- hold its length
 abbrev pub whole_octets : Ends → Item → List ℕ
 whole_octets ends m = record_octets Short ends.first ends.last None m

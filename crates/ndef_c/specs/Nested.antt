@@ -19,8 +19,8 @@ pub record IsInPieces (profile : Profile) (items : List Item) (bytes : List ℕ)
 abbrev pub MayBeInPieces : Profile → List Item → List ℕ → Type 0
 MayBeInPieces profile items bytes = ((items ≡ []) × (bytes ≡ [])) ⊎ IsInPieces profile items bytes
 
--- NDEF 1.0, record layout: after these records, one after another, comes the record, in one piece, and the last of
--- its parts, the payload, begins at the place
+-- NDEF 1.0, record layout: after these records, one after another, comes the record, in one piece,
+-- and the last of its parts, the payload, begins at the place
 pub record StandsAt (bytes : List ℕ) (before : List Item) (i : Item) (at : ℕ) : Type 0 where
   pub runs : List Run
   pub are : map run_record runs ≡ before
@@ -44,13 +44,15 @@ pub record IsFound (Q : List Item → Type 0) (bytes : List ℕ) (i : Item) (f :
 -- the payload of the first record that has the property, if there is one
 abbrev pub FirstLies : (Item → Type 0) → List Item → List ℕ → Option Found → Type 0
 FirstLies P items bytes None = Lack P items
-FirstLies P items bytes (Some f) = (i : Item) × IsFirstOf P items (Some i) × IsFound (Lack P) bytes i f
+FirstLies P items bytes (Some f) =
+    (i : Item) × IsFirstOf P items (Some i) × IsFound (Lack P) bytes i f
 
--- Connection Handover 1.2, Alternative Carrier record: the payload of the alternative carrier with the index, if there
--- is one
+-- Connection Handover 1.2, Alternative Carrier record: the payload of the alternative carrier with
+-- the index, if there is one
 abbrev pub CarrierLies : List Item → ℕ → List ℕ → Option Found → Type 0
 CarrierLies items index bytes None = length (alternatives items) ≤ index
-CarrierLies items index bytes (Some f) = (i : Item) × (slice_get (alternatives items) index ≡ Some i)
+CarrierLies items index bytes (Some f) =
+    (i : Item) × (slice_get (alternatives items) index ≡ Some i)
     × IsFound (λ before. length (alternatives before) ≡ index) bytes i f
 
 -- 1 and the number, or 0 and 0 for none

@@ -7,7 +7,8 @@ use Rattle.ndef_format.specs.declared.profile.Profile.TheVariants.{Strict}
 
 -- RTD Smart Poster 1.0, recommended action record: one octet
 abbrev pub WritesAction : ℕ → List ℕ → Type 0
-WritesAction action payload = IsPayload kinds.Action Strict payload × (action ≡ slice_index payload 0)
+WritesAction action payload =
+    IsPayload kinds.Action Strict payload × (action ≡ slice_index payload 0)
 
 -- RTD Smart Poster 1.0, size record: four octets, most significant first
 abbrev pub WritesSize : ℕ → List ℕ → Type 0
@@ -15,4 +16,5 @@ WritesSize size payload = IsPayload kinds.Size Strict payload × (size ≡ from_
 
 -- Connection Handover 1.2, Collision Resolution record: two octets, most significant first
 abbrev pub WritesCollision : ℕ → List ℕ → Type 0
-WritesCollision number payload = IsPayload kinds.Collision Strict payload × (number ≡ from_be_bytes w16 payload)
+WritesCollision number payload =
+    IsPayload kinds.Collision Strict payload × (number ≡ from_be_bytes w16 payload)

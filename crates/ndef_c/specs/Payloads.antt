@@ -30,8 +30,8 @@ pub record GivesUri (profile : Profile) (payload before after : List ℕ) (count
   pub stands : StandsForUri payload uri
   pub gives : Gives uri before after count status
 
--- RTD Text 1.0: the payload is that of a text, and where its parts lie, one after another; the byte order mark of a
--- text in UTF-16 belongs to the text
+-- RTD Text 1.0: the payload is that of a text, and where its parts lie, one after another; the byte
+-- order mark of a text in UTF-16 belongs to the text
 pub record IsTextAt (payload : List ℕ) (out : NdefText) : Type 0 where
   pub in_set : IsText payload
   pub short : length payload < 2 ^ 32
@@ -49,7 +49,8 @@ pub record GivesFor {V : Type 0} (written : Writing V) (value : V) (before after
   pub short : length payload < 2 ^ 32
   pub gives : Gives payload before after count status
 
--- RTD URI 1.0: the payload is that of a URI: its code, whose prefix begins the URI, and where the rest of it lies
+-- RTD URI 1.0: the payload is that of a URI: its code, whose prefix begins the URI, and where the
+-- rest of it lies
 pub record IsUriAt (profile : Profile) (payload : List ℕ) (out : NdefUri) : Type 0 where
   pub in_set : IsUri profile payload
   pub short : length payload < 2 ^ 32

@@ -6,20 +6,24 @@ use Rattle.ndef_c.specs.Arrays.{GivesMany}
 use Rattle.ndef_c.specs.Walks.{BeginsWithRun, Lies}
 use Rattle.ndef_c.specs.declared.part.NdefPart.{NdefPart}
 
--- NDEF 1.0, record layout: the piece begins at the place, and its payload, the last of its fields, lies there
+-- NDEF 1.0, record layout: the piece begins at the place, and its payload, the last of its fields,
+-- lies there
 pub record IsPieceAt (bytes : List ℕ) (at : ℕ) (piece : Piece) (part : NdefPart) : Type 0 where
   pub short : Bool
   pub split : IsSplit piece short (drop (part.at + part.length) bytes) (drop at bytes)
   pub lies : Lies bytes part.at part.length piece.payload
 
--- NDEF 1.0, chunked payloads: the pieces begin at the place, one after another, and their payloads lie there
+-- NDEF 1.0, chunked payloads: the pieces begin at the place, one after another, and their payloads
+-- lie there
 abbrev pub ArePiecesAt : List ℕ → ℕ → List Piece → List NdefPart → Type 0
 ArePiecesAt bytes at [] [] = ⊤
-ArePiecesAt bytes at (p ∷ ps) (q ∷ qs) = IsPieceAt bytes at p q × ArePiecesAt bytes (q.at + q.length) ps qs
+ArePiecesAt bytes at (p ∷ ps) (q ∷ qs) =
+    IsPieceAt bytes at p q × ArePiecesAt bytes (q.at + q.length) ps qs
 ArePiecesAt bytes at [] (q ∷ qs) = ⊥
 ArePiecesAt bytes at (p ∷ ps) [] = ⊥
 
--- NDEF 1.0, chunked payloads: where the payload of each piece of the record at the place lies is given
+-- NDEF 1.0, chunked payloads: where the payload of each piece of the record at the place lies is
+-- given
 pub record GivesPieces (bytes : List ℕ) (at : ℕ) (before after : List NdefPart) (count status : ℕ) : Type 0 where
   pub run : Run
   pub rest : List ℕ

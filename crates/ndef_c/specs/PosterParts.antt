@@ -26,9 +26,11 @@ pub record MayBeTitle (bytes : List ℕ) (t : NdefTitleWriting) : Type 0 where
 
 -- RTD Smart Poster 1.0, title record: the text of these parts
 abbrev pub title_item : List ℕ → NdefTitleWriting → Item
-title_item bytes t = text_record [] (asked_of t.utf16 (part_of bytes t.language) (part_of bytes t.text))
+title_item bytes t =
+    text_record [] (asked_of t.utf16 (part_of bytes t.language) (part_of bytes t.text))
 
--- RTD Smart Poster 1.0, icon record: parts of the bytes that are the type and the payload of a record
+-- RTD Smart Poster 1.0, icon record: parts of the bytes that are the type and the payload of a
+-- record
 pub record MayBeIcon (bytes : List ℕ) (i : NdefIconWriting) : Type 0 where
   pub media_type : IsPartWithin (length bytes) i.media_type
   pub octets : IsPartWithin (length bytes) i.octets

@@ -29,8 +29,10 @@ pub record PosterAsked : Type 0 where
   pub titles : List NdefTitleWriting
   pub icons : List NdefIconWriting
 
-abbrev pub poster_asked : List ℕ → NdefPosterWriting → List NdefTitleWriting → List NdefIconWriting → PosterAsked
-poster_asked bytes how titles icons = record { bytes = bytes; how = how; titles = titles; icons = icons }
+abbrev pub poster_asked : List ℕ → NdefPosterWriting → List NdefTitleWriting → List NdefIconWriting
+    → PosterAsked
+poster_asked bytes how titles icons =
+    record { bytes = bytes; how = how; titles = titles; icons = icons }
 
 -- RTD URI 1.0: the URI
 abbrev pub uri_of : PosterAsked → List ℕ
@@ -40,7 +42,8 @@ uri_of a = part_of a.bytes a.how.uri
 abbrev pub media_of : PosterAsked → List ℕ
 media_of a = part_of a.bytes a.how.media_type
 
--- RTD Smart Poster 1.0, recommended action record: 1 asks for one, which says one octet, and 0 for none
+-- RTD Smart Poster 1.0, recommended action record: 1 asks for one, which says one octet, and 0 for
+-- none
 abbrev pub MayBeAction : NdefPosterWriting → Type 0
 MayBeAction how = (how.has_action ≡ 0) ⊎ ((how.has_action ≡ 1) × (how.action < 256))
 
@@ -54,7 +57,8 @@ pub record IsMedia (a : PosterAsked) : Type 0 where
 abbrev pub MayBeMedia : PosterAsked → Type 0
 MayBeMedia a = (a.how.has_media_type ≡ 0) ⊎ ((a.how.has_media_type ≡ 1) × IsMedia a)
 
--- RTD URI 1.0: a part of the bytes in UTF-8, and the payload that WritesUri says, which is no longer than a payload
+-- RTD URI 1.0: a part of the bytes in UTF-8, and the payload that WritesUri says, which is no
+-- longer than a payload
 pub record MayBeUri (a : PosterAsked) (payload : List ℕ) : Type 0 where
   pub within : IsPartWithin (length a.bytes) a.how.uri
   pub utf8 : IsUtf8 (uri_of a)
@@ -65,7 +69,8 @@ pub record MayBeUri (a : PosterAsked) (payload : List ℕ) : Type 0 where
 abbrev pub asked_for : (has : ℕ) → Kind → List ℕ → List Item
 asked_for has kind payload = if has == 1 then well_known kind [] payload ∷ [] else []
 
--- RTD Smart Poster 1.0: the records of a poster: its URI, its titles, its action, its size, its media type, its icons
+-- RTD Smart Poster 1.0: the records of a poster: its URI, its titles, its action, its size, its
+-- media type, its icons
 abbrev pub poster_items : (uri_payload : List ℕ) → PosterAsked → List Item
 poster_items uri_payload a =
     well_known kinds.Uri [] uri_payload ∷ (map (title_item a.bytes) a.titles
@@ -82,8 +87,8 @@ pub record MayBeSaid (a : PosterAsked) : Type 0 where
   pub size : a.how.has_size ≤ 1
   pub media : MayBeMedia a
 
--- RTD Smart Poster 1.0: a poster of these parts may be written: no more records than a message has, and no more octets
--- than a payload
+-- RTD Smart Poster 1.0: a poster of these parts may be written: no more records than a message has,
+-- and no more octets than a payload
 pub record MayBePoster (a : PosterAsked) : Type 0 where
   pub said : MayBeSaid a
   pub titles : All (MayBeTitle a.bytes) a.titles
@@ -96,7 +101,8 @@ pub record GivesPoster (a : PosterAsked) (before after : List ℕ) (count status
   pub may : MayBePoster a
   pub gives : GivesFor WritesPoster (poster_items may.said.payload a) before after count status
 
--- RTD Smart Poster 1.0: the records of a poster that may be written are those of a poster for a strict reader
+-- RTD Smart Poster 1.0: the records of a poster that may be written are those of a poster for a
+-- strict reader
 abbrev pub WrittenPostersAreRead : Type 0
 WrittenPostersAreRead = (a : PosterAsked) (may : MayBePoster a) → AreOctets a.bytes
     → IsPosterValue (poster_items may.said.payload a)

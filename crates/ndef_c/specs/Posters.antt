@@ -20,14 +20,17 @@ HasPosterRecords profile items payload = (runs : List Run)
 
 -- RTD Smart Poster 1.0: what the first action record of a poster says, as a number
 abbrev pub TellsAction : List Item → (has number : ℕ) → Type 0
-TellsAction items has number = (a : Option ℕ) × Says kinds.Action action_in items (option_map action_of a)
+TellsAction items has number =
+    (a : Option ℕ) × Says kinds.Action action_in items (option_map action_of a)
     × TellsNumber a has number
 
 -- RTD Smart Poster 1.0: what the first size record of a poster says
 abbrev pub TellsSize : List Item → (has number : ℕ) → Type 0
-TellsSize items has number = (n : Option ℕ) × Says kinds.Size size_in items n × TellsNumber n has number
+TellsSize items has number =
+    (n : Option ℕ) × Says kinds.Size size_in items n × TellsNumber n has number
 
--- RTD Smart Poster 1.0: the payload is a poster: where the payload of its URI record lies, its action and its size
+-- RTD Smart Poster 1.0: the payload is a poster: where the payload of its URI record lies, its
+-- action and its size
 pub record IsPosterAt (profile : Profile) (payload : List ℕ) (out : NdefPoster) : Type 0 where
   pub in_set : IsNest SmartPoster MOST_RECORDS profile payload
   pub short : length payload < 2 ^ 32

@@ -12,12 +12,14 @@ use Rattle.ndef_c.specs.Links.{BeginsWithRuns}
 use Rattle.ndef_c.specs.Rooms.{Gives}
 use Rattle.ndef_c.specs.Writes.{one_by_one}
 
--- NDEF 1.0, record layout: the parts of the record go together, and one piece can hold their lengths
+-- NDEF 1.0, record layout: the parts of the record go together, and one piece can hold their
+-- lengths
 pub record IsWritable (m : Item) : Type 0 where
   pub shaped : IsShaped m
   pub lengths : HasLengths m
 
--- NDEF 1.0, record layout: parts of such lengths go with the type name format, and one piece can hold them
+-- NDEF 1.0, record layout: parts of such lengths go with the type name format, and one piece can
+-- hold them
 pub record IsWhole (tnf : Tnf) (kind id payload : ℕ) : Type 0 where
   pub changed : tnf ≢ Unchanged
   pub shape : HasShape tnf kind id payload
@@ -26,12 +28,12 @@ pub record IsWhole (tnf : Tnf) (kind id payload : ℕ) : Type 0 where
   pub payload_fits : payload < 2 ^ 32
 
 -- NDEF 1.0, messages: the records that these runs mean
-abbrev pub records_of : List Run → List Item
-records_of runs = map run_record runs
+abbrev pub run_records : List Run → List Item
+run_records runs = map run_record runs
 
 -- NDEF 1.0, record layout: the octets of these records, each in one piece
 abbrev pub rewritten : Form → List Run → List ℕ
-rewritten form runs = one_by_one form true None (records_of runs)
+rewritten form runs = one_by_one form true None (run_records runs)
 
 -- no flag is set but that of the long form
 abbrev pub AsksForForm : ℕ → Type 0
@@ -43,10 +45,11 @@ form_with flags = if nat_le 4 flags then Long else Short
 
 -- NDEF 1.0, record layout: each record can be in one piece, and some room has that many bytes
 pub record CanBeRewritten (form : Form) (runs : List Run) : Type 0 where
-  pub writable : AllByRecursion IsWritable (records_of runs)
+  pub writable : AllByRecursion IsWritable (run_records runs)
   pub fits : length (rewritten form runs) < 2 ^ 64
 
--- NDEF 1.0, messages: the bytes begin with a message that can be written again, and no other flag is set
+-- NDEF 1.0, messages: the bytes begin with a message that can be written again, and no other flag
+-- is set
 pub record MayBeRewritten (flags : ℕ) (bytes : List ℕ) : Type 0 where
   pub known : AsksForForm flags
   pub runs : List Run

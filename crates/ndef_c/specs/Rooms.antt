@@ -9,7 +9,8 @@ use Rattle.ndef_c.specs.declared.status.TheConstants.{OK, NO_ROOM}
 abbrev pub written_over : List ℕ → List ℕ → List ℕ
 written_over text room = text ++ drop (length text) room
 
--- the bytes are written to the room where it is large enough, else it is unchanged; their number is given
+-- the bytes are written to the room where it is large enough, else it is unchanged; their number is
+-- given
 pub record Gives (text before after : List ℕ) (count status : ℕ) : Type 0 where
   pub count_is : count ≡ length text
   pub fits : length text ≤ length before → (status ≡ OK) × (after ≡ written_over text before)

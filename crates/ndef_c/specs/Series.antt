@@ -55,14 +55,16 @@ pub record AreSeries (items : List Item) (s : Series) : Type 0 where
 abbrev pub all_items : List Series → List Item
 all_items = flat_map series_items
 
--- NDEF 1.0, MB and ME: the octets of records of a message of which `left` are left, these and those after them
+-- NDEF 1.0, MB and ME: the octets of records of a message of which `left` are left, these and those
+-- after them
 abbrev pub left_octets : (first : Bool) (left : ℕ) → List Item → List ℕ
 left_octets first left [] = []
-left_octets first left (m ∷ ms) = record_octets Short first (left == 1) None m ++ left_octets false (left - 1) ms
+left_octets first left (m ∷ ms) =
+    record_octets Short first (left == 1) None m ++ left_octets false (left - 1) ms
 
 -- where the records after these are written
-abbrev pub behind : Place → List Item → Place
-behind p items = record {
+abbrev pub place_after : Place → List Item → Place
+place_after p items = record {
   at = p.at + length (left_octets p.first p.left items);
   left = p.left - length items;
   first = p.first && is_nil items;
@@ -72,14 +74,14 @@ behind p items = record {
 pub record IsWritten (p : Place) (items : List Item) (old new : List ℕ) (q : Place) : Type 0 where
   pub put : IsPut p.at (left_octets p.first p.left items) old new
   pub size : length new ≡ length old
-  pub next : q ≡ behind p items
+  pub next : q ≡ place_after p items
 
 -- NDEF 1.0, record layout: the octets of records that are neither the first nor the last
 abbrev pub middle_octets : List Item → List ℕ
 middle_octets = flat_map (λ m. record_octets Short false false None m)
 
--- RTD Smart Poster 1.0 and Connection Handover 1.2: after these octets a message of these records, each of which may
--- be written, is no longer than a payload
+-- RTD Smart Poster 1.0 and Connection Handover 1.2: after these octets a message of these records,
+-- each of which may be written, is no longer than a payload
 pub record MayBeMessage (front : List ℕ) (several : List Series) : Type 0 where
   pub each : All IsSeries several
   pub few : length (all_items several) ≤ 65535

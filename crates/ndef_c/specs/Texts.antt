@@ -30,7 +30,8 @@ encoding_of flags = if flags == 1 then Utf16 else Utf8
 
 -- RTD Text 1.0: the text with that language code, in the encoding that is asked for
 abbrev pub asked_text : (flags : ℕ) (language text : List ℕ) → TextValue
-asked_text flags language text = record { encoding = encoding_of flags; language = language; text = chars text }
+asked_text flags language text =
+    record { encoding = encoding_of flags; language = language; text = chars text }
 
 -- RTD Text 1.0: a language code of up to 63 octets of ASCII and a text, given in UTF-8
 pub record MayBeSpelled (flags : ℕ) (language text : List ℕ) : Type 0 where

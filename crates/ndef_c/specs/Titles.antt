@@ -24,7 +24,8 @@ pub record IsPosterPayload (payload : List ℕ) : Type 0 where
   pub in_set : IsNest SmartPoster MOST_RECORDS Standard payload
   pub short : length payload < 2 ^ 32
 
--- RTD Text 1.0: where the parts lie of the text for which the payload of a record, at the place, stands
+-- RTD Text 1.0: where the parts lie of the text for which the payload of a record, at the place,
+-- stands
 pub record LiesAsText (bytes payload : List ℕ) (at : ℕ) (out : NdefText) : Type 0 where
   pub language : Lies bytes out.language_at out.language_length (language_octets payload)
   pub text : Lies bytes out.text_at out.text_length (encoded_octets payload)
@@ -45,7 +46,8 @@ pub record GivesTitles (payload : List ℕ) (before after : List NdefText) (coun
   pub records : HasPosterRecords Standard items payload
   pub gives : GivesMany (EachAt (IsTitleAt payload items) 0) (length (titles items)) before after count status
 
--- RTD Smart Poster 1.0, title record: a title in the language, the case of its letters aside (RFC 5646, 2.1.1)
+-- RTD Smart Poster 1.0, title record: a title in the language, the case of its letters aside (RFC
+-- 5646, 2.1.1)
 pub record IsTitleIn (language : List ℕ) (i : Item) : Type 0 where
   pub title : IsOfKind SmartPoster kinds.Text i
   pub same : str_eq_ignore_ascii_case (language_octets i.payload) language ≡ true

@@ -11,7 +11,8 @@ use Rattle.ndef_piece.specs.Whole.{IsSplit}
 use Rattle.ndef_c.specs.Rooms.{Gives}
 use Rattle.ndef_c.specs.declared.record.NdefRecord.{NdefRecord}
 
--- NDEF 1.0, chunked payloads: the bytes begin with the pieces of a run, all of them whole, and these follow
+-- NDEF 1.0, chunked payloads: the bytes begin with the pieces of a run, all of them whole, and
+-- these follow
 pub record BeginsWithRun (run : Run) (rest bytes : List ℕ) : Type 0 where
   pub read : IsRun Standard run
   pub front : List ℕ
@@ -43,8 +44,8 @@ LieBetween bytes at (r ∷ rs) end = (next : ℕ) × BeginsWithRun r (drop next 
 abbrev pub LiesFromTo : List ℕ → (at : ℕ) → Piece → (end : ℕ) → Type 0
 LiesFromTo bytes at p end = (short : Bool) × IsSplit p short (drop end bytes) (drop at bytes)
 
--- NDEF 1.0, record layout and chunked payloads: this is the record at the place, and where its parts lie, one after
--- another, the payload last
+-- NDEF 1.0, record layout and chunked payloads: this is the record at the place, and where its
+-- parts lie, one after another, the payload last
 pub record IsRecordAt (bytes : List ℕ) (at : ℕ) (r : NdefRecord) : Type 0 where
   pub run : Run
   pub begins : BeginsWithRun run (drop r.end bytes) (drop at bytes)
@@ -73,7 +74,8 @@ pub record GivesPayload (bytes : List ℕ) (at : ℕ) (before after : List ℕ) 
 
 -- At a place begins one record, and it ends at one place.
 abbrev pub OneRecordIsThere : Type 0
-OneRecordIsThere = (r s : Run) (x y bytes : List ℕ) → BeginsWithRun r x bytes → BeginsWithRun s y bytes → (r ≡ s)
+OneRecordIsThere =
+    (r s : Run) (x y bytes : List ℕ) → BeginsWithRun r x bytes → BeginsWithRun s y bytes → (r ≡ s)
     × (x ≡ y)
 
 -- no run follows
@@ -81,11 +83,13 @@ abbrev pub is_last_run : List Run → Bool
 is_last_run [] = true
 is_last_run (r ∷ rs) = false
 
--- these runs lie one after another from a place to another, and the last of them alone ends its message
+-- these runs lie one after another from a place to another, and the last of them alone ends its
+-- message
 abbrev pub AreWalked : List ℕ → (at : ℕ) → List Run → (end : ℕ) → Type 0
 AreWalked bytes at [] end = at ≡ end
 AreWalked bytes at (r ∷ rs) end =
-    (next : ℕ) × BeginsWithRun r (drop next bytes) (drop at bytes) × (ends_message r.initial r.later ≡ is_last_run rs)
+    (next : ℕ) × BeginsWithRun r (drop next bytes) (drop at bytes)
+    × (ends_message r.initial r.later ≡ is_last_run rs)
     × AreWalked bytes next rs end
 
 -- What a check takes is walked from 0 to its end, in bytes that go no less far.

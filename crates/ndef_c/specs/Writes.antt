@@ -16,21 +16,23 @@ use Rattle.ndef_c.specs.declared.writing.Way.{Way}
 
 -- NDEF 1.0, record layout and chunked payloads: the octets of a record in the pieces of its cut
 abbrev pub record_octets : Form → (first last : Bool) → Option ℕ → Item → List ℕ
-record_octets form first last size m = flat_map (written_piece form) (pieces (cut_run first last size m))
+record_octets form first last size m =
+    flat_map (written_piece form) (pieces (cut_run first last size m))
 
 -- the record of these parts
 abbrev pub item_of : Parts → Item
 item_of p = record { tnf = p.tnf; kind = p.kind.now; id = p.id.now; payload = p.payload.now }
 
 -- NDEF 1.0, record layout: the octets of a head, and what follows it in its piece
-abbrev pub piece_octets : Head → (kind id part : List ℕ) → List ℕ
-piece_octets head kind id part = octets (written_fields head) ++ (kind ++ (id ++ part))
+abbrev pub octets_of_piece : Head → (kind id part : List ℕ) → List ℕ
+octets_of_piece head kind id part = octets (written_fields head) ++ (kind ++ (id ++ part))
 
 -- the octets of a record that is written so
 abbrev pub octets_by : Way → Item → List ℕ
 octets_by way m = record_octets way.form way.first way.last (Some way.size) m
 
--- NDEF 1.0, chunked payloads: in the octets of a record that is written so, its last piece begins at this place
+-- NDEF 1.0, chunked payloads: in the octets of a record that is written so, its last piece begins
+-- at this place
 pub record LastBegins (form : Form) (first last : Bool) (size : Option ℕ) (m : Item) (at : ℕ) : Type 0 where
   pub done : List Piece
   pub piece : Piece
@@ -75,7 +77,8 @@ pub record MayBeWritten (how : NdefWriting) (m : Item) : Type 0 where
 -- the records one after another, the last of them marked as such
 abbrev pub one_by_one : Form → (first : Bool) → Option ℕ → List Item → List ℕ
 one_by_one form first size [] = []
-one_by_one form first size (m ∷ ms) = record_octets form first (is_nil ms) size m ++ one_by_one form false size ms
+one_by_one form first size (m ∷ ms) =
+    record_octets form first (is_nil ms) size m ++ one_by_one form false size ms
 
 -- Records that are written one after another are the bytes of their message.
 abbrev pub RecordsMakeAMessage : Type 0

@@ -3,7 +3,7 @@ ghost use Rattle.std.specs.Prelude.{◌≡◌, ◌≢◌, ◌<◌, ◌≤◌, �
 ghost use Rattle.ndef_format.specs.Handovers.{IsAlternative};
 ghost use Rattle.ndef_format.specs.Reasons.{NoReason};
 ghost use Rattle.ndef_types.specs.Values.{AcValue, StandsForAc};
-ghost use Rattle.ndef_c.specs.Alternatives.{HasNoReference, IsAlternativeAt, IsReference, IsReferenceAt, LiesAt, reference_place, references};
+ghost use Rattle.ndef_c.specs.Alternatives.{HasNoReference, IsAlternativeAt, IsReferencePart, IsReferenceAt, LiesAt, reference_place, references};
 ghost use Rattle.ndef_c.specs.Payloads.{RefusesWith};
 
 use crate::checking::NdefChecked;
@@ -30,6 +30,7 @@ fn alternative_at(payload: &[u8]) -> NdefAlternative
     requires short { length payload.now < 2 ^ 32 }
     ensures { IsAlternativeAt payload.now result }
 {
+    // For the proof alone.
     alternatives_are_exact();
     let auxiliary = payload[2 + usize::from(payload[1])];
     NdefAlternative {
@@ -104,7 +105,7 @@ fn reference_at(payload: &[u8], index: usize) -> Option<NdefPart>
     ensures none { (v : AcValue) → StandsForAc payload.now v
         → IfNone result (length (references v) ≤ index) }
     ensures some { (v : AcValue) → StandsForAc payload.now v
-        → IfSome result (IsReference payload.now v index) }
+        → IfSome result (IsReferencePart payload.now v index) }
 {
     if index == 0 {
         return Some(counted_at(payload, 1));
@@ -125,6 +126,7 @@ fn give_reference(payload: &[u8], index: usize, out: &mut NdefPart) -> u32
     ensures end { result ≡ END → HasNoReference payload.now index }
     ensures kept { result ≢ OK → out.new ≡ out.old }
 {
+    // For the proof alone.
     alternatives_are_exact();
     match reference_at(payload, index) {
         Some(part) => {

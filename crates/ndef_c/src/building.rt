@@ -26,6 +26,7 @@ pub struct NdefBuilt {
 fn ends_with_piece(bytes: &[u8], at: u64) -> bool
     ensures { IsTrue result ↔ EndsWithPiece bytes.now at }
 {
+    // For the proof alone.
     heads_are_apart();
     if at > bytes.len() as u64 {
         return false;

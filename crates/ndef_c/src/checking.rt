@@ -1,6 +1,6 @@
 //! Checks the message at the front of some bytes.
-ghost use Rattle.std.specs.Prelude.{◌≡◌, ◌<◌, ◌≤◌, ◌↔◌};
-ghost use Rattle.ndef_c.specs.Checks.{limits_of, MayBeSet, ChecksTo};
+ghost use Rattle.std.specs.Prelude.{◌≡◌, ◌↔◌};
+ghost use Rattle.ndef_c.specs.Checks.{ChecksPayloads, ChecksTo, LeavesPayloads, MayBeSet, limits_of};
 
 use crate::limits::{NdefLimits, limits_of};
 use crate::refusal::refuse;
@@ -24,7 +24,7 @@ pub struct NdefChecked {
 
 /// Checks with the payloads of a language.
 pub(crate) fn check_in<L: OuterLanguage>(bytes: &[u8], limits: Limits, out: &mut NdefChecked) -> u32
-    ensures { ChecksTo L.set L.holds limits bytes.now result out.new }
+    ensures { ChecksTo L.payloads L.reasons limits bytes.now result out.new }
 {
     match view::<L>(bytes, limits) {
         Ok(view) => {
@@ -44,11 +44,11 @@ pub(crate) fn check_in<L: OuterLanguage>(bytes: &[u8], limits: Limits, out: &mut
 pub extern "C" fn ndef_check(bytes: &[u8], limits: &NdefLimits, out: &mut NdefChecked) -> u32
     ensures bad { result ≡ BAD_ARGUMENT ↔ ¬ MayBeSet limits.now }
     ensures kept { result ≡ BAD_ARGUMENT → out.new ≡ out.old }
-    ensures typed { MayBeSet limits.now → limits.now.flags < 2
-        → ChecksTo ⟦<Typed as Language>⟧.set ⟦<Typed as Language>⟧.holds (limits_of limits.now)
+    ensures typed { MayBeSet limits.now → ChecksPayloads limits.now
+        → ChecksTo ⟦<Typed as Language>⟧.payloads ⟦<Typed as Language>⟧.reasons (limits_of limits.now)
         bytes.now result out.new }
-    ensures opaque { MayBeSet limits.now → 2 ≤ limits.now.flags
-        → ChecksTo ⟦<Opaque as Language>⟧.set ⟦<Opaque as Language>⟧.holds (limits_of limits.now)
+    ensures opaque { MayBeSet limits.now → LeavesPayloads limits.now
+        → ChecksTo ⟦<Opaque as Language>⟧.payloads ⟦<Opaque as Language>⟧.reasons (limits_of limits.now)
         bytes.now result out.new }
 {
     let Some((limits, looks)) = limits_of(limits) else {

@@ -3,8 +3,8 @@ ghost use Rattle.std.specs.Prelude.{◌≡◌, ◌<◌, ◌≤◌, ◌↔◌, �
 ghost use Rattle.std.specs.Borrow.{full_share, sem};
 ghost use Rattle.std.specs.Ptr.{lies_at, room_at};
 ghost use Rattle.ndef_format.specs.Limits.{LimitValues};
-ghost use Rattle.ndef_c.specs.Checks.{limits_of, MayBeSet};
-ghost use Rattle.ndef_c.specs.Feeding.{AnswersFed, BeginsTo, FeedsTo, IsFed, SoFar};
+ghost use Rattle.ndef_c.specs.Checks.{ChecksPayloads, LeavesPayloads, MayBeSet, limits_of};
+ghost use Rattle.ndef_c.specs.Feeding.{AnswersFed, BeginsTo, FeedsTo, IsFed, FedSoFar};
 ghost use Rattle.ndef_message.specs.Machine.Taken.{WasFed};
 ghost use Rattle.ndef_c.specs.contracts.feeding.NdefChecker as NdefCheckers;
 
@@ -44,8 +44,9 @@ const _: () = prove!(align_of::<NdefChecker>() == 8);
 fn feed<L: OuterLanguage>(checker: &mut Checker<L>, bytes: &[u8], out: &mut NdefChecked) -> u32
     ensures { (limits : LimitValues) (front : List ℕ) → WasFed checker.old limits front
         → WasFed checker.new limits (front ++ bytes.now)
-        × FeedsTo L.set L.holds limits (front ++ bytes.now) result out.new }
+        × FeedsTo L.payloads L.reasons limits (front ++ bytes.now) result out.new }
 {
+    // For the proof alone.
     places_are_told::<L>();
     match checker.feed(bytes) {
         Fed::More => {
@@ -122,16 +123,16 @@ pub unsafe extern "C" fn ndef_feed(
     bytes: &[u8],
     out: &mut NdefChecked,
 ) -> u32
-    ghost so_far: { SoFar }
+    ghost so_far: { FedSoFar }
     requires* begun { ∃ₛ (λ (c : NdefChecker). sem 𝓛 (lies_at NdefCheckers.the_row full_share checker c)
         ∗ ⌜ IsFed c so_far ⌝) }
     ensures bad { result ≡ BAD_ARGUMENT ↔ ¬ MayBeSet so_far.limits }
     ensures kept { result ≡ BAD_ARGUMENT → out.new ≡ out.old }
-    ensures typed { MayBeSet so_far.limits → so_far.limits.flags < 2
-        → FeedsTo ⟦<Typed as Language>⟧.set ⟦<Typed as Language>⟧.holds (limits_of so_far.limits)
+    ensures typed { MayBeSet so_far.limits → ChecksPayloads so_far.limits
+        → FeedsTo ⟦<Typed as Language>⟧.payloads ⟦<Typed as Language>⟧.reasons (limits_of so_far.limits)
         (so_far.bytes ++ bytes.now) result out.new }
-    ensures opaque { MayBeSet so_far.limits → 2 ≤ so_far.limits.flags
-        → FeedsTo ⟦<Opaque as Language>⟧.set ⟦<Opaque as Language>⟧.holds (limits_of so_far.limits)
+    ensures opaque { MayBeSet so_far.limits → LeavesPayloads so_far.limits
+        → FeedsTo ⟦<Opaque as Language>⟧.payloads ⟦<Opaque as Language>⟧.reasons (limits_of so_far.limits)
         (so_far.bytes ++ bytes.now) result out.new }
     ensures* fed { ∃ₛ (λ (c : NdefChecker). sem 𝓛 (lies_at NdefCheckers.the_row full_share checker c)
         ∗ ⌜ IsFed c (record so_far { bytes = so_far.bytes ++ bytes.now }) ⌝) }

@@ -14,7 +14,7 @@ pub(crate) fn number_of(name: FieldName) -> u32
 }
 
 /// The name with a number.
-fn name_of(number: u32) -> Option<FieldName>
+pub(crate) fn name_of(number: u32) -> Option<FieldName>
     ensures told { IfSome result (λ n. field_number n ≡ number) }
     ensures some { IsSome result ↔ ((1 ≤ number) × (number ≤ 31)) }
 {

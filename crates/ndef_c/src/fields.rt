@@ -45,7 +45,7 @@ fn numbers_of(field: &Field) -> NdefField
 }
 
 /// The limits of these numbers, if payloads are looked into.
-fn typed_limits(numbers: &NdefLimits) -> Option<Limits>
+pub(crate) fn typed_limits(numbers: &NdefLimits) -> Option<Limits>
     ensures some { IsSome result ↔ MayTellFields numbers.now }
     ensures limits { IfSome result (λ r. r ≡ limits_of numbers.now) }
 {
@@ -125,6 +125,7 @@ pub extern "C" fn ndef_fields(
     ensures fields { result ≢ BAD_ARGUMENT
         → GivesFields (limits_of limits.now) bytes.now fields.old fields.new count.new result why.new }
 {
+    // For the proof alone.
     heads_are_apart();
     let Some(limits) = typed_limits(limits) else {
         return BAD_ARGUMENT;
@@ -188,6 +189,7 @@ pub extern "C" fn ndef_field_at(
     ensures field { result ≢ BAD_ARGUMENT
         → GivesFieldAt (limits_of limits.now) bytes.now place out.old out.new result why.new }
 {
+    // For the proof alone.
     heads_are_apart();
     let Some(limits) = typed_limits(limits) else {
         return BAD_ARGUMENT;

@@ -1,7 +1,7 @@
 //! The first record with a type or an id.
 ghost use Rattle.std.specs.Prelude.{◌≡◌, ◌≢◌, ◌≤◌, ◌↔◌, ◌⊎◌, length, IsTrue, List, ℕ};
 ghost use Rattle.ndef_format.specs.Messages.{run_record};
-ghost use Rattle.ndef_c.specs.Finding.{BreaksOff, FindsAt, Has, HasIdOf, HasNone, HasType, WalksTo};
+ghost use Rattle.ndef_c.specs.Finding.{BreaksOff, FindsAt, Has, HasIdOf, HasNone, IsOfType, WalksTo};
 ghost use Rattle.ndef_c.specs.Runs.{IsFirstRun};
 
 use crate::laws::one_record_is_there;
@@ -101,9 +101,9 @@ pub extern "C" fn ndef_find_type(
     out: &mut NdefRecord,
 ) -> u32
     ensures known { (result ≡ OK) ⊎ (result ≡ END) ⊎ (result ≡ BAD_ARGUMENT) }
-    ensures found { result ≡ OK → FindsAt (HasType tnf kind.now) bytes.now at out.new }
-    ensures end { result ≡ END → (at ≡ length bytes.now) ⊎ HasNone (HasType tnf kind.now) bytes.now at }
-    ensures bad { result ≡ BAD_ARGUMENT → (at ≢ length bytes.now) × BreaksOff (HasType tnf kind.now) bytes.now at }
+    ensures found { result ≡ OK → FindsAt (IsOfType tnf kind.now) bytes.now at out.new }
+    ensures end { result ≡ END → (at ≡ length bytes.now) ⊎ HasNone (IsOfType tnf kind.now) bytes.now at }
+    ensures bad { result ≡ BAD_ARGUMENT → (at ≢ length bytes.now) × BreaksOff (IsOfType tnf kind.now) bytes.now at }
     ensures kept { result ≢ OK → out.new ≡ out.old }
 {
     find(bytes, at, &Wanted::Kind(tnf, kind), out)

@@ -19,7 +19,7 @@ pub const SELECT: u32 = 1;
 /// Whether an octet and the bytes after it are a payload of the kind.
 fn is_payload<L: Language>(kind: Kind, octet: u8, behind: &[u8]) -> bool
     requires { 1 + length behind.now < 2 ^ 32 }
-    ensures { IsTrue result ↔ L.set kind MOST_RECORDS Strict (octet ∷ behind.now) }
+    ensures { IsTrue result ↔ L.payloads kind MOST_RECORDS Strict (octet ∷ behind.now) }
 {
     let mut state = L::start(kind, MOST_RECORDS, Profile::Strict);
     state.step(octet);

@@ -18,12 +18,12 @@ use ndef_value::one_meaning;
 /// What a check takes is walked from place 0 on: its records lie one after another, each where the one before it ends,
 /// and only the last of them is marked as the last.
 pub fn checks_are_walked<L: OuterLanguage>()
-    ensures { ChecksAreWalked L.set L.holds }
+    ensures { ChecksAreWalked L.payloads L.reasons }
 {}
 
 /// A checker that was fed the bytes in any parts answers what a check of them all answers.
 pub fn feeds_are_checks<L: OuterLanguage>()
-    ensures { FeedsAreChecks L.set L.holds }
+    ensures { FeedsAreChecks L.payloads L.reasons }
 {
     views_are_exact::<L>();
     answers_are_told::<L>();
@@ -59,7 +59,7 @@ pub fn held_records_are_a_message()
 /// Of a message that a check takes and its handover `ndef_link_at` gives the links that the message has, in their
 /// order, and no more.
 pub fn links_are_told<L: OuterLanguage>()
-    ensures { LinksAreTold L.set L.holds }
+    ensures { LinksAreTold L.payloads L.reasons }
 {
     heads_are_apart();
     one_meaning();

@@ -8,6 +8,8 @@
 //! - `kinds.rt`, `specs/Kinds.antt`: what the payload of a record is, as its type says.
 //! - `pieces.rt`, `specs/Pieces.antt`: where its pieces lie. `specs/Arrays.antt`: what is written to an array.
 //! - `fields.rt`, `field_names.rt`, `payload_fields.rt`, `specs/Fields.antt`: in which field each byte stands.
+//! - `why.rt`, `specs/Whys.antt`: why bytes are refused, and what may help, in sentences. `remarks.rt`,
+//!   `specs/Remarks.antt`: what is strange in a message that is accepted.
 //! - `finding.rt`, `specs/Finding.antt`: the first record with a type or an id.
 //! - `writing.rt`, `specs/Writes.antt`: a record written. `building.rt`, `specs/Built.antt`, `specs/Growing.antt`: a
 //!   message built in a room. `making.rt`, `specs/Made.antt`, `content.rt`, `specs/Contents.antt`: a record whose
@@ -26,7 +28,8 @@
 //! - `utf16.rt`: texts from and to UTF-16.
 //! - `link.rt`: the links of a message. `message.rt`: its records. `handover.rt`: what requests and
 //!   selects share. `links.rt`, `references.rt`: all links of a message, all references of an alternative carrier.
-//! - `nested.rt`: records of the messages in payloads.
+//! - `nested.rt`: records of the messages in payloads. `sought.rt`, `specs/Sought.antt`: what is given for each record
+//!   that is wanted, and their number.
 //! - `room.rt`, `specs/Rooms.antt`: bytes written to the caller's buffer.
 //! - `laws.rt`: what holds of the calls together.
 #![tactic(auto)]
@@ -69,6 +72,7 @@ mod reasons;
 mod record;
 mod references;
 mod refusal;
+mod remarks;
 mod request;
 mod rewriting;
 mod room;
@@ -76,6 +80,7 @@ mod run;
 mod select;
 mod series;
 mod series_writing;
+mod sought;
 mod status;
 mod status_name;
 mod text;
@@ -84,52 +89,110 @@ mod uri;
 mod uri_view;
 mod utf16;
 mod version;
+mod why;
 mod writing;
 
-pub use alternative::{NdefAlternative, ndef_alternative, ndef_reference};
+pub use alternative::NdefAlternative;
+pub use alternative::ndef_alternative;
+pub use alternative::ndef_reference;
 pub use alternative_writing::ndef_write_alternative;
-pub use appending::{ndef_append_text, ndef_append_uri};
-pub use building::{NdefBuilt, ndef_append};
-pub use carrier::{NdefCarrier, ndef_carrier, ndef_write_carrier};
-pub use checking::{NdefChecked, ndef_check};
-pub use error::{NdefError, ndef_error};
-pub use error_writing::{ndef_write_error, ndef_write_error_number};
-pub use feeding::{NdefChecker, ndef_begin, ndef_feed};
+pub use appending::ndef_append_text;
+pub use appending::ndef_append_uri;
+pub use building::NdefBuilt;
+pub use building::ndef_append;
+pub use carrier::NdefCarrier;
+pub use carrier::ndef_carrier;
+pub use carrier::ndef_write_carrier;
+pub use checking::NdefChecked;
+pub use checking::ndef_check;
+pub use error::NdefError;
+pub use error::ndef_error;
+pub use error_writing::ndef_write_error;
+pub use error_writing::ndef_write_error_number;
+pub use feeding::NdefChecker;
+pub use feeding::ndef_begin;
+pub use feeding::ndef_feed;
 pub use field_names::ndef_field_name;
-pub use fields::{NdefField, ndef_field_at, ndef_fields, ndef_next_field};
-pub use finding::{ndef_find_id, ndef_find_type};
-pub use handover_making::{NdefSelectWriting, ndef_write_request, ndef_write_select};
+pub use fields::NdefField;
+pub use fields::ndef_field_at;
+pub use fields::ndef_fields;
+pub use fields::ndef_next_field;
+pub use finding::ndef_find_id;
+pub use finding::ndef_find_type;
+pub use handover_making::NdefSelectWriting;
+pub use handover_making::ndef_write_request;
+pub use handover_making::ndef_write_select;
 pub use handover_parts::NdefAlternativeWriting;
-pub use handover_writing::{REQUEST, SELECT, ndef_write_handover};
-pub use icons::{NdefIcon, ndef_poster_icons};
+pub use handover_writing::REQUEST;
+pub use handover_writing::SELECT;
+pub use handover_writing::ndef_write_handover;
+pub use icons::NdefIcon;
+pub use icons::ndef_poster_icons;
 pub use kinds::ndef_kind;
-pub use laws::{
-    appended_records_are_held, checks_are_walked, feeds_are_checks, fields_are_stepped,
-    held_records_are_a_message, links_are_told, one_record_is_there, records_make_a_message,
-    written_handovers_are_read, written_posters_are_read,
-};
-pub use limits::{NdefLimits, ndef_usual_limits};
-pub use link::{NdefLink, ndef_link_at};
+pub use laws::appended_records_are_held;
+pub use laws::checks_are_walked;
+pub use laws::feeds_are_checks;
+pub use laws::fields_are_stepped;
+pub use laws::held_records_are_a_message;
+pub use laws::links_are_told;
+pub use laws::one_record_is_there;
+pub use laws::records_make_a_message;
+pub use laws::written_handovers_are_read;
+pub use laws::written_posters_are_read;
+pub use limits::NdefLimits;
+pub use limits::ndef_usual_limits;
+pub use link::NdefLink;
+pub use link::ndef_link_at;
 pub use links::ndef_links;
-pub use numbers::{ndef_write_action, ndef_write_collision, ndef_write_size};
+pub use numbers::ndef_write_action;
+pub use numbers::ndef_write_collision;
+pub use numbers::ndef_write_size;
 pub use part::NdefPart;
 pub use payload::ndef_payload;
 pub use payload_fields::ndef_payload_fields;
 pub use pieces::ndef_pieces;
-pub use poster::{NdefPoster, ndef_poster};
-pub use poster_parts::{NdefIconWriting, NdefTitleWriting};
-pub use poster_writing::{NdefPosterWriting, ndef_write_poster};
-pub use reasons::{ndef_reason_name, ndef_reason_sentence};
-pub use record::{NdefRecord, ndef_record_at};
+pub use poster::NdefPoster;
+pub use poster::ndef_poster;
+pub use poster_parts::NdefIconWriting;
+pub use poster_parts::NdefTitleWriting;
+pub use poster_writing::NdefPosterWriting;
+pub use poster_writing::ndef_write_poster;
+pub use reasons::ndef_reason_name;
+pub use reasons::ndef_reason_sentence;
+pub use record::NdefRecord;
+pub use record::ndef_record_at;
 pub use references::ndef_references;
-pub use request::{NdefRequest, ndef_request};
+pub use remarks::ndef_field_remark;
+pub use remarks::ndef_record_remark;
+pub use request::NdefRequest;
+pub use request::ndef_request;
 pub use rewriting::ndef_rewrite;
-pub use select::{NdefSelect, ndef_select};
-pub use status::{BAD_ARGUMENT, END, MORE, NO_ROOM, OK, REFUSED};
+pub use select::NdefSelect;
+pub use select::ndef_select;
+pub use status::BAD_ARGUMENT;
+pub use status::END;
+pub use status::MORE;
+pub use status::NO_ROOM;
+pub use status::OK;
+pub use status::REFUSED;
 pub use status_name::ndef_status_name;
-pub use text::{NdefText, ndef_text, ndef_text_in_utf8, ndef_write_text};
-pub use titles::{ndef_poster_media_type, ndef_poster_titles, ndef_title};
-pub use uri::{ndef_uri, ndef_write_uri};
-pub use uri_view::{NdefUri, ndef_uri_prefix, ndef_uri_view};
-pub use version::{MAJOR, MINOR, PATCH, ndef_version};
-pub use writing::{NdefWriting, ndef_write_record};
+pub use text::NdefText;
+pub use text::ndef_text;
+pub use text::ndef_text_in_utf8;
+pub use text::ndef_write_text;
+pub use titles::ndef_poster_media_type;
+pub use titles::ndef_poster_titles;
+pub use titles::ndef_title;
+pub use uri::ndef_uri;
+pub use uri::ndef_write_uri;
+pub use uri_view::NdefUri;
+pub use uri_view::ndef_uri_prefix;
+pub use uri_view::ndef_uri_view;
+pub use version::MAJOR;
+pub use version::MINOR;
+pub use version::PATCH;
+pub use version::ndef_version;
+pub use why::ndef_hint;
+pub use why::ndef_why;
+pub use writing::NdefWriting;
+pub use writing::ndef_write_record;

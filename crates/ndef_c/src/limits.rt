@@ -1,7 +1,7 @@
 //! Limits as numbers.
 ghost use Rattle.std.specs.Prelude.{◌≡◌, ◌<◌, ◌↔◌, IfSome, IsSome, IsTrue};
 ghost use Rattle.ndef_format.specs.Limits.{usual_limits};
-ghost use Rattle.ndef_c.specs.Checks.{limits_of, profile_of, MayBeSet};
+ghost use Rattle.ndef_c.specs.Checks.{ChecksPayloads, MayBeSet, limits_of, profile_of};
 
 use ndef_value::{Limits, Profile};
 
@@ -34,7 +34,7 @@ pub(crate) fn profile_of(flags: u32) -> Profile
 pub(crate) fn limits_of(numbers: &NdefLimits) -> Option<(Limits, bool)>
     ensures some { IsSome result ↔ MayBeSet numbers.now }
     ensures limits { IfSome result (λ r. r.0 ≡ limits_of numbers.now) }
-    ensures looks { IfSome result (λ r. IsTrue r.1 ↔ (numbers.now.flags < 2)) }
+    ensures looks { IfSome result (λ r. IsTrue r.1 ↔ ChecksPayloads numbers.now) }
 {
     if numbers.flags > 3 {
         return None;
@@ -50,7 +50,7 @@ pub(crate) fn limits_of(numbers: &NdefLimits) -> Option<(Limits, bool)>
 #[unsafe(no_mangle)]
 pub extern "C" fn ndef_usual_limits(out: &mut NdefLimits)
     ensures limits { limits_of out.new ≡ usual_limits }
-    ensures looks { out.new.flags < 2 }
+    ensures looks { ChecksPayloads out.new }
 {
     let limits = Limits::usual();
     *out = NdefLimits {

@@ -69,6 +69,7 @@ fn give_link(bytes: &[u8], payload: &[u8], index: usize, out: &mut NdefLink) -> 
     ensures end { result ≡ END → HasNoLink bytes.now payload.now index }
     ensures kept { result ≢ OK → out.new ≡ out.old }
 {
+    // For the proof alone.
     alternatives_are_exact();
     match alternative_at(behind_version(payload), index) {
         Some(carrier) => {

@@ -1,45 +1,62 @@
 //! All links of a message (Connection Handover 1.2).
-ghost use Rattle.std.specs.Prelude.{◌≡◌, ◌≢◌, ◌≤◌, ◌↔◌, length, List};
-ghost use Rattle.ndef_format.specs.Messages.{Item};
+ghost use Rattle.std.specs.Prelude.{◌≡◌, ◌≢◌, ◌↔◌, drop};
+ghost use Rattle.std.specs.List.{AllByRecursion};
+ghost use Rattle.ndef_format.specs.Handovers.{IsAlternative};
+ghost use Rattle.ndef_format.specs.Kinds.{kind_of};
 ghost use Rattle.ndef_format.specs.declared.profile.Profile.TheVariants.{Standard};
-ghost use Rattle.ndef_types.specs.Links.{alternatives};
-ghost use Rattle.ndef_c.specs.Arrays.{EachAt, set_over};
+ghost use Rattle.ndef_types.specs.Links.{alternatives, is_alternative};
 ghost use Rattle.ndef_c.specs.Handovers.{HasMessage};
 ghost use Rattle.ndef_c.specs.Links.{GivesLinks, IsLinkAt, MayHaveLinks};
-ghost use Rattle.ndef_c.specs.declared.link.NdefLink.{NdefLink as Link};
 
 use crate::handover::{behind_version, is_handover};
 use crate::link::{NdefLink, link_of};
 use crate::message::has_message;
-use crate::nested::{alternatives_in, found_in, is_alternative};
-use crate::status::{BAD_ARGUMENT, NO_ROOM, OK};
-use ndef_piece::{heads_are_apart, whole_piece};
+use crate::nested::{found_in, is_alternative};
+use crate::sought::{Sought, Wanted, give_all};
+use crate::status::BAD_ARGUMENT;
+use ndef_piece::WholePiece;
 use ndef_types::alternatives_are_exact;
+use ndef_value::Tnf;
 
-/// Writes each link to the front of the links.
-fn tell_links(bytes: &[u8], payload: &[u8], links: &mut [NdefLink])
-    requires may { MayHaveLinks bytes.now payload.now }
-    requires room { (items : List Item) → HasMessage Standard items payload.now
-        → length (alternatives items) ≤ length links.old }
-    ensures { (items : List Item) × HasMessage Standard items payload.now
-        × (told : List Link) × EachAt (IsLinkAt bytes.now payload.now) 0 told
-        × (length told ≡ length (alternatives items)) × (links.new ≡ set_over told links.old) }
-{
-    heads_are_apart();
-    alternatives_are_exact();
-    let message = behind_version(payload);
-    let mut rest = message;
-    let mut index = 0;
-    while !rest.is_empty() {
-        let Some(piece) = whole_piece(rest) else {
-            unreachable!()
-        };
-        if is_alternative(&piece) {
-            let carrier = found_in(message, &piece);
-            links[index] = link_of(bytes, carrier.at, carrier.payload);
-            index += 1;
-        }
-        rest = piece.rest;
+/// The links of the message with which the bytes begin, by the payload of its handover.
+#[derive(Clone, Copy)]
+struct Links<'a> {
+    bytes: &'a [u8],
+    payload: &'a [u8],
+}
+
+impl<'a> Wanted for Links<'a> {
+    ghost wanted = { λ tnf kind. is_alternative (kind_of tnf kind) };
+
+    fn is_wanted(tnf: Tnf, kind: &[u8]) -> bool
+        ensures { result ≡ is_alternative (kind_of tnf kind.now) }
+    {
+        is_alternative(tnf, kind)
+    }
+}
+
+impl<'a> Sought for Links<'a> {
+    type Given = NdefLink;
+
+    ghost octets = { λ links. drop 1 links.payload.now };
+
+    ghost has_records = { λ links items. MayHaveLinks links.bytes.now links.payload.now
+        × HasMessage Standard items links.payload.now
+        × AllByRecursion (λ i. IsAlternative i.payload) (alternatives items) };
+
+    ghost is_given = { λ links items. IsLinkAt links.bytes.now links.payload.now };
+
+    ghost in_pieces = { λ links items h. h.1 };
+
+    fn message(&self) -> &[u8] {
+        behind_version(self.payload)
+    }
+
+    fn given(&self, piece: &WholePiece<'_>) -> NdefLink {
+        // For the proof alone.
+        alternatives_are_exact();
+        let carrier = found_in(behind_version(self.payload), piece);
+        link_of(self.bytes, carrier.at, carrier.payload)
     }
 }
 
@@ -48,13 +65,7 @@ fn give_links(bytes: &[u8], payload: &[u8], links: &mut [NdefLink], count: &mut 
     requires { MayHaveLinks bytes.now payload.now }
     ensures { GivesLinks bytes.now payload.now links.old links.new count.new result }
 {
-    let needed = alternatives_in(behind_version(payload));
-    *count = needed;
-    if links.len() < needed {
-        return NO_ROOM;
-    }
-    tell_links(bytes, payload, links);
-    OK
+    give_all(&Links { bytes, payload }, links, count)
 }
 
 /// Gives the links of the message with which the bytes begin, in the order of the alternative carriers in the payload

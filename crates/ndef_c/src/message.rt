@@ -19,6 +19,7 @@ pub(crate) struct Place {
 pub(crate) fn has_message(bytes: &[u8]) -> bool
     ensures { IsTrue result ↔ HasRuns bytes.now }
 {
+    // For the proof alone.
     heads_are_apart();
     let mut rest = bytes;
     loop {
@@ -40,6 +41,7 @@ pub(crate) fn record_with(bytes: &[u8], id: &[u8]) -> Option<Place>
     if id.is_empty() {
         return None;
     }
+    // For the proof alone.
     heads_are_apart();
     let mut rest = bytes;
     let mut index = 0;

@@ -12,10 +12,12 @@ ghost use Rattle.ndef_types.specs.Links.{alternatives, is_alternative};
 ghost use Rattle.ndef_c.specs.Nested.{MayBeInPieces, CarrierLies, FirstLies};
 ghost use Rattle.ndef_c.specs.Walks.{Lies};
 
+use crate::sought::{Wanted, count_wanted};
 use ndef_lang::Kind;
 use ndef_nest::Table;
 use ndef_piece::{WholePiece, heads_are_apart, whole_piece};
 use ndef_types::is_kind;
+use ndef_value::Tnf;
 
 /// The payload of a record in one piece, and where it lies.
 #[derive(Clone, Copy)]
@@ -47,6 +49,7 @@ pub(crate) fn first_of(table: Table, bytes: &[u8], kind: Kind) -> Option<Found<'
     ensures { (profile : Profile) (items : List Item) → MayBeInPieces profile items bytes.now
         → FirstLies (IsOfKind table kind) items bytes.now result }
 {
+    // For the proof alone.
     heads_are_apart();
     let mut rest = bytes;
     while !rest.is_empty() {
@@ -61,11 +64,11 @@ pub(crate) fn first_of(table: Table, bytes: &[u8], kind: Kind) -> Option<Found<'
     None
 }
 
-/// Whether a record in one piece is an alternative carrier.
-pub(crate) fn is_alternative(piece: &WholePiece<'_>) -> bool
-    ensures { result ≡ is_alternative (kind_of (tnf_of (shown piece.now).tnf) piece.now.kind.now) }
+/// Whether the records with a type are alternative carriers.
+pub(crate) fn is_alternative(tnf: Tnf, kind: &[u8]) -> bool
+    ensures { result ≡ is_alternative (kind_of tnf kind.now) }
 {
-    match Kind::of(piece.tnf(), piece.kind) {
+    match Kind::of(tnf, kind) {
         Kind::Alternative => true,
         _ => false,
     }
@@ -78,6 +81,7 @@ pub(crate) fn alternative_at(bytes: &[u8], index: usize) -> Option<Found<'_>>
     ensures { (profile : Profile) (items : List Item) → MayBeInPieces profile items bytes.now
         → CarrierLies items index bytes.now result }
 {
+    // For the proof alone.
     heads_are_apart();
     let mut rest = bytes;
     let mut left = index;
@@ -85,7 +89,7 @@ pub(crate) fn alternative_at(bytes: &[u8], index: usize) -> Option<Found<'_>>
         let Some(piece) = whole_piece(rest) else {
             unreachable!()
         };
-        if is_alternative(&piece) {
+        if is_alternative(piece.tnf(), piece.kind) {
             if left == 0 {
                 return Some(found_in(bytes, &piece));
             }
@@ -96,25 +100,15 @@ pub(crate) fn alternative_at(bytes: &[u8], index: usize) -> Option<Found<'_>>
     None
 }
 
-/// The number of records of a kind in a nested message, each record of which is in one piece.
-pub(crate) fn count_of(table: Table, bytes: &[u8], kind: Kind) -> usize
-    requires { (profile : Profile) × (items : List Item) × MayBeInPieces profile items bytes.now }
-    ensures { (profile : Profile) (items : List Item) (wanted : Item → Bool) → MayBeInPieces profile items bytes.now
-        → ((i : Item) → IsTrue (wanted i) ↔ IsOfKind table kind i) → result ≡ length (filter wanted items) }
-{
-    heads_are_apart();
-    let mut rest = bytes;
-    let mut count = 0;
-    while !rest.is_empty() {
-        let Some(piece) = whole_piece(rest) else {
-            unreachable!()
-        };
-        if is_kind(table.kind(piece.tnf(), piece.kind), kind) {
-            count += 1;
-        }
-        rest = piece.rest;
+/// The alternative carriers of a message.
+struct Carriers;
+
+impl Wanted for Carriers {
+    ghost wanted = { λ tnf kind. is_alternative (kind_of tnf kind) };
+
+    fn is_wanted(tnf: Tnf, kind: &[u8]) -> bool {
+        is_alternative(tnf, kind)
     }
-    count
 }
 
 /// The number of alternative carriers in a message, each record of which is in one piece.
@@ -123,6 +117,5 @@ pub(crate) fn alternatives_in(bytes: &[u8]) -> usize
     ensures { (profile : Profile) (items : List Item) → MayBeInPieces profile items bytes.now
         → result ≡ length (alternatives items) }
 {
-    // A select has the same ones as a request.
-    count_of(Table::Request, bytes, Kind::Alternative)
+    count_wanted::<Carriers>(bytes)
 }

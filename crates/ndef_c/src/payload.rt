@@ -24,6 +24,7 @@ pub(crate) fn copy_pieces(bytes: &[u8], room: &mut [u8], from: usize) -> usize
     ensures behind { (run : Run) (rest : List ℕ) → BeginsWithRun run rest bytes.now
         → result ≡ from + length (run_record run).payload }
 {
+    // For the proof alone.
     heads_are_apart();
     let mut rest = bytes;
     let mut at = from;

@@ -21,6 +21,7 @@ fn give_payload_fields(
     ensures fields { (told : List Part) × ArePayloadFields kind payload.now told
         × GivesEach told OK array.old array.new count.new result }
 {
+    // For the proof alone.
     payload_fields_are_exact();
     let needed = count_of(payload_fields(kind, payload));
     *count = needed;

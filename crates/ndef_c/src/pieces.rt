@@ -23,6 +23,7 @@ fn tell_pieces(bytes: &[u8], at: usize, parts: &mut [NdefPart])
         → (told : List Part) × ArePiecesAt bytes.now at (pieces run) told × (length told ≡ length (pieces run))
         × (parts.new ≡ set_over told parts.old) }
 {
+    // For the proof alone.
     heads_are_apart();
     let (_before, mut rest) = bytes.split_at(at);
     let mut index = 0;

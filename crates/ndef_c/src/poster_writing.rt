@@ -147,6 +147,7 @@ pub extern "C" fn ndef_write_poster<'a>(
     ensures poster { result ≢ BAD_ARGUMENT
         → GivesPoster (poster_asked bytes.now how.now titles.now icons.now) room.old room.new count.new result }
 {
+    // For the proof alone.
     uris_are_exact();
     let poster = Poster {
         bytes,

@@ -2,7 +2,7 @@
 ghost use Rattle.std.specs.Prelude.{◌≡◌, ◌≢◌, ◌<◌, ◌+◌, ◌^◌, ◌↔◌, length, slice_index, List};
 ghost use Rattle.ndef_format.specs.Handovers.{IsAlternative};
 ghost use Rattle.ndef_types.specs.Values.{AcValue, StandsForAc};
-ghost use Rattle.ndef_c.specs.Alternatives.{GivesReferences, IsReference, references};
+ghost use Rattle.ndef_c.specs.Alternatives.{GivesReferences, IsReferencePart, references};
 ghost use Rattle.ndef_c.specs.Arrays.{EachAt, set_over};
 ghost use Rattle.ndef_c.specs.declared.part.NdefPart.{NdefPart as Part};
 
@@ -18,7 +18,7 @@ fn tell_references(payload: &[u8], parts: &mut [NdefPart])
     requires alternative { IsAlternative payload.now }
     requires room { slice_index payload.now (2 + slice_index payload.now 1) < length parts.old }
     ensures { (v : AcValue) → StandsForAc payload.now v
-        → (told : List Part) × EachAt (IsReference payload.now v) 0 told
+        → (told : List Part) × EachAt (IsReferencePart payload.now v) 0 told
         × (length told ≡ length (references v)) × (parts.new ≡ set_over told parts.old) }
 {
     let first = usize::from(payload[1]);
@@ -38,6 +38,7 @@ fn give_references(payload: &[u8], parts: &mut [NdefPart], count: &mut usize) ->
     requires short { length payload.now < 2 ^ 32 }
     ensures { GivesReferences payload.now parts.old parts.new count.new result }
 {
+    // For the proof alone.
     alternatives_are_exact();
     let needed = 1 + usize::from(payload[2 + usize::from(payload[1])]);
     *count = needed;

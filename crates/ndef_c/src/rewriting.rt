@@ -7,7 +7,7 @@ ghost use Rattle.ndef_message.specs.Cut.{first_piece};
 ghost use Rattle.ndef_message.specs.Written.{is_short};
 ghost use Rattle.ndef_piece.specs.Heads.{written_fields};
 ghost use Rattle.ndef_c.specs.Links.{BeginsWithRuns, HasRuns};
-ghost use Rattle.ndef_c.specs.Rewrites.{AsksForForm, CanBeRewritten, GivesRewritten, IsWhole, IsWritable, MayBeRewritten, form_with, records_of, rewritten};
+ghost use Rattle.ndef_c.specs.Rewrites.{AsksForForm, CanBeRewritten, GivesRewritten, IsWhole, IsWritable, MayBeRewritten, form_with, run_records, rewritten};
 ghost use Rattle.ndef_c.specs.Rooms.{IsPut};
 ghost use Rattle.ndef_c.specs.Runs.{IsFirstRun};
 
@@ -62,6 +62,7 @@ fn rewritten_length(bytes: &[u8], form: Form) -> Option<usize>
     ensures some { IfSome result (λ n. (runs : List Run) → BeginsWithRuns runs bytes.now
         → n ≡ length (rewritten form runs)) }
 {
+    // For the proof alone.
     heads_are_apart();
     let mut rest = bytes;
     let mut first = true;
@@ -91,11 +92,12 @@ fn rewritten_length(bytes: &[u8], form: Form) -> Option<usize>
 fn put_rewritten(room: &mut [u8], bytes: &[u8], form: Form)
     requires runs { HasRuns bytes.now }
     requires writable { (runs : List Run) → BeginsWithRuns runs bytes.now
-        → AllByRecursion IsWritable (records_of runs) }
+        → AllByRecursion IsWritable (run_records runs) }
     requires room { (runs : List Run) → BeginsWithRuns runs bytes.now
         → length (rewritten form runs) ≤ length room.old }
     ensures { (runs : List Run) → BeginsWithRuns runs bytes.now → IsPut 0 (rewritten form runs) room.old room.new }
 {
+    // For the proof alone.
     heads_are_apart();
     let mut rest = bytes;
     let mut first = true;

@@ -43,6 +43,7 @@ pub(crate) fn first_run(bytes: &[u8]) -> Option<FirstRun<'_>>
     ensures none { IfNone result (¬ HasRun bytes.now) }
     ensures some { IfSome result (IsFirstRun bytes.now) }
 {
+    // For the proof alone.
     heads_are_apart();
     let Some(first) = whole_piece(bytes) else {
         return None;

@@ -148,6 +148,7 @@ pub(crate) fn give_message(
     ensures message { result ≢ BAD_ARGUMENT
         → Gives (front.now ++ canonical (all_items several.now)) room.old room.new count.new result }
 {
+    // For the proof alone.
     short_is_canonical();
     let Some(length) = all_length(several) else {
         return BAD_ARGUMENT;

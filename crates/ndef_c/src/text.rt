@@ -74,6 +74,7 @@ fn give_text(payload: &[u8], room: &mut [u8], count: &mut usize) -> u32
     requires short { length payload.now < 2 ^ 32 }
     ensures { GivesText payload.now room.old room.new count.new result }
 {
+    // For the proof alone.
     texts_are_exact();
     let (_, octets) = split_language(payload);
     if payload[0] < 128 {

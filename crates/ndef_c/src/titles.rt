@@ -1,32 +1,28 @@
 //! The titles and the media type of a smart poster, where they lie (RTD Smart Poster 1.0).
 ghost use Rattle.std.specs.Prelude.{◌≡◌, ◌≢◌, ℕ, ◌+◌, ◌<◌, ◌≤◌, ◌^◌, ◌↔◌, ◌⊎◌, List, length, IfNone, IfSome, IsTrue};
+ghost use Rattle.std.proofs.Common.{inr};
 ghost use Rattle.std.specs.Str.{str_eq_ignore_ascii_case};
-ghost use Rattle.ndef_format.specs.Messages.{Item};
 ghost use Rattle.ndef_format.specs.Nested.{kind_in};
-ghost use Rattle.ndef_format.specs.Records.{tnf_of};
 ghost use Rattle.ndef_format.specs.Texts.{IsText};
 ghost use Rattle.ndef_format.specs.declared.kind.Kind.TheVariants as kinds;
-ghost use Rattle.ndef_format.specs.declared.profile.Profile.{Profile};
 ghost use Rattle.ndef_format.specs.declared.profile.Profile.TheVariants.{Standard};
 ghost use Rattle.ndef_format.specs.declared.table.Table.TheVariants as tables;
-ghost use Rattle.ndef_piece.specs.Whole.{shown};
 ghost use Rattle.ndef_types.specs.Contents.{IsOfKind};
-ghost use Rattle.ndef_types.specs.Posters.{is_text, titles};
-ghost use Rattle.ndef_c.specs.Arrays.{EachAt, set_over};
-ghost use Rattle.ndef_c.specs.Nested.{MayBeInPieces};
+ghost use Rattle.ndef_types.specs.Posters.{is_text};
 ghost use Rattle.ndef_c.specs.Posters.{HasPosterRecords};
 ghost use Rattle.ndef_c.specs.Titles.{FindsMediaType, FindsTitle, GivesTitles, IsPosterPayload, IsTitleAt, IsTitleIn, LiesAsText, PosterLacks};
 ghost use Rattle.ndef_c.specs.Walks.{Lies};
-ghost use Rattle.ndef_c.specs.declared.text.NdefText.{NdefText as Text};
 
 use crate::handover::is_nest;
-use crate::nested::{Found, count_of, first_of, found_in};
+use crate::nested::{Found, first_of, found_in};
 use crate::part::NdefPart;
-use crate::status::{BAD_ARGUMENT, END, NO_ROOM, OK};
+use crate::sought::{Sought, Wanted, give_all};
+use crate::status::{BAD_ARGUMENT, END, OK};
 use crate::text::{NdefText, text_at};
 use ndef_lang::Kind;
 use ndef_nest::Table;
 use ndef_piece::{WholePiece, heads_are_apart, whole_piece};
+use ndef_value::Tnf;
 
 /// Whether the payload is that of a smart poster, as the standard reads it.
 pub(crate) fn is_poster(payload: &[u8]) -> bool
@@ -35,11 +31,11 @@ pub(crate) fn is_poster(payload: &[u8]) -> bool
     is_nest(Kind::SmartPoster, payload)
 }
 
-/// Whether a record of a poster, in one piece, is a title.
-fn is_title(piece: &WholePiece<'_>) -> bool
-    ensures { result ≡ is_text (kind_in tables.SmartPoster (tnf_of (shown piece.now).tnf) piece.now.kind.now) }
+/// Whether the records of a poster with a type are titles.
+fn is_title(tnf: Tnf, kind: &[u8]) -> bool
+    ensures { result ≡ is_text (kind_in tables.SmartPoster tnf kind.now) }
 {
-    match Table::SmartPoster.kind(piece.tnf(), piece.kind) {
+    match Table::SmartPoster.kind(tnf, kind) {
         Kind::Text => true,
         _ => false,
     }
@@ -62,36 +58,41 @@ fn text_of(found: &Found<'_>) -> NdefText
     }
 }
 
-/// The number of titles in a message, each record of which is in one piece.
-fn titles_in(bytes: &[u8]) -> usize
-    requires { (profile : Profile) × (items : List Item) × MayBeInPieces profile items bytes.now }
-    ensures { (profile : Profile) (items : List Item) → MayBeInPieces profile items bytes.now
-        → result ≡ length (titles items) }
-{
-    count_of(Table::SmartPoster, bytes, Kind::Text)
+/// The titles of a poster.
+#[derive(Clone, Copy)]
+struct Titles<'a> {
+    payload: &'a [u8],
 }
 
-/// Writes where each title lies to the front of the texts.
-fn tell_titles(payload: &[u8], texts: &mut [NdefText])
-    requires poster { IsPosterPayload payload.now }
-    requires room { (items : List Item) → HasPosterRecords Standard items payload.now
-        → length (titles items) ≤ length texts.old }
-    ensures { (items : List Item) × HasPosterRecords Standard items payload.now
-        × (told : List Text) × EachAt (IsTitleAt payload.now items) 0 told
-        × (length told ≡ length (titles items)) × (texts.new ≡ set_over told texts.old) }
-{
-    heads_are_apart();
-    let mut rest = payload;
-    let mut index = 0;
-    while !rest.is_empty() {
-        let Some(piece) = whole_piece(rest) else {
-            unreachable!()
-        };
-        if is_title(&piece) {
-            texts[index] = text_of(&found_in(payload, &piece));
-            index += 1;
-        }
-        rest = piece.rest;
+impl<'a> Wanted for Titles<'a> {
+    ghost wanted = { λ tnf kind. is_text (kind_in tables.SmartPoster tnf kind) };
+
+    fn is_wanted(tnf: Tnf, kind: &[u8]) -> bool
+        ensures { result ≡ is_text (kind_in tables.SmartPoster tnf kind.now) }
+    {
+        is_title(tnf, kind)
+    }
+}
+
+impl<'a> Sought for Titles<'a> {
+    type Given = NdefText;
+
+    ghost octets = { λ titles. titles.payload.now };
+
+    ghost has_records = { λ titles items.
+        HasPosterRecords Standard items titles.payload.now × (length titles.payload.now < 2 ^ 32) };
+
+    ghost is_given = { λ titles items. IsTitleAt titles.payload.now items };
+
+    ghost in_pieces = { λ titles items h.
+        inr (record { runs = h.0.0; spelling = h.0.1.spelling; single = h.0.1.single }) };
+
+    fn message(&self) -> &[u8] {
+        self.payload
+    }
+
+    fn given(&self, piece: &WholePiece<'_>) -> NdefText {
+        text_of(&found_in(self.payload, piece))
     }
 }
 
@@ -100,13 +101,7 @@ fn give_titles(payload: &[u8], texts: &mut [NdefText], count: &mut usize) -> u32
     requires { IsPosterPayload payload.now }
     ensures { GivesTitles payload.now texts.old texts.new count.new result }
 {
-    let needed = titles_in(payload);
-    *count = needed;
-    if texts.len() < needed {
-        return NO_ROOM;
-    }
-    tell_titles(payload, texts);
-    OK
+    give_all(&Titles { payload }, texts, count)
 }
 
 /// Gives the place of each title of a smart poster, as `ndef_text` gives the parts of a text, but by places in the
@@ -165,13 +160,14 @@ fn title_in(payload: &[u8], language: &[u8]) -> Option<NdefText>
     ensures none { IfNone result (PosterLacks (IsTitleIn language.now) payload.now) }
     ensures some { IfSome result (FindsTitle language.now payload.now) }
 {
+    // For the proof alone.
     heads_are_apart();
     let mut rest = payload;
     while !rest.is_empty() {
         let Some(piece) = whole_piece(rest) else {
             unreachable!()
         };
-        if is_title(&piece) {
+        if is_title(piece.tnf(), piece.kind) {
             let text = text_of(&found_in(payload, &piece));
             if is_language(payload, &text, language) {
                 return Some(text);

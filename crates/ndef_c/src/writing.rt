@@ -8,7 +8,7 @@ ghost use Rattle.ndef_piece.specs.Heads.{written_fields};
 ghost use Rattle.ndef_message.specs.Cut.{first_piece, later_piece};
 ghost use Rattle.ndef_message.specs.Written.{is_short};
 ghost use Rattle.ndef_c.specs.Rooms.{Gives, IsPut};
-ghost use Rattle.ndef_c.specs.Writes.{item_of, octets_by, piece_octets, asked, asked_octets, is_first, is_last, form_of, size_of, LastBegins, MayBeWritten};
+ghost use Rattle.ndef_c.specs.Writes.{item_of, octets_by, octets_of_piece, asked, asked_octets, is_first, is_last, form_of, size_of, LastBegins, MayBeWritten};
 
 use crate::room::put;
 use crate::status::{BAD_ARGUMENT, NO_ROOM, OK};
@@ -159,10 +159,10 @@ pub(crate) fn put_piece(
     part: &[u8],
 ) -> usize
     requires form { FitsForm head.now.short head.now.payload_length }
-    requires room { at + length (piece_octets head.now kind.now id.now part.now) ≤ length room.old }
-    ensures put { IsPut at (piece_octets head.now kind.now id.now part.now) room.old room.new }
+    requires room { at + length (octets_of_piece head.now kind.now id.now part.now) ≤ length room.old }
+    ensures put { IsPut at (octets_of_piece head.now kind.now id.now part.now) room.old room.new }
     ensures size { length room.new ≡ length room.old }
-    ensures behind { result ≡ at + length (piece_octets head.now kind.now id.now part.now) }
+    ensures behind { result ≡ at + length (octets_of_piece head.now kind.now id.now part.now) }
 {
     let mut octets = [0; 7];
     let count = write_head(head, &mut octets);
@@ -178,7 +178,7 @@ pub(crate) fn piece_length(head: &Head, kind: &[u8], id: &[u8], part: &[u8]) -> 
     requires part { length part.now < 2 ^ 32 }
     requires kind { length kind.now < 256 }
     requires id { length id.now < 256 }
-    ensures value { result ≡ length (piece_octets head.now kind.now id.now part.now) }
+    ensures value { result ≡ length (octets_of_piece head.now kind.now id.now part.now) }
     ensures most { result ≤ 7 + (length kind.now + (length id.now + length part.now)) }
 {
     let mut octets = [0; 7];

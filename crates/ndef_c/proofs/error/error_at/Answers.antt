@@ -1,5 +1,5 @@
 use Rattle.std.proofs.Common.{get_or, refl, sym}
-use Rattle.ndef_value.specs.SliceLaws.{behind, cut_one}
+use Rattle.ndef_value.specs.SliceLaws.{rest_from, cut_one}
 use Rattle.ndef_c.proofs.Errors.{lies_behind}
 use Rattle.ndef_c.proofs.error.error_at.Goals as goal
 
@@ -9,7 +9,7 @@ returns c =
     record {
       in_set = c.requires.error;
       short = c.requires.short;
-      error = record { reason = get_or payload 0 0; detail = behind 1 payload };
+      error = record { reason = get_or payload 0 0; detail = rest_from 1 payload };
       stands = sym (cut_one payload c.in-len1-up.len_at_least);
       reason = c.from.ensures;
       detail = lies_behind 1 payload c.in-len1-up.len_at_least;

@@ -10,7 +10,7 @@ returns g c =
     let behind = c.args.behind.now in
     let next = L.future c.step.new.self in
     let last = L.future c.step_all.new.self in
-    let member = behind_octet (L.set c.args.kind 65535 Strict) (L.future c.start-state.result) next c.args.octet behind c.start-state.ensures.future c.step.ensures.future in (
+    let member = behind_octet (L.payloads c.args.kind 65535 Strict) (L.future c.start-state.result) next c.args.octet behind c.start-state.ensures.future c.step.ensures.future in (
       λ t. member.0 (all_stepped next last behind c.step_all.result c.step_all.ensures.steps (eqb-true c.step_all.result (length behind) t)),
       λ h. eq-eqb c.step_all.result (length behind) (stepped_all next last behind c.step_all.result c.step_all.ensures.steps (member.1 h)),
     )

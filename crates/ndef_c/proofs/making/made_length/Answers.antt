@@ -2,7 +2,7 @@ use Rattle.std.proofs.Common.{[], ap, length, length-append, refl, arith}
 use Rattle.ndef_message.specs.declared.form.Form.TheVariants.{Short}
 use Rattle.ndef_c.specs.Contents.{content_octets}
 use Rattle.ndef_c.specs.Made.{made_item}
-use Rattle.ndef_c.specs.Writes.{piece_octets}
+use Rattle.ndef_c.specs.Writes.{octets_of_piece}
 use Rattle.ndef_c.proofs.Made.{whole_as}
 use Rattle.ndef_c.proofs.making.made_length.Goals as goal
 
@@ -12,7 +12,7 @@ returns-clause-value c =
     let part = content_octets made.content in
     let head = c.head_of.result in
     let e = ap length (whole_as Short c.args.ends.first c.args.ends.last (made_item made) head part refl c.head_of.ensures.head) in
-    let n = length-append (piece_octets head made.kind.now made.id.now []) part in
+    let n = length-append (octets_of_piece head made.kind.now made.id.now []) part in
     let front = c.piece_length.ensures.value in
     let bytes = c.requires.bytes in
     omega (arith, e, n, front, bytes)

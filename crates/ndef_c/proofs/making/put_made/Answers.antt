@@ -3,7 +3,7 @@ use Rattle.ndef_message.specs.declared.form.Form.TheVariants.{Short}
 use Rattle.ndef_c.specs.Contents.{content_octets}
 use Rattle.ndef_c.specs.Made.{made_item}
 use Rattle.ndef_c.specs.Rooms.{IsPut}
-use Rattle.ndef_c.specs.Writes.{piece_octets}
+use Rattle.ndef_c.specs.Writes.{octets_of_piece}
 use Rattle.ndef_c.proofs.Made.{whole_as}
 use Rattle.ndef_c.proofs.Puts.{put_on}
 use Rattle.ndef_c.proofs.making.put_made.Goals as goal
@@ -14,7 +14,7 @@ put_piece-after_front-requires-clause-room c =
     let part = content_octets made.content in
     let head = c.head_of-head.result in
     let e = ap length (whole_as Short c.args.ends.first c.args.ends.last (made_item made) head part refl c.head_of-head.ensures.head) in
-    let n = length-append (piece_octets head made.kind.now made.id.now []) part in
+    let n = length-append (octets_of_piece head made.kind.now made.id.now []) part in
     let room = c.requires.room in
     omega (arith, e, n, room)
 
@@ -24,7 +24,7 @@ put_content-requires-clause-room c =
     let part = content_octets made.content in
     let head = c.head_of-head.result in
     let e = ap length (whole_as Short c.args.ends.first c.args.ends.last (made_item made) head part refl c.head_of-head.ensures.head) in
-    let n = length-append (piece_octets head made.kind.now made.id.now []) part in
+    let n = length-append (octets_of_piece head made.kind.now made.id.now []) part in
     let room = c.requires.room in
     let behind = c.put_piece-after_front.ensures.behind in
     let size = c.put_piece-after_front.ensures.size in
@@ -45,7 +45,7 @@ returns-clause-behind c =
     let part = content_octets made.content in
     let head = c.head_of-head.result in
     let e = ap length (whole_as Short c.args.ends.first c.args.ends.last (made_item made) head part refl c.head_of-head.ensures.head) in
-    let n = length-append (piece_octets head made.kind.now made.id.now []) part in
+    let n = length-append (octets_of_piece head made.kind.now made.id.now []) part in
     let behind = c.put_piece-after_front.ensures.behind in
     let end = c.put_content.ensures.behind in
     omega (arith, e, n, behind, end)

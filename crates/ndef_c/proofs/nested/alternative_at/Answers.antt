@@ -33,7 +33,7 @@ returns-then-left-eq0 c = λ profile items h.
     let n = a.3 in
     let none = c.if-left-eq0.true in
     let r = reached c.heads_are_apart.ensures.apart a.1 (shown f) _ _ c.in-Some.ensures.piece in
-    let k : is_carrier r.item ≡ true = (λ j. is_alternative (kind_of (r.is.tnf j) (r.is.kind j))) ∙ sym c.is_alternative.ensures ∙ c.if-is_alternative.true in
+    let k : is_carrier r.item ≡ true = (λ j. is_alternative (kind_of ((r.is.tnf ∙ sym c.tnf.ensures) j) (r.is.kind j))) ∙ sym c.is_alternative.ensures ∙ c.if-is_alternative.true in
     let place : c.args.index ≡ length (alternatives a.0) = omega (arith, n, none) in (
       r.item,
       ap (slice_get (alternatives items)) place ∙ filter_at is_carrier items a.0 r.item r.within k,
@@ -53,7 +53,7 @@ loop-rest-preserved c =
           let a = i.ahead profile items h in
           let n = a.3 in
           let r = reached c.heads_are_apart.ensures.apart a.1 (shown f) _ _ s in
-          let k : is_carrier r.item ≡ c.is_alternative.result = (λ j. is_alternative (kind_of (r.is.tnf j) (r.is.kind j))) ∙ sym c.is_alternative.ensures in (
+          let k : is_carrier r.item ≡ c.is_alternative.result = (λ j. is_alternative (kind_of ((r.is.tnf ∙ sym c.tnf.ensures) j) (r.is.kind j))) ∙ sym c.is_alternative.ensures in (
             a.0 ++ r.item ∷ [],
             r.next,
             one_before a.2 r.one i.rest_is (behind_piece (shown f) _ _ _ c.args.bytes.now i.at i.rest_is s),

@@ -1,6 +1,6 @@
 use Rattle.std.proofs.Common.{◌≡◌, ◌+◌, ◌++◌, ◌∷◌, [], suc, length, length-append, get_or, refl, sym, ◌∙◌, ap, subst, arith}
 use Rattle.std.specs.Prelude.{slice_get}
-use Rattle.ndef_c.specs.Alternatives.{IsReference, reference_place, references}
+use Rattle.ndef_c.specs.Alternatives.{IsReferencePart, reference_place, references}
 use Rattle.ndef_c.proofs.Alternatives.{NamesAt, ac_at, name_there, names_count, names_first}
 use Rattle.ndef_c.proofs.Filled.{each_more, filled_on}
 use Rattle.ndef_c.proofs.references.tell_references.Goals as goal
@@ -50,7 +50,7 @@ loop-before-preserved c =
           let g = t.lies v s in
           let place : 0 + length i.told ≡ suc c.loop-before.before = omega (arith, count) in
           let next : c.loop-before.before + 1 ≡ 0 + length i.told = omega (arith, count) in
-          each_more (IsReference payload v) 0 i.told part (i.are v s) (record {
+          each_more (IsReferencePart payload v) 0 i.told part (i.are v s) (record {
             lies = (g.0, ap (λ k. slice_get (references v) k) place ∙ g.1, rw (at, size) g.2);
             place = at ∙ t.place v s ∙ ap (reference_place (references v)) next;
           });

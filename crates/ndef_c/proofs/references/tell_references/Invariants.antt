@@ -1,6 +1,6 @@
 use Rattle.std.proofs.Common.{◌≡◌, ◌≤◌, ◌+◌, List, length}
 use Rattle.ndef_types.specs.Values.{AcValue, StandsForAc}
-use Rattle.ndef_c.specs.Alternatives.{IsReference}
+use Rattle.ndef_c.specs.Alternatives.{IsReferencePart}
 use Rattle.ndef_c.specs.Arrays.{EachAt, set_over}
 use Rattle.ndef_c.specs.declared.part.NdefPart.{NdefPart}
 use Rattle.ndef_c.proofs.Alternatives.{NamesAt}
@@ -11,7 +11,7 @@ invariant-loop-before l = record {
   within : l.before ≤ l.count;
   names : NamesAt l.payload l.count l.at l.before;
   told : List NdefPart;
-  are : (v : AcValue) → StandsForAc l.payload v → EachAt (IsReference l.payload v) 0 told;
+  are : (v : AcValue) → StandsForAc l.payload v → EachAt (IsReferencePart l.payload v) 0 told;
   count : length told ≡ 1 + l.before;
   filled : l.parts ≡ set_over told l.fn.parts;
 }

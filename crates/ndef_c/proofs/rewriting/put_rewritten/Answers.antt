@@ -1,9 +1,9 @@
 use Rattle.std.proofs.Common.{◌-◌, ◌++◌, ◌∷◌, [], length, length-append, refl, sym, ◌∙◌, ap, subst, arith, None, true, false}
 use Rattle.ndef_format.specs.Messages.{run_record}
-use Rattle.ndef_c.specs.Rewrites.{records_of}
+use Rattle.ndef_c.specs.Rewrites.{run_records}
 use Rattle.ndef_c.specs.Rooms.{IsPut}
 use Rattle.ndef_c.specs.Runs.{HasRun}
-use Rattle.ndef_c.specs.Writes.{one_by_one, piece_octets}
+use Rattle.ndef_c.specs.Writes.{one_by_one, octets_of_piece}
 use Rattle.ndef_c.proofs.Followed.{one_record}
 use Rattle.ndef_c.proofs.Messages.{next_at, onward, run_there}
 use Rattle.ndef_c.proofs.Puts.{put_none, put_on}
@@ -19,7 +19,7 @@ loop-found-init c = record {
   put = put_none 0 c.args.room.now;
   place = refl;
   size = refl;
-  left = λ runs b. let k = at_start c.args.bytes.now runs b in ([], k.0, ap (λ rs. one_by_one c.args.form true None (records_of rs)) k.1);
+  left = λ runs b. let k = at_start c.args.bytes.now runs b in ([], k.0, ap (λ rs. one_by_one c.args.form true None (run_records rs)) k.1);
 }
 
 pub unreachable-requires : goal.unreachable-requires
@@ -103,7 +103,7 @@ loop-found-preserved c =
     let x = c.in-Some.ensures.some in
     let n = next_at x.run c.args.bytes.now c.loop-found.rest.now c.in-Some.found.rest.now i.at i.within i.rest_is x.begins in
     let head = c.head_of-head.result in
-    let octets = piece_octets head c.in-Some.found.first.kind.now c.in-Some.found.first.id.now [] ++ (run_record x.run).payload in
+    let octets = octets_of_piece head c.in-Some.found.first.kind.now c.in-Some.found.first.id.now [] ++ (run_record x.run).payload in
     let front = c.put_piece-after_front.ensures in
     let copied = c.copy_pieces-at.ensures in
     let k = part_length x head _ refl in
@@ -135,7 +135,7 @@ loop-found-preserved c =
           let next = o.left (sym x.last ∙ c.if-found.false) in (
             l.0 ++ x.run ∷ [],
             next,
-            ap (λ rs. (i.done ++ octets) ++ one_by_one c.args.form false None (records_of rs)) (left_are o next) ∙ octets_on p i.done _ l.2,
+            ap (λ rs. (i.done ++ octets) ++ one_by_one c.args.form false None (run_records rs)) (left_are o next) ∙ octets_on p i.done _ l.2,
           );
     }
 

@@ -1,7 +1,7 @@
 use Rattle.std.proofs.Common.{◌≡◌, ◌≤◌, ℕ, List, ◌++◌, None, length, drop}
 use Rattle.ndef_format.specs.Records.{Run}
 use Rattle.ndef_c.specs.Links.{BeginsWithRuns}
-use Rattle.ndef_c.specs.Rewrites.{records_of, rewritten}
+use Rattle.ndef_c.specs.Rewrites.{run_records, rewritten}
 use Rattle.ndef_c.specs.Rooms.{IsPut}
 use Rattle.ndef_c.specs.Writes.{one_by_one}
 use Rattle.ndef_c.proofs.Messages.{Left}
@@ -17,7 +17,7 @@ invariant-loop-found l = record {
   place : l.at ≡ length done;
   size : length l.room ≡ length l.fn.room;
   left : (runs : List Run) → BeginsWithRuns runs l.bytes → (before : List Run) × (k : Left l.bytes runs at before)
-      × (done ++ one_by_one l.form l.first None (records_of k.more) ≡ rewritten l.form runs);
+      × (done ++ one_by_one l.form l.first None (run_records k.more) ≡ rewritten l.form runs);
 }
 
 abbrev pub decreases-loop-found : goal.decreases-loop-found

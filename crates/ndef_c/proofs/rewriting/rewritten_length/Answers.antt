@@ -1,6 +1,6 @@
 use Rattle.std.proofs.Common.{◌-◌, ◌+◌, ◌<◌, ◌++◌, ◌∷◌, [], length, refl, sym, ◌∙◌, ap, subst, arith, true, false, true≢false, None, ◌^◌}
 use Rattle.std.specs.List.{AllByRecursion}
-use Rattle.ndef_c.specs.Rewrites.{IsWritable, records_of}
+use Rattle.ndef_c.specs.Rewrites.{IsWritable, run_records}
 use Rattle.ndef_c.specs.Runs.{HasRun}
 use Rattle.ndef_c.specs.Writes.{one_by_one}
 use Rattle.ndef_c.proofs.Messages.{id_of, next_at, onward, run_there}
@@ -8,7 +8,7 @@ use Rattle.ndef_c.proofs.Rewritten.{at_start, left_are, none_more, part_length, 
 use Rattle.ndef_c.proofs.rewriting.rewritten_length.Goals as goal
 
 pub loop-found-init : goal.loop-found-init
-loop-found-init c = record { at = 0; within = omega arith; rest_is = refl; left = λ runs b. let k = at_start c.args.bytes.now runs b in ([], k.0, ap (λ rs. 0 + length (one_by_one c.args.form true None (records_of rs))) k.1 ∙ omega arith, tt) }
+loop-found-init c = record { at = 0; within = omega arith; rest_is = refl; left = λ runs b. let k = at_start c.args.bytes.now runs b in ([], k.0, ap (λ rs. 0 + length (one_by_one c.args.form true None (run_records rs))) k.1 ∙ omega arith, tt) }
 
 pub unreachable-requires : goal.unreachable-requires
 unreachable-requires c =
@@ -54,7 +54,7 @@ returns-then-found-clause-may c = λ runs b.
     let k = part_length x head _ c.piece_length-front.ensures.value in
     let e = sum_all c.args.form o.more _ _ none (sum_on p c.loop-found.total _ c.in-Some-checked_add.sum _ k c.in-Some-checked_add.ensures.1 l.2) in
     record {
-      writable = subst (λ rs. AllByRecursion IsWritable (records_of rs)) (sym (o.all ∙ ap (λ m. l.0 ++ x.run ∷ m) none)) (writable_on l.0 x.run l.3 ((c.is_writable.ensures _ x).0 c.if-not-is_writable.false));
+      writable = subst (λ rs. AllByRecursion IsWritable (run_records rs)) (sym (o.all ∙ ap (λ m. l.0 ++ x.run ∷ m) none)) (writable_on l.0 x.run l.3 ((c.is_writable.ensures _ x).0 c.if-not-is_writable.false));
       fits = subst (λ k. k < 2 ^ 64) (sym c.in-Some-checked_add.ensures.1 ∙ e) c.in-Some-checked_add.ensures.0;
     }
 
@@ -89,7 +89,7 @@ loop-found-preserved c =
           let next = o.left (sym x.last ∙ c.if-found.false) in (
             l.0 ++ x.run ∷ [],
             next,
-            ap (λ rs. c.in-Some-checked_add.sum + length (one_by_one c.args.form false None (records_of rs))) (left_are o next) ∙ sum_on p c.loop-found.total _ c.in-Some-checked_add.sum _ k c.in-Some-checked_add.ensures.1 l.2,
+            ap (λ rs. c.in-Some-checked_add.sum + length (one_by_one c.args.form false None (run_records rs))) (left_are o next) ∙ sum_on p c.loop-found.total _ c.in-Some-checked_add.sum _ k c.in-Some-checked_add.ensures.1 l.2,
             writable_on l.0 x.run l.3 ((c.is_writable.ensures _ x).0 c.if-not-is_writable.false),
           );
     }

@@ -2,7 +2,7 @@ use Rattle.std.proofs.Common.{◌≡◌, ◌+◌, ◌≤◌, ℕ, List, None, le
 use Rattle.std.specs.List.{AllByRecursion}
 use Rattle.ndef_format.specs.Records.{Run}
 use Rattle.ndef_c.specs.Links.{BeginsWithRuns}
-use Rattle.ndef_c.specs.Rewrites.{IsWritable, records_of, rewritten}
+use Rattle.ndef_c.specs.Rewrites.{IsWritable, run_records, rewritten}
 use Rattle.ndef_c.specs.Writes.{one_by_one}
 use Rattle.ndef_c.proofs.Messages.{Left}
 use Rattle.ndef_c.proofs.rewriting.rewritten_length.Given as goal
@@ -13,8 +13,8 @@ invariant-loop-found l = record {
   within : at ≤ length l.bytes;
   rest_is : l.rest ≡ drop at l.bytes;
   left : (runs : List Run) → BeginsWithRuns runs l.bytes → (done : List Run) × (k : Left l.bytes runs at done)
-      × (l.total + length (one_by_one l.form l.first None (records_of k.more)) ≡ length (rewritten l.form runs))
-      × AllByRecursion IsWritable (records_of done);
+      × (l.total + length (one_by_one l.form l.first None (run_records k.more)) ≡ length (rewritten l.form runs))
+      × AllByRecursion IsWritable (run_records done);
 }
 
 abbrev pub decreases-loop-found : goal.decreases-loop-found

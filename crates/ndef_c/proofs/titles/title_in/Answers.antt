@@ -1,9 +1,12 @@
 use Rattle.std.proofs.Common.{◌≡◌, ◌+◌, ◌++◌, ◌∷◌, [], length, refl, sym, ◌∙◌, ap, subst, arith, true≢false}
 use Rattle.ndef_format.specs.declared.profile.Profile.TheVariants.{Standard}
+use Rattle.ndef_format.specs.Nested.{kind_in}
 use Rattle.ndef_format.specs.Texts.{IsText}
+use Rattle.ndef_format.specs.declared.table.Table.TheVariants.{SmartPoster}
 use Rattle.ndef_message.specs.WrittenLaws.{some_left}
 use Rattle.ndef_piece.specs.Whole.{IsSplit, shown}
 use Rattle.ndef_types.specs.Contents.{Lack}
+use Rattle.ndef_types.specs.Posters.{is_text}
 use Rattle.ndef_c.specs.Titles.{IsTitleIn}
 use Rattle.ndef_c.specs.Walks.{Lies}
 use Rattle.ndef_c.proofs.Ahead.{ahead_in, all_done, behind_piece, empty_rest, first_is, lack_on, none_before, one_before, piece_ahead, reached, shown_at}
@@ -31,7 +34,7 @@ text_of-text-requires-clause-text c =
     let i = c.loop-rest.invariant in
     let f = c.in-Some.piece in
     let r = reached c.heads_are_apart.ensures.apart i.ahead (shown f) _ _ c.in-Some.ensures.piece in
-    let k = title_kind r.item (shown f) r.is ∙ sym c.is_title.ensures ∙ c.if-is_title.true in
+    let k = title_kind r.item (shown f) r.is ∙ sym (c.is_title.ensures ∙ ap (λ t. is_text (kind_in SmartPoster t f.kind.now)) c.tnf.ensures) ∙ c.if-is_title.true in
     subst IsText (r.is.payload ∙ sym c.found_in.ensures.payload) (title_text i.items i.done c.args.payload.now r.item i.records r.within k)
 
 pub text_of-text-requires-clause-bound : goal.text_of-text-requires-clause-bound
@@ -47,7 +50,7 @@ returns-then-is_language-clause-some c =
     let i = c.loop-rest.invariant in
     let f = c.in-Some.piece in
     let r = reached c.heads_are_apart.ensures.apart i.ahead (shown f) _ _ c.in-Some.ensures.piece in
-    let k = title_kind r.item (shown f) r.is ∙ sym c.is_title.ensures ∙ c.if-is_title.true in
+    let k = title_kind r.item (shown f) r.is ∙ sym (c.is_title.ensures ∙ ap (λ t. is_text (kind_in SmartPoster t f.kind.now)) c.tnf.ensures) ∙ c.if-is_title.true in
     let found = c.found_in.result in
     let lies = subst (λ p. Lies payload found.at (length p) p) (sym c.found_in.ensures.payload) c.found_in.ensures.lies in
     let is = text_lies payload r.item found c.text_of-text.result (c.found_in.ensures.payload ∙ sym r.is.payload) (c.text_of-text.ensures payload lies) in
@@ -71,7 +74,7 @@ loop-rest-preserved c =
     let f = c.in-Some.piece in
     let s = c.in-Some.ensures.piece in
     let r = reached c.heads_are_apart.ensures.apart i.ahead (shown f) _ _ s in
-    let k : is_title r.item ≡ c.is_title.result = title_kind r.item (shown f) r.is ∙ sym c.is_title.ensures in
+    let k : is_title r.item ≡ c.is_title.result = title_kind r.item (shown f) r.is ∙ sym (c.is_title.ensures ∙ ap (λ t. is_text (kind_in SmartPoster t f.kind.now)) c.tnf.ensures) in
     record {
       items = i.items;
       records = i.records;

@@ -1,5 +1,5 @@
 use Rattle.std.proofs.Common.{◌++◌, length, get_or, refl, ◌∙◌, ap, arith}
-use Rattle.ndef_value.specs.SliceLaws.{behind}
+use Rattle.ndef_value.specs.SliceLaws.{rest_from}
 use Rattle.ndef_c.proofs.Prefixed.{short_prefix, stands_for}
 use Rattle.ndef_c.proofs.uri.give_uri.Goals as goal
 
@@ -11,7 +11,7 @@ give_parts-requires-clause-second c =
 
 pub returns : goal.returns
 returns c = (
-  c.as_bytes.result.now ++ behind 1 c.args.payload.now,
+  c.as_bytes.result.now ++ rest_from 1 c.args.payload.now,
   stands_for c.args.payload.now c.as_bytes.result.now _ c.in-len1-up.len_at_least (c.as_bytes.ensures.value ∙ c.prefix.ensures) refl,
   c.give_parts.ensures,
 )

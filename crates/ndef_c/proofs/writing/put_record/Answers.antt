@@ -1,7 +1,7 @@
 use Rattle.std.proofs.Common.{◌<◌, ◌++◌, [], length, length-drop, length-append, append_assoc, sym, ◌∙◌, ap, subst, arith}
 use Rattle.ndef_message.specs.WrittenLaws.{some_left, later-end}
 use Rattle.ndef_c.specs.Rooms.{IsPut}
-use Rattle.ndef_c.specs.Writes.{item_of, octets_by, piece_octets}
+use Rattle.ndef_c.specs.Writes.{item_of, octets_by, octets_of_piece}
 use Rattle.ndef_c.proofs.Puts.{put_on}
 use Rattle.ndef_format.specs.Messages.{Item}
 use Rattle.ndef_c.proofs.Ahead.{empty_rest}
@@ -14,7 +14,7 @@ put_piece-at-requires-clause-room c =
     let m : Item = item_of a.parts.now in
     let t = first_octets a.way.form a.way.first a.way.last c.is_empty.result a.way.size m c.first_head-head.result _ _ c.requires.some c.first_part.ensures.part c.first_part.ensures.rest c.is_empty.ensures
     c.first_head-head.ensures.head in
-    let n = in_lengths (piece_octets c.first_head-head.result m.kind m.id c.first_part.result.0.now) (left_octets a.way.form a.way.last a.way.size c.first_part.result.1.now) (octets_by a.way m) t in
+    let n = in_lengths (octets_of_piece c.first_head-head.result m.kind m.id c.first_part.result.0.now) (left_octets a.way.form a.way.last a.way.size c.first_part.result.1.now) (octets_by a.way m) t in
     let room = c.requires.room in
     omega (arith, n, room)
 
@@ -28,7 +28,7 @@ loop-last-init c =
     let k = c.requires.lengths.payload in
     let b = c.put_piece-at.ensures.behind in
     record {
-      done = piece_octets c.first_head-head.result m.kind m.id c.first_part.result.0.now;
+      done = octets_of_piece c.first_head-head.result m.kind m.id c.first_part.result.0.now;
       put = c.put_piece-at.ensures.put;
       at = omega (arith, b);
       size = c.put_piece-at.ensures.size;
@@ -47,7 +47,7 @@ put_piece-at-requires-in-loop-last-clause-room c =
     let f = c.first_part-in-loop-last in
     let t = later_octets a.way.form a.way.last c.is_empty-in-loop-last-2.result a.way.size c.loop-last.rest.now f.result.0.now f.result.1.now c.later_head-head.result c.requires.some some f.ensures.part f.ensures.rest
     c.is_empty-in-loop-last-2.ensures c.later_head-head.ensures.head in
-    let n = in_lengths (piece_octets c.later_head-head.result [] [] f.result.0.now) (left_octets a.way.form a.way.last a.way.size f.result.1.now) (left_octets a.way.form a.way.last a.way.size c.loop-last.rest.now) t in
+    let n = in_lengths (octets_of_piece c.later_head-head.result [] [] f.result.0.now) (left_octets a.way.form a.way.last a.way.size f.result.1.now) (left_octets a.way.form a.way.last a.way.size c.loop-last.rest.now) t in
     let l = in_lengths i.done (left_octets a.way.form a.way.last a.way.size c.loop-last.rest.now) (octets_by a.way (item_of a.parts.now)) i.left in
     let room = c.requires.room in
     let i1 = i.at in
@@ -63,7 +63,7 @@ loop-last-preserved c =
     let t = later_octets a.way.form a.way.last c.is_empty-in-loop-last-2.result a.way.size c.loop-last.rest.now f.result.0.now f.result.1.now c.later_head-head.result c.requires.some some f.ensures.part f.ensures.rest
     c.is_empty-in-loop-last-2.ensures c.later_head-head.ensures.head in
     let r = ap length f.ensures.rest ∙ length-drop a.way.size c.loop-last.rest.now in
-    let here = piece_octets c.later_head-head.result [] [] f.result.0.now in
+    let here = octets_of_piece c.later_head-head.result [] [] f.result.0.now in
     let k = length-append i.done here in
     let i1 = i.at in
     let i2 = i.small in

@@ -1,7 +1,7 @@
 use Rattle.std.proofs.Common.{◌+◌, ◌<◌, [], length, length-take, length-drop, sym, ◌∙◌, ap, arith}
 use Rattle.ndef_message.specs.WrittenLaws.{some_left}
 use Rattle.ndef_format.specs.Messages.{Item}
-use Rattle.ndef_c.specs.Writes.{item_of, octets_by, piece_octets}
+use Rattle.ndef_c.specs.Writes.{item_of, octets_by, octets_of_piece}
 use Rattle.ndef_c.proofs.Records.{left_octets, first_octets, later_octets, none_is_left, in_lengths}
 use Rattle.ndef_c.proofs.writing.record_length.Goals as goal
 
@@ -11,7 +11,7 @@ loop-rest-init c =
     let m : Item = item_of a.parts.now in
     let t = first_octets a.way.form a.way.first a.way.last c.is_empty.result a.way.size m c.first_head-head.result _ _ c.requires.some c.first_part.ensures.part c.first_part.ensures.rest c.is_empty.ensures
     c.first_head-head.ensures.head in
-    let n = in_lengths (piece_octets c.first_head-head.result m.kind m.id c.first_part.result.0.now) (left_octets a.way.form a.way.last a.way.size c.first_part.result.1.now) (octets_by a.way m) t in
+    let n = in_lengths (octets_of_piece c.first_head-head.result m.kind m.id c.first_part.result.0.now) (left_octets a.way.form a.way.last a.way.size c.first_part.result.1.now) (octets_by a.way m) t in
     let v = c.piece_length-total.ensures.value in
     let most = c.piece_length-total.ensures.most in
     let k = c.requires.lengths in
@@ -41,7 +41,7 @@ loop-rest-preserved c =
     let f = c.first_part-in-loop-rest in
     let t = later_octets a.way.form a.way.last c.is_empty-in-loop-rest-2.result a.way.size c.loop-rest.rest.now f.result.0.now f.result.1.now c.later_head-head.result c.requires.some some f.ensures.part f.ensures.rest
     c.is_empty-in-loop-rest-2.ensures c.later_head-head.ensures.head in
-    let n = in_lengths (piece_octets c.later_head-head.result [] [] f.result.0.now) (left_octets a.way.form a.way.last a.way.size f.result.1.now) (left_octets a.way.form a.way.last a.way.size c.loop-rest.rest.now) t in
+    let n = in_lengths (octets_of_piece c.later_head-head.result [] [] f.result.0.now) (left_octets a.way.form a.way.last a.way.size f.result.1.now) (left_octets a.way.form a.way.last a.way.size c.loop-rest.rest.now) t in
     let v = c.piece_length-total-in-loop-rest.ensures.value in
     let most = c.piece_length-total-in-loop-rest.ensures.most in
     let p = ap length f.ensures.part ∙ length-take a.way.size c.loop-rest.rest.now in
