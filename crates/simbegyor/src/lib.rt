@@ -2,27 +2,30 @@
 //!
 //! - A message: [`Message`] and its [`Record`]s, with a [`Tnf`], a type, an id and a payload, and [`Limits`].
 //! - Read it: [`view`] in a slice, [`read_message`] from a [`Source`], a [`Decoder`] fed with bytes as they come.
-//! - Check it: [`check`], [`check_message`], a [`Checker`] fed with bytes as they come.
+//! - Check it: [`check_bytes`], [`check_message`], a [`Checker`] fed with bytes as they come.
 //! - Write it: [`encode`], [`encode_chunked`], [`write_message`] to a [`Sink`].
 //! - Payloads: [`Text`], [`Uri`], [`SmartPoster`], [`Request`], [`Select`] and their parts, and the
-//!   [`carriers`] of a message. [`Typed`] says that they are checked, [`Opaque`] that they are not.
+//!   [`carriers`] of a message. A [`Builder`] makes posters and handovers record by record. [`Typed`] says that
+//!   payloads are checked, [`Opaque`] that they are not; a [`Language`] of your own over [`Leaf`] says which.
 //! - A [`Refusal`] has the place of the first byte after which no continuation is a message, and its [`Reason`].
 //!
 //! The crates that these come from have the laws, and what only other crates of this repository need.
 #![tactic(auto)]
 
-pub use ndef_lang::{Opaque, OuterLanguage};
+pub use ndef_building::{BuildError, Builder};
+pub use ndef_lang::{Kind, Language, Leaf, Opaque, OuterLanguage};
 pub use ndef_message::{
     CheckError, Checked, Checker, Decoder, Event, Fed, Form, InputError, Item, Items, Pieces, Read,
     ReadError, Sink, SinkFault, SliceSource, Source, SourceFault, StdSink, StdSource, View,
-    WriteFault, check, check_message, encode, encode_chunked, encoded_length, read_all,
-    read_message, view, write_message,
+    WriteFault, check as check_bytes, check_message, encode, encode_chunked, encoded_length,
+    read_all, read_message, view, write_message,
 };
 pub use ndef_nest::Typed;
 pub use ndef_types::{
     Ac, Action, Carrier, DecodeError, DetailError, EncodeError, Encoding, HandoverError, Link,
     LinkError, Links, NotHandover, NotPoster, Power, Request, Select, SmartPoster, Text, TextError,
-    Texts, TooMany, Uri, carriers, carriers_as, carriers_view, prefix, split, split_language,
+    Texts, TooMany, Uri, carriers, carriers_as, carriers_view, prefix as uri_prefix,
+    split as split_uri_prefix, split_language,
 };
 pub use ndef_value::{
     Bytes, Limits, MOST_PAYLOAD, MOST_PIECES, MOST_RECORDS, Message, MessageError, Name, NameError,
