@@ -1,14 +1,14 @@
 //! The command `ndef-explain`: says in which field each byte of the messages of its inputs stands.
 ghost use Rattle.std.specs.Prelude.{⊤};
 
-use ndef_explain_tool::{Inputs, read_input, run};
-use ndef_message::{InputError, StdSink, StdSource};
+use ndef_explain_tool::{Inputs, cause_line, read_input, run, words_fault};
+use ndef_message::{InputError, Sink, StdSink, StdSource};
 use ndef_program::{Status, exit_code, exit_code_after, tell_words, texts};
 use ndef_value::Bytes;
 use std::alloc::Global;
 use std::env::VarError;
 use std::fs::File;
-use std::io::{self, BufReader, BufWriter, IsTerminal, Read, Write};
+use std::io::{self, BufReader, BufWriter, ErrorKind, IsTerminal, Read, Write};
 use std::process::ExitCode;
 
 /// All that a reader gives.
@@ -17,6 +17,22 @@ fn read_from<R: Read + Drop>(alloc: Global, reader: R) -> Result<Vec<u8>, InputE
         return Err(InputError::NoMemory);
     };
     read_input(alloc, &mut StdSource::new(reader))
+}
+
+/// Opens a file that isn't a directory.
+fn open_file(rt: &HostRuntime, name: &str) -> io::Result<File> {
+    let file = File::open(rt, name)?;
+    if file.metadata()?.is_dir() {
+        return Err(io::Error::from(ErrorKind::IsADirectory));
+    }
+    Ok(file)
+}
+
+/// Says on standard error why an input of this name can't be read.
+fn tell_cause(rt: &HostRuntime, name: &str, kind: ErrorKind) {
+    if let Ok(line) = cause_line(rt.alloc(), name, kind) {
+        let _ = rt.stderr().write_all(line.as_slice());
+    }
 }
 
 /// The files of the system, and standard input.
@@ -29,13 +45,21 @@ impl<'a> Inputs for Files<'a> {
     ghost gives = { λ _ _ _ _. ⊤ };
 
     fn read(&mut self, alloc: Global, name: &str) -> Result<Vec<u8>, InputError> {
-        if name == "-" {
-            return read_from(alloc, self.rt.reader());
+        let read = if name == "-" {
+            read_from(alloc, self.rt.reader())
+        } else {
+            match open_file(self.rt, name) {
+                Ok(file) => read_from(alloc, file),
+                Err(error) => {
+                    tell_cause(self.rt, name, error.kind());
+                    return Err(InputError::ReadFault);
+                }
+            }
+        };
+        if let Err(InputError::ReadFault) = &read {
+            tell_cause(self.rt, name, ErrorKind::Other);
         }
-        match File::open(self.rt, name) {
-            Ok(file) => read_from(alloc, file),
-            Err(_) => Err(InputError::ReadFault),
-        }
+        read
     }
 }
 
@@ -49,6 +73,22 @@ fn takes_color(rt: &HostRuntime) -> bool {
     rt.stdout().is_terminal() && !wants_none
 }
 
+/// Runs the program for the words. Where they don't parse, clap says on standard error what is wrong with them.
+fn run_words<K: Sink>(
+    rt: &HostRuntime,
+    words: &[String],
+    inputs: &mut Files<'_>,
+    sink: &mut K,
+) -> Status {
+    let status = run(rt.alloc(), words, takes_color(rt), inputs, sink);
+    if status == Status::Usage
+        && let Some(error) = words_fault(rt.alloc(), words)
+    {
+        let _ = error.print(rt);
+    }
+    status
+}
+
 /// Runs the command with files, standard input and output, flushes standard output and gives the status. Where there is
 /// no memory for a buffer, or the flush fails, that is 3 and nothing more is printed.
 pub fn run_with(rt: &HostRuntime, words: &[Bytes]) -> ExitCode {
@@ -59,13 +99,7 @@ pub fn run_with(rt: &HostRuntime, words: &[Bytes]) -> ExitCode {
     let mut inputs = Files { rt };
     let mut sink = StdSink::new(&mut writer);
     let status = match texts(alloc, words) {
-        Ok(words) => run(
-            alloc,
-            words.as_slice(),
-            takes_color(rt),
-            &mut inputs,
-            &mut sink,
-        ),
+        Ok(words) => run_words(rt, words.as_slice(), &mut inputs, &mut sink),
         Err(fault) => tell_words(alloc, fault, &mut sink),
     };
     drop(sink);

@@ -31,8 +31,8 @@ pub cut_front : {X : Type 0} (p : X → Bool) (xs : List X) (n : ℕ) → Some n
     → take n xs ≡ before_first p xs
 cut_front p xs n h = ap (λ k. take k xs) (first_place p xs n h).1
 
-behind : {X : Type 0} (xs : List X) (n : ℕ) → take (length xs - (n + 1)) (drop (n + 1) xs) ≡ drop (n + 1) xs
-behind xs n = take_all (length xs - (n + 1)) (drop (n + 1) xs) (omega (arith, length-drop (n + 1) xs))
+rest_after : {X : Type 0} (xs : List X) (n : ℕ) → take (length xs - (n + 1)) (drop (n + 1) xs) ≡ drop (n + 1) xs
+rest_after xs n = take_all (length xs - (n + 1)) (drop (n + 1) xs) (omega (arith, length-drop (n + 1) xs))
 
 -- it is the first part, and after it are the others
 pub cut_parts : {X : Type 0} (p : X → Bool) (xs : List X) (n : ℕ) (d : X) → Some n ≡ position p xs
@@ -40,7 +40,7 @@ pub cut_parts : {X : Type 0} (p : X → Bool) (xs : List X) (n : ℕ) (d : X) �
 cut_parts p xs n d h =
     let place = first_place p xs n h in
     slice_split_first p xs d place.0 ∙ ap (λ k. take k xs ∷ slice_split p (drop (k + 1) xs)) (sym place.1)
-    ∙ ap (λ rest. take n xs ∷ slice_split p rest) (sym (behind xs n))
+    ∙ ap (λ rest. take n xs ∷ slice_split p rest) (sym (rest_after xs n))
 
 -- ---- where none passes
 

@@ -1,5 +1,7 @@
 pub mod CommandLine
 pub mod CutLaws
+pub mod Endings
+pub mod LimitOptions
 pub mod OptionLaws
 pub mod Options
 pub mod Outputs

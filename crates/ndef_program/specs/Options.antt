@@ -17,7 +17,8 @@ hex_of rows = flag_of (codes "hex") rows
 
 -- the number that a text of decimal digits stands for, where it is below 2^32
 abbrev pub number_in : Text → Option ℕ
-number_in t = if accepts false (vp.Unsigned 0 4294967295) t then Some (digits_value 10 (without_leading_plus t))
+number_in t =
+    if accepts false (vp.Unsigned 0 4294967295) t then Some (digits_value 10 (without_leading_plus t))
     else None
 
 -- nothing, where clap finds a fault

@@ -9,11 +9,13 @@ Text = List ℕ
 
 -- printable ASCII, but for the quotation mark and the backslash
 abbrev pub is_plain_octet : ℕ → Bool
-is_plain_octet byte = nat_le 0x20 byte && nat_le byte 0x7e && not (byte == 0x22) && not (byte == 0x5c)
+is_plain_octet byte =
+    nat_le 0x20 byte && nat_le byte 0x7e && not (byte == 0x22) && not (byte == 0x5c)
 
 -- such a byte as it is; any other as a backslash, an x and two lower-case hexadecimal digits
 abbrev pub quoted_byte : ℕ → Text
-quoted_byte byte = if is_plain_octet byte then byte ∷ [] else codes "\\x" ++ encode_lower (byte ∷ [])
+quoted_byte byte =
+    if is_plain_octet byte then byte ∷ [] else codes "\\x" ++ encode_lower (byte ∷ [])
 
 -- the bytes as they stand between quotation marks
 abbrev pub quoted_bytes : List ℕ → Text

@@ -1,5 +1,5 @@
 -- The status that a process ends with.
-use Rattle.std.specs.Prelude.{ℕ, Bool, true, false}
+use Rattle.std.specs.Prelude.{ℕ, Bool, true, false, ◌≡◌, Result, Ok, Err}
 use Rattle.ndef_program.specs.declared.status.Status.{Status}
 use Rattle.ndef_program.specs.declared.status.Status.TheVariants as status
 
@@ -14,3 +14,8 @@ number_of_status status.Fault = 3
 abbrev pub status_after : Bool → Status → Status
 status_after false st = st
 status_after true st = status.Fault
+
+-- the status, by what writing answered
+abbrev pub EndsCommand : {E : Type 0} → Result ℕ E → Status → Status → Type 0
+EndsCommand (Ok n) st result = result ≡ st
+EndsCommand (Err e) st result = result ≡ status.Fault

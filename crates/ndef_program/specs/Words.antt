@@ -12,7 +12,8 @@ use Rattle.ndef_program.specs.declared.words.WordsFault.TheVariants as fault
 
 -- the first of the words that isn't UTF-8
 abbrev pub IsFirstStrange : (words : List (List ℕ)) → (word : List ℕ) → Type 0
-IsFirstStrange words word = (done : List (List ℕ)) × (rest : List (List ℕ)) × (words ≡ done ++ word ∷ rest)
+IsFirstStrange words word =
+    (done : List (List ℕ)) × (rest : List (List ℕ)) × (words ≡ done ++ word ∷ rest)
     × AllByRecursion IsUtf8 done × (IsUtf8 word → ⊥)
 
 -- that word; none where all are UTF-8
@@ -20,7 +21,8 @@ abbrev pub IsStrange : (words : List (List ℕ)) → Option (List ℕ) → Type 
 IsStrange words (Some word) = IsFirstStrange words word
 IsStrange words None = AllByRecursion IsUtf8 words
 
--- why there are no texts of the words: the first that isn't UTF-8; memory runs out only where all are
+-- why there are no texts of the words: the first that isn't UTF-8; memory runs out only where all
+-- are
 abbrev pub AreNoTexts : (words : List (List ℕ)) → WordsFault → Type 0
 AreNoTexts words (fault.NotText word) = IsFirstStrange words word.now
 AreNoTexts words fault.NoMemory = AllByRecursion IsUtf8 words

@@ -11,19 +11,20 @@ use Rattle.ndef_message.specs.Sources.{Counts}
 use Rattle.ndef_message.specs.States.{SinkState}
 use Rattle.ndef_message.specs.declared.message_reading.Read.{Read}
 use Rattle.ndef_message.specs.declared.sending.WriteFault.{WriteFault}
-use Rattle.ndef_tool.specs.Output.{AreBlocks, FitsPlace, IsBlock, IsBlockBy, IsOutput, total_bytes, ending_line, message_line, status_of}
+use Rattle.ndef_program.specs.Endings.{FitsPlace, status_of}
+use Rattle.ndef_tool.specs.Output.{AreBlocks, IsBlock, IsBlockBy, IsOutput, total_bytes, ending_line, message_line}
 use Rattle.ndef_program.specs.Quoting.{Text}
 use Rattle.ndef_tool.specs.Rules.{typed_rules}
 use Rattle.ndef_program.specs.Statuses.{status_after}
-use Rattle.ndef_tool.specs.Runs.{EndsCommand}
+use Rattle.ndef_program.specs.Statuses.{EndsCommand}
 use Rattle.ndef_tool.specs.Blocks.{block_text}
 use Rattle.ndef_program.specs.Outputs.{GoesOut}
 use Rattle.ndef_tool.specs.Sessions.{AreInTurn, Handles, IsSession, MayEnd, PrintsNext, Silences, Stops, TakesAfter}
 use Rattle.ndef_tool.specs.declared.choice.Action.{Action}
 use Rattle.ndef_tool.specs.declared.choice.Action.TheVariants.{Show, Check, Encode}
 use Rattle.ndef_tool.specs.declared.choice.Choice.{Choice}
-use Rattle.ndef_tool.specs.declared.ending.Ending.TheVariants.{Clean, Refused, Hex, Reading, Writing, Memory, TooMany, TooLong}
-use Rattle.ndef_tool.specs.declared.ending.Ending.{Ending}
+use Rattle.ndef_program.specs.declared.ending.Ending.TheVariants.{Clean, Refused, Hex, Reading, Writing, Memory, TooMany, TooLong}
+use Rattle.ndef_program.specs.declared.ending.Ending.{Ending}
 use Rattle.ndef_program.specs.declared.status.Status.{Status}
 use Rattle.ndef_program.specs.declared.status.Status.TheVariants as status
 use Rattle.ndef_tool.specs.declared.session.Printed.{Printed}

@@ -5,7 +5,6 @@ pub mod Digits
 pub mod Handling
 pub mod Lines
 pub mod Members
-pub mod Numbers
 pub mod OneText
 pub mod Outputs
 pub mod Sessions

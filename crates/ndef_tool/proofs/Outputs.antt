@@ -7,17 +7,18 @@ use Rattle.std.proofs.KnownBytes.{Appends-nil, Appends-trans}
 use Rattle.ndef_message.specs.Sending.{Sent, MarksOf}
 use Rattle.ndef_message.specs.declared.message_reading.Read.{Read}
 use Rattle.ndef_message.specs.declared.sending.WriteFault.{WriteFault}
-use Rattle.ndef_tool.specs.Output.{AreBlocks, IsBlock, total_bytes, ending_line, status_of}
+use Rattle.ndef_program.specs.Endings.{status_of}
+use Rattle.ndef_tool.specs.Output.{AreBlocks, IsBlock, total_bytes, ending_line}
 use Rattle.ndef_program.specs.Quoting.{Text}
 use Rattle.ndef_program.specs.Statuses.{status_after}
-use Rattle.ndef_tool.specs.Runs.{EndsCommand}
+use Rattle.ndef_program.specs.Statuses.{EndsCommand}
 use Rattle.ndef_program.specs.Outputs.{GoesOut}
 use Rattle.ndef_tool.specs.Sessions.{is_writing}
 use Rattle.ndef_tool.specs.declared.choice.Action.{Action}
 use Rattle.ndef_tool.specs.declared.choice.Action.TheVariants.{Show, Check, Encode}
 use Rattle.ndef_tool.specs.declared.choice.Choice.{Choice}
-use Rattle.ndef_tool.specs.declared.ending.Ending.{Ending}
-use Rattle.ndef_tool.specs.declared.ending.Ending.TheVariants.{Clean, Refused, Hex, Reading, Writing, Memory, TooMany, TooLong}
+use Rattle.ndef_program.specs.declared.ending.Ending.{Ending}
+use Rattle.ndef_program.specs.declared.ending.Ending.TheVariants.{Clean, Refused, Hex, Reading, Writing, Memory, TooMany, TooLong}
 use Rattle.ndef_program.specs.declared.status.Status.{Status}
 use Rattle.ndef_program.specs.declared.status.Status.TheVariants as status
 

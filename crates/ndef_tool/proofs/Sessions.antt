@@ -29,8 +29,8 @@ use Rattle.ndef_tool.specs.Output.{total_bytes}
 use Rattle.ndef_tool.specs.Rules.{Rules, rules_of}
 use Rattle.ndef_tool.specs.Sessions.{AreInTurn, IsNext, IsSession, Stops, TakesAfter, TakesNext, ViewsNext}
 use Rattle.ndef_tool.specs.declared.choice.Choice.{Choice}
-use Rattle.ndef_tool.specs.declared.ending.Ending.{Ending}
-use Rattle.ndef_tool.specs.declared.ending.Ending.TheVariants.{Clean, Refused, Hex, Reading, Writing, Memory, TooMany, TooLong}
+use Rattle.ndef_program.specs.declared.ending.Ending.{Ending}
+use Rattle.ndef_program.specs.declared.ending.Ending.TheVariants.{Clean, Refused, Hex, Reading, Writing, Memory, TooMany, TooLong}
 
 -- a look ahead changes nothing of what is taken
 consumes_kept : (a b c : Option (List ℕ)) (bytes : List ℕ) → Keeps a b → Consumes b c bytes → Consumes a c bytes
@@ -119,7 +119,7 @@ reads_kept set holds limits a b c (Err errors.NoMemory) k h = (h.0, consumes_kep
 -- a look ahead changes nothing of what is checked
 pub checks_kept : (set : Sets) (holds : Conditions) (limits : LimitValues) (a b c : Option (List ℕ)) (r : Result Checked CheckError) → Keeps a b
     → ChecksFrom set holds limits b c r → ChecksFrom set holds limits a c r
-checks_kept set holds limits a b c (Ok checked) k h = (h.0, consumes_kept a b c h.0 k h.1, h.2, h.3)
+checks_kept set holds limits a b c (Ok checked) k h = (h.0, (h.1.0, consumes_kept a b c h.1.0 k h.1.1, h.1.2, h.1.3), h.2)
 checks_kept set holds limits None b c (Err (checks.Refused r)) k h = (h.0, tt, h.2, tt)
 checks_kept set holds limits (Some x) None c (Err (checks.Refused r)) k h = absurd k
 checks_kept set holds limits (Some x) (Some y) c (Err (checks.Refused r)) k h =
@@ -143,11 +143,11 @@ follow_more set holds limits a b c (r ∷ rs) read f h = (f.0, f.1, follow_more 
 pub checked_read : (set : Sets) (holds : Conditions) (limits : LimitValues) (a b : Option (List ℕ)) (checked : Checked) → ChecksFrom set holds limits a b (Ok checked)
     → (read : Read) × (read.taken ≡ checked.taken) × (checked.records ≡ length read.message) × ReadsFrom set holds limits a b (Ok read)
 checked_read set holds limits a b checked h =
-    (record { message = h.3.0; taken = checked.taken }, refl, h.3.2, (h.0, h.1, h.2, h.3.1))
+    (record { message = h.0; taken = checked.taken }, refl, h.2, h.1)
 
 -- of a message for whose block memory ran out
 pub memory_taken : {X : Type 0} (taken_of : X → ℕ) (rules : Rules) (coming left : Option (List ℕ)) (before after : ℕ) (r : Result X Ending) (read : Read) → IsErrAnd r (λ ending. ending ≡ Memory)
-    → ReadsFrom rules.set rules.holds rules.limits coming left (Ok read) → read.taken ≤ greatest_length rules.limits → Counts before after read.taken → TakesNext taken_of rules coming before after r
+    → ReadsFrom rules.payloads rules.reasons rules.limits coming left (Ok read) → read.taken ≤ greatest_length rules.limits → Counts before after read.taken → TakesNext taken_of rules coming before after r
 memory_taken taken_of rules coming left before after (Ok x) read h d few counts = absurd h
 memory_taken taken_of rules coming left before after (Err e) read h d few counts =
     subst (λ x. (n : ℕ) × TakesAfter rules coming x n × Counts before after n) (sym h)

@@ -3,36 +3,23 @@ use Rattle.std.specs.Prelude.{◌≡◌, ◌&&◌, ◌≤◌, ℕ, List, Option,
 use Rattle.std.specs.Option.{option_map_or, ForSome}
 use Rattle.std.specs.Str.{bytes_eq}
 use Rattle.clap.specs.Words.{App, Row, Text, first_of, one_of, fault_of, subcommand_of}
-use Rattle.ndef_format.specs.Limits.{LimitValues, usual_limits}
-use Rattle.ndef_format.specs.declared.profile.Profile.{Profile}
-use Rattle.ndef_format.specs.declared.profile.Profile.TheVariants.{Strict, Standard}
 use Rattle.ndef_message.specs.declared.form.Form.{Form}
 use Rattle.ndef_message.specs.declared.form.Form.TheVariants.{Short, Long}
-use Rattle.ndef_program.specs.Options.{hex_of, number_in, unless_fault}
+use Rattle.ndef_program.specs.LimitOptions.{chosen_limits, given_number}
+use Rattle.ndef_program.specs.Options.{hex_of, unless_fault}
 use Rattle.ndef_tool.specs.CommandLine.{ndef_app}
 use Rattle.ndef_tool.specs.declared.choice.Action.{Action}
 use Rattle.ndef_tool.specs.declared.choice.Action.TheVariants.{Show, Check, Encode}
 use Rattle.ndef_tool.specs.declared.choice.Choice.{Choice}
-use Rattle.ndef_tool.specs.declared.choice.WordsError.{WordsError}
-use Rattle.ndef_tool.specs.declared.choice.WordsError.TheVariants.{Usage, NoMemory}
+use Rattle.ndef_program.specs.declared.words_error.WordsError.{WordsError}
+use Rattle.ndef_program.specs.declared.words_error.WordsError.TheVariants.{Usage, NoMemory}
 
 -- ---- numbers
 
--- the number, where it is from 1 to the most
-abbrev pub within : ℕ → ℕ → Option ℕ
-within most n = if nat_lt 0 n && nat_le n most then Some n else None
-
--- the number of an option that is given, where it is from 1 to the most
-abbrev pub given_number : Text → ℕ → List Row → Option ℕ
-given_number id most rows = option_and_then (within most) (option_and_then number_in (one_of id rows))
-
--- the same, or the usual one for an option that isn't given
-abbrev pub number_or : Text → ℕ → ℕ → List Row → Option ℕ
-number_or id most usual rows = option_map_or (λ _. given_number id most rows) (first_of id rows) (Some usual)
-
 -- the size of chunks, or none where it isn't given
 abbrev pub chunk_of : List Row → Option (Option ℕ)
-chunk_of rows = option_map_or (λ _. option_map (λ n. Some n) (given_number (codes "chunk") 4294967295 rows))
+chunk_of rows =
+    option_map_or (λ _. option_map (λ n. Some n) (given_number (codes "chunk") 4294967295 rows))
     (first_of (codes "chunk") rows) (Some None)
 
 -- ---- words
@@ -46,32 +33,12 @@ form_named name = if bytes_eq name (codes "short") then Some Short
 abbrev pub chosen_form : List Row → Option Form
 chosen_form rows = option_map_or form_named (first_of (codes "form") rows) (Some Short)
 
--- the profile of this name
-abbrev pub profile_named : Text → Option Profile
-profile_named name = if bytes_eq name (codes "strict") then Some Strict
-    else (if bytes_eq name (codes "standard") then Some Standard else None)
-
--- the profile that is given, or the strict one
-abbrev pub chosen_profile : List Row → Option Profile
-chosen_profile rows = option_map_or profile_named (first_of (codes "profile") rows) (Some Strict)
-
 -- ---- a choice
-
--- the limits that are given
-abbrev pub chosen_limits : List Row → Option LimitValues
-chosen_limits rows =
-    option_and_then (λ payload.
-    option_and_then (λ records.
-    option_and_then (λ pieces.
-    option_map (λ profile. record { payload = payload; records = records; pieces = pieces; profile = profile })
-    (chosen_profile rows))
-    (number_or (codes "pieces") 65535 usual_limits.pieces rows))
-    (number_or (codes "records") 65535 usual_limits.records rows))
-    (number_or (codes "payload") 4294967295 usual_limits.payload rows)
 
 -- what encode does
 abbrev pub encode_of : List Row → Option Action
-encode_of rows = option_and_then (λ form. option_map (λ chunk. Encode form chunk) (chunk_of rows)) (chosen_form rows)
+encode_of rows =
+    option_and_then (λ form. option_map (λ chunk. Encode form chunk) (chunk_of rows)) (chosen_form rows)
 
 -- the action of a subcommand, with its options
 abbrev pub chosen_action : Text → List Row → Option Action

@@ -1,21 +1,7 @@
 -- The command line: which subcommands and options there are, in clap's words.
 use Rattle.std.specs.Prelude.{ℕ, Some, codes, pos, true}
 use Rattle.clap.specs.Words.{App, Rule, Text, new_app, new_rule, with_rule, with_subcommand}
-use Rattle.clap.specs.declared.builder.value_parser.ValueParser.TheVariants as vp
-use Rattle.ndef_program.specs.CommandLine.{hex_app, word_rule}
-
--- a number from 1 to the most
-abbrev pub number_rule : ℕ → Text → Rule
-number_rule most name = record (new_rule name) { long = Some name; parser = Some (vp.Signed (pos 1) (pos most)) }
-
--- a subcommand, with the flag for hexadecimal text and the limits
-abbrev pub limits_app : Text → App
-limits_app name = with_rule (with_rule (with_rule (hex_app name) (number_rule 4294967295 (codes "payload")))
-    (number_rule 65535 (codes "records"))) (number_rule 65535 (codes "pieces"))
-
--- hexadecimal text, the limits and the profile
-abbrev pub reading_app : Text → App
-reading_app name = with_rule (limits_app name) (word_rule (codes "profile"))
+use Rattle.ndef_program.specs.CommandLine.{number_rule, reading_app, word_rule}
 
 -- the options of reading, and how messages are written
 abbrev pub encode_app : App

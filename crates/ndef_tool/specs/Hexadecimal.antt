@@ -8,10 +8,11 @@ use Rattle.ndef_message.specs.Inputs.{IsWholeInput}
 use Rattle.ndef_message.specs.Sources.{SourceState}
 use Rattle.ndef_message.specs.declared.input.InputError.{InputError}
 use Rattle.ndef_message.specs.declared.input.InputError.TheVariants as errors
-use Rattle.ndef_tool.specs.declared.ending.Ending.{Ending}
-use Rattle.ndef_tool.specs.declared.ending.Ending.TheVariants.{Hex, Reading, Memory, TooLong}
-use Rattle.ndef_tool.specs.declared.ending.HexFault.{HexFault}
-use Rattle.ndef_tool.specs.declared.ending.HexFault.TheVariants.{Odd, BadDigit}
+use Rattle.ndef_program.specs.Endings.{fault_of, input_ending}
+use Rattle.ndef_program.specs.declared.ending.Ending.{Ending}
+use Rattle.ndef_program.specs.declared.ending.Ending.TheVariants.{Hex, Reading, Memory, TooLong}
+use Rattle.ndef_program.specs.declared.ending.HexFault.{HexFault}
+use Rattle.ndef_program.specs.declared.ending.HexFault.TheVariants.{Odd, BadDigit}
 
 -- ASCII space, tab, CR and LF
 abbrev pub is_space : ℕ → Bool
@@ -21,39 +22,35 @@ is_space byte = byte == 32 || byte == 9 || byte == 13 || byte == 10
 abbrev pub without_spaces : List ℕ → List ℕ
 without_spaces text = filter (λ byte. not (is_space byte)) text
 
--- places count digits
-abbrev pub fault_of : FromHexError → HexFault
-fault_of (InvalidHexCharacter c place) = BadDigit place
-fault_of _ = Odd
-
--- the ending where the text isn't read to its end
-abbrev pub input_ending : InputError → Ending
-input_ending errors.ReadFault = Reading
-input_ending errors.TooLong = TooLong
-input_ending errors.NoMemory = Memory
-
 -- the text to come is read, at most 16777216 bytes of it
 abbrev pub IsTextInput : (before after : SourceState) → Bool → Result (List ℕ) InputError → Type 0
 IsTextInput = IsWholeInput 16777216
 
--- the bytes that digits stand for, or what is wrong with them, or that there was no memory for these bytes
+-- the bytes that digits stand for, or what is wrong with them, or that there was no memory for
+-- these bytes
 abbrev pub AreDecoded : List ℕ → Result (List ℕ) Ending → Type 0
 AreDecoded digits (Ok bytes) = decode_of digits ≡ Ok bytes
-AreDecoded digits (Err (Hex fault)) = (error : FromHexError) × (decode_of digits ≡ Err error) × (fault ≡ fault_of error)
-AreDecoded digits (Err Memory) = (bytes : List ℕ) × (decode_of digits ≡ Ok bytes) × (0 < length bytes)
+AreDecoded digits (Err (Hex fault)) =
+    (error : FromHexError) × (decode_of digits ≡ Err error) × (fault ≡ fault_of error)
+AreDecoded digits (Err Memory) =
+    (bytes : List ℕ) × (decode_of digits ≡ Ok bytes) × (0 < length bytes)
 AreDecoded digits (Err _) = ⊥
 
 -- the same of a text with white space
 abbrev pub IsDecoded : List ℕ → Result (List ℕ) Ending → Type 0
 IsDecoded text = AreDecoded (without_spaces text)
 
--- the bytes that the text to come stands for, or why there are none: memory fails for the text, or for its bytes
+-- the bytes that the text to come stands for, or why there are none: memory fails for the text, or
+-- for its bytes
 abbrev pub IsHexInput : (before after : SourceState) → Bool → Result (List ℕ) Ending → Type 0
-IsHexInput before after failed (Ok bytes) = (text : List ℕ) × IsTextInput before after failed (Ok text)
+IsHexInput before after failed (Ok bytes) =
+    (text : List ℕ) × IsTextInput before after failed (Ok text)
     × IsDecoded text (Ok bytes)
-IsHexInput before after failed (Err (Hex fault)) = (text : List ℕ) × IsTextInput before after failed (Ok text)
+IsHexInput before after failed (Err (Hex fault)) =
+    (text : List ℕ) × IsTextInput before after failed (Ok text)
     × IsDecoded text (Err (Hex fault))
 IsHexInput before after failed (Err Memory) = IsTextInput before after failed (Err errors.NoMemory)
     ⊎ ((text : List ℕ) × IsTextInput before after failed (Ok text) × IsDecoded text (Err Memory))
-IsHexInput before after failed (Err ending) = (error : InputError) × IsTextInput before after failed (Err error)
+IsHexInput before after failed (Err ending) =
+    (error : InputError) × IsTextInput before after failed (Err error)
     × (ending ≡ input_ending error)

@@ -8,18 +8,21 @@ use Rattle.ndef_tool.specs.Rules.{typed_rules}
 use Rattle.ndef_tool.specs.Sessions.{Handles, IsSession, SessionHasTaken, Silences, TakesAfter}
 use Rattle.ndef_tool.specs.Streams.{Streams}
 use Rattle.ndef_tool.specs.declared.choice.Choice.{Choice}
-use Rattle.ndef_tool.specs.declared.ending.Ending.{Ending}
+use Rattle.ndef_program.specs.declared.ending.Ending.{Ending}
 use Rattle.ndef_tool.specs.declared.session.Session.{Session}
 
--- what is read of bytes, and taken of those after the last message; or none, where there are no bytes
-abbrev pub ReadsBytes : Choice → (sink_failed : Bool) → Result (List ℕ) Ending → List Read → Ending → Type 0
+-- what is read of bytes, and taken of those after the last message; or none, where there are no
+-- bytes
+abbrev pub ReadsBytes : Choice → (sink_failed : Bool) → Result (List ℕ) Ending → List Read → Ending
+    → Type 0
 ReadsBytes choice sink_failed (Ok bytes) reads ending =
     (left : Option (List ℕ)) × IsSession choice (Some bytes) left false sink_failed reads ending
     × (n : ℕ) × TakesAfter (typed_rules choice.limits) (Some (drop (total_bytes reads) bytes)) ending n
 ReadsBytes choice sink_failed (Err why) reads ending = (reads ≡ []) × (ending ≡ why)
 
 -- what is read of the bytes to come, and how many are taken; or of those that they stand for
-abbrev pub ReadsIn : (hex : Bool) → Choice → (before after : SourceState) → (sink_failed : Bool) → List Read → Ending
+abbrev pub ReadsIn : (hex : Bool) → Choice → (before after : SourceState) → (sink_failed : Bool)
+    → List Read → Ending
     → Type 0
 ReadsIn false choice before after sink_failed reads ending =
     IsSession choice before.coming after.coming after.failed sink_failed reads ending

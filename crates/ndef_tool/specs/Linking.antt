@@ -27,7 +27,8 @@ HasNumber index = IfSome index (λ k. k < 65535)
 -- the line of a link, with its number
 abbrev pub link_line : ℕ → Link → Text
 link_line number link =
-    codes " carrier " ++ decimal number ++ codes " power " ++ power_name link.ac.power ++ codes " reference "
+    codes " carrier " ++ decimal number ++ codes " power " ++ power_name link.ac.power
+    ++ codes " reference "
     ++ quoted link.ac.reference
     ++ codes " record " ++ record_name link.index ++ codes "\n"
 

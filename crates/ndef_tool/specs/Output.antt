@@ -1,10 +1,8 @@
--- What the command prints of a subcommand, the messages that were read and the ending: one text, as a law of
--- src/laws.rt says.
+-- What the command prints of a subcommand, the messages that were read and the ending: one text, as
+-- a law of src/laws.rt says.
 use Rattle.std.specs.Prelude.{◌≡◌, Bool, true, false, ◌+◌, ◌<◌, ◌^◌, ℕ, List, [], ◌∷◌, ◌++◌, length, codes, decimal, ⊤}
 use Rattle.std.specs.List.{AllByRecursion}
 use Rattle.ndef_program.specs.Outputs.{hexadecimal_line}
-use Rattle.ndef_format.specs.Reasons.{reason_number, reason_name}
-use Rattle.ndef_format.specs.declared.refusal.Refusal.{Refusal}
 use Rattle.ndef_message.specs.declared.message_reading.Read.{Read}
 use Rattle.ndef_message.specs.Written.{cut_octets}
 use Rattle.ndef_program.specs.Quoting.{Text}
@@ -14,12 +12,8 @@ use Rattle.ndef_format.specs.declared.profile.Profile.{Profile}
 use Rattle.ndef_tool.specs.declared.choice.Action.{Action}
 use Rattle.ndef_tool.specs.declared.choice.Action.TheVariants.{Show, Check, Encode}
 use Rattle.ndef_tool.specs.declared.choice.Choice.{Choice}
-use Rattle.ndef_tool.specs.declared.ending.Ending.{Ending}
-use Rattle.ndef_tool.specs.declared.ending.Ending.TheVariants.{Clean, Refused, Hex, Reading, Writing, Memory, TooMany, TooLong}
-use Rattle.ndef_tool.specs.declared.ending.HexFault.{HexFault}
-use Rattle.ndef_tool.specs.declared.ending.HexFault.TheVariants.{Odd, BadDigit}
-use Rattle.ndef_program.specs.declared.status.Status.{Status}
-use Rattle.ndef_program.specs.declared.status.Status.TheVariants as status
+use Rattle.ndef_program.specs.Endings.{ending_text}
+use Rattle.ndef_program.specs.declared.ending.Ending.{Ending}
 
 -- ---- lines
 
@@ -32,48 +26,15 @@ ndef_usage =
 -- for a message
 abbrev pub message_line : (number at records bytes : ℕ) → Text
 message_line number at records bytes =
-    codes "message " ++ decimal number ++ codes " at " ++ decimal at ++ codes ": records " ++ decimal records
+    codes "message " ++ decimal number ++ codes " at " ++ decimal at ++ codes ": records "
+    ++ decimal records
     ++ codes ", bytes " ++ decimal bytes ++ codes "\n"
-
--- the place counts after the bytes of the messages before
-abbrev pub refusal_line : ℕ → Refusal → Text
-refusal_line base r =
-    codes "refused at " ++ decimal (base + r.at) ++ codes ": " ++ decimal (reason_number r.reason) ++ codes " "
-    ++ reason_name r.reason ++ codes "\n"
-
--- for digits that aren't hexadecimal text
-abbrev pub hex_line : HexFault → Text
-hex_line Odd = codes "hex: odd number of digits\n"
-hex_line (BadDigit place) = codes "hex: bad digit at " ++ decimal place ++ codes "\n"
-
--- the line of an ending, where it has one
-abbrev pub ending_text : ℕ → Ending → Text
-ending_text base Clean = []
-ending_text base (Refused r) = refusal_line base r
-ending_text base (Hex fault) = hex_line fault
-ending_text base Reading = codes "fault: reading\n"
-ending_text base Writing = []
-ending_text base Memory = codes "fault: memory\n"
-ending_text base TooMany = codes "fault: more than 10000 messages\n"
-ending_text base TooLong = codes "fault: hexadecimal input too long\n"
 
 -- `encode` leaves it out
 abbrev pub ending_line : Action → ℕ → Ending → Text
 ending_line Show base how = ending_text base how
 ending_line Check base how = ending_text base how
 ending_line (Encode form size) base how = []
-
--- the place of a refusal can be counted
-abbrev pub FitsPlace : ℕ → Ending → Type 0
-FitsPlace base (Refused r) = base + r.at < 2 ^ 64
-FitsPlace base _ = ⊤
-
--- the status of an ending
-abbrev pub status_of : Ending → Status
-status_of Clean = status.Clean
-status_of (Refused r) = status.Refused
-status_of (Hex fault) = status.Refused
-status_of _ = status.Fault
 
 -- ---- a whole run
 
@@ -92,13 +53,15 @@ IsShown profile number at read text =
 -- what is printed of a message, with its number and its place
 abbrev pub IsBlockBy : Action → Profile → (hex : Bool) → (number at : ℕ) → Read → Text → Type 0
 IsBlockBy Show profile hex number at read text = IsShown profile number at read text
-IsBlockBy Check profile hex number at read text = text ≡ message_line number at (length read.message) read.taken
+IsBlockBy Check profile hex number at read text =
+    text ≡ message_line number at (length read.message) read.taken
 IsBlockBy (Encode form size) profile hex number at read text =
     text ≡ bytes_or_digits hex (cut_octets form size read.message)
 
 -- what is printed of a message as it was chosen
 abbrev pub IsBlock : Choice → (number at : ℕ) → Read → Text → Type 0
-IsBlock choice number at read text = IsBlockBy choice.action choice.limits.profile choice.hex number at read text
+IsBlock choice number at read text =
+    IsBlockBy choice.action choice.limits.profile choice.hex number at read text
 
 -- the blocks of the messages, of which the first has this number and this place
 abbrev pub AreBlocks : Choice → (number at : ℕ) → List Read → Text → Type 0
@@ -119,7 +82,8 @@ IsOutput choice reads ending text = (front : Text) × AreBlocks choice 1 0 reads
 
 -- ---- a law
 
--- What is printed of messages whose payloads are those of their types, and of an ending, is one text.
+-- What is printed of messages whose payloads are those of their types, and of an ending, is one
+-- text.
 abbrev pub OneOutput : Type 0
 OneOutput = (choice : Choice) (reads : List Read) (ending : Ending) (a b : Text)
     → AllByRecursion (λ r. AllByRecursion (IsTyped choice.limits.profile) r.message) reads

@@ -20,8 +20,8 @@ use Rattle.ndef_tool.specs.Rules.{Rules, typed_rules}
 use Rattle.ndef_tool.specs.declared.choice.Action.{Action}
 use Rattle.ndef_tool.specs.declared.choice.Action.TheVariants.{Check}
 use Rattle.ndef_tool.specs.declared.choice.Choice.{Choice}
-use Rattle.ndef_tool.specs.declared.ending.Ending.{Ending}
-use Rattle.ndef_tool.specs.declared.ending.Ending.TheVariants.{Clean, Refused, Reading, Writing, Memory, TooMany}
+use Rattle.ndef_program.specs.declared.ending.Ending.{Ending}
+use Rattle.ndef_program.specs.declared.ending.Ending.TheVariants.{Clean, Refused, Reading, Writing, Memory, TooMany}
 use Rattle.ndef_tool.specs.declared.session.Printed.{Printed}
 use Rattle.ndef_tool.specs.declared.session.Session.{Session}
 
@@ -34,22 +34,26 @@ IsOn (Some bytes) = bytes ≢ []
 abbrev pub AreInTurn : Rules → (before after : Option (List ℕ)) → List Read → Type 0
 AreInTurn rules before after [] = Keeps before after
 AreInTurn rules before after (read ∷ reads) =
-    (between : Option (List ℕ)) × ReadsFrom rules.set rules.holds rules.limits before between (Ok read)
+    (between : Option (List ℕ))
+    × ReadsFrom rules.payloads rules.reasons rules.limits before between (Ok read)
     × AreInTurn rules between after reads
 
--- why no message is handled after `count`: the input is at its end, or doesn't go on with a message, or is left after
--- 10000; or something failed
-abbrev pub Stops : Rules → (count : ℕ) → (before after : Option (List ℕ)) → (source_failed sink_failed : Bool)
+-- why no message is handled after `count`: the input is at its end, or doesn't go on with a
+-- message, or is left after 10000; or something failed
+abbrev pub Stops : Rules → (count : ℕ) → (before after : Option (List ℕ))
+    → (source_failed sink_failed : Bool)
     → Ending → Type 0
 Stops rules count before after source_failed sink_failed Clean =
     (source_failed ≡ false) × Keeps before after × IsAtEnd before
 Stops rules count before after source_failed sink_failed (Refused refusal) =
     (count < 10000) × (source_failed ≡ false) × IsOn before
-    × ReadsFrom rules.set rules.holds rules.limits before after (Err (errors.Refused refusal))
+    × ReadsFrom rules.payloads rules.reasons rules.limits before after (Err (errors.Refused refusal))
 Stops rules count before after source_failed sink_failed Reading = source_failed ≡ true
-Stops rules count before after source_failed sink_failed Writing = (sink_failed ≡ true) × Keeps before after
-Stops rules count before after source_failed sink_failed Memory = (count < 10000) × (source_failed ≡ false)
-    × ReadsFrom rules.set rules.holds rules.limits before after (Err errors.NoMemory)
+Stops rules count before after source_failed sink_failed Writing =
+    (sink_failed ≡ true) × Keeps before after
+Stops rules count before after source_failed sink_failed Memory =
+    (count < 10000) × (source_failed ≡ false)
+    × ReadsFrom rules.payloads rules.reasons rules.limits before after (Err errors.NoMemory)
 Stops rules count before after source_failed sink_failed TooMany =
     (count ≡ 10000) × (source_failed ≡ false) × Keeps before after × IsOn before
 Stops rules count before after source_failed sink_failed _ = ⊥
@@ -64,7 +68,8 @@ abbrev pub MayEnd : Action → Ending → Type 0
 MayEnd Check ending = is_memory ending ≡ false
 MayEnd _ _ = ⊤
 
--- what is made of the bytes to come as it was chosen: these messages, at most 10000, and then this ending
+-- what is made of the bytes to come as it was chosen: these messages, at most 10000, and then this
+-- ending
 pub record IsSession (choice : Choice) (before after : Option (List ℕ)) (source_failed sink_failed : Bool)
     (reads : List Read) (ending : Ending) : Type 0 where
   pub few : length reads ≤ 10000
@@ -77,23 +82,25 @@ pub record IsSession (choice : Choice) (before after : Option (List ℕ)) (sourc
 
 -- the bytes come next, and are a message
 abbrev pub IsMessageNext : Rules → (coming : Option (List ℕ)) → List ℕ → Type 0
-IsMessageNext rules coming bytes = IsAccepted rules.set rules.limits bytes
+IsMessageNext rules coming bytes = IsAccepted rules.payloads rules.limits bytes
     × IfSome coming (λ input. (rest : List ℕ) × (input ≡ bytes ++ rest))
 
--- What is taken of the bytes that come after the last message: those before a refused one; where reading failed, none
--- or an incomplete message; where memory failed, a message whose block was not made, or bytes after which memory is
--- needed; else none.
+-- What is taken of the bytes that come after the last message: those before a refused one; where
+-- reading failed, none or an incomplete message; where memory failed, a message whose block was not
+-- made, or bytes after which memory is needed; else none.
 abbrev pub TakesAfter : Rules → (coming : Option (List ℕ)) → Ending → ℕ → Type 0
 TakesAfter rules coming (Refused refusal) n = (n ≡ refusal.at) × (n ≤ greatest_length rules.limits)
 TakesAfter rules coming Reading n = (n ≤ greatest_length rules.limits)
-    × ((n ≡ 0) ⊎ ((bytes : List ℕ) × (n ≡ length bytes) × IsIncomplete rules.set rules.limits coming bytes))
+    × ((n ≡ 0) ⊎ ((bytes : List ℕ) × (n ≡ length bytes)
+    × IsIncomplete rules.payloads rules.limits coming bytes))
 TakesAfter rules coming Memory n = (n ≤ greatest_length rules.limits)
     × (bytes : List ℕ) × (n ≡ length bytes)
-    × (IsMessageNext rules coming bytes ⊎ NeedsMemory rules.set rules.limits coming bytes)
+    × (IsMessageNext rules coming bytes ⊎ NeedsMemory rules.payloads rules.limits coming bytes)
 TakesAfter rules coming _ n = n ≡ 0
 
 -- the number of bytes taken in all, of any source, where the messages have this many
-abbrev pub SessionHasTaken : Rules → (at : ℕ) → (coming : Option (List ℕ)) → (before after : ℕ) → Ending → Type 0
+abbrev pub SessionHasTaken : Rules → (at : ℕ) → (coming : Option (List ℕ)) → (before after : ℕ)
+    → Ending → Type 0
 SessionHasTaken rules at coming before after ending =
     (n : ℕ) × TakesAfter rules (option_map (drop at) coming) ending n × Counts before after (at + n)
 
@@ -115,7 +122,8 @@ pub record Handles (IsRead : List Read → Ending → Type 0) (choice : Choice)
   pub written : GoesOut before.written after.written after.failed blocks
   pub mark : after.failed ≡ is_writing session.ending
 
--- Into a sink that has failed before nothing goes out: the messages end with the first that has a block, or none has.
+-- Into a sink that has failed before nothing goes out: the messages end with the first that has a
+-- block, or none has.
 pub record Silences (IsRead : List Read → Ending → Type 0) (choice : Choice)
     (before after : SinkState) (session : Session) : Type 0 where
   pub keeps : Keeps before.written after.written
@@ -134,47 +142,60 @@ HasNext count bytes (Err TooMany) = (count ≡ 10000) × (bytes ≢ [])
 HasNext count bytes (Err _) = ⊥
 
 -- the same of a source, of which nothing is taken
-abbrev pub LooksAhead : {X : Type 0} → (count : ℕ) → (before after : Option (List ℕ)) → Bool → Result X Ending → Type 0
-LooksAhead count before after failed (Ok x) = (count < 10000) × (failed ≡ false) × Keeps before after × IsOn before
-LooksAhead count before after failed (Err Clean) = (failed ≡ false) × Keeps before after × IsAtEnd before
-LooksAhead count before after failed (Err TooMany) = (count ≡ 10000) × (failed ≡ false) × Keeps before after
+abbrev pub LooksAhead : {X : Type 0} → (count : ℕ) → (before after : Option (List ℕ)) → Bool
+    → Result X Ending → Type 0
+LooksAhead count before after failed (Ok x) =
+    (count < 10000) × (failed ≡ false) × Keeps before after × IsOn before
+LooksAhead count before after failed (Err Clean) =
+    (failed ≡ false) × Keeps before after × IsAtEnd before
+LooksAhead count before after failed (Err TooMany) =
+    (count ≡ 10000) × (failed ≡ false) × Keeps before after
     × IsOn before
 LooksAhead count before after failed (Err Reading) = failed ≡ true
 LooksAhead count before after failed (Err _) = ⊥
 
 -- the next message, after `count`, or why there is none
-abbrev pub IsNext : Rules → (count : ℕ) → (before after : Option (List ℕ)) → Bool → Result Read Ending → Type 0
+abbrev pub IsNext : Rules → (count : ℕ) → (before after : Option (List ℕ)) → Bool
+    → Result Read Ending → Type 0
 IsNext rules count before after failed (Ok read) = (count < 10000) × (failed ≡ false)
-    × ReadsFrom rules.set rules.holds rules.limits before after (Ok read)
-IsNext rules count before after failed (Err ending) = Stops rules count before after failed false ending
+    × ReadsFrom rules.payloads rules.reasons rules.limits before after (Ok read)
+IsNext rules count before after failed (Err ending) =
+    Stops rules count before after failed false ending
 
 -- the same of a message that is only checked, for which memory never runs out
-abbrev pub ChecksNext : Rules → (count : ℕ) → (before after : Option (List ℕ)) → Bool → Result Checked Ending → Type 0
+abbrev pub ChecksNext : Rules → (count : ℕ) → (before after : Option (List ℕ)) → Bool
+    → Result Checked Ending → Type 0
 ChecksNext rules count before after failed (Ok checked) = (count < 10000) × (failed ≡ false)
-    × ChecksFrom rules.set rules.holds rules.limits before after (Ok checked)
+    × ChecksFrom rules.payloads rules.reasons rules.limits before after (Ok checked)
 ChecksNext rules count before after failed (Err ending) =
     Stops rules count before after failed false ending × (is_memory ending ≡ false)
 
 -- the same of a message in memory, which is viewed there
 abbrev pub ViewsNext : Rules → (count : ℕ) → (before after : List ℕ) → Result Viewed Ending → Type 0
 ViewsNext rules count before after (Ok viewed) = (count < 10000)
-    × Views rules.set rules.holds rules.limits before (Ok viewed) × (after ≡ drop viewed.taken before)
+    × Views rules.payloads rules.reasons rules.limits before (Ok viewed)
+    × (after ≡ drop viewed.taken before)
 ViewsNext rules count before after (Err ending) =
     Stops rules count (Some before) (Some after) false false ending × (is_memory ending ≡ false)
 
--- the number of bytes of the next message that are taken, which `X` gives, or the number before the ending
-abbrev pub TakesNext : {X : Type 0} → (X → ℕ) → Rules → (coming : Option (List ℕ)) → (before after : ℕ)
+-- the number of bytes of the next message that are taken, which `X` gives, or the number before the
+-- ending
+abbrev pub TakesNext : {X : Type 0} → (X → ℕ) → Rules → (coming : Option (List ℕ))
+    → (before after : ℕ)
     → Result X Ending → Type 0
 TakesNext taken_of rules coming before after (Ok x) = (taken_of x ≤ greatest_length rules.limits)
     × Counts before after (taken_of x)
 TakesNext taken_of rules coming before after (Err ending) =
     (n : ℕ) × TakesAfter rules coming ending n × Counts before after n
 
--- all that is printed of the next message, of which this many bytes come before, or why there is none
-abbrev pub PrintsNext : Choice → (count at : ℕ) → (before after : Option (List ℕ)) → Bool → Result Printed Ending
+-- all that is printed of the next message, of which this many bytes come before, or why there is
+-- none
+abbrev pub PrintsNext : Choice → (count at : ℕ) → (before after : Option (List ℕ)) → Bool
+    → Result Printed Ending
     → Type 0
 PrintsNext choice count at before after failed (Ok printed) =
     (read : Read) × IsNext (typed_rules choice.limits) count before after failed (Ok read)
     × IsBlock choice (count + 1) at read (block_text printed.block) × (printed.taken ≡ read.taken)
 PrintsNext choice count at before after failed (Err ending) =
-    Stops (typed_rules choice.limits) count before after failed false ending × MayEnd choice.action ending
+    Stops (typed_rules choice.limits) count before after failed false ending
+    × MayEnd choice.action ending

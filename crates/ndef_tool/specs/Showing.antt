@@ -31,7 +31,8 @@ encoding_name Utf16 = codes "utf-16"
 
 -- RTD Text 1.0: the encoding, the language code and the text, this in UTF-8
 abbrev pub told_text : TextValue → Text
-told_text v = codes " text " ++ encoding_name v.encoding ++ codes " " ++ quoted v.language ++ codes " "
+told_text v =
+    codes " text " ++ encoding_name v.encoding ++ codes " " ++ quoted v.language ++ codes " "
     ++ quoted (encode_utf8_all v.text)
 
 -- RTD URI 1.0: the whole URI
@@ -60,21 +61,26 @@ media_name (Some media) = quoted media
 
 -- RTD Smart Poster 1.0: the number of records of a poster, its URI, and its number of titles
 abbrev pub poster_front : (records : ℕ) → (uri : List ℕ) → (titles : ℕ) → Text
-poster_front records uri titles = codes " poster records " ++ decimal records ++ codes " uri " ++ quoted uri
+poster_front records uri titles =
+    codes " poster records " ++ decimal records ++ codes " uri " ++ quoted uri
     ++ codes " titles " ++ decimal titles
 
--- RTD Smart Poster 1.0: what a poster recommends, and the size and the media type of what it refers to
+-- RTD Smart Poster 1.0: what a poster recommends, and the size and the media type of what it refers
+-- to
 abbrev pub poster_back : Option Action → Option ℕ → Option (List ℕ) → Text
-poster_back action size media = codes " action " ++ action_name action ++ codes " size " ++ size_name size
+poster_back action size media =
+    codes " action " ++ action_name action ++ codes " size " ++ size_name size
     ++ codes " media " ++ media_name media
 
 -- RTD Smart Poster 1.0: what the records of a poster say
 abbrev pub TellsPoster : List Item → Text → Type 0
 TellsPoster items text =
     (uri : List ℕ) × (action : Option Action) × (size : Option ℕ) × (media : Option (List ℕ))
-    × IsUriOf items uri × Says kinds.Action action_in items action × Says kinds.Size size_in items size
+    × IsUriOf items uri × Says kinds.Action action_in items action
+    × Says kinds.Size size_in items size
     × Says kinds.MediaType (λ i. i.payload) items media
-    × (text ≡ poster_front (length items) uri (length (titles items)) ++ poster_back action size media)
+    × (text ≡ poster_front (length items) uri (length (titles items))
+    ++ poster_back action size media)
 
 -- ---- handovers
 
@@ -88,22 +94,29 @@ abbrev pub told_select : SelectValue → Text
 told_select v = codes " select version 1." ++ decimal v.minor ++ codes " carriers "
     ++ decimal (length (alternatives (unwrap_or v.message [])))
 
--- Connection Handover 1.2, Handover Carrier record: the format and the type, and the number of octets of data
+-- Connection Handover 1.2, Handover Carrier record: the format and the type, and the number of
+-- octets of data
 abbrev pub told_carrier : CarrierValue → Text
-told_carrier v = codes " carrier format " ++ decimal v.format ++ codes " type " ++ quoted v.kind ++ codes " data "
+told_carrier v =
+    codes " carrier format " ++ decimal v.format ++ codes " type " ++ quoted v.kind
+    ++ codes " data "
     ++ decimal (length v.carried)
 
 -- ---- records
 
 -- what is printed of the value for which a payload of the kind stands
 abbrev pub PrintsValue : Kind → Profile → List ℕ → Text → Type 0
-PrintsValue kinds.Text profile payload text = (v : TextValue) × StandsForText payload v × (text ≡ told_text v)
-PrintsValue kinds.Uri profile payload text = (uri : List ℕ) × StandsForUri payload uri × (text ≡ told_uri uri)
+PrintsValue kinds.Text profile payload text =
+    (v : TextValue) × StandsForText payload v × (text ≡ told_text v)
+PrintsValue kinds.Uri profile payload text =
+    (uri : List ℕ) × StandsForUri payload uri × (text ≡ told_uri uri)
 PrintsValue kinds.SmartPoster profile payload text =
     (items : List Item) × StandsForPoster profile payload items × TellsPoster items text
-PrintsValue kinds.Request profile payload text = (v : RequestValue) × StandsForRequest profile payload v
+PrintsValue kinds.Request profile payload text =
+    (v : RequestValue) × StandsForRequest profile payload v
     × (text ≡ told_request v)
-PrintsValue kinds.Select profile payload text = (v : SelectValue) × StandsForSelect profile payload v
+PrintsValue kinds.Select profile payload text =
+    (v : SelectValue) × StandsForSelect profile payload v
     × (text ≡ told_select v)
 PrintsValue kinds.Carrier profile payload text = (v : CarrierValue) × StandsForCarrier payload v
     × (text ≡ told_carrier v)
@@ -119,10 +132,12 @@ PrintsValue kinds.Error profile payload text = text ≡ codes " other"
 abbrev pub IsTyped : Profile → Item → Type 0
 IsTyped profile i = IsTypedPayload (kind_of i.tnf i.kind) MOST_RECORDS profile i.payload
 
--- NDEF 1.0, record layout: the number of a record, its type name format, its type, its id and the length of its payload
+-- NDEF 1.0, record layout: the number of a record, its type name format, its type, its id and the
+-- length of its payload
 abbrev pub record_front : ℕ → Item → Text
 record_front number i =
-    codes " " ++ decimal number ++ codes " tnf " ++ decimal (code i.tnf) ++ codes " type " ++ quoted i.kind
+    codes " " ++ decimal number ++ codes " tnf " ++ decimal (code i.tnf) ++ codes " type "
+    ++ quoted i.kind
     ++ codes " id " ++ quoted i.id
     ++ codes " payload " ++ decimal (length i.payload)
 
@@ -136,5 +151,6 @@ IsRecordLine profile number i line =
 abbrev pub AreRecordLines : Profile → ℕ → List Item → Text → Type 0
 AreRecordLines profile number [] text = text ≡ []
 AreRecordLines profile number (i ∷ items) text =
-    (line : Text) × (rest : Text) × IsRecordLine profile number i line × AreRecordLines profile (number + 1) items rest
+    (line : Text) × (rest : Text) × IsRecordLine profile number i line
+    × AreRecordLines profile (number + 1) items rest
     × (text ≡ line ++ rest)

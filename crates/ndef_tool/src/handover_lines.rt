@@ -8,9 +8,9 @@ ghost use Rattle.ndef_format.specs.declared.table.Table.TheVariants as tables;
 ghost use Rattle.ndef_types.specs.Links.{alternatives, is_alternative};
 ghost use Rattle.ndef_tool.specs.Showing.{Adds, PrintsValue, told_request, told_select};
 
-use crate::decimals::push_counted;
 use crate::kinds::kind_of;
 use ndef_lang::Kind;
+use ndef_program::push_counted;
 use ndef_types::{Request, Select, read_request, read_select};
 use ndef_value::{Bytes, Message, NoMemory, Profile, Record};
 use std::alloc::Global;

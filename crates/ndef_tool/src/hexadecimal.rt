@@ -3,13 +3,14 @@ ghost use Rattle.std.specs.Prelude.{◌≡◌, ◌<◌, ◌%◌, false, length, 
 ghost use Rattle.hex.specs.Hex.{is_hex_digit};
 ghost use Rattle.ndef_message.specs.Inputs.{bytes_of};
 ghost use Rattle.ndef_message.specs.States.{source_state};
-ghost use Rattle.ndef_tool.specs.Hexadecimal.{AreDecoded, IsDecoded, IsHexInput, without_spaces, fault_of, is_space};
-ghost use Rattle.ndef_tool.specs.Output.{FitsPlace};
+ghost use Rattle.ndef_program.specs.Endings.{fault_of};
+ghost use Rattle.ndef_tool.specs.Hexadecimal.{AreDecoded, IsDecoded, IsHexInput, without_spaces, is_space};
+ghost use Rattle.ndef_program.specs.Endings.{FitsPlace};
 ghost use Rattle.ndef_tool.specs.Sessions.{is_writing};
 
-use crate::ending::{Ending, HexFault};
 use hex::FromHexError;
 use ndef_message::{Source, read_all};
+use ndef_program::{Ending, HexFault};
 use std::alloc::Global;
 
 /// The most bytes of text that are read.

@@ -9,14 +9,12 @@
 //! - `block.rt`, `printing.rt`, `specs/Output.antt`: what is printed.
 //! - `showing.rt`: the lines of records. `value_lines.rt`, `poster_lines.rt`, `handover_lines.rt`: of
 //!   their payloads.
-//! - `linking.rt`: the lines of links. `quoting.rt`, `decimals.rt`: parts of lines.
+//! - `linking.rt`: the lines of links. `quoting.rt`: parts of lines.
 #![tactic(auto)]
 
 mod block;
 mod choice;
 mod command;
-mod decimals;
-mod ending;
 mod handover_lines;
 mod hexadecimal;
 mod kinds;
@@ -31,11 +29,7 @@ mod session;
 mod showing;
 mod value_lines;
 
-pub use choice::{Action, Choice, WordsError, choose, limits_given};
-pub use command::reading_command;
-pub use decimals::push_number;
-pub use ending::{Ending, HexFault};
+pub use choice::{Action, Choice, choose};
 pub use hexadecimal::read_hexadecimal;
-pub use printing::ending_line;
 pub use running::run;
 pub use session::{Session, handle};

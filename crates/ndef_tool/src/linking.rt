@@ -4,8 +4,8 @@ ghost use Rattle.std.specs.List.{AllByRecursion};
 ghost use Rattle.ndef_tool.specs.Showing.{Adds, IsTyped};
 ghost use Rattle.ndef_tool.specs.Linking.{AreLinkLines, HasNumber, link_line, link_lines, power_name, record_name};
 
-use crate::decimals::{push_counted, push_number};
 use crate::quoting::push_named;
+use ndef_program::{push_counted, push_number};
 use ndef_types::{Link, LinkError, Links, Power, carriers_as};
 use ndef_value::{Bytes, Message, NoMemory, Profile};
 use std::alloc::Global;
@@ -71,6 +71,7 @@ pub fn push_link_lines(
     requires { AllByRecursion (IsTyped profile) message.now }
     ensures { OnOk result (Adds lines.old lines.new (AreLinkLines profile message.now)) }
 {
+    // For the proof alone.
     let _records = message.len();
     match carriers_as(alloc, message, profile) {
         Ok(links) => push_links(lines, &links),

@@ -6,9 +6,8 @@ ghost use Rattle.ndef_format.specs.Nested.{IsNest};
 ghost use Rattle.ndef_format.specs.declared.table.Table.TheVariants as tables;
 ghost use Rattle.ndef_tool.specs.Showing.{Adds, PrintsValue, TellsPoster, action_name, media_name, poster_back, poster_front, size_name};
 
-use crate::decimals::{push_counted, push_number};
 use crate::quoting::push_named;
-use ndef_program::push_quoted;
+use ndef_program::{push_counted, push_number, push_quoted};
 use ndef_types::{Action, SmartPoster, read_poster};
 use ndef_value::{Bytes, NoMemory, Profile};
 use std::alloc::Global;

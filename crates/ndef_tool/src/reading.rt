@@ -3,11 +3,11 @@ ghost use Rattle.std.specs.Prelude.{◌≡◌, ◌≤◌, ◌^◌, ℕ, Bool, Li
 ghost use Rattle.ndef_tool.specs.Rules.{rules_of};
 ghost use Rattle.ndef_tool.specs.Sessions.{ChecksNext, HasNext, IsNext, LooksAhead, TakesNext, ViewsNext};
 
-use crate::ending::Ending;
 use ndef_lang::OuterLanguage;
 use ndef_message::{
     CheckError, Checked, Read, ReadError, Source, View, check_message, read_message, view,
 };
+use ndef_program::Ending;
 use ndef_value::{Limits, messages_are_bounded};
 use std::alloc::Global;
 
@@ -28,17 +28,17 @@ pub(crate) trait Reading<L: OuterLanguage, S> {
     /// The next message, after `count`, or how the messages end here.
     fn read(alloc: Global, limits: Limits, count: u64, from: &mut S) -> Result<Read, Ending>
         requires { count ≤ MOST }
-        ensures next { IsNext (rules_of L.set L.holds limits) count
+        ensures next { IsNext (rules_of L.payloads L.reasons limits) count
             (coming from.old) (coming from.new) (has_failed from.new) result }
-        ensures taken { TakesNext (λ read. read.taken) (rules_of L.set L.holds limits)
+        ensures taken { TakesNext (λ read. read.taken) (rules_of L.payloads L.reasons limits)
             (coming from.old) (taken from.old) (taken from.new) result };
 
     /// Checks the next message, after `count`, or says how the messages end here. It allocates no memory.
     fn check(limits: Limits, count: u64, from: &mut S) -> Result<Checked, Ending>
         requires { count ≤ MOST }
-        ensures next { ChecksNext (rules_of L.set L.holds limits) count
+        ensures next { ChecksNext (rules_of L.payloads L.reasons limits) count
             (coming from.old) (coming from.new) (has_failed from.new) result }
-        ensures taken { TakesNext (λ checked. checked.taken) (rules_of L.set L.holds limits)
+        ensures taken { TakesNext (λ checked. checked.taken) (rules_of L.payloads L.reasons limits)
             (coming from.old) (taken from.old) (taken from.new) result };
 }
 
@@ -56,6 +56,7 @@ impl<L: OuterLanguage, S: Source> Reading<L, S> for FromSource {
     ghost has_failed = { S.has_failed };
 
     fn read(alloc: Global, limits: Limits, count: u64, from: &mut S) -> Result<Read, Ending> {
+        // For the proof alone.
         messages_are_bounded();
         look_ahead(count, from)?;
         match read_message::<L, S>(alloc, from, limits) {
@@ -67,6 +68,7 @@ impl<L: OuterLanguage, S: Source> Reading<L, S> for FromSource {
     }
 
     fn check(limits: Limits, count: u64, from: &mut S) -> Result<Checked, Ending> {
+        // For the proof alone.
         messages_are_bounded();
         look_ahead(count, from)?;
         match check_message::<L, S>(from, limits) {
@@ -138,12 +140,13 @@ fn view_next<'a, L: OuterLanguage>(
     left: &mut &'a [u8],
 ) -> Result<View<'a>, Ending>
     requires { count ≤ MOST }
-    ensures next { ViewsNext (rules_of L.set L.holds limits) count left.old.now left.new.now result }
-    ensures taken { TakesNext (λ viewed. viewed.taken) (rules_of L.set L.holds limits)
+    ensures next { ViewsNext (rules_of L.payloads L.reasons limits) count left.old.now left.new.now result }
+    ensures taken { TakesNext (λ viewed. viewed.taken) (rules_of L.payloads L.reasons limits)
         (Some left.old.now) (2 ^ 64) (2 ^ 64) result }
 {
     let bytes = *left;
     go_on(count, bytes)?;
+    // For the proof alone.
     messages_are_bounded();
     match view::<L>(bytes, limits) {
         Ok(view) => {

@@ -1,15 +1,16 @@
 //! The command, over any source and sink.
 ghost use Rattle.std.specs.Prelude.{◌≡◌, false, true, map, string_bytes};
-ghost use Rattle.ndef_tool.specs.Output.{ending_line, status_of};
-ghost use Rattle.ndef_tool.specs.Runs.{EndsCommand, IsSilent, RunsNdef};
+ghost use Rattle.ndef_program.specs.Endings.{status_of};
+ghost use Rattle.ndef_tool.specs.Output.{ending_line};
+ghost use Rattle.ndef_program.specs.Statuses.{EndsCommand};
+ghost use Rattle.ndef_tool.specs.Runs.{IsSilent, RunsNdef};
 ghost use Rattle.ndef_tool.specs.Streams.{streams};
 
-use crate::choice::{WordsError, choose};
-use crate::ending::Ending;
+use crate::choice::choose;
 use crate::printing::ending_line;
 use crate::session::handle;
 use ndef_message::{Sink, Source, WriteFault, send};
-use ndef_program::Status;
+use ndef_program::{Ending, Status, WordsError};
 use std::alloc::Global;
 
 /// What is printed where the words don't parse.

@@ -6,18 +6,18 @@ ghost use Rattle.ndef_message.specs.States.{sink_state};
 ghost use Rattle.ndef_tool.specs.Blocks.{block_text};
 ghost use Rattle.ndef_tool.specs.Chosen.{HasSize};
 ghost use Rattle.ndef_tool.specs.Inputs.{HandlesIn, SilencesIn};
-ghost use Rattle.ndef_tool.specs.Output.{FitsPlace};
+ghost use Rattle.ndef_program.specs.Endings.{FitsPlace};
 ghost use Rattle.ndef_tool.specs.Rules.{typed_rules};
 ghost use Rattle.ndef_tool.specs.Sessions.{Handles, SessionHasTaken, IsSession, PrintsNext, Silences, TakesNext};
 ghost use Rattle.ndef_tool.specs.Streams.{streams};
 
 use crate::block::{Block, check_block, encode_block, show_block};
 use crate::choice::{Action, Choice};
-use crate::ending::Ending;
 use crate::hexadecimal::read_hexadecimal;
 use crate::reading::{FromBytes, FromSource, MOST, Reading};
 use ndef_message::{Sink, Source, WriteFault, send};
 use ndef_nest::Typed;
+use ndef_program::Ending;
 use std::alloc::Global;
 
 /// What is printed of a message.
@@ -106,6 +106,7 @@ fn handle_messages<R: Reading<Typed, S>, S, K: Sink>(
         (R.taken from.old) (R.taken from.new) result.ending }
     ensures room { FitsPlace result.at result.ending }
 {
+    // For the proof alone.
     choice.limits.profile();
     let mut count = 0;
     let mut at = 0;

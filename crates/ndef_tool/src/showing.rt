@@ -4,13 +4,13 @@ ghost use Rattle.std.specs.List.{AllByRecursion};
 ghost use Rattle.ndef_format.specs.Kinds.{kind_of};
 ghost use Rattle.ndef_tool.specs.Showing.{Adds, AreRecordLines, IsRecordLine, IsTyped, PrintsValue, record_front};
 
-use crate::decimals::push_counted;
 use crate::handover_lines::{push_request, push_select};
 use crate::kinds::kind_of;
 use crate::poster_lines::push_poster;
 use crate::quoting::push_named;
 use crate::value_lines::{push_carrier, push_text, push_uri};
 use ndef_lang::Kind;
+use ndef_program::push_counted;
 use ndef_value::{Bytes, Message, NoMemory, Profile, Record};
 use std::alloc::Global;
 

@@ -6,8 +6,8 @@ ghost use Rattle.ndef_format.specs.Uris.{IsUri};
 ghost use Rattle.ndef_format.specs.declared.kind.Kind.TheVariants as kinds;
 ghost use Rattle.ndef_tool.specs.Showing.{Adds, PrintsValue, encoding_name, told_carrier, told_text, told_uri};
 
-use crate::decimals::push_counted;
 use crate::quoting::push_named;
+use ndef_program::push_counted;
 use ndef_types::{Carrier, Encoding, Text, Uri, read_carrier, read_text, read_uri};
 use ndef_value::{Bytes, NoMemory, Profile};
 use std::alloc::Global;

@@ -1,6 +1,7 @@
 use Rattle.std.specs.Prelude.{codes}
 use Rattle.clap.specs.Words.{with_subcommand}
-use Rattle.ndef_tool.specs.CommandLine.{empty_ndef_app, encode_app, reading_app}
+use Rattle.ndef_program.specs.CommandLine.{reading_app}
+use Rattle.ndef_tool.specs.CommandLine.{empty_ndef_app, encode_app}
 use Rattle.ndef_tool.proofs.command.ndef_command.Goals as goal
 
 pub returns : goal.returns

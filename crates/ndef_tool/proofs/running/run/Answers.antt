@@ -1,7 +1,8 @@
 use Rattle.std.proofs.Common.{◌∙◌, [], Ok, Err, refl, inl, inr}
 use Rattle.std.proofs.KnownBytes.{Appends-nil, Keeps-refl}
-use Rattle.ndef_tool.specs.Output.{status_of, ndef_usage}
-use Rattle.ndef_tool.specs.declared.choice.WordsError.TheVariants.{Usage, NoMemory}
+use Rattle.ndef_program.specs.Endings.{status_of}
+use Rattle.ndef_tool.specs.Output.{ndef_usage}
+use Rattle.ndef_program.specs.declared.words_error.WordsError.TheVariants.{Usage, NoMemory}
 use Rattle.ndef_program.specs.declared.status.Status.TheVariants as status
 use Rattle.ndef_tool.proofs.Handling.{failed_status, session_ends, silent_ends}
 use Rattle.ndef_tool.proofs.Outputs.{goes_behind, nothing_out, stays_failed, usage_status}

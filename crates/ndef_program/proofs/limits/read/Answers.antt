@@ -4,8 +4,8 @@ use Rattle.std.specs.Str.Parse.{ParsesUnsigned, ExplainsUnsignedError, HasUnsign
 use Rattle.clap.specs.Words.{found_of, one_text}
 use Rattle.clap.proofs.WalkLemmas.{one_text-rows}
 use Rattle.ndef_program.specs.Options.{number_in}
-use Rattle.ndef_tool.proofs.Numbers.{reads_number}
-use Rattle.ndef_tool.proofs.choice.read.Goals as goal
+use Rattle.ndef_program.proofs.Numbers.{reads_number}
+use Rattle.ndef_program.proofs.limits.read.Goals as goal
 
 pub returns : goal.returns
 returns c =

@@ -1,7 +1,7 @@
 //! How a run of the command ends.
 ghost use Rattle.std.specs.Prelude.{◌≡◌};
-ghost use Rattle.ndef_tool.specs.Hexadecimal.{input_ending};
-ghost use Rattle.ndef_tool.specs.declared.ending.Ending.TheVariants.{Memory, Reading};
+ghost use Rattle.ndef_program.specs.Endings.{input_ending};
+ghost use Rattle.ndef_program.specs.declared.ending.Ending.TheVariants.{Memory, Reading};
 
 use ndef_message::{InputError, SourceFault};
 use ndef_value::{NoMemory, Refusal};

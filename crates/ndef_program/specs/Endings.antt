@@ -1,0 +1,65 @@
+-- How a run ends, and the line of an ending.
+use Rattle.std.specs.Prelude.{◌+◌, ◌<◌, ◌^◌, ℕ, [], ◌++◌, codes, decimal, ⊤}
+use Rattle.hex.specs.declared.error.FromHexError.{FromHexError}
+use Rattle.hex.specs.declared.error.FromHexError.TheVariants.{InvalidHexCharacter}
+use Rattle.ndef_format.specs.Reasons.{reason_number, reason_name}
+use Rattle.ndef_format.specs.declared.refusal.Refusal.{Refusal}
+use Rattle.ndef_message.specs.declared.input.InputError.{InputError}
+use Rattle.ndef_message.specs.declared.input.InputError.TheVariants as errors
+use Rattle.ndef_program.specs.Quoting.{Text}
+use Rattle.ndef_program.specs.declared.ending.Ending.{Ending}
+use Rattle.ndef_program.specs.declared.ending.Ending.TheVariants.{Clean, Refused, Hex, Reading, Writing, Memory, TooMany, TooLong}
+use Rattle.ndef_program.specs.declared.ending.HexFault.{HexFault}
+use Rattle.ndef_program.specs.declared.ending.HexFault.TheVariants.{Odd, BadDigit}
+use Rattle.ndef_program.specs.declared.status.Status.{Status}
+use Rattle.ndef_program.specs.declared.status.Status.TheVariants as status
+
+-- ---- faults
+
+-- places count digits
+abbrev pub fault_of : FromHexError → HexFault
+fault_of (InvalidHexCharacter c place) = BadDigit place
+fault_of _ = Odd
+
+-- the ending where the text isn't read to its end
+abbrev pub input_ending : InputError → Ending
+input_ending errors.ReadFault = Reading
+input_ending errors.TooLong = TooLong
+input_ending errors.NoMemory = Memory
+
+-- ---- lines
+
+-- the place counts after the bytes of the messages before
+abbrev pub refusal_line : ℕ → Refusal → Text
+refusal_line base r =
+    codes "refused at " ++ decimal (base + r.at) ++ codes ": " ++ decimal (reason_number r.reason)
+    ++ codes " "
+    ++ reason_name r.reason ++ codes "\n"
+
+-- for digits that aren't hexadecimal text
+abbrev pub hex_line : HexFault → Text
+hex_line Odd = codes "hex: odd number of digits\n"
+hex_line (BadDigit place) = codes "hex: bad digit at " ++ decimal place ++ codes "\n"
+
+-- the line of an ending, where it has one
+abbrev pub ending_text : ℕ → Ending → Text
+ending_text base Clean = []
+ending_text base (Refused r) = refusal_line base r
+ending_text base (Hex fault) = hex_line fault
+ending_text base Reading = codes "fault: reading\n"
+ending_text base Writing = []
+ending_text base Memory = codes "fault: memory\n"
+ending_text base TooMany = codes "fault: more than 10000 messages\n"
+ending_text base TooLong = codes "fault: hexadecimal input too long\n"
+
+-- the place of a refusal can be counted
+abbrev pub FitsPlace : ℕ → Ending → Type 0
+FitsPlace base (Refused r) = base + r.at < 2 ^ 64
+FitsPlace base _ = ⊤
+
+-- the status of an ending
+abbrev pub status_of : Ending → Status
+status_of Clean = status.Clean
+status_of (Refused r) = status.Refused
+status_of (Hex fault) = status.Refused
+status_of _ = status.Fault
