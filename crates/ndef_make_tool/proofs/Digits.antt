@@ -1,11 +1,15 @@
 -- Hexadecimal digits, and the octets for which they stand.
-use Rattle.std.proofs.Common.{◌≡◌, ◌∙◌, ◌%◌, ℕ, Bool, true, false, List, Option, Some, None, Result, Ok, Err, length, refl, sym, ap, arith, rules}
+use Rattle.std.proofs.Common.{◌≡◌, ◌∙◌, ◌%◌, ℕ, Bool, true, false, List, Some, None, Result, Ok, Err, length, refl, sym, ap, rules}
 use Rattle.std.specs.List.{list_all}
 use Rattle.std.specs.Result.{result_ok}
 use Rattle.std.proofs.lemmas.List.Sums.{AllPass-from_list_all, list_all-from_AllPass}
 use Rattle.hex.specs.Hex.{decode_of, is_hex_digit}
 use Rattle.hex.specs.declared.error.FromHexError.{FromHexError}
 use Rattle.hex.proofs.HexLemmas.{decode_of-digits, decode_of-ok}
+
+-- what is told is what was given
+pub itself : {X : Type 0} (x : X) → x ≡ x
+itself x = refl
 
 unequal : true ≡ false → ⊥
 unequal h = absurd (search rules)

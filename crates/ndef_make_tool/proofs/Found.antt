@@ -1,19 +1,19 @@
 -- The references of handovers, one after another.
-use Rattle.std.proofs.Common.{◌≡◌, ◌∙◌, ◌+◌, ◌<◌, ◌≤◌, ℕ, Bool, true, false, List, [], ◌∷◌, ◌++◌, append-nil, length, take, get_or, map, Option, None, Some, Err, refl, sym, ap, arith, cond, rules, subst}
+use Rattle.std.proofs.Common.{◌≡◌, ◌∙◌, ◌+◌, ◌<◌, ◌≤◌, ℕ, Bool, true, List, [], ◌∷◌, ◌++◌, append-nil, length, take, get_or, map, Option, None, Some, Err, refl, sym, ap, arith, cond, rules, subst}
 use Rattle.std.specs.Option.{option_or}
 use Rattle.std.specs.List.{find, flat_map}
 use Rattle.std.proofs.lemmas.List.{take_all}
 use Rattle.std.proofs.lemmas.List.Concat.{flat_map-append}
 use Rattle.std.proofs.lemmas.List.Folds.{find-append}
-use Rattle.std.specs.Prelude.{IsErrOf, IsOk, Result}
+use Rattle.std.specs.Prelude.{IsErrOf, IsOk}
 use Rattle.clap.specs.Words.{Text}
 use Rattle.ndef_value.specs.declared.name.NameError.{NameError}
 use Rattle.ndef_value.specs.declared.name.NameError.TheVariants as names
 use Rattle.ndef_format.specs.Messages.{Item}
 use Rattle.ndef_make_tool.specs.Faults.{name_fault}
-use Rattle.ndef_make_tool.specs.References.{AreFound, IsFound, is_missing}
+use Rattle.ndef_make_tool.specs.References.{AreFound, FindsMissing, is_missing}
 use Rattle.ndef_make_tool.specs.declared.fault.Fault.{Fault}
-use Rattle.ndef_make_tool.specs.declared.fault.Fault.TheVariants.{Usage, Refused, Reading, TooLong, Memory}
+use Rattle.ndef_make_tool.specs.declared.fault.Fault.TheVariants.{Usage, UsageAt, Refused, Reading, TooLong, Memory}
 use Rattle.ndef_make_tool.specs.declared.fault.Refused.TheVariants as refused
 use Rattle.ndef_make_tool.proofs.Lists.{mapped_at, mapped_more}
 use Rattle.ndef_make_tool.proofs.Short.{unmade}
@@ -55,11 +55,12 @@ found_whole items f g ps n l none = ap (λ qs. find (is_missing items) (flat_map
 -- ---- where a reference isn't found
 
 -- a fault names a reference that is missing
-found_some : (o : Option Text) (fault : Fault) → IsFound o (Err fault) → (r : Text) × (o ≡ Some r)
+found_some : (o : Option Text) (fault : Fault) → FindsMissing o (Err fault) → (r : Text) × (o ≡ Some r)
 found_some o (Refused (refused.NoRecord r)) h = (r, h)
 found_some o (Refused refused.PartTooLong) h = (h.0, h.1)
 found_some o Memory h = (h.0, h.1)
-found_some o Usage h = absurd h
+found_some o (Usage misuse) h = absurd h
+found_some o (UsageAt n misuse) h = absurd h
 found_some o Reading h = absurd h
 found_some o TooLong h = absurd h
 found_some o (Refused refused.LanguageTooLong) h = absurd h
@@ -72,11 +73,12 @@ found_some o (Refused refused.NoHandover) h = absurd h
 found_some o (Refused refused.BadError) h = absurd h
 found_some o (Refused refused.TooManyReferences) h = absurd h
 found_some o (Refused refused.TooManyRecords) h = absurd h
+found_some o (Refused (refused.NoRoom size room)) h = absurd h
 
 -- the same of a fault of another list, where that has the same first reference that is missing
-found_as : (o p : Option Text) (fault : Fault) → ((r : Text) → o ≡ Some r → p ≡ Some r) → IsFound o (Err fault) → IsFound p (Err fault)
+found_as : (o p : Option Text) (fault : Fault) → ((r : Text) → o ≡ Some r → p ≡ Some r) → FindsMissing o (Err fault) → FindsMissing p (Err fault)
 found_as o p fault agree h =
-    let some = found_some o fault h in subst (λ (x : Option Text). IsFound x (Err fault)) (some.1 ∙ sym (agree some.0 some.1)) h
+    let some = found_some o fault h in subst (λ (x : Option Text). FindsMissing x (Err fault)) (some.1 ∙ sym (agree some.0 some.1)) h
 
 -- a reference of an element isn't found
 pub unfound_at : {A B : Type 0} (items : List Item) (f : B → List Text) (g : A → B) (ps : List A) (n : ℕ) (p : A) (fault : Fault) → n < length ps → p ≡ get_or ps n p

@@ -5,6 +5,7 @@ pub mod Found
 pub mod Linked
 pub mod Lists
 pub mod Made
+pub mod MadeIn
 pub mod Messages
 pub mod Parsed
 pub mod ReadBack

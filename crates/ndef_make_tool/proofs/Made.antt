@@ -4,7 +4,7 @@ use Rattle.std.proofs.lemmas.List.{take_all}
 use Rattle.ndef_format.specs.Messages.{Item}
 use Rattle.ndef_make_tool.specs.Records.{Answer, AreMadeBy, FailsBy, IsUnmade}
 use Rattle.ndef_make_tool.specs.declared.fault.Fault.{Fault}
-use Rattle.ndef_make_tool.specs.declared.fault.Fault.TheVariants.{Usage, Refused, Reading, TooLong, Memory}
+use Rattle.ndef_make_tool.specs.declared.fault.Fault.TheVariants.{Usage, UsageAt, Refused, Reading, TooLong, Memory}
 use Rattle.ndef_make_tool.proofs.Lists.{mapped_at, mapped_more}
 
 made_behind : {X : Type 0} (makes : X → Answer → Type 0) (xs : List X) (items : List Item) (x : X) (i : Item) → AreMadeBy makes xs items → makes x (Ok i)
@@ -26,8 +26,9 @@ AreKept makes xs before after = (items : List Item) × AreMadeBy makes xs items 
 
 -- ---- where no record is made
 
-unmade : (makes : Answer → Type 0) (fault : Fault) → makes (Err fault) → IsUnmade makes fault
-unmade makes Usage is = is
+pub unmade : (makes : Answer → Type 0) (fault : Fault) → makes (Err fault) → IsUnmade makes fault
+unmade makes (Usage misuse) is = is
+unmade makes (UsageAt n misuse) is = is
 unmade makes (Refused why) is = is
 unmade makes Reading is = is
 unmade makes TooLong is = is

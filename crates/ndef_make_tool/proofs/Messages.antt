@@ -1,27 +1,52 @@
 -- The message of all parts, or why there is none.
-use Rattle.std.proofs.Common.{◌≡◌, ◌∙◌, ◌<◌, ◌≤◌, ℕ, List, [], length, map, take, get_or, Option, None, Some, Err, refl, sym, ap, arith, Bool, Result, Ok, subst, inr}
-use Rattle.std.specs.Prelude.{codes, drop}
+use Rattle.std.proofs.Common.{◌≡◌, ◌∙◌, ◌<◌, ◌≤◌, ℕ, List, [], ◌∷◌, length, map, take, get_or, Option, None, Some, Err, refl, sym, ap, arith, false, Result, Ok, subst, inr, rules}
+use Rattle.std.specs.Prelude.{codes, nat_lt}
 use Rattle.std.specs.List.{flat_map}
 use Rattle.std.specs.Str.{bytes_eq}
+use Rattle.std.proofs.lemmas.Bool.{false_from_ne_true, lt-ltb, ltb-true}
 use Rattle.std.proofs.lemmas.List.{length-map, take_all}
 use Rattle.clap.specs.Words.{Text}
 use Rattle.ndef_format.specs.Messages.{Item}
 use Rattle.ndef_make_tool.specs.Asked.{AskedPart, SaidAll, SaysPart, all_or_none, parts_asked, part_in, parts_of}
-use Rattle.ndef_message.specs.States.{SourceState}
-use Rattle.ndef_make_tool.specs.Making.{AreMade, IsMade, IsMadeFor, MakesLinked, MakesMessage, IsWritten, Makes, ReadsFor, readers_of, shown_by}
+use Rattle.ndef_make_tool.specs.Inputs.{GivesInput, readers_of}
+use Rattle.ndef_make_tool.specs.Making.{AreMade, IsMadeFor, IsMadeIf, IsMadeOf, IsMadeOfRecords, IsWrittenFor, MakesFrom, MakesLinked, MakesMessage, shown_in}
 use Rattle.ndef_make_tool.specs.References.{AreFound, missing_reference, references_of}
 use Rattle.ndef_make_tool.specs.declared.fault.Fault.{Fault}
-use Rattle.ndef_make_tool.specs.declared.fault.Fault.TheVariants.{Usage, Refused, Reading, TooLong, Memory}
+use Rattle.ndef_make_tool.specs.declared.fault.Fault.TheVariants.{Usage, UsageAt, Refused, Reading, TooLong, Memory}
 use Rattle.ndef_make_tool.specs.declared.fault.Refused.TheVariants as refused
 use Rattle.ndef_make_tool.specs.declared.making.Shown.{Shown}
+use Rattle.ndef_make_tool.specs.declared.making.Writing.{Writing}
 use Rattle.ndef_make_tool.specs.declared.making.Written.{Written}
+use Rattle.ndef_make_tool.specs.declared.measure.Measure.{Measure}
+use Rattle.ndef_make_tool.specs.declared.misuse.Misuse.TheVariants as misuse
 use Rattle.ndef_make_tool.proofs.Lists.{all_as_long, cut_has_parts, map_twice, none_at}
-use Rattle.ndef_make_tool.proofs.Made.{made_as_many}
+use Rattle.ndef_make_tool.proofs.MadeIn.{in_as_many}
 
 -- where a part says nothing, all do
 pub say_fails : {A : Type 0} (g : A → List Text) (ps : List A) (n : ℕ) (p : A) (fault : Fault) → n < length ps → p ≡ get_or ps n p → SaysPart (g p) (Err fault)
     → SaidAll (map g ps) (Err fault)
-say_fails g ps n p Usage l e none = ap all_or_none (map_twice part_in g ps) ∙ none_at (λ q. part_in (g q)) ps n p l e none
+say_fails g ps n p (UsageAt k m) l e none = absurd none
+say_fails g ps n p (Usage misuse.Words) l e none = ap all_or_none (map_twice part_in g ps) ∙ none_at (λ q. part_in (g q)) ps n p l e none
+say_fails g ps n p (Usage misuse.TwoReaders) l e none = absurd none
+say_fails g ps n p (Usage misuse.TwoPayloads) l e none = absurd none
+say_fails g ps n p (Usage misuse.Digits) l e none = absurd none
+say_fails g ps n p (Usage misuse.Tnf) l e none = absurd none
+say_fails g ps n p (Usage misuse.MediaType) l e none = absurd none
+say_fails g ps n p (Usage misuse.ExternalType) l e none = absurd none
+say_fails g ps n p (Usage misuse.Format) l e none = absurd none
+say_fails g ps n p (Usage misuse.Title) l e none = absurd none
+say_fails g ps n p (Usage misuse.Action) l e none = absurd none
+say_fails g ps n p (Usage misuse.Size) l e none = absurd none
+say_fails g ps n p (Usage misuse.Icon) l e none = absurd none
+say_fails g ps n p (Usage misuse.Handover) l e none = absurd none
+say_fails g ps n p (Usage misuse.Carrier) l e none = absurd none
+say_fails g ps n p (Usage misuse.Collision) l e none = absurd none
+say_fails g ps n p (Usage misuse.Reason) l e none = absurd none
+say_fails g ps n p (Usage misuse.Control) l e none = absurd none
+say_fails g ps n p (Usage misuse.NoLanguage) l e none = absurd none
+say_fails g ps n p (Usage misuse.TwoTitles) l e none = absurd none
+say_fails g ps n p (Usage misuse.NoCarrier) l e none = absurd none
+say_fails g ps n p (Usage misuse.Tag) l e none = absurd none
 say_fails g ps n p (Refused why) l e none = absurd none
 say_fails g ps n p Reading l e none = absurd none
 say_fails g ps n p TooLong l e none = absurd none
@@ -33,69 +58,107 @@ pub said_whole : {A : Type 0} (g : A → List Text) (ps : List A) (n : ℕ) (o :
 said_whole g ps n o l all = ap all_or_none (map_twice part_in g ps) ∙ ap (λ qs. all_or_none (map (λ q. part_in (g q)) qs)) (sym (take_all n ps l)) ∙ all
 
 -- the parts of the words
-pub asked : {A : Type 0} (g : A → List Text) (words behind : List Text) (slice parts : List A) (o : Option (List AskedPart)) → slice ≡ parts → map g parts ≡ parts_of behind
-    → behind ≡ drop 1 words → all_or_none (map part_in (map g slice)) ≡ o → parts_asked words ≡ o
-asked g words behind slice parts o same is rest said =
-    ap (λ ws. all_or_none (map part_in (parts_of ws))) (sym rest) ∙ ap (λ ps. all_or_none (map part_in ps)) (sym is)
-    ∙ ap (λ ps. all_or_none (map part_in (map g ps))) (sym same) ∙ said
+pub asked : {A : Type 0} (g : A → List Text) (words : List Text) (slice parts : List A) (o : Option (List AskedPart)) → slice ≡ parts → map g parts ≡ parts_of words
+    → all_or_none (map part_in (map g slice)) ≡ o → parts_asked words ≡ o
+asked g words slice parts o same is said =
+    ap (λ ps. all_or_none (map part_in ps)) (sym is) ∙ ap (λ ps. all_or_none (map part_in (map g ps))) (sym same) ∙ said
 
 -- ---- what is made
 
--- where the input is read
-pub written : (words : List Text) (terminal : Bool) (parts : List AskedPart) (before after : SourceState) (input : List ℕ) (made : Result Written Fault) → parts_asked words ≡ Some parts
-    → ReadsFor (readers_of parts) before after (Ok input) → IsWritten parts terminal input made → IsMade words terminal before after made
-written words terminal parts before after input (Ok made) e reads is =
-    subst (λ (o : Option (List AskedPart)). IsMadeFor o terminal before after (Ok made)) (sym e) (Ok input, reads, is)
-written words terminal parts before after input (Err Usage) e reads is =
-    subst (λ (o : Option (List AskedPart)). IsMadeFor o terminal before after (Err Usage)) (sym e) (Ok input, reads, is)
-written words terminal parts before after input (Err (Refused why)) e reads is =
-    subst (λ (o : Option (List AskedPart)). IsMadeFor o terminal before after (Err (Refused why))) (sym e) (Ok input, reads, is)
-written words terminal parts before after input (Err Reading) e reads is =
-    subst (λ (o : Option (List AskedPart)). IsMadeFor o terminal before after (Err Reading)) (sym e) (Ok input, reads, is)
-written words terminal parts before after input (Err TooLong) e reads is =
-    subst (λ (o : Option (List AskedPart)). IsMadeFor o terminal before after (Err TooLong)) (sym e) (Ok input, reads, is)
-written words terminal parts before after input (Err Memory) e reads is =
-    inr (subst (λ (o : Option (List AskedPart)). IsMadeFor o terminal before after (Err Memory)) (sym e) (Ok input, reads, is))
+-- where the words ask for parts
+pub written : {I : Type 0} (gives : GivesInput I) (words : List Text) (writing : Writing) (parts : List AskedPart) (before after : I) (made : Result Written Fault)
+    → parts_asked words ≡ Some parts → IsMadeOf gives parts writing before after made → IsMadeOfRecords gives words writing before after made
+written gives words writing parts before after (Ok made) e is =
+    subst (λ (o : Option (List AskedPart)). IsMadeFor gives o writing before after (Ok made)) (sym e) is
+written gives words writing parts before after (Err (Usage m)) e is =
+    subst (λ (o : Option (List AskedPart)). IsMadeFor gives o writing before after (Err (Usage m))) (sym e) is
+written gives words writing parts before after (Err (UsageAt n m)) e is =
+    subst (λ (o : Option (List AskedPart)). IsMadeFor gives o writing before after (Err (UsageAt n m))) (sym e) is
+written gives words writing parts before after (Err (Refused why)) e is =
+    subst (λ (o : Option (List AskedPart)). IsMadeFor gives o writing before after (Err (Refused why))) (sym e) is
+written gives words writing parts before after (Err Reading) e is =
+    subst (λ (o : Option (List AskedPart)). IsMadeFor gives o writing before after (Err Reading)) (sym e) is
+written gives words writing parts before after (Err TooLong) e is =
+    subst (λ (o : Option (List AskedPart)). IsMadeFor gives o writing before after (Err TooLong)) (sym e) is
+written gives words writing parts before after (Err Memory) e is =
+    inr (subst (λ (o : Option (List AskedPart)). IsMadeFor gives o writing before after (Err Memory)) (sym e) is)
+
+-- where at most one part takes standard input
+pub made_of : {I : Type 0} (gives : GivesInput I) (parts : List AskedPart) (writing : Writing) (before after : I) (made : Result Written Fault) → readers_of parts ≤ 1
+    → IsWrittenFor gives parts writing before after made → IsMadeOf gives parts writing before after made
+made_of gives parts writing before after made few is =
+    let no : nat_lt 1 (readers_of parts) ≡ false = false_from_ne_true _ (λ e. let l = ltb-true 1 (readers_of parts) e in omega (arith, few, l)) in
+    subst (λ b. IsMadeIf b gives parts writing before after made) (sym no) is
+
+-- where more than one does
+pub second_reader : {I : Type 0} (gives : GivesInput I) (parts : List AskedPart) (writing : Writing) (before : I) → 1 < readers_of parts
+    → IsMadeOf gives parts writing before before (Err (Usage misuse.TwoReaders))
+second_reader gives parts writing before many =
+    subst (λ b. IsMadeIf b gives parts writing before before (Err (Usage misuse.TwoReaders))) (sym (lt-ltb 1 (readers_of parts) many)) (refl, refl)
 
 -- where each reference has a record
-linked : (o : Option Text) (shown : Shown) (items : List Item) (made : Result Written Fault) → o ≡ None → MakesMessage shown items made → MakesLinked o shown items made
-linked o shown items made none is = subst (λ (x : Option Text). MakesLinked x shown items made) (sym none) is
+linked : (o : Option Text) (measure : Measure) (shown : Shown) (items : List Item) (made : Result Written Fault) → o ≡ None → MakesMessage measure shown items made
+    → MakesLinked o measure shown items made
+linked o measure shown items made none is = subst (λ (x : Option Text). MakesLinked x measure shown items made) (sym none) is
+
+empty_if : {X : Type 0} (xs : List X) → length xs ≡ 0 → xs ≡ []
+empty_if [] e = refl
+empty_if (x ∷ xs) e = absurd (omega (arith, e))
 
 -- where the records are made
-pub answers : (parts : List AskedPart) (terminal : Bool) (input : List ℕ) (items : List Item) (made : Result Written Fault) → AreMade parts input items
-    → missing_reference parts items ≡ None → MakesMessage (shown_by terminal parts) items made → IsWritten parts terminal input made
-answers parts terminal input items (Ok made) are none is = (items, are, linked _ _ items (Ok made) none is)
-answers parts terminal input items (Err fault) are none is = inr (items, are, linked _ _ items (Err fault) none is)
+pub answers : {I : Type 0} (gives : GivesInput I) (parts : List AskedPart) (writing : Writing) (before after : I) (items : List Item) (made : Result Written Fault)
+    → AreMade gives parts before after items
+    → missing_reference parts items ≡ None → MakesMessage writing.measure (shown_in writing parts) items made → IsWrittenFor gives parts writing before after made
+answers gives parts writing before after items (Ok made) are none is = (items, are, linked _ _ _ items (Ok made) none is)
+answers gives parts writing before after items (Err fault) are none is = inr (items, are, linked _ _ _ items (Err fault) none is)
 
 -- where a reference has none
-pub not_found : (parts : List AskedPart) (terminal : Bool) (input : List ℕ) (items : List Item) (fault : Fault) → AreMade parts input items
-    → AreFound items (flat_map references_of parts) (Err fault) → IsWritten parts terminal input (Err fault)
-not_found parts terminal input items Usage are h = absurd h
-not_found parts terminal input items Reading are h = absurd h
-not_found parts terminal input items TooLong are h = absurd h
-not_found parts terminal input items Memory are h =
-    inr (items, are, subst (λ (o : Option Text). MakesLinked o (shown_by terminal parts) items (Err Memory)) (sym h.1) h.2)
-not_found parts terminal input items (Refused (refused.NoRecord told)) are h =
-    inr (items, are, subst (λ (o : Option Text). MakesLinked o (shown_by terminal parts) items (Err (Refused (refused.NoRecord told)))) (sym h) refl)
-not_found parts terminal input items (Refused refused.PartTooLong) are h =
-    inr (items, are, subst (λ (o : Option Text). MakesLinked o (shown_by terminal parts) items (Err (Refused refused.PartTooLong))) (sym h.1) h.2)
-not_found parts terminal input items (Refused refused.LanguageTooLong) are h = absurd h
-not_found parts terminal input items (Refused refused.LanguageNotAscii) are h = absurd h
-not_found parts terminal input items (Refused refused.PayloadTooLong) are h = absurd h
-not_found parts terminal input items (Refused refused.BadShape) are h = absurd h
-not_found parts terminal input items (Refused (refused.BadPayload refusal)) are h = absurd h
-not_found parts terminal input items (Refused refused.NoPoster) are h = absurd h
-not_found parts terminal input items (Refused refused.NoHandover) are h = absurd h
-not_found parts terminal input items (Refused refused.BadError) are h = absurd h
-not_found parts terminal input items (Refused refused.TooManyReferences) are h = absurd h
-not_found parts terminal input items (Refused refused.TooManyRecords) are h = absurd h
+pub not_found : {I : Type 0} (gives : GivesInput I) (parts : List AskedPart) (writing : Writing) (before after : I) (items : List Item) (fault : Fault)
+    → AreMade gives parts before after items
+    → AreFound items (flat_map references_of parts) (Err fault) → IsWrittenFor gives parts writing before after (Err fault)
+not_found gives parts writing before after items (Usage m) are h = absurd h
+not_found gives parts writing before after items (UsageAt n m) are h = absurd h
+not_found gives parts writing before after items Reading are h = absurd h
+not_found gives parts writing before after items TooLong are h = absurd h
+not_found gives parts writing before after items Memory are h =
+    inr (items, are, subst (λ (o : Option Text). MakesLinked o writing.measure (shown_in writing parts) items (Err Memory)) (sym h.1) h.2)
+not_found gives parts writing before after items (Refused (refused.NoRecord told)) are h =
+    inr (items, are, subst (λ (o : Option Text). MakesLinked o writing.measure (shown_in writing parts) items (Err (Refused (refused.NoRecord told)))) (sym h) refl)
+not_found gives parts writing before after items (Refused refused.PartTooLong) are h =
+    inr (items, are, subst (λ (o : Option Text). MakesLinked o writing.measure (shown_in writing parts) items (Err (Refused refused.PartTooLong))) (sym h.1) h.2)
+not_found gives parts writing before after items (Refused refused.LanguageTooLong) are h = absurd h
+not_found gives parts writing before after items (Refused refused.LanguageNotAscii) are h = absurd h
+not_found gives parts writing before after items (Refused refused.PayloadTooLong) are h = absurd h
+not_found gives parts writing before after items (Refused refused.BadShape) are h = absurd h
+not_found gives parts writing before after items (Refused (refused.BadPayload refusal)) are h = absurd h
+not_found gives parts writing before after items (Refused refused.NoPoster) are h = absurd h
+not_found gives parts writing before after items (Refused refused.NoHandover) are h = absurd h
+not_found gives parts writing before after items (Refused refused.BadError) are h = absurd h
+not_found gives parts writing before after items (Refused refused.TooManyReferences) are h = absurd h
+not_found gives parts writing before after items (Refused refused.TooManyRecords) are h = absurd h
+not_found gives parts writing before after items (Refused (refused.NoRoom size room)) are h = absurd h
 
 -- there is a record, since there is a part
-pub some_record : (words : List Text) (parts : List AskedPart) (input : List ℕ) (items : List Item) → parts_asked words ≡ Some parts → AreMade parts input items → items ≡ [] → ⊥
-some_record words parts input items e are none =
-    let said = all_as_long (map part_in (parts_of (drop 1 words))) parts e in
-    let long = length-map (parts_of (drop 1 words)) part_in in
-    let parted = cut_has_parts (λ word. bytes_eq word (codes "--and")) (drop 1 words) in
-    let many = made_as_many (λ part. Makes part input) parts items are in
+pub some_record : {I : Type 0} (gives : GivesInput I) (parts : List AskedPart) (before after : I) (items : List Item) → (parts ≡ [] → ⊥)
+    → AreMade gives parts before after items → items ≡ [] → ⊥
+some_record gives parts before after items some are none =
+    let many = in_as_many (MakesFrom gives) parts before after items are in
     let zero = ap length none in
-    omega (arith, said, long, parted, many, zero)
+    some (empty_if parts (omega (arith, many, zero)))
+
+-- words have a part
+pub some_part : (words : List Text) (parts : List AskedPart) → parts_asked words ≡ Some parts → parts ≡ [] → ⊥
+some_part words parts e none =
+    let said = all_as_long (map part_in (parts_of words)) parts e in
+    let long = length-map (parts_of words) part_in in
+    let parted = cut_has_parts (λ word. bytes_eq word (codes "--and")) words in
+    let zero = ap length none in
+    omega (arith, said, long, parted, zero)
+
+-- what was said of some parts
+pub some_said : {A B : Type 0} (f : A → B) (items slice : List A) → slice ≡ items → (map f items ≡ [] → ⊥) → slice ≡ [] → ⊥
+some_said f items slice is some none = some (ap (map f) (sym is ∙ none))
+
+pub no_parts : {A B : Type 0} (f : A → B) (xs : List A) → (xs ≡ [] → ⊥) → map f xs ≡ [] → ⊥
+no_parts f [] some none = some refl
+no_parts f (x ∷ xs) some none = absurd (search rules)

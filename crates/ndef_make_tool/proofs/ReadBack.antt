@@ -1,6 +1,8 @@
 -- Reading what was made.
 use Rattle.std.proofs.Common.{◌≡◌, ◌∙◌, ◌≤◌, ◌++◌, ℕ, Bool, true, false, List, [], ◌∷◌, length, Option, None, Some, Result, Ok, Err, refl, sym, ap, subst, inl, inr, rules, arith}
-use Rattle.std.specs.Prelude.{◌||◌}
+use Rattle.std.specs.Prelude.{◌||◌, drop, nat_lt}
+use Rattle.std.specs.Option.{option_map_or}
+use Rattle.clap.specs.Words.{Text}
 use Rattle.std.specs.List.{AllByRecursion, list_any}
 use Rattle.ndef_format.specs.Canonical.{AreItems, canonical}
 use Rattle.ndef_format.specs.Messages.{Spells, SpellsBy, Item}
@@ -23,14 +25,20 @@ use Rattle.ndef_format.specs.Accepted.{IsMember}
 use Rattle.ndef_message.specs.Readings.{GivesBack, ReadsInput, RoundTrips}
 use Rattle.ndef_message.specs.Written.{ShortIsCanonical}
 use Rattle.ndef_message.specs.declared.form.Form.TheVariants.{Short}
-use Rattle.ndef_make_tool.specs.Asked.{AskedPart}
+use Rattle.ndef_make_tool.specs.Asked.{AskedPart, parts_asked}
 use Rattle.ndef_make_tool.specs.Checking.{IsOfItsType, MakesIf, is_unchecked}
-use Rattle.ndef_make_tool.specs.Making.{AreMade, IsMadeFor, IsWrittenOf, MakesBy, MakesLinked, MakesMessage, shown_by, written_as}
+use Rattle.ndef_make_tool.specs.Inputs.{GivesInput, readers_of}
+use Rattle.ndef_make_tool.specs.Making.{AreMade, IsMadeFor, IsMadeIf, IsMeasured, MakesBy, MakesLinked, MakesMessage, MakesWith, shown_in, written_as}
 use Rattle.ndef_make_tool.specs.Options.{subject_named}
-use Rattle.ndef_make_tool.specs.Reading.{HoldsFew, IsReadBack, MadeIsRead, ReadsBack, nested_octets}
+use Rattle.ndef_make_tool.specs.Reading.{HoldsFew, IsReadBack, MadeIsRead, ReadsBack, message_octets}
 use Rattle.ndef_make_tool.specs.References.{missing_reference}
+use Rattle.ndef_make_tool.specs.Records.{Answer}
+use Rattle.ndef_make_tool.specs.declared.fault.Fault.{Fault}
 use Rattle.ndef_make_tool.specs.declared.making.Shown.{Shown}
+use Rattle.ndef_make_tool.specs.Measures.{measure_in}
+use Rattle.ndef_make_tool.specs.declared.making.Writing.{Writing}
 use Rattle.ndef_make_tool.specs.declared.making.Written.{Written}
+use Rattle.ndef_make_tool.specs.declared.measure.Measure.{Measure}
 
 -- ---- what a strict reader takes
 
@@ -69,7 +77,7 @@ nested_for strict table records profile s h few = (
 
 -- a payload that a strict reader takes, each reader takes that lets in the records of the message in it
 typed_for : StrictContentsAreRead → (records : ℕ) (profile : Profile) (kind : Kind) (s : List ℕ) → IsTypedPayload kind 65535 Strict s
-    → ((inner : List Item) → Spells Strict inner (nested_octets kind s) → length inner ≤ records) → IsTypedPayload kind records profile s
+    → ((inner : List Item) → Spells Strict inner (message_octets kind s) → length inner ≤ records) → IsTypedPayload kind records profile s
 typed_for strict records profile kinds.Uri s h few = uri_for profile s h
 typed_for strict records profile kinds.SmartPoster s h few = nested_for strict tables.SmartPoster records profile s h few
 typed_for strict records profile kinds.Request [] h few = absurd h
@@ -90,14 +98,23 @@ neither : (a b : Bool) → (a || b) ≡ false → (a ≡ false) × (b ≡ false)
 neither false b e = (refl, e)
 neither true b e = absurd (search rules)
 
-are_typed : (parts : List AskedPart) (input : List ℕ) (items : List Item) → AreMade parts input items → list_any is_unchecked parts ≡ false → AllByRecursion IsOfItsType items
-are_typed [] input [] are e = tt
-are_typed [] input (i ∷ items) are e = absurd are
-are_typed (part ∷ parts) input [] are e = absurd are
-are_typed (part ∷ parts) input (i ∷ items) are e =
+checked_if : (unchecked : Bool) (makes : Answer → Type 0) (i : Item) → unchecked ≡ false → MakesIf unchecked makes (Ok i) → IsOfItsType i
+checked_if true makes i e is = absurd (search rules)
+checked_if false makes i e is = is.1
+
+-- a record that is checked is one of its type
+typed_if : (part : AskedPart) (payload : Result (List ℕ) Fault) (i : Item) → is_unchecked part ≡ false → MakesWith part payload (Ok i) → IsOfItsType i
+typed_if part (Ok payload) i e is = checked_if (is_unchecked part) (MakesBy (subject_named part.0) part.1 payload) i e is
+typed_if part (Err fault) i e is = absurd (search rules)
+
+are_typed : {I : Type 0} (gives : GivesInput I) (parts : List AskedPart) (before after : I) (items : List Item) → AreMade gives parts before after items
+    → list_any is_unchecked parts ≡ false → AllByRecursion IsOfItsType items
+are_typed gives [] before after [] are e = tt
+are_typed gives [] before after (i ∷ items) are e = absurd are
+are_typed gives (part ∷ parts) before after [] are e = absurd are
+are_typed gives (part ∷ parts) before after (i ∷ items) are e =
     let both = neither (is_unchecked part) (list_any is_unchecked parts) e in
-    let checked = subst (λ b. MakesIf b (MakesBy (subject_named part.0) part.1 input) (Ok i)) both.0 are.0 in
-    (checked.1, are_typed parts input items are.1 both.1)
+    (typed_if part are.1.0 i both.0 are.1.2, are_typed gives parts are.0 after items are.2 both.1)
 
 are_members : StrictContentsAreRead → (set : Sets) → SameSets set IsTypedPayload → (limits : LimitValues) (items : List Item) → AllByRecursion IsOfItsType items
     → AllByRecursion (HoldsFew limits.records) items → AllByRecursion (IsMember set limits) items
@@ -116,24 +133,30 @@ read_back strict short set holds same trips items are typed limits rest after re
     subst (λ bytes. GivesBack items bytes rest after result) e back
 
 -- a message that is made has its records
-linked : (o : Option (List ℕ)) (shown : Shown) (items : List Item) (made : Written) → MakesLinked o shown items (Ok made) → MakesMessage shown items (Ok made)
-linked None shown items made is = is
-linked (Some reference) shown items made is = absurd is
+linked : (o : Option (List ℕ)) (measure : Measure) (shown : Shown) (items : List Item) (made : Written) → MakesLinked o measure shown items (Ok made)
+    → MakesMessage measure shown items (Ok made)
+linked None measure shown items made is = is
+linked (Some reference) measure shown items made is = absurd is
 
-made_by : StrictContentsAreRead → ShortIsCanonical → (set : Sets) (holds : Conditions) → SameSets set IsTypedPayload → RoundTrips set holds
-    → (parts : List AskedPart) (terminal : Bool) (made : Written) (input : Result (List ℕ) _) → IsWrittenOf parts terminal input (Ok made) → list_any is_unchecked parts ≡ false
-    → ReadsBack set holds parts made
-made_by strict short set holds same trips parts terminal made (Ok input) (items, are, all) none =
-    let is = linked (missing_reference parts items) (shown_by terminal parts) items made all in (
-      input,
+made_by : {I : Type 0} (gives : GivesInput I) → StrictContentsAreRead → ShortIsCanonical → (set : Sets) (holds : Conditions) → SameSets set IsTypedPayload → RoundTrips set holds
+    → (parts : List AskedPart) (writing : Writing) (many : Bool) (before after : I) (made : Written) → IsMadeIf many gives parts writing before after (Ok made)
+    → list_any is_unchecked parts ≡ false → ReadsBack gives set holds parts before after made
+made_by gives strict short set holds same trips parts writing true before after made is none = absurd (search rules)
+made_by gives strict short set holds same trips parts writing false before after made (items, are, all) none =
+    let is = linked (missing_reference parts items) writing.measure (shown_in writing parts) items made all in (
       items,
       are,
       is.1 ∙ ap (λ shown. written_as shown (canonical items)) (sym is.2),
-      read_back strict short set holds same trips items is.0 (are_typed parts input items are none),
+      read_back strict short set holds same trips items is.0 (are_typed gives parts before after items are none),
     )
-made_by strict short set holds same trips parts terminal made (Err fault) h none = absurd (search rules)
 
-pub made_is_read : StrictContentsAreRead → ShortIsCanonical → (set : Sets) (holds : Conditions) → SameSets set IsTypedPayload → RoundTrips set holds → MadeIsRead set holds
-made_is_read strict short set holds same trips words terminal before after made parts is asked none =
-    let asks = subst (λ (o : Option (List AskedPart)). IsMadeFor o terminal before after (Ok made)) asked is in
-    made_by strict short set holds same trips parts terminal made asks.0 asks.2 none
+pub made_is_read : {I : Type 0} (gives : GivesInput I) → StrictContentsAreRead → ShortIsCanonical → (set : Sets) (holds : Conditions) → SameSets set IsTypedPayload → RoundTrips set holds → MadeIsRead gives set holds
+made_is_read {I} gives strict short set holds same trips words terminal before after made parts is asked none = measured (measure_in (drop 1 words)) refl is
+  where
+    measured : (o : Option (Measure × List Text)) → measure_in (drop 1 words) ≡ o → IsMeasured gives o terminal before after (Ok made) → ReadsBack gives set holds parts before after made
+    measured None e h = absurd (search rules)
+    measured (Some m) e h =
+        let writing : Writing = record { terminal = terminal; measure = m.0 } in
+        let asks : parts_asked m.1 ≡ Some parts = ap (λ o. parts_asked (option_map_or (λ x. x.1) o [])) (sym e) ∙ asked in
+        made_by gives strict short set holds same trips parts writing (nat_lt 1 (readers_of parts)) before after made
+        (subst (λ (o : Option (List AskedPart)). IsMadeFor gives o writing before after (Ok made)) asks h) none

@@ -1,13 +1,13 @@
 -- References that aren't too long.
-use Rattle.std.proofs.Common.{◌≡◌, ◌<◌, ◌≤◌, ◌+◌, ◌∙◌, ℕ, Bool, List, [], ◌∷◌, ◌++◌, length, take, get_or, map, refl, sym, ap, subst, arith, rules, true, false, Err, Ok}
+use Rattle.std.proofs.Common.{◌≡◌, ◌<◌, ◌+◌, ◌∙◌, ℕ, Bool, List, [], ◌∷◌, ◌++◌, length, take, get_or, map, refl, sym, ap, subst, arith, rules, true, false, Err, Ok}
 use Rattle.std.specs.Prelude.{◌&&◌, IsErrOf, Result, nat_lt}
 use Rattle.ndef_value.specs.declared.name.NameError.{NameError}
 use Rattle.ndef_value.specs.declared.name.NameError.TheVariants as names
 use Rattle.std.proofs.lemmas.Bool.{lt-ltb, ltb-true}
 use Rattle.ndef_make_tool.specs.Faults.{name_fault}
-use Rattle.ndef_make_tool.specs.Handovers.{AreNames, AreShort, MakesAc, MakesAlternative, are_short}
+use Rattle.ndef_make_tool.specs.Handovers.{AreNames, AreShort, MakesAcRecord, MakesAlternative, are_short}
 use Rattle.ndef_make_tool.specs.Records.{Answer}
-use Rattle.ndef_make_tool.specs.declared.fault.Fault.TheVariants.{Usage, Refused, Reading, TooLong, Memory}
+use Rattle.ndef_make_tool.specs.declared.fault.Fault.TheVariants.{Usage, UsageAt, Refused, Reading, TooLong, Memory}
 use Rattle.ndef_make_tool.specs.declared.fault.Refused.TheVariants as refused
 use Rattle.ndef_types.specs.Values.{AcValue}
 use Rattle.clap.specs.Words.{Text}
@@ -59,10 +59,11 @@ long_if [] is are = absurd (search rules)
 long_if (r ∷ references) is are = long_if references (sym (ap (λ b. b && are_short references) (lt-ltb (length r) 256 are.0)) ∙ is) are.1
 
 -- the record of a carrier whose references are short
-pub made_short : (v : AcValue) (answer : Answer) → AreShort (v.reference ∷ v.auxiliary) → MakesAc v answer → MakesAlternative v answer
+pub made_short : (v : AcValue) (answer : Answer) → AreShort (v.reference ∷ v.auxiliary) → MakesAcRecord v answer → MakesAlternative v answer
 made_short v (Ok i) short is = (short, is.0, is.1, is.2, is.3)
 made_short v (Err Memory) short is = (short, is)
-made_short v (Err Usage) short is = absurd is
+made_short v (Err (Usage misuse)) short is = absurd is
+made_short v (Err (UsageAt n misuse)) short is = absurd is
 made_short v (Err Reading) short is = absurd is
 made_short v (Err TooLong) short is = absurd is
 made_short v (Err (Refused refused.TooManyReferences)) short is = (short, is)
@@ -77,3 +78,4 @@ made_short v (Err (Refused refused.NoHandover)) short is = absurd is
 made_short v (Err (Refused refused.BadError)) short is = absurd is
 made_short v (Err (Refused (refused.NoRecord reference))) short is = absurd is
 made_short v (Err (Refused refused.TooManyRecords)) short is = absurd is
+made_short v (Err (Refused (refused.NoRoom size room))) short is = absurd is

@@ -10,7 +10,7 @@ use Rattle.ndef_make_tool.specs.Faults.{record_fault}
 use Rattle.ndef_types.specs.Decoding.{IsTooLong}
 use Rattle.ndef_types.specs.declared.error.EncodeError.TheVariants.{TooLong}
 use Rattle.ndef_types.specs.Values.{IsTextValue, TextValue, WritesUri, text_payload}
-use Rattle.ndef_make_tool.specs.Records.{MakesItem, MakesText, MakesUri, well_known}
+use Rattle.ndef_make_tool.specs.Records.{MakesItem, MakesText, MakesUri, typed_record}
 
 -- the result for a record that isn't made
 abbrev pub unmade_item : RecordError → Result Item RecordError
@@ -20,7 +20,7 @@ never : (p : List ℕ) → IsErrOf (Ok p) TooLong → ⊥
 never p h = absurd (search rules)
 
 -- the record of a text whose payload is written
-pub made_text : (v t : TextValue) (p : List ℕ) (i : Item) → t ≡ v → IsTextValue t → p ≡ text_payload t → (2 ^ 32 ≤ length (text_payload t) → IsErrOf (Ok p) TooLong) → i ≡ well_known (codes "T") p
+pub made_text : (v t : TextValue) (p : List ℕ) (i : Item) → t ≡ v → IsTextValue t → p ≡ text_payload t → (2 ^ 32 ≤ length (text_payload t) → IsErrOf (Ok p) TooLong) → i ≡ typed_record (codes "T") p
     → MakesText v (Ok i)
 made_text v t p i same is written short made =
     let payload : i.payload ≡ p = ap (λ (j : Item). j.payload) made in
@@ -30,18 +30,18 @@ made_text v t p i same is written short made =
       subst (λ (x : TextValue). IsAscii x.language) same is.language,
       payload ∙ written ∙ ap text_payload same,
       room,
-      made ∙ ap (well_known (codes "T")) (sym payload),
+      made ∙ ap (typed_record (codes "T")) (sym payload),
     )
 
 -- the record of a URI whose payload is written
-pub made_uri : (uri u : Text) (p : List ℕ) (i : Item) → u ≡ uri → WritesUri u p → (IsTooLong WritesUri u → IsErrOf (Ok p) TooLong) → i ≡ well_known (codes "U") p → MakesUri uri (Ok i)
+pub made_uri : (uri u : Text) (p : List ℕ) (i : Item) → u ≡ uri → WritesUri u p → (IsTooLong WritesUri u → IsErrOf (Ok p) TooLong) → i ≡ typed_record (codes "U") p → MakesUri uri (Ok i)
 made_uri uri u p i same written short made =
     let payload : i.payload ≡ p = ap (λ (j : Item). j.payload) made in
     let bound : 2 ^ 32 ≤ length p → ⊥ = λ h. never p (short (p, written, h)) in
     let room : length i.payload < 2 ^ 32 = omega (arith, bound, ap length payload) in (
       subst (WritesUri uri) (sym payload) (subst (λ v. WritesUri v p) same written),
       room,
-      made ∙ ap (well_known (codes "U")) (sym payload),
+      made ∙ ap (typed_record (codes "U")) (sym payload),
     )
 
 -- ---- records of given parts

@@ -11,7 +11,8 @@ use Rattle.ndef_make_tool.specs.declared.fault.Fault.{Fault}
 use Rattle.ndef_make_tool.specs.declared.fault.Fault.TheVariants.{Refused, Memory}
 use Rattle.ndef_make_tool.specs.declared.fault.Refused.TheVariants.{PartTooLong, PayloadTooLong}
 
--- Connection Handover 1.2, Handover Carrier record, carrier type format: the format of this number, of three bits
+-- Connection Handover 1.2, Handover Carrier record, carrier type format: the format of this number,
+-- of three bits
 abbrev pub format_named : Text → Option ℕ
 format_named name = if bytes_eq name (codes "0") then Some 0
     else (if bytes_eq name (codes "1") then Some 1
@@ -22,23 +23,22 @@ format_named name = if bytes_eq name (codes "0") then Some 0
     else (if bytes_eq name (codes "6") then Some 6
     else (if bytes_eq name (codes "7") then Some 7 else None)))))))
 
--- the id of a part; none where it isn't given
-abbrev pub id_said : List Row → Text
-id_said rows = word_or (codes "id") [] rows
-
--- Connection Handover 1.2, Handover Carrier record: the carrier of a part, whose data is the input
-abbrev pub carrier_said : List Row → (input : List ℕ) → Option CarrierValue
-carrier_said rows input = option_map (λ format. record {
+-- Connection Handover 1.2, Handover Carrier record: the carrier of a part, whose data is its payload
+abbrev pub carrier_said : List Row → (payload : List ℕ) → Option CarrierValue
+carrier_said rows payload = option_map (λ format. record {
   format = format;
   kind = word_or (codes "type") [] rows;
-  carried = input;
+  carried = payload;
 }) (option_and_then format_named (first_of (codes "format") rows))
 
--- Connection Handover 1.2, Handover Carrier record: the payload of a carrier; none where a part is too long
+-- Connection Handover 1.2, Handover Carrier record: the payload of a carrier; none where a part is
+-- too long
 abbrev pub WritesData : CarrierValue → Result (List ℕ) Fault → Type 0
-WritesData v (Ok payload) = (length v.kind < 256) × (length payload < 2 ^ 32) × (payload ≡ carrier_payload v)
+WritesData v (Ok payload) =
+    (length v.kind < 256) × (length payload < 2 ^ 32) × (payload ≡ carrier_payload v)
 WritesData v (Err (Refused PartTooLong)) = 256 ≤ length v.kind
-WritesData v (Err (Refused PayloadTooLong)) = (length v.kind < 256) × (2 ^ 32 ≤ length (carrier_payload v))
+WritesData v (Err (Refused PayloadTooLong)) =
+    (length v.kind < 256) × (2 ^ 32 ≤ length (carrier_payload v))
 WritesData v (Err Memory) = length v.kind < 256
 WritesData v (Err _) = ⊥
 
@@ -48,7 +48,9 @@ carrier_item id payload = record { tnf = WellKnown; kind = codes "Hc"; id = id; 
 
 -- Connection Handover 1.2, Handover Carrier record: the record of a carrier, with this id
 abbrev pub MakesCarrier : Text → CarrierValue → Answer → Type 0
-MakesCarrier id v (Ok i) = (payload : List ℕ) × WritesData v (Ok payload) × MakesItem (carrier_item id payload) (Ok i)
+MakesCarrier id v (Ok i) =
+    (payload : List ℕ) × WritesData v (Ok payload) × MakesItem (carrier_item id payload) (Ok i)
 MakesCarrier id v (Err fault) =
     WritesData v (Err fault)
-    ⊎ ((payload : List ℕ) × WritesData v (Ok payload) × MakesItem (carrier_item id payload) (Err fault))
+    ⊎ ((payload : List ℕ) × WritesData v (Ok payload)
+    × MakesItem (carrier_item id payload) (Err fault))

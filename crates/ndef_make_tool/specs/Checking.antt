@@ -1,5 +1,6 @@
--- Which payloads are written: those that a strict reader takes (RTD Text, URI, Smart Poster, Connection Handover 1.2).
-use Rattle.std.specs.Prelude.{◌≡◌, ◌&&◌, Bool, true, false, Ok, Err, codes}
+-- Which payloads are written: those that a strict reader takes (RTD Text, URI, Smart Poster,
+-- Connection Handover 1.2).
+use Rattle.std.specs.Prelude.{◌≡◌, ◌⊎◌, Bool, Some, None, true, false, Ok, Err, codes}
 use Rattle.ndef_format.specs.Messages.{Item}
 use Rattle.ndef_format.specs.declared.profile.Profile.TheVariants.{Strict}
 use Rattle.ndef_format.specs.declared.refusal.Refusal.{Refusal}
@@ -9,12 +10,13 @@ use Rattle.ndef_format.specs.Payloads.{IsTypedPayload}
 use Rattle.ndef_format.specs.NestedReasons.{TypedReason}
 use Rattle.ndef_make_tool.specs.Asked.{AskedPart}
 use Rattle.ndef_program.specs.Options.{flag_of}
-use Rattle.ndef_make_tool.specs.Options.{is_given, subject_named}
+use Rattle.ndef_make_tool.specs.MayBeWritten.{bar_of}
 use Rattle.ndef_make_tool.specs.Records.{Answer}
-use Rattle.ndef_make_tool.specs.declared.fault.Fault.TheVariants.{Refused}
+use Rattle.ndef_make_tool.specs.declared.fault.Fault.TheVariants.{Usage, Refused}
 use Rattle.ndef_make_tool.specs.declared.fault.Refused.TheVariants.{BadPayload}
 
--- RTD Text, RTD URI, RTD Smart Poster and Connection Handover 1.2: the payload is one of its type, for a strict reader
+-- RTD Text, RTD URI, RTD Smart Poster and Connection Handover 1.2: the payload is one of its type,
+-- for a strict reader
 abbrev pub IsOfItsType : Item → Type 0
 IsOfItsType i = IsTypedPayload (kind_of i.tnf i.kind) 65535 Strict i.payload
 
@@ -23,19 +25,31 @@ abbrev pub IsUntyped : Item → Refusal → Type 0
 IsUntyped i refusal = let kind = kind_of i.tnf i.kind in
     IsRefused (IsTypedPayload kind 65535 Strict) (TypedReason kind 65535 Strict) i.payload refusal.at refusal.reason
 
--- the record, where its payload is one of its type, or where and why it isn't
+-- the record, where it may be written, or what is forbidden
+abbrev pub IsAllowed : Item → Answer → Type 0
+IsAllowed i (Ok made) = (made ≡ i) × (bar_of i ≡ None)
+IsAllowed i (Err (Usage misuse)) = bar_of i ≡ Some misuse
+IsAllowed i (Err _) = ⊥
+
+-- the record, where its payload is one of its type and may be written; or where and why it isn't, or
+-- what is forbidden
 abbrev pub Checked : Item → Answer → Type 0
-Checked i (Ok made) = (made ≡ i) × IsOfItsType i
+Checked i (Ok made) = (made ≡ i) × IsOfItsType i × (bar_of i ≡ None)
 Checked i (Err (Refused (BadPayload refusal))) = IsUntyped i refusal
+Checked i (Err (Usage misuse)) = IsOfItsType i × (bar_of i ≡ Some misuse)
 Checked i (Err _) = ⊥
 
--- what is made is checked, unless it is to be written unchecked
+-- what is made is checked, unless it is to be written unchecked: its payload is one of its type, and
+-- may be written
 abbrev pub MakesIf : (unchecked : Bool) → (makes : Answer → Type 0) → Answer → Type 0
 MakesIf true makes answer = makes answer
-MakesIf false makes (Ok i) = makes (Ok i) × IsOfItsType i
-MakesIf false makes (Err (Refused (BadPayload refusal))) = (i : Item) × makes (Ok i) × IsUntyped i refusal
+MakesIf false makes (Ok i) = makes (Ok i) × IsOfItsType i × (bar_of i ≡ None)
+MakesIf false makes (Err (Usage misuse)) = makes (Err (Usage misuse))
+    ⊎ ((i : Item) × makes (Ok i) × IsOfItsType i × (bar_of i ≡ Some misuse))
+MakesIf false makes (Err (Refused (BadPayload refusal))) =
+    (i : Item) × makes (Ok i) × IsUntyped i refusal
 MakesIf false makes (Err fault) = makes (Err fault)
 
 -- whether the part asks for a record with any payload
 abbrev pub is_unchecked : AskedPart → Bool
-is_unchecked part = is_given (subject_named part.0) && flag_of (codes "unchecked") part.1
+is_unchecked part = flag_of (codes "unchecked") part.1

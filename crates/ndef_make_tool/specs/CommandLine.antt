@@ -12,9 +12,17 @@ asked_rule name = record (new_rule name) { long = Some name; required = true }
 abbrev pub given_rule : Text → Rule
 given_rule name = record (new_rule name) { required = true }
 
--- a subcommand, with the flags for hexadecimal digits and for bytes as they are
+-- a subcommand, with the flags for hexadecimal digits and for bytes as they are, the id and the flag
+-- for a record that isn't checked
 abbrev pub part_app : Text → App
-part_app name = with_rule (hex_app name) (flag_rule (codes "raw"))
+part_app name =
+    with_rule (with_rule (with_rule (hex_app name) (flag_rule (codes "raw"))) (word_rule (codes "id")))
+    (flag_rule (codes "unchecked"))
+
+-- the same, and where the payload comes from: a file, or hexadecimal digits
+abbrev pub payload_app : Text → App
+payload_app name =
+    with_rule (with_rule (part_app name) (word_rule (codes "file"))) (word_rule (codes "payload"))
 
 -- a text, its language and its encoding
 abbrev pub text_app : App
@@ -36,9 +44,14 @@ titled_app = with_rule (with_rule (part_app (codes "poster")) (given_rule (codes
     (repeated_rule (codes "title"))
 
 -- a URI, titles, an action, a size and a media type
+abbrev pub described_app : App
+described_app = with_rule (with_rule (with_rule titled_app (word_rule (codes "action")))
+    (word_rule (codes "size"))) (word_rule (codes "media"))
+
+-- the same, and an icon and its type
 abbrev pub poster_app : App
-poster_app = with_rule (with_rule (with_rule titled_app (word_rule (codes "action"))) (word_rule (codes "size")))
-    (word_rule (codes "media"))
+poster_app = with_rule (with_rule described_app (word_rule (codes "icon")))
+    (word_rule (codes "icon-type"))
 
 -- a request or a select, its version, its collision resolution and its carriers
 abbrev pub linked_app : App
@@ -49,19 +62,27 @@ linked_app = with_rule (with_rule (with_rule (with_rule (part_app (codes "handov
 abbrev pub handover_app : App
 handover_app = with_rule linked_app (word_rule (codes "error"))
 
--- a type name format, a type and an id
-abbrev pub given_app : App
-given_app = with_rule (with_rule (with_rule (part_app (codes "record")) (asked_rule (codes "tnf")))
-    (word_rule (codes "type"))) (word_rule (codes "id"))
-
--- the same, and whether the payload isn't checked
+-- a type name format and a type
 abbrev pub record_app : App
-record_app = with_rule given_app (flag_rule (codes "unchecked"))
+record_app = with_rule (with_rule (payload_app (codes "record")) (asked_rule (codes "tnf")))
+    (word_rule (codes "type"))
 
--- a carrier type format, a carrier type and an id
+-- a media type
+abbrev pub media_app : App
+media_app = with_rule (payload_app (codes "media")) (given_rule (codes "type"))
+
+-- an external type
+abbrev pub external_app : App
+external_app = with_rule (payload_app (codes "external")) (given_rule (codes "type"))
+
+-- the package of an application
+abbrev pub app_app : App
+app_app = with_rule (part_app (codes "app")) (given_rule (codes "package"))
+
+-- a carrier type format and a carrier type
 abbrev pub carrier_app : App
-carrier_app = with_rule (with_rule (with_rule (part_app (codes "carrier")) (asked_rule (codes "format")))
-    (asked_rule (codes "type"))) (word_rule (codes "id"))
+carrier_app = with_rule (with_rule (payload_app (codes "carrier")) (asked_rule (codes "format")))
+    (asked_rule (codes "type"))
 
 -- the first word must be a subcommand, and none is for help
 abbrev pub empty_make_app : App
@@ -75,8 +96,14 @@ empty_make_app = let a = new_app (codes "ndef-make") in
       };
     }
 
+-- the subcommands whose record isn't made of a payload
+abbrev pub plain_make_app : App
+plain_make_app =
+    with_subcommand (with_subcommand (with_subcommand (with_subcommand (with_subcommand empty_make_app
+    text_app.top) uri_app.top) poster_app.top) handover_app.top) app_app.top
+
 -- all of it
 abbrev pub make_app : App
 make_app =
-    with_subcommand (with_subcommand (with_subcommand (with_subcommand (with_subcommand (with_subcommand empty_make_app
-    text_app.top) uri_app.top) poster_app.top) handover_app.top) record_app.top) carrier_app.top
+    with_subcommand (with_subcommand (with_subcommand (with_subcommand plain_make_app
+    record_app.top) media_app.top) external_app.top) carrier_app.top

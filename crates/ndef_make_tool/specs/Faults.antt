@@ -1,5 +1,5 @@
 -- Why no message is made, what is printed of it, and the status.
-use Rattle.std.specs.Prelude.{◌++◌, codes, decimal}
+use Rattle.std.specs.Prelude.{◌++◌, ◌-◌, ℕ, codes, decimal}
 use Rattle.clap.specs.Words.{Text}
 use Rattle.ndef_message.specs.declared.input.InputError.{InputError}
 use Rattle.ndef_message.specs.declared.input.InputError.TheVariants as inputs
@@ -16,10 +16,12 @@ use Rattle.ndef_value.specs.declared.record.RecordError.TheVariants as records
 use Rattle.ndef_format.specs.Reasons.{reason_name, reason_number}
 use Rattle.ndef_format.specs.declared.refusal.Refusal.{Refusal}
 use Rattle.ndef_make_tool.specs.declared.fault.Fault.{Fault}
-use Rattle.ndef_make_tool.specs.declared.fault.Fault.TheVariants.{Usage, Refused, Reading, TooLong, Memory}
+use Rattle.ndef_make_tool.specs.declared.fault.Fault.TheVariants.{Usage, UsageAt, Refused, Reading, TooLong, Memory}
 use Rattle.ndef_make_tool.specs.declared.fault.Refused.TheVariants as refused
 use Rattle.ndef_program.specs.Quoting.{quoted}
 use Rattle.ndef_program.specs.declared.status.Status.{Status}
+use Rattle.ndef_make_tool.specs.Measures.{free_for}
+use Rattle.ndef_make_tool.specs.Misuses.{usage_at, usage_line}
 use Rattle.ndef_make_tool.specs.declared.fault.Told.{Told}
 use Rattle.ndef_make_tool.specs.declared.fault.Told.TheVariants as told
 use Rattle.ndef_program.specs.declared.status.Status.TheVariants as status
@@ -59,18 +61,14 @@ abbrev pub detail_fault : DetailError → Fault
 detail_fault details.BadShape = Refused refused.BadError
 detail_fault details.NoMemory = Memory
 
--- ---- what is printed
+-- ---- the record at fault
 
--- for words that don't parse
-abbrev pub ndef_make_usage : Text
-ndef_make_usage =
-    codes "usage: ndef-make text [--language L] [--utf16] TEXT | uri URI | poster URI [--title L=TEXT].. "
-    ++ codes "[--action do|save|open] [--size N] [--media TYPE] | "
-    ++ codes "handover request --collision N [--version 1.M] [--carrier POWER=ID[,ID]..].. | "
-    ++ codes "handover select [--version 1.M] [--carrier POWER=ID[,ID]..].. [--error REASON:DATA] | "
-    ++ codes "record --tnf N [--type T] [--id I] [--unchecked] < payload | "
-    ++ codes "carrier --format N --type T [--id I] < data; [--hex] [--raw]; more records: --and ..; "
-    ++ codes "--help | --version\n"
+-- the same fault, of the record of this number
+abbrev pub fault_at : ℕ → Fault → Fault
+fault_at n (Usage misuse) = UsageAt n misuse
+fault_at n fault = fault
+
+-- ---- what is printed
 
 -- for a payload that isn't one of its type
 abbrev pub payload_line : Refusal → Text
@@ -82,20 +80,32 @@ payload_line r =
 abbrev pub record_line : Text → Text
 record_line reference = codes "refused: no record has the id " ++ quoted reference ++ codes "\n"
 
+-- Type 2 Tag, NDEF Message TLV: for a message for which a tag has no room
+abbrev pub room_line : (n room : ℕ) → Text
+room_line n room =
+    codes "refused: a message of " ++ decimal n ++ codes " bytes, and the tag has room for "
+    ++ decimal (free_for n room) ++ codes ": " ++ decimal (n - free_for n room)
+    ++ codes " too many\n"
+
 -- the line of a fault
 abbrev pub line_of : Fault → Text
-line_of Usage = ndef_make_usage
+line_of (Usage misuse) = usage_line misuse
+line_of (UsageAt n misuse) = usage_at n misuse
 line_of (Refused refused.LanguageTooLong) = codes "refused: a language code of more than 63 bytes\n"
 line_of (Refused refused.LanguageNotAscii) = codes "refused: a language code that is not ASCII\n"
-line_of (Refused refused.PayloadTooLong) = codes "refused: a payload of more than 4294967295 bytes\n"
-line_of (Refused refused.BadShape) = codes "refused: parts that do not go with the type name format\n"
+line_of (Refused refused.PayloadTooLong) =
+    codes "refused: a payload of more than 4294967295 bytes\n"
+line_of (Refused refused.BadShape) =
+    codes "refused: parts that do not go with the type name format\n"
 line_of (Refused refused.PartTooLong) = codes "refused: a type or an id of more than 255 bytes\n"
 line_of (Refused (refused.BadPayload refusal)) = payload_line refusal
 line_of (Refused refused.NoPoster) = codes "refused: records that are no smart poster\n"
 line_of (Refused refused.NoHandover) = codes "refused: records that are no handover\n"
-line_of (Refused refused.BadError) = codes "refused: data that do not go with the reason of an error\n"
+line_of (Refused refused.BadError) =
+    codes "refused: data that do not go with the reason of an error\n"
 line_of (Refused refused.TooManyReferences) = codes "refused: more than 255 auxiliary references\n"
 line_of (Refused (refused.NoRecord reference)) = record_line reference
+line_of (Refused (refused.NoRoom size room)) = room_line size room
 line_of (Refused refused.TooManyRecords) = codes "refused: more than 65535 records\n"
 line_of Reading = codes "fault: reading\n"
 line_of TooLong = codes "fault: more than 1048576 bytes of payload\n"
@@ -110,6 +120,7 @@ fault_text (told.Line line) = line
 
 -- the status of a fault
 abbrev pub fault_status : Fault → Status
-fault_status Usage = status.Usage
+fault_status (Usage misuse) = status.Usage
+fault_status (UsageAt n misuse) = status.Usage
 fault_status (Refused why) = status.Refused
 fault_status _ = status.Fault

@@ -3,30 +3,29 @@ use Rattle.std.specs.Prelude.{◌≡◌, ◌<◌, ◌≤◌, ◌+◌, ◌^◌, �
 use Rattle.std.specs.declared.alloc.Global.{Global}
 use Rattle.std.specs.Int.{w16, to_be_bytes}
 use Rattle.std.specs.List.{AllByRecursion, list_all, slice_split}
-use Rattle.std.specs.Result.{result_ok}
 use Rattle.std.specs.Str.{bytes_eq}
-use Rattle.hex.specs.Hex.{decode_of}
 use Rattle.clap.specs.Words.{Row, Text, first_of}
 use Rattle.ndef_format.specs.Canonical.{canonical}
 use Rattle.ndef_format.specs.Handovers.{IsErrorData}
 use Rattle.ndef_format.specs.Messages.{Item}
 use Rattle.ndef_format.specs.Nested.{HasContents}
 use Rattle.ndef_format.specs.declared.profile.Profile.TheVariants.{Strict}
-use Rattle.ndef_format.specs.declared.table.Table.{Table}
 use Rattle.ndef_format.specs.declared.table.Table.TheVariants as tables
 use Rattle.ndef_types.specs.Contents.{IsFirstWrong}
-use Rattle.ndef_types.specs.Handovers.{RequestValue, SelectValue, WritesRequest, WritesSelect, canonical_or_none}
+use Rattle.ndef_types.specs.Handovers.{WritesRequest, WritesSelect, canonical_or_none}
 use Rattle.ndef_types.specs.Values.{AcValue, ErrorValue, WritesAc, WritesError, ac_payload, error_payload}
 use Rattle.ndef_types.specs.declared.power.Power.{Power}
 use Rattle.ndef_types.specs.declared.power.Power.TheVariants as power
+use Rattle.ndef_make_tool.specs.Octets.{octets_in}
 use Rattle.ndef_make_tool.specs.Options.{cut_at, is_colon, is_comma, is_equals, is_said, number_below, word_or}
-use Rattle.ndef_make_tool.specs.Records.{Answer, MakesSaid, well_known}
+use Rattle.ndef_make_tool.specs.Records.{Answer, MakesSaid, typed_record}
 use Rattle.ndef_make_tool.specs.declared.fault.Fault.{Fault}
-use Rattle.ndef_make_tool.specs.declared.fault.Fault.TheVariants.{Usage, Refused, Memory}
+use Rattle.ndef_make_tool.specs.declared.fault.Fault.TheVariants.{Refused, Memory}
 use Rattle.ndef_make_tool.specs.declared.fault.Refused.TheVariants.{BadError, NoHandover, PartTooLong, PayloadTooLong, TooManyRecords, TooManyReferences}
 use Rattle.ndef_make_tool.specs.declared.handover.Handover.{Handover}
 use Rattle.ndef_make_tool.specs.declared.handover.Side.{Side}
 use Rattle.ndef_make_tool.specs.declared.handover.Side.TheVariants.{Request, Select}
+use Rattle.ndef_make_tool.specs.declared.misuse.Misuse.TheVariants as misuse
 
 -- ---- carriers
 
@@ -37,15 +36,18 @@ power_named name = if bytes_eq name (codes "inactive") then Some power.Inactive
     else (if bytes_eq name (codes "activating") then Some power.Activating
     else (if bytes_eq name (codes "unknown") then Some power.Unknown else None)))
 
--- Connection Handover 1.2, Alternative Carrier record: a carrier reference and the auxiliary references after it
+-- Connection Handover 1.2, Alternative Carrier record: a carrier reference and the auxiliary
+-- references after it
 abbrev pub ac_of : Power → List Text → Option AcValue
 ac_of power [] = None
 ac_of power (reference ∷ auxiliary) =
     Some (record { power = power; reference = reference; auxiliary = auxiliary; rest = [] })
 
--- Connection Handover 1.2, Alternative Carrier record: a power state, an equals sign, and references between commas
+-- Connection Handover 1.2, Alternative Carrier record: a power state, an equals sign, and
+-- references between commas
 abbrev pub ac_said : Text → Option AcValue
-ac_said word = option_and_then (λ cut. option_and_then (λ power. ac_of power (slice_split is_comma cut.1))
+ac_said word =
+    option_and_then (λ cut. option_and_then (λ power. ac_of power (slice_split is_comma cut.1))
     (power_named cut.0)) (cut_at is_equals word)
 
 -- Connection Handover 1.2, Carrier Data Reference: each has at most 255 octets
@@ -56,11 +58,11 @@ AreShort references = AllByRecursion (λ reference. length reference < 256) refe
 abbrev pub are_short : List Text → Bool
 are_short references = list_all (λ reference. nat_lt (length reference) 256) references
 
--- Connection Handover 1.2, Alternative Carrier record: the record of a carrier; none where a reference is too long or
--- there are too many
+-- Connection Handover 1.2, Alternative Carrier record: the record of a carrier; none where a
+-- reference is too long or there are too many
 abbrev pub MakesAlternative : AcValue → Answer → Type 0
 MakesAlternative v (Ok i) = AreShort (v.reference ∷ v.auxiliary) × (length v.auxiliary < 256)
-    × WritesAc v i.payload × (length i.payload < 2 ^ 32) × (i ≡ well_known (codes "ac") i.payload)
+    × WritesAc v i.payload × (length i.payload < 2 ^ 32) × (i ≡ typed_record (codes "ac") i.payload)
 MakesAlternative v (Err (Refused PartTooLong)) = AreShort (v.reference ∷ v.auxiliary) → ⊥
 MakesAlternative v (Err (Refused TooManyReferences)) = AreShort (v.reference ∷ v.auxiliary)
     × (256 ≤ length v.auxiliary)
@@ -71,38 +73,40 @@ MakesAlternative v (Err _) = ⊥
 -- ---- errors
 
 -- Connection Handover 1.2, Error record: a reason and its data, where both are said
-abbrev pub error_of : Option ℕ → Option (List ℕ) → Option ErrorValue
-error_of (Some reason) (Some detail) = Some (record { reason = reason; detail = detail })
-error_of _ _ = None
-
--- the bytes of hexadecimal digits
-abbrev pub octets_in : Text → Option (List ℕ)
-octets_in digits = result_ok (decode_of digits)
+abbrev pub error_of_words : Option ℕ → Option (List ℕ) → Option ErrorValue
+error_of_words (Some reason) (Some detail) = Some (record { reason = reason; detail = detail })
+error_of_words _ _ = None
 
 -- Connection Handover 1.2, Error record: a reason, a colon, and its data in hexadecimal digits
 abbrev pub error_said : Text → Option ErrorValue
-error_said word = option_and_then (λ cut. error_of (number_below 256 cut.0) (octets_in cut.1)) (cut_at is_colon word)
+error_said word =
+    option_and_then (λ cut. error_of_words (number_below 256 cut.0) (octets_in cut.1)) (cut_at is_colon word)
 
--- Connection Handover 1.2, Error record: the record of an error; none where the data doesn't go with the reason
+-- Connection Handover 1.2, Error record: the record of an error; none where the data doesn't go
+-- with the reason
 abbrev pub MakesError : ErrorValue → Answer → Type 0
-MakesError v (Ok i) = IsErrorData v.reason v.detail × WritesError v i.payload × (length i.payload < 2 ^ 32)
-    × (i ≡ well_known (codes "err") i.payload)
+MakesError v (Ok i) =
+    IsErrorData v.reason v.detail × WritesError v i.payload × (length i.payload < 2 ^ 32)
+    × (i ≡ typed_record (codes "err") i.payload)
 MakesError v (Err (Refused BadError)) = IsErrorData v.reason v.detail → ⊥
-MakesError v (Err (Refused PayloadTooLong)) = IsErrorData v.reason v.detail × (2 ^ 32 ≤ length (error_payload v))
+MakesError v (Err (Refused PayloadTooLong)) =
+    IsErrorData v.reason v.detail × (2 ^ 32 ≤ length (error_payload v))
 MakesError v (Err Memory) = IsErrorData v.reason v.detail
 MakesError v (Err _) = ⊥
 
--- Connection Handover 1.2, Error record: the record of the error of a word; the usage line where it says none. Memory
--- may run out for the octets of its digits
+-- Connection Handover 1.2, Error record: the record of the error of a word, where it says one.
+-- Memory may run out for the octets of its digits
 abbrev pub AsksError : Text → Answer → Type 0
 AsksError word (Err Memory) = (v : ErrorValue) × (error_said word ≡ Some v)
-AsksError word answer = MakesSaid MakesError (error_said word) answer
+AsksError word answer = MakesSaid misuse.Reason MakesError (error_said word) answer
 
 -- ---- collisions
 
--- Connection Handover 1.2, Collision Resolution record: a random number in two octets, most significant first
+-- Connection Handover 1.2, Collision Resolution record: a random number in two octets, most
+-- significant first
 abbrev pub collision_said : Text → Option Item
-collision_said word = option_map (λ number. well_known (codes "cr") (to_be_bytes w16 number)) (number_below 65536 word)
+collision_said word =
+    option_map (λ number. typed_record (codes "cr") (to_be_bytes w16 number)) (number_below 65536 word)
 
 -- ---- the handover
 
@@ -130,7 +134,8 @@ minor_named name = if bytes_eq name (codes "1.0") then Some 0
     else (if bytes_eq name (codes "1.14") then Some 14
     else (if bytes_eq name (codes "1.15") then Some 15 else None)))))))))))))))
 
--- Connection Handover 1.2: a request has a collision resolution and no error, a select no collision resolution
+-- Connection Handover 1.2: a request has a collision resolution and no error, a select no collision
+-- resolution
 abbrev pub goes_with : Side → List Row → Bool
 goes_with Request rows = is_said (codes "collision") rows && not (is_said (codes "error") rows)
 goes_with Select rows = not (is_said (codes "collision") rows)
@@ -144,45 +149,52 @@ handover_of rows side = if goes_with side rows
 
 -- Connection Handover 1.2: the handover of a part
 abbrev pub handover_said : List Row → Option Handover
-handover_said rows = option_and_then (handover_of rows) (option_and_then side_named (first_of (codes "kind") rows))
+handover_said rows =
+    option_and_then (handover_of rows) (option_and_then side_named (first_of (codes "kind") rows))
 
 -- Connection Handover 1.2, Handover Request record: the record of a request of these records
-abbrev pub MakesRequest : ℕ → List Item → Answer → Type 0
-MakesRequest minor items (Ok i) = HasContents tables.Request Strict items
-    × WritesRequest (record { minor = minor; items = items }) i.payload × (length i.payload < 2 ^ 32)
-    × (i ≡ well_known (codes "Hr") i.payload)
-MakesRequest minor items (Err (Refused NoHandover)) =
+abbrev pub MakesRequestRecord : ℕ → List Item → Answer → Type 0
+MakesRequestRecord minor items (Ok i) = HasContents tables.Request Strict items
+    × WritesRequest (record { minor = minor; items = items }) i.payload
+    × (length i.payload < 2 ^ 32)
+    × (i ≡ typed_record (codes "Hr") i.payload)
+MakesRequestRecord minor items (Err (Refused NoHandover)) =
     (items ≡ []) ⊎ ((index : ℕ) × IsFirstWrong tables.Request items index)
-MakesRequest minor items (Err (Refused TooManyRecords)) = 65535 < length items
-MakesRequest minor items (Err (Refused PayloadTooLong)) =
-    (payload : List ℕ) × WritesRequest (record { minor = minor; items = items }) payload × (2 ^ 32 ≤ length payload)
-MakesRequest minor items (Err Memory) =
+MakesRequestRecord minor items (Err (Refused TooManyRecords)) = 65535 < length items
+MakesRequestRecord minor items (Err (Refused PayloadTooLong)) =
+    (payload : List ℕ) × WritesRequest (record { minor = minor; items = items }) payload
+    × (2 ^ 32 ≤ length payload)
+MakesRequestRecord minor items (Err Memory) =
     HasContents tables.Request Strict items × (1 + length (canonical items) < 2 ^ 32)
-MakesRequest minor items (Err _) = ⊥
+MakesRequestRecord minor items (Err _) = ⊥
 
--- Connection Handover 1.2, Handover Select record: the message of a select; none where there are no records
+-- Connection Handover 1.2, Handover Select record: the message of a select; none where there are no
+-- records
 abbrev pub selected : List Item → Option (List Item)
 selected [] = None
 selected (i ∷ items) = Some (i ∷ items)
 
 -- Connection Handover 1.2, Handover Select record: the record of a select of these records
-abbrev pub MakesSelect : ℕ → List Item → Answer → Type 0
-MakesSelect minor items (Ok i) = IfSome (selected items) (HasContents tables.Select Strict)
-    × WritesSelect (record { minor = minor; message = selected items }) i.payload × (length i.payload < 2 ^ 32)
-    × (i ≡ well_known (codes "Hs") i.payload)
-MakesSelect minor items (Err (Refused NoHandover)) = (index : ℕ) × IsFirstWrong tables.Select items index
-MakesSelect minor items (Err (Refused TooManyRecords)) = 65535 < length items
-MakesSelect minor items (Err (Refused PayloadTooLong)) =
+abbrev pub MakesSelectRecord : ℕ → List Item → Answer → Type 0
+MakesSelectRecord minor items (Ok i) = IfSome (selected items) (HasContents tables.Select Strict)
+    × WritesSelect (record { minor = minor; message = selected items }) i.payload
+    × (length i.payload < 2 ^ 32)
+    × (i ≡ typed_record (codes "Hs") i.payload)
+MakesSelectRecord minor items (Err (Refused NoHandover)) =
+    (index : ℕ) × IsFirstWrong tables.Select items index
+MakesSelectRecord minor items (Err (Refused TooManyRecords)) = 65535 < length items
+MakesSelectRecord minor items (Err (Refused PayloadTooLong)) =
     (payload : List ℕ) × WritesSelect (record { minor = minor; message = selected items }) payload
     × (2 ^ 32 ≤ length payload)
-MakesSelect minor items (Err Memory) = IfSome (selected items) (HasContents tables.Select Strict)
+MakesSelectRecord minor items (Err Memory) =
+    IfSome (selected items) (HasContents tables.Select Strict)
     × (1 + length (canonical_or_none (selected items)) < 2 ^ 32)
-MakesSelect minor items (Err _) = ⊥
+MakesSelectRecord minor items (Err _) = ⊥
 
 -- Connection Handover 1.2: the record of a request or a select of these records
 abbrev pub MakesSide : Side → ℕ → List Item → Answer → Type 0
-MakesSide Request minor items answer = MakesRequest minor items answer
-MakesSide Select minor items answer = MakesSelect minor items answer
+MakesSide Request minor items answer = MakesRequestRecord minor items answer
+MakesSide Select minor items answer = MakesSelectRecord minor items answer
 
 -- Connection Handover 1.2: the record of a handover of these records
 abbrev pub MakesHandoverOf : Handover → List Item → Answer → Type 0
@@ -191,15 +203,16 @@ MakesHandoverOf handover items answer = MakesSide handover.side handover.minor i
 -- ---- step by step
 
 -- references of a carrier and of its auxiliary records: none is too long, and there aren't too many
-abbrev pub AreReferences : List Text → Type 0
-AreReferences references = AreShort references × (length references ≤ 256)
+abbrev pub FitReferences : List Text → Type 0
+FitReferences references = AreShort references × (length references ≤ 256)
 
 -- the same, or what is wrong with them
-abbrev pub AreChecked : List Text → Result Unit Fault → Type 0
-AreChecked references (Ok done) = AreReferences references
-AreChecked references (Err (Refused PartTooLong)) = AreShort references → ⊥
-AreChecked references (Err (Refused TooManyReferences)) = AreShort references × (256 < length references)
-AreChecked references (Err _) = ⊥
+abbrev pub ChecksReferences : List Text → Result Unit Fault → Type 0
+ChecksReferences references (Ok done) = FitReferences references
+ChecksReferences references (Err (Refused PartTooLong)) = AreShort references → ⊥
+ChecksReferences references (Err (Refused TooManyReferences)) =
+    AreShort references × (256 < length references)
+ChecksReferences references (Err _) = ⊥
 
 -- the names of references
 abbrev pub AreNames : List Text → Result (Vec (List ℕ) Global) Fault → Type 0
@@ -207,21 +220,16 @@ AreNames references (Ok names) = (names.items ≡ references) × AreShort refere
 AreNames references (Err Memory) = ⊤
 AreNames references (Err _) = ⊥
 
--- Connection Handover 1.2, Alternative Carrier record: the record of a carrier whose references aren't too long
-abbrev pub MakesAc : AcValue → Answer → Type 0
-MakesAc v (Ok i) = (length v.auxiliary < 256) × WritesAc v i.payload × (length i.payload < 2 ^ 32)
-    × (i ≡ well_known (codes "ac") i.payload)
-MakesAc v (Err (Refused TooManyReferences)) = 256 ≤ length v.auxiliary
-MakesAc v (Err (Refused PayloadTooLong)) = 2 ^ 32 ≤ length (ac_payload v)
-MakesAc v (Err Memory) = length v.auxiliary < 256
-MakesAc v (Err _) = ⊥
-
--- the bytes of hexadecimal digits, or the usage line exactly where they are none
-abbrev pub SaysOctets : Text → Result (Vec ℕ Global) Fault → Type 0
-SaysOctets digits (Ok octets) = octets_in digits ≡ Some octets.items
-SaysOctets digits (Err Usage) = octets_in digits ≡ None
-SaysOctets digits (Err Memory) = (octets : List ℕ) × (octets_in digits ≡ Some octets)
-SaysOctets digits (Err _) = ⊥
+-- Connection Handover 1.2, Alternative Carrier record: the record of a carrier whose references
+-- aren't too long
+abbrev pub MakesAcRecord : AcValue → Answer → Type 0
+MakesAcRecord v (Ok i) =
+    (length v.auxiliary < 256) × WritesAc v i.payload × (length i.payload < 2 ^ 32)
+    × (i ≡ typed_record (codes "ac") i.payload)
+MakesAcRecord v (Err (Refused TooManyReferences)) = 256 ≤ length v.auxiliary
+MakesAcRecord v (Err (Refused PayloadTooLong)) = 2 ^ 32 ≤ length (ac_payload v)
+MakesAcRecord v (Err Memory) = length v.auxiliary < 256
+MakesAcRecord v (Err _) = ⊥
 
 -- the message of a select, where it has records
 abbrev pub IsSelected : List Item → Result (Option (List Item)) Fault → Type 0

@@ -1,11 +1,16 @@
 pub mod CommandLine
 pub mod Options
 pub mod Asked
+pub mod Measures
+pub mod Misuses
 pub mod Faults
+pub mod Causes
+pub mod Octets
 pub mod Inputs
 pub mod Records
 pub mod Posters
 pub mod Carriers
+pub mod MayBeWritten
 pub mod Handovers
 pub mod Contents
 pub mod References

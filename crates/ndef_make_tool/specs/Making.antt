@@ -1,74 +1,105 @@
 -- The message that the words ask for, and what is written of it.
-use Rattle.std.specs.Prelude.{◌≡◌, ◌<◌, ◌≤◌, ◌⊎◌, ◌&&◌, ℕ, zero, suc, Bool, not, if◌then◌else◌, List, [], length, count_by, Option, Some, None, Result, Ok, Err, codes, Vec}
+use Rattle.std.specs.Prelude.{◌≡◌, ◌<◌, ◌≤◌, ◌⊎◌, ◌&&◌, ◌++◌, ◌+◌, ℕ, nat_lt, Bool, true, false, not, if◌then◌else◌, List, [], ◌∷◌, length, decimal, drop, Option, Some, None, Result, Ok, Err, codes, Vec}
 use Rattle.std.specs.declared.alloc.Global.{Global}
 use Rattle.std.specs.List.{list_any}
-use Rattle.clap.specs.Words.{Row, Text}
+use Rattle.clap.specs.Words.{Row, Text, first_of}
 use Rattle.ndef_format.specs.Canonical.{AreItems, canonical}
 use Rattle.ndef_format.specs.Messages.{Item}
-use Rattle.ndef_message.specs.States.{SourceState}
 use Rattle.ndef_program.specs.Outputs.{hexadecimal_line}
 use Rattle.ndef_make_tool.specs.Asked.{AskedPart, parts_asked}
-use Rattle.ndef_make_tool.specs.Carriers.{MakesCarrier, carrier_said, id_said}
+use Rattle.ndef_make_tool.specs.Carriers.{MakesCarrier, carrier_said}
 use Rattle.ndef_make_tool.specs.Checking.{MakesIf, is_unchecked}
-use Rattle.ndef_make_tool.specs.Inputs.{IsPayloadInput}
+use Rattle.ndef_make_tool.specs.Faults.{fault_at}
+use Rattle.ndef_make_tool.specs.Inputs.{GivesInput, ReadsFor, readers_of}
 use Rattle.ndef_program.specs.Options.{flag_of}
-use Rattle.ndef_make_tool.specs.Options.{subject_named, takes_input}
-use Rattle.ndef_make_tool.specs.Contents.{MakesHandoverSaid, MakesPoster}
+use Rattle.ndef_make_tool.specs.Measures.{measure_in, misfit}
+use Rattle.ndef_make_tool.specs.Options.{id_said, subject_named}
+use Rattle.ndef_make_tool.specs.Contents.{MakesHandoverSaid, MakesPosterRecord}
 use Rattle.ndef_make_tool.specs.References.{IsLongName, missing_reference}
-use Rattle.ndef_make_tool.specs.Records.{Answer, AreAnsweredBy, AreMadeBy, MakesSaid, FailsBy, MakesItem, MakesText, MakesUri, item_said, text_said, uri_said}
+use Rattle.ndef_make_tool.specs.Records.{Answer, IsUnmade, MakesItem, MakesNamed, MakesSaid, MakesText, MakesUri, app_said, external_said, item_said, media_said, text_said, uri_said}
 use Rattle.ndef_make_tool.specs.declared.fault.Fault.{Fault}
 use Rattle.ndef_make_tool.specs.declared.fault.Fault.TheVariants.{Usage, Refused, Memory}
-use Rattle.ndef_make_tool.specs.declared.fault.Refused.TheVariants.{NoRecord, PartTooLong, TooManyRecords}
+use Rattle.ndef_make_tool.specs.declared.fault.Refused.TheVariants.{NoRecord, NoRoom, PartTooLong, TooManyRecords}
 use Rattle.ndef_make_tool.specs.declared.making.Written.{Written}
 use Rattle.ndef_make_tool.specs.declared.making.Shown.{Shown}
-use Rattle.ndef_make_tool.specs.declared.making.Shown.TheVariants.{Digits, DigitsForTerminal, Octets}
+use Rattle.ndef_make_tool.specs.declared.making.Shown.TheVariants.{Digits, DigitsForTerminal, Number, Octets}
+use Rattle.ndef_make_tool.specs.declared.making.Writing.{Writing}
+use Rattle.ndef_make_tool.specs.declared.measure.Measure.{Measure}
+use Rattle.ndef_make_tool.specs.declared.measure.Measure.TheVariants.{Count}
+use Rattle.ndef_make_tool.specs.declared.misuse.Misuse.TheVariants as misuse
 use Rattle.ndef_make_tool.specs.declared.options.Subject.{Subject}
 use Rattle.ndef_make_tool.specs.declared.options.Subject.TheVariants as subject
 
--- ---- the input
-
--- whether the part takes the input
-abbrev pub is_reader : AskedPart → Bool
-is_reader part = takes_input (subject_named part.0)
-
--- the number of parts that take it
-abbrev pub readers_of : List AskedPart → ℕ
-readers_of = count_by is_reader
-
--- it is read for one part, left where none takes it, and refused to more than one
-abbrev pub ReadsFor : ℕ → (before after : SourceState) → Result (List ℕ) Fault → Type 0
-ReadsFor zero before after input = (after ≡ before) × (input ≡ Ok [])
-ReadsFor (suc zero) before after input = IsPayloadInput before after input
-ReadsFor (suc (suc n)) before after input = (after ≡ before) × (input ≡ Err Usage)
-
 -- ---- the records
 
--- what is made of the options of a subject
-abbrev pub MakesBy : Option Subject → List Row → (input : List ℕ) → Answer → Type 0
-MakesBy None rows input answer = answer ≡ Err Usage
-MakesBy (Some subject.Text) rows input answer = MakesSaid MakesText (text_said rows) answer
-MakesBy (Some subject.Uri) rows input answer = MakesSaid MakesUri (uri_said rows) answer
-MakesBy (Some subject.Poster) rows input answer = MakesPoster rows answer
-MakesBy (Some subject.Handover) rows input answer = MakesHandoverSaid rows answer
-MakesBy (Some subject.Record) rows input answer = MakesSaid MakesItem (item_said rows input) answer
-MakesBy (Some subject.Carrier) rows input answer =
-    MakesSaid (MakesCarrier (id_said rows)) (carrier_said rows input) answer
+-- what is made of the options of a subject, with a payload
+abbrev pub MakesBy : Option Subject → List Row → (payload : List ℕ) → Answer → Type 0
+MakesBy None rows payload answer = answer ≡ Err (Usage misuse.Words)
+MakesBy (Some subject.Text) rows payload answer =
+    MakesNamed (first_of (codes "id") rows) (MakesSaid misuse.Words MakesText (text_said rows)) answer
+MakesBy (Some subject.Uri) rows payload answer =
+    MakesNamed (first_of (codes "id") rows) (MakesSaid misuse.Words MakesUri (uri_said rows)) answer
+MakesBy (Some subject.Poster) rows payload answer =
+    MakesNamed (first_of (codes "id") rows) (MakesPosterRecord rows payload) answer
+MakesBy (Some subject.Handover) rows payload answer =
+    MakesNamed (first_of (codes "id") rows) (MakesHandoverSaid rows) answer
+MakesBy (Some subject.Record) rows payload answer =
+    MakesSaid misuse.Tnf MakesItem (item_said rows payload) answer
+MakesBy (Some subject.Media) rows payload answer =
+    MakesSaid misuse.MediaType MakesItem (media_said rows payload) answer
+MakesBy (Some subject.External) rows payload answer =
+    MakesSaid misuse.ExternalType MakesItem (external_said rows payload) answer
+MakesBy (Some subject.App) rows payload answer = MakesSaid misuse.Words MakesItem (app_said rows) answer
+MakesBy (Some subject.Carrier) rows payload answer =
+    MakesSaid misuse.Format (MakesCarrier (id_said rows)) (carrier_said rows payload) answer
 
--- what is made of a part, with the input: a record whose payload is one of its type, or isn't checked
-abbrev pub Makes : AskedPart → (input : List ℕ) → Answer → Type 0
-Makes part input answer = MakesIf (is_unchecked part) (MakesBy (subject_named part.0) part.1 input) answer
+-- what is made of a part, with its payload: a record whose payload is one of its type, or isn't
+-- checked
+abbrev pub Makes : AskedPart → (payload : List ℕ) → Answer → Type 0
+Makes part payload answer =
+    MakesIf (is_unchecked part) (MakesBy (subject_named part.0) part.1 payload) answer
 
--- the records of the parts, in order
-abbrev pub AreMade : List AskedPart → (input : List ℕ) → List Item → Type 0
-AreMade parts input items = AreMadeBy (λ part. Makes part input) parts items
+-- the same with the result of reading its payload
+abbrev pub MakesWith : AskedPart → Result (List ℕ) Fault → Answer → Type 0
+MakesWith part (Ok payload) answer = Makes part payload answer
+MakesWith part (Err fault) answer = answer ≡ Err fault
+
+-- what is made of a part, whose payload is read
+abbrev pub MakesFrom : {I : Type 0} → GivesInput I → AskedPart → (before after : I) → Answer → Type 0
+MakesFrom gives part before after answer = (payload : Result (List ℕ) Fault)
+    × ReadsFor gives part before after payload × MakesWith part payload answer
+
+-- the records of what is said, in order, and what is left of the inputs
+abbrev pub AreMadeIn : {I X : Type 0} → (X → I → I → Answer → Type 0) → List X → (before after : I)
+    → List Item → Type 0
+AreMadeIn makes [] before after [] = after ≡ before
+AreMadeIn {I} makes (x ∷ xs) before after (i ∷ items) =
+    (middle : I) × makes x before middle (Ok i) × AreMadeIn makes xs middle after items
+AreMadeIn makes _ before after _ = ⊥
+
+-- the first of which no record is made, its number, and why; memory runs out only for one that isn't
+-- refused
+abbrev pub FailsIn : {I X : Type 0} → (X → I → I → Answer → Type 0) → List X → (before after : I)
+    → Fault → Type 0
+FailsIn {I} {X} makes xs before after fault =
+    (done : List X) × (items : List Item) × (middle : I) × (x : X) × (rest : List X)
+    × (xs ≡ done ++ x ∷ rest) × AreMadeIn makes done before middle items × (why : Fault)
+    × IsUnmade (makes x middle after) why × (fault ≡ fault_at (length done + 1) why)
+
+-- the records of the parts, in order, each with its payload
+abbrev pub AreMade : {I : Type 0} → GivesInput I → List AskedPart → (before after : I) → List Item
+    → Type 0
+AreMade gives parts before after items = AreMadeIn (MakesFrom gives) parts before after items
 
 -- the first part of which no record is made, and why
-abbrev pub FailsAt : List AskedPart → (input : List ℕ) → Fault → Type 0
-FailsAt parts input fault = FailsBy (λ part. Makes part input) parts fault
+abbrev pub FailsAt : {I : Type 0} → GivesInput I → List AskedPart → (before after : I) → Fault → Type 0
+FailsAt gives parts before after fault = FailsIn (MakesFrom gives) parts before after fault
 
 -- the records of the parts, or why there are none
-abbrev pub AreAnswered : List AskedPart → (input : List ℕ) → Result (Vec Item Global) Fault → Type 0
-AreAnswered parts input answer = AreAnsweredBy (λ part. Makes part input) parts answer
+abbrev pub AreAnswered : {I : Type 0} → GivesInput I → List AskedPart → (before after : I)
+    → Result (Vec Item Global) Fault → Type 0
+AreAnswered gives parts before after (Ok records) = AreMade gives parts before after records.items
+AreAnswered gives parts before after (Err fault) = FailsAt gives parts before after fault
 
 -- ---- what is written
 
@@ -81,57 +112,112 @@ abbrev pub shown_by : (terminal : Bool) → List AskedPart → Shown
 shown_by terminal parts = if has_flag (codes "hex") parts then Digits
     else (if terminal && not (has_flag (codes "raw") parts) then DigitsForTerminal else Octets)
 
--- bytes as they are, or as a line of hexadecimal digits
+-- the number of bytes, where that is asked for
+abbrev pub shown_of : Measure → Shown → Shown
+shown_of Count shown = Number
+shown_of _ shown = shown
+
+-- bytes as they are, as a line of hexadecimal digits, or as their number
 abbrev pub written_as : Shown → List ℕ → Text
 written_as Octets bytes = bytes
 written_as Digits bytes = hexadecimal_line bytes
 written_as DigitsForTerminal bytes = hexadecimal_line bytes
+written_as Number bytes = decimal (length bytes) ++ codes "\n"
 
--- NDEF 1.0, messages: the canonical spelling of the records, of which there are at most 65535
-abbrev pub MakesMessage : Shown → List Item → Result Written Fault → Type 0
-MakesMessage shown items (Ok made) = AreItems items × (made.text ≡ written_as shown (canonical items))
-    × (made.shown ≡ shown)
-MakesMessage shown items (Err (Refused TooManyRecords)) = 65535 < length items
-MakesMessage shown items (Err Memory) = length items ≤ 65535
-MakesMessage shown items (Err _) = ⊥
+-- NDEF 1.0, messages: the canonical spelling of the records, of which there are at most 65535, where
+-- the tag has room for it
+abbrev pub MakesMessage : Measure → Shown → List Item → Result Written Fault → Type 0
+MakesMessage measure shown items (Ok made) =
+    AreItems items × (made.text ≡ written_as shown (canonical items))
+    × (made.shown ≡ shown) × (misfit measure (length (canonical items)) ≡ None)
+MakesMessage measure shown items (Err (Refused TooManyRecords)) = 65535 < length items
+MakesMessage measure shown items (Err (Refused (NoRoom n room))) = (length items ≤ 65535)
+    × (misfit measure (length (canonical items)) ≡ Some (n, room))
+MakesMessage measure shown items (Err Memory) = (length items ≤ 65535)
+    × (misfit measure (length (canonical items)) ≡ None)
+MakesMessage measure shown items (Err _) = ⊥
 
--- Connection Handover 1.2, Carrier Data Reference: the message of the records, where each reference has a record
-abbrev pub MakesLinked : Option Text → Shown → List Item → Result Written Fault → Type 0
-MakesLinked None shown items answer = MakesMessage shown items answer
-MakesLinked (Some reference) shown items (Err (Refused (NoRecord told))) = told ≡ reference
-MakesLinked (Some reference) shown items (Err (Refused PartTooLong)) = 256 ≤ length reference
-MakesLinked (Some reference) shown items (Err Memory) = IsLongName reference
-MakesLinked (Some reference) shown items _ = ⊥
+-- the same of a message
+abbrev pub WritesMessage : Measure → Shown → List Item → Result Written Fault → Type 0
+WritesMessage measure shown items (Ok made) = (made.text ≡ written_as shown (canonical items))
+    × (made.shown ≡ shown) × (misfit measure (length (canonical items)) ≡ None)
+WritesMessage measure shown items (Err (Refused (NoRoom n room))) =
+    misfit measure (length (canonical items)) ≡ Some (n, room)
+WritesMessage measure shown items (Err Memory) =
+    misfit measure (length (canonical items)) ≡ None
+WritesMessage measure shown items (Err _) = ⊥
+
+-- Connection Handover 1.2, Carrier Data Reference: the message of the records, where each reference
+-- has a record
+abbrev pub MakesLinked : Option Text → Measure → Shown → List Item → Result Written Fault → Type 0
+MakesLinked None measure shown items answer = MakesMessage measure shown items answer
+MakesLinked (Some reference) measure shown items (Err (Refused (NoRecord told))) =
+    told ≡ reference
+MakesLinked (Some reference) measure shown items (Err (Refused PartTooLong)) =
+    256 ≤ length reference
+MakesLinked (Some reference) measure shown items (Err Memory) = IsLongName reference
+MakesLinked (Some reference) measure shown items _ = ⊥
+
+-- how the message of the parts is written
+abbrev pub shown_in : Writing → List AskedPart → Shown
+shown_in writing parts = shown_of writing.measure (shown_by writing.terminal parts)
 
 -- what is written for the parts and their records
-abbrev pub MakesAll : List AskedPart → (terminal : Bool) → List Item → Result Written Fault → Type 0
-MakesAll parts terminal items answer =
-    MakesLinked (missing_reference parts items) (shown_by terminal parts) items answer
+abbrev pub MakesAll : List AskedPart → Writing → List Item → Result Written Fault → Type 0
+MakesAll parts writing items answer =
+    MakesLinked (missing_reference parts items) writing.measure (shown_in writing parts) items answer
 
 -- what is written for the parts: their message, or why there is none
-abbrev pub IsWritten : List AskedPart → (terminal : Bool) → (input : List ℕ) → Result Written Fault → Type 0
-IsWritten parts terminal input (Ok made) =
-    (items : List Item) × AreMade parts input items × MakesAll parts terminal items (Ok made)
-IsWritten parts terminal input (Err fault) = FailsAt parts input fault
-    ⊎ ((items : List Item) × AreMade parts input items × MakesAll parts terminal items (Err fault))
+abbrev pub IsWrittenFor : {I : Type 0} → GivesInput I → List AskedPart → Writing
+    → (before after : I) → Result Written Fault → Type 0
+IsWrittenFor gives parts writing before after (Ok made) = (items : List Item)
+    × AreMade gives parts before after items × MakesAll parts writing items (Ok made)
+IsWrittenFor gives parts writing before after (Err fault) = FailsAt gives parts before after fault
+    ⊎ ((items : List Item) × AreMade gives parts before after items
+    × MakesAll parts writing items (Err fault))
 
--- the same with the result of reading
-abbrev pub IsWrittenOf : List AskedPart → (terminal : Bool) → Result (List ℕ) Fault → Result Written Fault → Type 0
-IsWrittenOf parts terminal (Ok input) made = IsWritten parts terminal input made
-IsWrittenOf parts terminal (Err fault) made = made ≡ Err fault
+-- the same, where not more than one part takes standard input
+abbrev pub IsMadeIf : {I : Type 0} → (many : Bool) → GivesInput I → List AskedPart → Writing
+    → (before after : I) → Result Written Fault → Type 0
+IsMadeIf true gives parts writing before after made =
+    (after ≡ before) × (made ≡ Err (Usage misuse.TwoReaders))
+IsMadeIf false gives parts writing before after made =
+    IsWrittenFor gives parts writing before after made
 
--- the message for which the words ask; the usage line where they ask for nothing
-abbrev pub IsMadeFor : Option (List AskedPart) → (terminal : Bool) → (before after : SourceState)
+-- the same of the parts
+abbrev pub IsMadeOf : {I : Type 0} → GivesInput I → List AskedPart → Writing
+    → (before after : I) → Result Written Fault → Type 0
+IsMadeOf gives parts writing before after made =
+    IsMadeIf (nat_lt 1 (readers_of parts)) gives parts writing before after made
+
+-- the message for which words ask, where they ask for something
+abbrev pub IsMadeFor : {I : Type 0} → GivesInput I → Option (List AskedPart) → Writing
+    → (before after : I) → Result Written Fault → Type 0
+IsMadeFor gives None writing before after made =
+    (after ≡ before) × (made ≡ Err (Usage misuse.Words))
+IsMadeFor gives (Some parts) writing before after made =
+    IsMadeOf gives parts writing before after made
+
+-- the same of the words of records. Memory may run out for the words, before an input is read
+abbrev pub IsMadeOfRecords : {I : Type 0} → GivesInput I → List Text → Writing → (before after : I)
     → Result Written Fault → Type 0
-IsMadeFor None terminal before after made = (after ≡ before) × (made ≡ Err Usage)
-IsMadeFor (Some parts) terminal before after made =
-    (input : Result (List ℕ) Fault) × ReadsFor (readers_of parts) before after input
-    × IsWrittenOf parts terminal input made
+IsMadeOfRecords gives records writing before after (Ok made) =
+    IsMadeFor gives (parts_asked records) writing before after (Ok made)
+IsMadeOfRecords gives records writing before after (Err Memory) = (after ≡ before)
+    ⊎ IsMadeFor gives (parts_asked records) writing before after (Err Memory)
+IsMadeOfRecords gives records writing before after (Err fault) =
+    IsMadeFor gives (parts_asked records) writing before after (Err fault)
 
--- the result of the words and the input: what is written of the message, or why there is none. Memory may run out for
--- the words, before the input is read
-abbrev pub IsMade : List Text → (terminal : Bool) → (before after : SourceState) → Result Written Fault → Type 0
-IsMade words terminal before after (Ok made) = IsMadeFor (parts_asked words) terminal before after (Ok made)
-IsMade words terminal before after (Err Memory) =
-    (after ≡ before) ⊎ IsMadeFor (parts_asked words) terminal before after (Err Memory)
-IsMade words terminal before after (Err fault) = IsMadeFor (parts_asked words) terminal before after (Err fault)
+-- what is written, by the words before the records, where these are words for that
+abbrev pub IsMeasured : {I : Type 0} → GivesInput I → Option (Measure × List Text) → (terminal : Bool)
+    → (before after : I) → Result Written Fault → Type 0
+IsMeasured gives None terminal before after made =
+    (after ≡ before) × (made ≡ Err (Usage misuse.Tag))
+IsMeasured gives (Some (measure, records)) terminal before after made =
+    IsMadeOfRecords gives records (record { terminal = terminal; measure = measure }) before after made
+
+-- the result of the words and the inputs: what is written of the message, or why there is none
+abbrev pub IsMadeOfWords : {I : Type 0} → GivesInput I → List Text → (terminal : Bool)
+    → (before after : I) → Result Written Fault → Type 0
+IsMadeOfWords gives words terminal before after made =
+    IsMeasured gives (measure_in (drop 1 words)) terminal before after made

@@ -1,5 +1,5 @@
 -- What the options of a part say.
-use Rattle.std.specs.Prelude.{◌==◌, ℕ, Bool, true, false, List, [], length, Option, Some, None, codes, if◌then◌else◌, is_some, nat_lt, option_and_then, unwrap_or}
+use Rattle.std.specs.Prelude.{◌==◌, ℕ, Bool, List, [], length, Option, Some, None, codes, if◌then◌else◌, is_some, nat_lt, option_and_then, unwrap_or}
 use Rattle.std.specs.List.{after_first, before_first, position_or_len}
 use Rattle.std.specs.Str.{bytes_eq}
 use Rattle.clap.specs.Words.{Row, Text, all_of, first_of}
@@ -12,6 +12,10 @@ use Rattle.ndef_make_tool.specs.declared.options.Subject.TheVariants as subject
 -- the word of an option, or another one where it isn't given
 abbrev pub word_or : (id other : Text) → List Row → Text
 word_or id other rows = unwrap_or (first_of id rows) other
+
+-- the id that a part gives; the empty one where it gives none
+abbrev pub id_said : List Row → Text
+id_said rows = word_or (codes "id") [] rows
 
 -- whether an option is given
 abbrev pub is_said : Text → List Row → Bool
@@ -28,20 +32,13 @@ subject_named name = if bytes_eq name (codes "text") then Some subject.Text
     else (if bytes_eq name (codes "poster") then Some subject.Poster
     else (if bytes_eq name (codes "handover") then Some subject.Handover
     else (if bytes_eq name (codes "record") then Some subject.Record
-    else (if bytes_eq name (codes "carrier") then Some subject.Carrier else None)))))
+    else (if bytes_eq name (codes "media") then Some subject.Media
+    else (if bytes_eq name (codes "external") then Some subject.External
+    else (if bytes_eq name (codes "app") then Some subject.App
+    else (if bytes_eq name (codes "carrier") then Some subject.Carrier else None))))))))
 
--- the subject is a record of given parts
-abbrev pub is_given : Option Subject → Bool
-is_given (Some subject.Record) = true
-is_given _ = false
-
--- the subject is a record whose payload or data is the input
-abbrev pub takes_input : Option Subject → Bool
-takes_input (Some subject.Record) = true
-takes_input (Some subject.Carrier) = true
-takes_input _ = false
-
--- NDEF 1.0, TNF: the type name format of this number, as it is written in decimal; 6 and 7 are of no record
+-- NDEF 1.0, TNF: the type name format of this number, as it is written in decimal; 6 and 7 are of
+-- no record
 abbrev pub tnf_named : Text → Option Tnf
 tnf_named name = if bytes_eq name (codes "0") then Some tnf.Empty
     else (if bytes_eq name (codes "1") then Some tnf.WellKnown
@@ -59,6 +56,10 @@ is_equals byte = byte == 61
 -- the colon
 abbrev pub is_colon : ℕ → Bool
 is_colon byte = byte == 58
+
+-- the slash
+abbrev pub is_slash : ℕ → Bool
+is_slash byte = byte == 47
 
 -- the comma
 abbrev pub is_comma : ℕ → Bool

@@ -1,6 +1,8 @@
 -- The pages about the program itself.
-use Rattle.std.specs.Prelude.{◌++◌, codes}
+use Rattle.std.specs.Prelude.{◌++◌, Bool, true, false, List, [], ◌∷◌, drop, Option, Some, None, codes, unwrap_or, if◌then◌else◌}
+use Rattle.std.specs.Str.{bytes_eq}
 use Rattle.clap.specs.Words.{Text}
+use Rattle.ndef_program.specs.Pages.{page_asked}
 use Rattle.ndef_program.specs.declared.pages.Page.{Page}
 use Rattle.ndef_program.specs.declared.pages.Page.TheVariants as page
 
@@ -9,7 +11,7 @@ abbrev pub ndef_make_help : Text
 ndef_make_help =
     codes "ndef-make writes a message of the NFC Data Exchange Format.\n"
     ++ codes "\n"
-    ++ codes "Usage: ndef-make RECORD [--and RECORD]..\n"
+    ++ codes "Usage: ndef-make [--size | --tag TAG] RECORD [--and RECORD]..\n"
     ++ codes "\n"
     ++ codes "Each RECORD is a subcommand with its options. Separate records with --and.\n"
     ++ codes "\n"
@@ -22,6 +24,8 @@ ndef_make_help =
     ++ codes "    --action A        what to do with the URI: do, save or open\n"
     ++ codes "    --size N          the size in bytes of what the URI leads to\n"
     ++ codes "    --media TYPE      the media type of what the URI leads to\n"
+    ++ codes "    --icon FILE       the file of an icon, with --icon-type\n"
+    ++ codes "    --icon-type TYPE  the media type of the icon\n"
     ++ codes "  handover request    a handover request; the records of its carriers are further parts\n"
     ++ codes "  handover select     a handover select, likewise\n"
     ++ codes "    --version 1.M     the version, 1.0 to 1.15; without it: 1.2\n"
@@ -31,34 +35,62 @@ ndef_make_help =
     ++ codes "                      repeated\n"
     ++ codes "    --error R:DATA    of a select: the reason of an error, 0 to 255, and its data in\n"
     ++ codes "                      hexadecimal digits\n"
-    ++ codes "  record              a record of any type; its payload is standard input\n"
+    ++ codes "  record              a record of any type\n"
     ++ codes "    --tnf N           the type name format, 0 to 5\n"
     ++ codes "    --type T          the type\n"
-    ++ codes "    --id I            the id\n"
-    ++ codes "    --unchecked       write any payload, also one that readers refuse\n"
-    ++ codes "  carrier             a handover carrier; its data is standard input\n"
+    ++ codes "  media TYPE          a record of a media type, as image/png\n"
+    ++ codes "  external TYPE       a record of an external type, as example.com:a\n"
+    ++ codes "  app PACKAGE         an Android application record\n"
+    ++ codes "  carrier             a handover carrier; its data is its payload\n"
     ++ codes "    --format N        the carrier type format, 0 to 7\n"
     ++ codes "    --type T          the carrier type\n"
-    ++ codes "    --id I            the id\n"
+    ++ codes "\n"
+    ++ codes "The payload of a record, media, external or carrier is standard input, or\n"
+    ++ codes "\n"
+    ++ codes "    --file FILE       what a file holds; - is standard input\n"
+    ++ codes "    --payload DIGITS  what hexadecimal digits stand for\n"
     ++ codes "\n"
     ++ codes "Options of every RECORD:\n"
     ++ codes "\n"
+    ++ codes "  --id I              the id of the record\n"
+    ++ codes "  --unchecked         write what a strict reader refuses or a standard forbids, too\n"
     ++ codes "  --hex               write hexadecimal digits and a newline, as to a terminal\n"
     ++ codes "  --raw               write bytes, to a terminal too\n"
     ++ codes "\n"
-    ++ codes "Without a RECORD:\n"
+    ++ codes "Before the first RECORD:\n"
     ++ codes "\n"
-    ++ codes "  --help              print this page\n"
-    ++ codes "  --version           print the name and the version\n"
+    ++ codes "  --size              print the number of the message's bytes in place of it\n"
+    ++ codes "  --tag TAG           write it only if it fits on the tag: ntag213, ntag215, ntag216, or\n"
+    ++ codes "                      a number of bytes; counted with 3 bytes around it, or 5 around\n"
+    ++ codes "                      255 and more\n"
+    ++ codes "\n"
+    ++ codes "In place of a message:\n"
+    ++ codes "\n"
+    ++ codes "  --help              print this page; it may stand anywhere before the word --\n"
+    ++ codes "  --version           print the name and the version, where it stands alone\n"
     ++ codes "\n"
     ++ codes "Examples:\n"
     ++ codes "\n"
     ++ codes "  ndef-make text Hello --and uri http://www.example.com > tag.bin\n"
     ++ codes "  ndef-make poster http://www.example.com --title en=Example --action save > tag.bin\n"
     ++ codes "  printf 123 | ndef-make record --hex --tnf 2 --type a/b --id x\n"
-    ++ codes "  ndef-make handover select --carrier active=0 --and record --tnf 2 --type a/b --id 0 < data > tag.bin\n"
+    ++ codes "  ndef-make handover select --carrier active=0 --and media a/b --id 0 --file data > tag.bin\n"
 
 -- the text of a page
 abbrev pub ndef_make_page : Page → Text
 ndef_make_page page.Help = ndef_make_help
 ndef_make_page page.Version = codes "ndef-make 0.3.0.dev\n"
+
+-- whether a word asks for help, or ends options
+abbrev pub help_word : Text → Option Bool
+help_word word = if bytes_eq word (codes "--") then Some false
+    else (if bytes_eq word (codes "--help") then Some true else None)
+
+-- the words ask for help, before a word that ends options
+abbrev pub asks_help : List Text → Bool
+asks_help [] = false
+asks_help (word ∷ words) = unwrap_or (help_word word) (asks_help words)
+
+-- the page for which the words ask, of which the first is the program's name
+abbrev pub make_page_asked : List Text → Option Page
+make_page_asked words = if asks_help (drop 1 words) then Some page.Help else page_asked words

@@ -14,7 +14,7 @@ use Rattle.ndef_types.specs.Values.{TextValue}
 use Rattle.ndef_types.specs.declared.encoding.Encoding.TheVariants.{Utf8}
 use Rattle.ndef_program.specs.Options.{number_in}
 use Rattle.ndef_make_tool.specs.Options.{cut_at, is_equals}
-use Rattle.ndef_make_tool.specs.Records.{Answer, well_known}
+use Rattle.ndef_make_tool.specs.Records.{Answer, typed_record}
 use Rattle.ndef_make_tool.specs.declared.fault.Fault.TheVariants.{Refused, Memory}
 use Rattle.ndef_make_tool.specs.declared.fault.Refused.TheVariants.{NoPoster, PayloadTooLong, TooManyRecords}
 
@@ -22,7 +22,8 @@ use Rattle.ndef_make_tool.specs.declared.fault.Refused.TheVariants.{NoPoster, Pa
 
 -- RTD Smart Poster 1.0, title record: a language code, an equals sign and the text
 abbrev pub title_said : Text → Option TextValue
-title_said word = option_map (λ title. record { encoding = Utf8; language = title.0; text = chars title.1 })
+title_said word =
+    option_map (λ title. record { encoding = Utf8; language = title.0; text = chars title.1 })
     (cut_at is_equals word)
 
 -- RTD Smart Poster 1.0, recommended action record: the octet of an action
@@ -33,21 +34,24 @@ action_octet name = if bytes_eq name (codes "do") then Some 0
 
 -- RTD Smart Poster 1.0, recommended action record: one octet
 abbrev pub action_said : Text → Option Item
-action_said name = option_map (λ octet. well_known (codes "act") (octet ∷ [])) (action_octet name)
+action_said name = option_map (λ octet. typed_record (codes "act") (octet ∷ [])) (action_octet name)
 
 -- RTD Smart Poster 1.0, size record: four octets, most significant first
 abbrev pub size_said : Text → Option Item
-size_said word = option_map (λ size. well_known (codes "s") (to_be_bytes w32 size)) (number_in word)
+size_said word =
+    option_map (λ size. typed_record (codes "s") (to_be_bytes w32 size)) (number_in word)
 
 -- ---- the poster
 
 -- RTD Smart Poster 1.0: the record of a poster of these records, in their canonical spelling
 abbrev pub MakesNested : List Item → Answer → Type 0
-MakesNested items (Ok i) = HasContents tables.SmartPoster Strict items × (length (canonical items) < 2 ^ 32)
-    × (i ≡ well_known (codes "Sp") (canonical items))
+MakesNested items (Ok i) =
+    HasContents tables.SmartPoster Strict items × (length (canonical items) < 2 ^ 32)
+    × (i ≡ typed_record (codes "Sp") (canonical items))
 MakesNested items (Err (Refused NoPoster)) = (items ≡ [])
     ⊎ ((index : ℕ) × (IsFirstWrong tables.SmartPoster items index ⊎ LacksUri items index))
 MakesNested items (Err (Refused TooManyRecords)) = 65535 < length items
 MakesNested items (Err (Refused PayloadTooLong)) = 2 ^ 32 ≤ length (canonical items)
-MakesNested items (Err Memory) = HasContents tables.SmartPoster Strict items × (length (canonical items) < 2 ^ 32)
+MakesNested items (Err Memory) =
+    HasContents tables.SmartPoster Strict items × (length (canonical items) < 2 ^ 32)
 MakesNested items (Err _) = ⊥

@@ -13,25 +13,28 @@ use Rattle.ndef_format.specs.declared.kind.Kind.{Kind}
 use Rattle.ndef_format.specs.declared.kind.Kind.TheVariants as kinds
 use Rattle.ndef_message.specs.Cut.{cut}
 use Rattle.ndef_message.specs.Readings.{GivesBack, ReadsInput}
-use Rattle.ndef_message.specs.States.{SourceState}
 use Rattle.ndef_message.specs.declared.message_reading.Read.{Read}
 use Rattle.ndef_message.specs.declared.message_reading.ReadError.{ReadError}
 use Rattle.ndef_make_tool.specs.Asked.{AskedPart, parts_asked}
 use Rattle.ndef_make_tool.specs.Checking.{is_unchecked}
-use Rattle.ndef_make_tool.specs.Making.{AreMade, IsMade, written_as}
+use Rattle.ndef_make_tool.specs.Inputs.{GivesInput}
+use Rattle.ndef_make_tool.specs.Measures.{record_words}
+use Rattle.ndef_make_tool.specs.Making.{AreMade, IsMadeOfWords, written_as}
 use Rattle.ndef_make_tool.specs.declared.making.Written.{Written}
 
--- RTD Smart Poster 1.0, Connection Handover 1.2: the octets of the message in a payload, after a version octet
-abbrev pub nested_octets : Kind → List ℕ → List ℕ
-nested_octets kinds.SmartPoster payload = payload
-nested_octets kinds.Request payload = drop 1 payload
-nested_octets kinds.Select payload = drop 1 payload
-nested_octets _ payload = []
+-- RTD Smart Poster 1.0, Connection Handover 1.2: the octets of the message in a payload, after a
+-- version octet
+abbrev pub message_octets : Kind → List ℕ → List ℕ
+message_octets kinds.SmartPoster payload = payload
+message_octets kinds.Request payload = drop 1 payload
+message_octets kinds.Select payload = drop 1 payload
+message_octets _ payload = []
 
 -- a message in the payload of the record has at most `records` records
 abbrev pub HoldsFew : (records : ℕ) → Item → Type 0
 HoldsFew records i =
-    (inner : List Item) → Spells Strict inner (nested_octets (kind_of i.tnf i.kind) i.payload) → length inner ≤ records
+    (inner : List Item) → Spells Strict inner (message_octets (kind_of i.tnf i.kind) i.payload)
+    → length inner ≤ records
 
 -- limits that admit the records, each in one piece
 pub record Admits (limits : LimitValues) (items : List Item) : Type 0 where
@@ -46,13 +49,17 @@ IsReadBack set holds items =
     → GivesBack items (canonical items) rest after result
 
 -- the text is that of the records for which the parts ask, and they are read
-abbrev pub ReadsBack : Sets → Conditions → List AskedPart → Written → Type 0
-ReadsBack set holds parts made = (input : List ℕ) × (items : List Item) × AreMade parts input items
+abbrev pub ReadsBack : {I : Type 0} → GivesInput I → Sets → Conditions → List AskedPart
+    → (before after : I) → Written → Type 0
+ReadsBack gives set holds parts before after made = (items : List Item)
+    × AreMade gives parts before after items
     × (made.text ≡ written_as made.shown (canonical items)) × IsReadBack set holds items
 
--- What is made of words is read back as the records for which they ask, unless one of these is to be written unchecked.
-abbrev pub MadeIsRead : Sets → Conditions → Type 0
-MadeIsRead set holds =
-    (words : List Text) (terminal : Bool) (before after : SourceState) (made : Written) (parts : List AskedPart)
-    → IsMade words terminal before after (Ok made) → parts_asked words ≡ Some parts
-    → list_any is_unchecked parts ≡ false → ReadsBack set holds parts made
+-- What is made of words is read back as the records for which they ask, unless one of these is to
+-- be written unchecked.
+abbrev pub MadeIsRead : {I : Type 0} → GivesInput I → Sets → Conditions → Type 0
+MadeIsRead {I} gives set holds =
+    (words : List Text) (terminal : Bool) (before after : I) (made : Written) (parts : List AskedPart)
+    → IsMadeOfWords gives words terminal before after (Ok made)
+    → parts_asked (record_words words) ≡ Some parts → list_any is_unchecked parts ≡ false
+    → ReadsBack gives set holds parts before after made

@@ -4,14 +4,15 @@ use Rattle.std.specs.declared.alloc.Global.{Global}
 use Rattle.clap.specs.Words.{Row, Text, first_of}
 use Rattle.ndef_format.specs.Canonical.{HasLengths}
 use Rattle.ndef_format.specs.Messages.{IsShaped, Item}
-use Rattle.ndef_format.specs.declared.tnf.Tnf.TheVariants.{WellKnown}
+use Rattle.ndef_format.specs.declared.tnf.Tnf.TheVariants.{External, Media, WellKnown}
 use Rattle.ndef_types.specs.Decoding.{IsTooLong}
 use Rattle.ndef_types.specs.Values.{TextValue, WritesText, WritesUri}
 use Rattle.ndef_types.specs.declared.encoding.Encoding.{Encoding}
 use Rattle.ndef_types.specs.declared.encoding.Encoding.TheVariants.{Utf8, Utf16}
 use Rattle.ndef_program.specs.Options.{flag_of}
-use Rattle.ndef_make_tool.specs.Options.{tnf_named, word_or}
+use Rattle.ndef_make_tool.specs.Options.{cut_at, id_said, is_colon, is_slash, tnf_named, word_or}
 use Rattle.ndef_make_tool.specs.declared.fault.Fault.{Fault}
+use Rattle.ndef_make_tool.specs.declared.misuse.Misuse.{Misuse}
 use Rattle.ndef_make_tool.specs.declared.fault.Fault.TheVariants.{Usage, Refused, Memory}
 use Rattle.ndef_make_tool.specs.declared.fault.Refused.TheVariants.{LanguageTooLong, LanguageNotAscii, PayloadTooLong, BadShape, PartTooLong}
 
@@ -20,8 +21,8 @@ abbrev pub Answer : Type 0
 Answer = Result Item Fault
 
 -- NDEF 1.0, record layout: a record of a well-known type, without an id
-abbrev pub well_known : Text → List ℕ → Item
-well_known kind payload = record { tnf = WellKnown; kind = kind; id = []; payload = payload }
+abbrev pub typed_record : Text → List ℕ → Item
+typed_record kind payload = record { tnf = WellKnown; kind = kind; id = []; payload = payload }
 
 -- ---- texts
 
@@ -38,14 +39,15 @@ text_said rows = option_map (λ text. record {
   text = chars text;
 }) (first_of (codes "text") rows)
 
--- RTD Text 1.0: the record of a text; none where its language code isn't ASCII of up to 63 octets, or its payload is
--- too long
+-- RTD Text 1.0: the record of a text; none where its language code isn't ASCII of up to 63 octets,
+-- or its payload is too long
 abbrev pub MakesText : TextValue → Answer → Type 0
 MakesText v (Ok i) = (length v.language ≤ 63) × IsAscii v.language × WritesText v i.payload
-    × (length i.payload < 2 ^ 32) × (i ≡ well_known (codes "T") i.payload)
+    × (length i.payload < 2 ^ 32) × (i ≡ typed_record (codes "T") i.payload)
 MakesText v (Err (Refused LanguageTooLong)) = 63 < length v.language
 MakesText v (Err (Refused LanguageNotAscii)) = (length v.language ≤ 63) × (IsAscii v.language → ⊥)
-MakesText v (Err (Refused PayloadTooLong)) = (length v.language ≤ 63) × IsAscii v.language × IsTooLong WritesText v
+MakesText v (Err (Refused PayloadTooLong)) =
+    (length v.language ≤ 63) × IsAscii v.language × IsTooLong WritesText v
 MakesText v (Err Memory) = (length v.language ≤ 63) × IsAscii v.language
 MakesText v (Err _) = ⊥
 
@@ -57,24 +59,57 @@ uri_said rows = first_of (codes "uri") rows
 
 -- RTD URI 1.0: the record of a URI; none where its payload is too long
 abbrev pub MakesUri : Text → Answer → Type 0
-MakesUri uri (Ok i) = WritesUri uri i.payload × (length i.payload < 2 ^ 32) × (i ≡ well_known (codes "U") i.payload)
+MakesUri uri (Ok i) =
+    WritesUri uri i.payload × (length i.payload < 2 ^ 32) × (i ≡ typed_record (codes "U") i.payload)
 MakesUri uri (Err (Refused PayloadTooLong)) = IsTooLong WritesUri uri
 MakesUri uri (Err Memory) = ⊤
 MakesUri uri (Err _) = ⊥
 
 -- ---- records of given parts
 
--- NDEF 1.0, record layout: the type name format, the type and the id of a part; no type or id where it isn't given
+-- NDEF 1.0, record layout: the type name format, the type and the id of a part; no type or id where
+-- it isn't given
 abbrev pub item_said : List Row → List ℕ → Option Item
 item_said rows payload = option_map (λ tnf. record {
   tnf = tnf;
   kind = word_or (codes "type") [] rows;
-  id = word_or (codes "id") [] rows;
+  id = id_said rows;
   payload = payload;
 }) (option_and_then tnf_named (first_of (codes "tnf") rows))
 
--- NDEF 1.0, record layout: the record, where its parts go together and none is too long. Memory runs out only where
--- neither of the two refusals holds
+-- NDEF 1.0, TNF 2: the media type of a part, which has a slash
+abbrev pub media_type : List Row → Option Text
+media_type rows = option_and_then (λ kind. option_map (λ cut. kind) (cut_at is_slash kind))
+    (first_of (codes "type") rows)
+
+-- NDEF 1.0, TNF 2: the record of the media type of a part
+abbrev pub media_said : List Row → List ℕ → Option Item
+media_said rows payload =
+    option_map (λ kind. record { tnf = Media; kind = kind; id = id_said rows; payload = payload })
+    (media_type rows)
+
+-- NDEF 1.0, TNF 4: the external type of a part, which has a colon after the domain
+abbrev pub external_type : List Row → Option Text
+external_type rows = option_and_then (λ kind. option_map (λ cut. kind) (cut_at is_colon kind))
+    (first_of (codes "type") rows)
+
+-- NDEF 1.0, TNF 4: the record of the external type of a part
+abbrev pub external_said : List Row → List ℕ → Option Item
+external_said rows payload =
+    option_map (λ kind. record { tnf = External; kind = kind; id = id_said rows; payload = payload })
+    (external_type rows)
+
+-- Android, application records: the record of the package of a part
+abbrev pub app_said : List Row → Option Item
+app_said rows = option_map (λ name. record {
+  tnf = External;
+  kind = codes "android.com:pkg";
+  id = id_said rows;
+  payload = name;
+}) (first_of (codes "package") rows)
+
+-- NDEF 1.0, record layout: the record, where its parts go together and none is too long. Memory
+-- runs out only where neither of the two refusals holds
 abbrev pub MakesItem : Item → Answer → Type 0
 MakesItem i (Ok made) = (made ≡ i) × IsShaped i × HasLengths i
 MakesItem i (Err (Refused BadShape)) = IsShaped i → ⊥
@@ -82,12 +117,27 @@ MakesItem i (Err (Refused PartTooLong)) = IsShaped i × (HasLengths i → ⊥)
 MakesItem i (Err Memory) = ((IsShaped i → ⊥) → ⊥) × ((HasLengths i → ⊥) → ⊥)
 MakesItem i (Err _) = ⊥
 
+-- NDEF 1.0, ID: the record with this id, where there is one; or why it isn't made
+abbrev pub IsNamed : Option Text → (bare : Answer) → Answer → Type 0
+IsNamed None bare answer = answer ≡ bare
+IsNamed (Some id) (Ok bare) answer = MakesItem (record bare { id = id }) answer
+IsNamed (Some id) (Err fault) answer = answer ≡ Err fault
+
+-- NDEF 1.0, ID: what is made, with this id, where there is one
+abbrev pub MakesNamed : Option Text → (makes : Answer → Type 0) → Answer → Type 0
+MakesNamed id makes answer = (bare : Answer) × makes bare × IsNamed id bare answer
+
 -- ---- what is said
 
--- what is made of what is said; the usage line where nothing is
-abbrev pub MakesSaid : {X : Type 0} → (X → Answer → Type 0) → Option X → Answer → Type 0
-MakesSaid makes None answer = answer ≡ Err Usage
-MakesSaid makes (Some x) answer = makes x answer
+-- what is made of what is said; where nothing is, these words are wrong
+abbrev pub MakesSaid : {X : Type 0} → Misuse → (X → Answer → Type 0) → Option X → Answer → Type 0
+MakesSaid misuse makes None answer = answer ≡ Err (Usage misuse)
+MakesSaid misuse makes (Some x) answer = makes x answer
+
+-- what is made, where nothing of it is forbidden
+abbrev pub MakesBarred : Option Misuse → (makes : Answer → Type 0) → Answer → Type 0
+MakesBarred None makes answer = makes answer
+MakesBarred (Some misuse) makes answer = answer ≡ Err (Usage misuse)
 
 -- the records of what is said, in order
 abbrev pub AreMadeBy : {X : Type 0} → (X → Answer → Type 0) → List X → List Item → Type 0
@@ -107,6 +157,7 @@ FailsBy {X} makes xs fault =
     × AreMadeBy makes done items × IsUnmade (makes x) fault
 
 -- the records of what is said, or why there are none
-abbrev pub AreAnsweredBy : {X : Type 0} → (X → Answer → Type 0) → List X → Result (Vec Item Global) Fault → Type 0
+abbrev pub AreAnsweredBy : {X : Type 0} → (X → Answer → Type 0) → List X
+    → Result (Vec Item Global) Fault → Type 0
 AreAnsweredBy makes xs (Ok records) = AreMadeBy makes xs records.items
 AreAnsweredBy makes xs (Err fault) = FailsBy makes xs fault

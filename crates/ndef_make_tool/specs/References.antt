@@ -13,14 +13,16 @@ use Rattle.ndef_make_tool.specs.declared.fault.Refused.TheVariants.{NoRecord, Pa
 use Rattle.ndef_make_tool.specs.declared.options.Subject.{Subject}
 use Rattle.ndef_make_tool.specs.declared.options.Subject.TheVariants as subject
 
--- Connection Handover 1.2, Alternative Carrier record: the references in the word of a carrier, between commas after
--- its equals sign
+-- Connection Handover 1.2, Alternative Carrier record: the references in the word of a carrier,
+-- between commas after its equals sign
 abbrev pub references_in : Text → List Text
 references_in word = option_map_or (λ cut. slice_split is_comma cut.1) (cut_at is_equals word) []
 
--- Connection Handover 1.2, Alternative Carrier record: the references of the carriers of a handover; others have none
+-- Connection Handover 1.2, Alternative Carrier record: the references of the carriers of a
+-- handover; others have none
 abbrev pub references_for : Option Subject → List Row → List Text
-references_for (Some subject.Handover) rows = flat_map references_in (option_words (codes "carrier") rows)
+references_for (Some subject.Handover) rows =
+    flat_map references_in (option_words (codes "carrier") rows)
 references_for _ rows = []
 
 -- the references of a part
@@ -46,13 +48,15 @@ abbrev pub IsLongName : Text → Type 0
 IsLongName name = (32 < length name) × (length name < 256)
 
 -- no reference is missing, or this one is
-abbrev pub IsFound : (missing : Option Text) → Result Unit Fault → Type 0
-IsFound missing (Ok done) = missing ≡ None
-IsFound missing (Err (Refused (NoRecord reference))) = missing ≡ Some reference
-IsFound missing (Err (Refused PartTooLong)) = (reference : Text) × (missing ≡ Some reference) × (256 ≤ length reference)
-IsFound missing (Err Memory) = (reference : Text) × (missing ≡ Some reference) × IsLongName reference
-IsFound missing (Err _) = ⊥
+abbrev pub FindsMissing : (missing : Option Text) → Result Unit Fault → Type 0
+FindsMissing missing (Ok done) = missing ≡ None
+FindsMissing missing (Err (Refused (NoRecord reference))) = missing ≡ Some reference
+FindsMissing missing (Err (Refused PartTooLong)) =
+    (reference : Text) × (missing ≡ Some reference) × (256 ≤ length reference)
+FindsMissing missing (Err Memory) =
+    (reference : Text) × (missing ≡ Some reference) × IsLongName reference
+FindsMissing missing (Err _) = ⊥
 
 -- each reference has a record, or this one is the first without
 abbrev pub AreFound : List Item → List Text → Result Unit Fault → Type 0
-AreFound items references result = IsFound (find (is_missing items) references) result
+AreFound items references result = FindsMissing (find (is_missing items) references) result

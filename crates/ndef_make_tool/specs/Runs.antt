@@ -1,15 +1,14 @@
--- The program: a function of what the words ask for and what the input holds.
+-- The program: a function of what the words ask for and what the inputs hold.
 use Rattle.std.specs.Prelude.{◌≡◌, Bool, List, Option, None, Some, Result, Ok, Err, codes}
 use Rattle.clap.specs.Words.{Text}
-use Rattle.ndef_message.specs.States.{SinkState, SourceState, sink_state, source_state}
+use Rattle.ndef_message.specs.States.{SinkState, sink_state}
 use Rattle.ndef_message.specs.declared.sink.Sink.{Ghosts as SinkOf}
-use Rattle.ndef_message.specs.declared.source.Source.{Ghosts as SourceOf}
 use Rattle.ndef_program.specs.Outputs.{GoesOut}
-use Rattle.ndef_program.specs.Pages.{page_asked}
 use Rattle.ndef_program.specs.Statuses.{status_after}
 use Rattle.ndef_make_tool.specs.Faults.{line_of, fault_status}
-use Rattle.ndef_make_tool.specs.Making.{IsMade}
-use Rattle.ndef_make_tool.specs.Pages.{ndef_make_page}
+use Rattle.ndef_make_tool.specs.Inputs.{GivesInput}
+use Rattle.ndef_make_tool.specs.Making.{IsMadeOfWords}
+use Rattle.ndef_make_tool.specs.Pages.{make_page_asked, ndef_make_page}
 use Rattle.ndef_make_tool.specs.declared.fault.Fault.{Fault}
 use Rattle.ndef_program.specs.declared.pages.Page.{Page}
 use Rattle.ndef_program.specs.declared.status.Status.{Status}
@@ -20,17 +19,16 @@ use Rattle.ndef_make_tool.specs.declared.making.Shown.TheVariants.{DigitsForTerm
 
 -- ---- what a run reads and writes
 
--- the source of the input, the sink of the message or the page, and the sink of lines about them
-pub record ThreeStreams : Type 0 where
-  pub source : SourceState
+-- the inputs, the sink of the message or the page, and the sink of lines about them
+pub record ThreeStreams (I : Type 0) : Type 0 where
+  pub inputs : I
   pub output : SinkState
   pub lines : SinkState
 
 -- what a contract sees of them
-abbrev pub three_streams : {S K L : Type 0} (source : SourceOf S) (output : SinkOf K) (lines : SinkOf L)
-    → S → K → L → ThreeStreams
-three_streams source output lines s k l =
-    record { source = source_state source s; output = sink_state output k; lines = sink_state lines l }
+abbrev pub three_streams : {I K L : Type 0} (output : SinkOf K) (lines : SinkOf L) → I → K → L → ThreeStreams I
+three_streams output lines inputs k l =
+    record { inputs = inputs; output = sink_state output k; lines = sink_state lines l }
 
 -- the text goes out to a sink, or a front of it
 abbrev pub Sends : (before after : SinkState) → Text → Type 0
@@ -38,7 +36,8 @@ Sends before after text = GoesOut before.written after.written after.failed text
 
 -- a text goes out, and this is the status
 abbrev pub PrintsAll : Text → (before after : SinkState) → Status → Type 0
-PrintsAll text before after result = Sends before after text × (result ≡ status_after after.failed status.Clean)
+PrintsAll text before after result =
+    Sends before after text × (result ≡ status_after after.failed status.Clean)
 
 -- ---- a message
 
@@ -52,31 +51,38 @@ Notes DigitsForTerminal before after = Sends before after note_line
 Notes _ before after = after ≡ before
 
 -- the message goes out
-abbrev pub TellsMade : Written → (before after : ThreeStreams) → Status → Type 0
+abbrev pub TellsMade : {I : Type 0} → Written → (before after : ThreeStreams I) → Status → Type 0
 TellsMade made before after result = PrintsAll made.text before.output after.output result
     × Notes made.shown before.lines after.lines
 
 -- the message goes out, or the line of the fault to the other sink
-abbrev pub TellsOutcome : Result Written Fault → (before after : ThreeStreams) → Status → Type 0
+abbrev pub TellsOutcome : {I : Type 0} → Result Written Fault → (before after : ThreeStreams I) → Status
+    → Type 0
 TellsOutcome (Ok made) before after result = TellsMade made before after result
 TellsOutcome (Err fault) before after result = (after.output ≡ before.output)
     × Sends before.lines after.lines (line_of fault) × (result ≡ fault_status fault)
 
 -- ---- a run
 
--- what the words and the input come to, where the words ask for records
-abbrev pub RunsForRecords : List Text → (terminal : Bool) → (before after : ThreeStreams) → Status → Type 0
-RunsForRecords words terminal before after result = (made : Result Written Fault)
-    × IsMade words terminal before.source after.source made × TellsOutcome made before after result
+-- what the words and the inputs come to, where the words ask for records
+abbrev pub RunsForRecords : {I : Type 0} → GivesInput I → List Text → (terminal : Bool)
+    → (before after : ThreeStreams I) → Status → Type 0
+RunsForRecords gives words terminal before after result = (made : Result Written Fault)
+    × IsMadeOfWords gives words terminal before.inputs after.inputs made
+    × TellsOutcome made before after result
 
--- a page goes out, and the input is left; or what the words ask for
-abbrev pub RunsPageOrRecords : Option Page → List Text → (terminal : Bool) → (before after : ThreeStreams) → Status
-    → Type 0
-RunsPageOrRecords (Some page) words terminal before after result = (after.source ≡ before.source)
-    × PrintsAll (ndef_make_page page) before.output after.output result × (after.lines ≡ before.lines)
-RunsPageOrRecords None words terminal before after result = RunsForRecords words terminal before after result
+-- a page goes out, and the inputs are left; or what the words ask for
+abbrev pub RunsPageOrRecords : {I : Type 0} → GivesInput I → Option Page → List Text
+    → (terminal : Bool) → (before after : ThreeStreams I) → Status → Type 0
+RunsPageOrRecords gives (Some page) words terminal before after result =
+    (after.inputs ≡ before.inputs)
+    × PrintsAll (ndef_make_page page) before.output after.output result
+    × (after.lines ≡ before.lines)
+RunsPageOrRecords gives None words terminal before after result =
+    RunsForRecords gives words terminal before after result
 
--- what the words and the input come to
-abbrev pub RunsNdefMake : List Text → (terminal : Bool) → (before after : ThreeStreams) → Status → Type 0
-RunsNdefMake words terminal before after result =
-    RunsPageOrRecords (page_asked words) words terminal before after result
+-- what the words and the inputs come to
+abbrev pub RunsNdefMake : {I : Type 0} → GivesInput I → List Text → (terminal : Bool)
+    → (before after : ThreeStreams I) → Status → Type 0
+RunsNdefMake gives words terminal before after result =
+    RunsPageOrRecords gives (make_page_asked words) words terminal before after result

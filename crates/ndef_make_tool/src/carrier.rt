@@ -1,12 +1,14 @@
 //! The record of a handover carrier.
 ghost use Rattle.std.specs.Prelude.{◌≡◌, ◌<◌, IfSome};
 ghost use Rattle.clap.specs.Words.{found_of, rows_of};
-ghost use Rattle.ndef_make_tool.specs.Carriers.{MakesCarrier, WritesData, carrier_item, carrier_said, format_named};
-ghost use Rattle.ndef_make_tool.specs.Carriers.{id_said};
-ghost use Rattle.ndef_make_tool.specs.Records.{MakesSaid, MakesItem};
+ghost use Rattle.ndef_make_tool.specs.Carriers.{MakesCarrier, WritesData, carrier_said, format_named};
+ghost use Rattle.ndef_make_tool.specs.Options.{id_said};
+ghost use Rattle.ndef_make_tool.specs.Records.{MakesSaid};
+ghost use Rattle.ndef_make_tool.specs.declared.misuse.Misuse.TheVariants as misuse;
 
-use crate::Fault;
 use crate::options::word_or;
+use crate::records::make_item;
+use crate::{Fault, Misuse};
 use clap::ArgMatches;
 use ndef_program::option_text;
 use ndef_types::Carrier;
@@ -42,30 +44,29 @@ fn write_data(alloc: Global, format: u8, kind: &str, carried: &[u8]) -> Result<B
     Ok(carrier.encode(alloc)?)
 }
 
-/// The record of a carrier with this id and this payload.
-fn make_item(alloc: Global, id: &str, payload: &[u8]) -> Result<Record, Fault>
-    ensures { MakesItem (carrier_item id.now payload.now) result }
-{
-    Ok(Record::new(alloc, Tnf::WellKnown, b"Hc", id.as_bytes(), payload)?)
-}
-
-/// The record of the carrier of a part, whose data is the input.
+/// The record of the carrier of a part, whose data is its payload.
 pub(crate) fn carrier_record(
     alloc: Global,
     matches: &ArgMatches<'_>,
-    input: &[u8],
+    payload: &[u8],
 ) -> Result<Record, Fault>
-    ensures { MakesSaid (MakesCarrier (id_said (rows_of (found_of matches.now))))
-        (carrier_said (rows_of (found_of matches.now)) input.now) result }
+    ensures { MakesSaid misuse.Format (MakesCarrier (id_said (rows_of (found_of matches.now))))
+        (carrier_said (rows_of (found_of matches.now)) payload.now) result }
 {
     let Some(name) = option_text(matches, "format") else {
-        return Err(Fault::Usage);
+        return Err(Fault::Usage(Misuse::Format));
     };
     let Some(format) = format_named(name) else {
-        return Err(Fault::Usage);
+        return Err(Fault::Usage(Misuse::Format));
     };
     let kind = word_or(matches, "type", "");
     let id = word_or(matches, "id", "");
-    let payload = write_data(alloc, format, kind, input)?;
-    make_item(alloc, id, payload.as_slice())
+    let carrier = write_data(alloc, format, kind, payload)?;
+    make_item(
+        alloc,
+        Tnf::WellKnown,
+        b"Hc",
+        id.as_bytes(),
+        carrier.as_slice(),
+    )
 }

@@ -2,9 +2,10 @@
 ghost use Rattle.std.specs.Prelude.{◌≡◌, false};
 ghost use Rattle.clap.specs.Words.{app_of, rule_of};
 ghost use Rattle.clap.specs.declared.builder.command.Command.TheViews.{out-Command as fields_of};
-ghost use Rattle.ndef_make_tool.specs.CommandLine.{asked_rule, carrier_app, empty_make_app, given_rule, handover_app};
-ghost use Rattle.ndef_make_tool.specs.CommandLine.{linked_app, make_app, part_app, poster_app, record_app};
-ghost use Rattle.ndef_make_tool.specs.CommandLine.{repeated_rule, text_app, titled_app, uri_app};
+ghost use Rattle.ndef_make_tool.specs.CommandLine.{app_app, asked_rule, carrier_app, described_app, empty_make_app};
+ghost use Rattle.ndef_make_tool.specs.CommandLine.{external_app, given_rule, handover_app, linked_app, make_app, media_app, part_app};
+ghost use Rattle.ndef_make_tool.specs.CommandLine.{payload_app, plain_make_app, poster_app, record_app, repeated_rule};
+ghost use Rattle.ndef_make_tool.specs.CommandLine.{text_app, titled_app, uri_app};
 ghost use Rattle.ndef_program.specs.CommandLine.{IsCommand};
 
 use clap::{Arg, ArgAction, Command};
@@ -35,11 +36,21 @@ fn repeated_option<'a>(alloc: Global, name: &'a str) -> Arg<'a>
     Arg::new(alloc, name).long(name).action(ArgAction::Append)
 }
 
-/// A subcommand with the flags of each: how the bytes are written.
+/// A subcommand with the options of each: how the bytes are written, the id, and whether the record is checked.
 fn part_command<'a>(alloc: Global, name: &'a str) -> Result<Command<'a>, AllocError>
     ensures { IsCommand (part_app name.entry.now) result }
 {
-    with(hex_command(alloc, name), flag(alloc, "raw"))
+    let command = with(hex_command(alloc, name), flag(alloc, "raw"));
+    let command = with(command, word_option(alloc, "id"));
+    with(command, flag(alloc, "unchecked"))
+}
+
+/// A subcommand with the options that say where its payload comes from.
+fn payload_command<'a>(alloc: Global, name: &'a str) -> Result<Command<'a>, AllocError>
+    ensures { IsCommand (payload_app name.entry.now) result }
+{
+    let command = with(part_command(alloc, name), word_option(alloc, "file"));
+    with(command, word_option(alloc, "payload"))
 }
 
 /// The subcommand `text`.
@@ -68,14 +79,22 @@ fn titled_command<'a>(alloc: Global) -> Result<Command<'a>, AllocError>
     with(command, repeated_option(alloc, "title"))
 }
 
-/// The subcommand `poster`.
-fn poster_command<'a>(alloc: Global) -> Result<Command<'a>, AllocError>
-    ensures { IsCommand poster_app result }
+/// The subcommand `poster`, but for its icon.
+fn described_command<'a>(alloc: Global) -> Result<Command<'a>, AllocError>
+    ensures { IsCommand described_app result }
 {
     let command = titled_command(alloc);
     let command = with(command, word_option(alloc, "action"));
     let command = with(command, word_option(alloc, "size"));
     with(command, word_option(alloc, "media"))
+}
+
+/// The subcommand `poster`.
+fn poster_command<'a>(alloc: Global) -> Result<Command<'a>, AllocError>
+    ensures { IsCommand poster_app result }
+{
+    let command = with(described_command(alloc), word_option(alloc, "icon"));
+    with(command, word_option(alloc, "icon-type"))
 }
 
 /// The subcommand `handover`, but for its error.
@@ -100,21 +119,42 @@ fn handover_command<'a>(alloc: Global) -> Result<Command<'a>, AllocError>
 fn record_command<'a>(alloc: Global) -> Result<Command<'a>, AllocError>
     ensures { IsCommand record_app result }
 {
-    let command = part_command(alloc, "record");
+    let command = payload_command(alloc, "record");
     let command = with(command, asked_option(alloc, "tnf"));
-    let command = with(command, word_option(alloc, "type"));
-    let command = with(command, word_option(alloc, "id"));
-    with(command, flag(alloc, "unchecked"))
+    with(command, word_option(alloc, "type"))
+}
+
+/// The subcommand `media`.
+fn media_command<'a>(alloc: Global) -> Result<Command<'a>, AllocError>
+    ensures { IsCommand media_app result }
+{
+    with(payload_command(alloc, "media"), given_word(alloc, "type"))
+}
+
+/// The subcommand `external`.
+fn external_command<'a>(alloc: Global) -> Result<Command<'a>, AllocError>
+    ensures { IsCommand external_app result }
+{
+    with(
+        payload_command(alloc, "external"),
+        given_word(alloc, "type"),
+    )
+}
+
+/// The subcommand `app`.
+fn app_command<'a>(alloc: Global) -> Result<Command<'a>, AllocError>
+    ensures { IsCommand app_app result }
+{
+    with(part_command(alloc, "app"), given_word(alloc, "package"))
 }
 
 /// The subcommand `carrier`.
 fn carrier_command<'a>(alloc: Global) -> Result<Command<'a>, AllocError>
     ensures { IsCommand carrier_app result }
 {
-    let command = part_command(alloc, "carrier");
+    let command = payload_command(alloc, "carrier");
     let command = with(command, asked_option(alloc, "format"));
-    let command = with(command, asked_option(alloc, "type"));
-    with(command, word_option(alloc, "id"))
+    with(command, asked_option(alloc, "type"))
 }
 
 /// No flag and no subcommand for help: words that ask for it print the usage line.
@@ -129,14 +169,23 @@ fn empty_command<'a>(alloc: Global) -> Command<'a>
         .disable_help_subcommand(true)
 }
 
-/// The subcommands and their options.
-pub fn make_command<'a>(alloc: Global) -> Result<Command<'a>, AllocError>
-    ensures { IsCommand make_app result }
+/// The subcommands whose record isn't made of a payload, and their options.
+fn plain_make_command<'a>(alloc: Global) -> Result<Command<'a>, AllocError>
+    ensures { IsCommand plain_make_app result }
 {
     let command = over(Ok(empty_command(alloc)), text_command(alloc));
     let command = over(command, uri_command(alloc));
     let command = over(command, poster_command(alloc));
     let command = over(command, handover_command(alloc));
-    let command = over(command, record_command(alloc));
+    over(command, app_command(alloc))
+}
+
+/// The subcommands and their options.
+pub fn make_command<'a>(alloc: Global) -> Result<Command<'a>, AllocError>
+    ensures { IsCommand make_app result }
+{
+    let command = over(plain_make_command(alloc), record_command(alloc));
+    let command = over(command, media_command(alloc));
+    let command = over(command, external_command(alloc));
     over(command, carrier_command(alloc))
 }

@@ -7,10 +7,10 @@ ghost use Rattle.ndef_make_tool.specs.Records.{AreAnsweredBy};
 use crate::Fault;
 use crate::handover::{make_alternative, make_collision, make_error};
 use crate::poster::{make_action, make_size, make_title};
-use crate::records::{make_known, make_uri};
+use crate::records::{make_item, make_known, make_uri};
 use clap::ArgMatches;
 use ndef_lang::Kind;
-use ndef_value::Record;
+use ndef_value::{Record, Tnf};
 use std::alloc::Global;
 
 /// What a record of a poster (RTD Smart Poster 1.0) or of a handover (Connection Handover 1.2) is.
@@ -26,6 +26,8 @@ pub(crate) enum Property {
     Size,
     /// Its media type.
     Media,
+    /// The icon, by its media type.
+    Icon,
     /// The collision resolution of a handover request.
     Collision,
     /// An alternative carrier.
@@ -48,9 +50,14 @@ pub(crate) fn words_for(property: Property, id: &str) -> Wanted<'_>
     Wanted { property, id }
 }
 
-/// The record of a property that a word says.
-fn make_content(alloc: Global, property: Property, word: &str) -> Result<Record, Fault>
-    ensures { MakesContent (property, word.now) result }
+/// The record of a property that a word says; the payload is that of an icon.
+fn make_content(
+    alloc: Global,
+    property: Property,
+    word: &str,
+    payload: &[u8],
+) -> Result<Record, Fault>
+    ensures { MakesContent payload.now (property, word.now) result }
 {
     match property {
         Property::Uri => make_uri(alloc, word),
@@ -58,6 +65,7 @@ fn make_content(alloc: Global, property: Property, word: &str) -> Result<Record,
         Property::Action => make_action(alloc, word),
         Property::Size => make_size(alloc, word),
         Property::Media => make_known(alloc, Kind::MediaType, word.as_bytes()),
+        Property::Icon => make_item(alloc, Tnf::Media, word.as_bytes(), b"", payload),
         Property::Collision => make_collision(alloc, word),
         Property::Carrier => make_alternative(alloc, word),
         Property::Error => make_error(alloc, word),
@@ -70,11 +78,13 @@ fn push_texts(
     records: &mut Vec<Record>,
     property: Property,
     texts: &[&str],
+    payload: &[u8],
 ) -> Result<(), Fault>
-    ensures { OnMade (map (λ text. (property, text.now)) texts.now) records.old.items records.new.items result }
+    ensures { OnMade payload.now (map (λ text. (property, text.now)) texts.now)
+        records.old.items records.new.items result }
 {
     for text in texts {
-        records.push(make_content(alloc, property, *text)?)?;
+        records.push(make_content(alloc, property, *text, payload)?)?;
     }
     Ok(())
 }
@@ -85,28 +95,30 @@ fn push_words(
     records: &mut Vec<Record>,
     matches: &ArgMatches<'_>,
     wanted: Wanted<'_>,
+    payload: &[u8],
 ) -> Result<(), Fault>
-    ensures { OnMade (words_as wanted.entry.property wanted.entry.id.now (rows_of (found_of matches.now)))
+    ensures { OnMade payload.now (words_as wanted.entry.property wanted.entry.id.now (rows_of (found_of matches.now)))
         records.old.items records.new.items result }
 {
     match matches.get_raw(wanted.id) {
-        Some(texts) => push_texts(alloc, records, wanted.property, texts),
+        Some(texts) => push_texts(alloc, records, wanted.property, texts, payload),
         None => Ok(()),
     }
 }
 
-/// The records of the words of these options, one option after another.
+/// The records of the words of these options, one option after another; the payload is that of an icon.
 pub(crate) fn make_contents(
     alloc: Global,
     matches: &ArgMatches<'_>,
     options: &[Wanted<'_>],
+    payload: &[u8],
 ) -> Result<Vec<Record>, Fault>
-    ensures { AreAnsweredBy MakesContent
+    ensures { AreAnsweredBy (MakesContent payload.now)
         (contents_by (map option_of options.now) (rows_of (found_of matches.now))) result }
 {
     let mut records = Vec::new(alloc);
     for option in options {
-        push_words(alloc, &mut records, matches, *option)?;
+        push_words(alloc, &mut records, matches, *option, payload)?;
     }
     Ok(records)
 }

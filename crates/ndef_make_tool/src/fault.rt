@@ -2,9 +2,11 @@
 ghost use Rattle.std.specs.Prelude.{◌≡◌};
 ghost use Rattle.ndef_make_tool.specs.Faults.{detail_fault, encode_fault, input_fault, line_of, name_fault};
 ghost use Rattle.ndef_make_tool.specs.Faults.{payload_line, record_fault, record_line, fault_status, text_fault};
-ghost use Rattle.ndef_make_tool.specs.Faults.{fault_text};
+ghost use Rattle.ndef_make_tool.specs.Faults.{fault_at, fault_text, room_line};
 ghost use Rattle.ndef_make_tool.specs.declared.fault.Fault.TheVariants.{Memory};
 
+use crate::measure::free_for;
+use crate::misuse::{Misuse, usage_at, usage_line};
 use ndef_message::InputError;
 use ndef_program::{Line, Status};
 use ndef_types::{DetailError, EncodeError, TextError};
@@ -49,6 +51,9 @@ pub enum Refused {
     /// Reference).
     #[error("no record has the id to which a carrier refers")]
     NoRecord(Name),
+    /// A message of this length is too long for a tag with the other number of bytes (Type 2 Tag, NDEF Message TLV).
+    #[error("a message of {0} bytes for a tag of {1}")]
+    NoRoom(u64, u32),
     /// More than 65535 records.
     #[error("more than 65535 records")]
     TooManyRecords,
@@ -57,9 +62,12 @@ pub enum Refused {
 /// Why no message is made.
 #[derive(Debug, Drop, PartialEq, Eq, Error)]
 pub enum Fault {
-    /// The words don't parse.
-    #[error("the words don't parse")]
-    Usage,
+    /// The words are wrong.
+    #[error("the words are wrong")]
+    Usage(Misuse),
+    /// The words of the record of this number, counted from 1, are wrong.
+    #[error("the words of record {0} are wrong")]
+    UsageAt(u64, Misuse),
     /// What the words ask for can't be said.
     #[error(transparent)]
     Refused(Refused),
@@ -72,6 +80,18 @@ pub enum Fault {
     /// An allocation failed.
     #[error("no memory")]
     Memory,
+}
+
+impl Fault {
+    /// The same fault, of the record of this number.
+    pub(crate) fn at(self, number: u64) -> Fault
+        ensures { result ≡ fault_at number self }
+    {
+        match self {
+            Fault::Usage(misuse) => Fault::UsageAt(number, misuse),
+            other => other,
+        }
+    }
 }
 
 impl From<NoMemory> for Fault {
@@ -215,6 +235,22 @@ fn record_line(reference: &Name) -> Line
     line
 }
 
+/// What is printed of a message for which a tag has no room.
+fn room_line(length: u64, room: u32) -> Line
+    ensures { result ≡ room_line length room }
+{
+    let free = free_for(length, room);
+    let mut line = Line::new();
+    line.push(b"refused: a message of ");
+    line.push_number(length);
+    line.push(b" bytes, and the tag has room for ");
+    line.push_number(free);
+    line.push(b": ");
+    line.push_number(length.saturating_sub(free));
+    line.push(b" too many\n");
+    line
+}
+
 /// What is printed where what the words ask for can't be said.
 fn refused_line(refused: &Refused) -> Told
     ensures { fault_text result ≡ line_of (Fault.Refused refused.now) }
@@ -222,6 +258,7 @@ fn refused_line(refused: &Refused) -> Told
     match refused {
         Refused::BadPayload(refusal) => Told::Line(payload_line(*refusal)),
         Refused::NoRecord(reference) => Told::Line(record_line(reference)),
+        Refused::NoRoom(size, room) => Told::Line(room_line(*size, *room)),
         Refused::NoHandover => Told::Text(b"refused: records that are no handover\n"),
         Refused::BadError => {
             Told::Text(b"refused: data that do not go with the reason of an error\n")
@@ -250,7 +287,8 @@ pub(crate) fn line_of(fault: &Fault) -> Told
     ensures { fault_text result ≡ line_of fault.now }
 {
     match fault {
-        Fault::Usage => Told::Text(USAGE),
+        Fault::Usage(misuse) => Told::Line(usage_line(*misuse)),
+        Fault::UsageAt(number, misuse) => Told::Line(usage_at(*number, *misuse)),
         Fault::Refused(refused) => refused_line(refused),
         Fault::Reading => Told::Text(b"fault: reading\n"),
         Fault::TooLong => Told::Text(b"fault: more than 1048576 bytes of payload\n"),
@@ -258,21 +296,12 @@ pub(crate) fn line_of(fault: &Fault) -> Told
     }
 }
 
-/// What is printed where the words don't parse.
-const USAGE: &[u8] = b"usage: ndef-make text [--language L] [--utf16] TEXT | uri URI | \
-    poster URI [--title L=TEXT].. [--action do|save|open] [--size N] [--media TYPE] | \
-    handover request --collision N [--version 1.M] [--carrier POWER=ID[,ID]..].. | \
-    handover select [--version 1.M] [--carrier POWER=ID[,ID]..].. [--error REASON:DATA] | \
-    record --tnf N [--type T] [--id I] [--unchecked] < payload | \
-    carrier --format N --type T [--id I] < data; [--hex] [--raw]; more records: --and ..; \
-    --help | --version\n";
-
 /// The status of a fault.
 pub(crate) fn fault_status(fault: &Fault) -> Status
     ensures { result ≡ fault_status fault.now }
 {
     match fault {
-        Fault::Usage => Status::Usage,
+        Fault::Usage(_) | Fault::UsageAt(_, _) => Status::Usage,
         Fault::Refused(_) => Status::Refused,
         Fault::Reading | Fault::TooLong | Fault::Memory => Status::Fault,
     }

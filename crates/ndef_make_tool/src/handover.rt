@@ -1,24 +1,26 @@
 //! The record of a handover request or select.
 ghost use Rattle.std.specs.Prelude.{◌≡◌, ◌<◌, [], length, map, IfOk, IfSome};
-ghost use Rattle.std.specs.List.{list_all, slice_split};
-ghost use Rattle.hex.specs.Hex.{is_hex_digit};
+ghost use Rattle.std.specs.List.{slice_split};
 ghost use Rattle.clap.specs.Words.{found_of, rows_of};
-ghost use Rattle.ndef_make_tool.specs.Contents.{MakesContent, MakesHandoverSaid, handover_contents};
-ghost use Rattle.ndef_make_tool.specs.Handovers.{AreChecked, AreNames, AreReferences, AreShort, AsksError};
-ghost use Rattle.ndef_make_tool.specs.Handovers.{IsSelected, MakesAc, MakesAlternative, MakesError, MakesHandoverOf};
-ghost use Rattle.ndef_make_tool.specs.Handovers.{MakesRequest, MakesSelect, SaysOctets, ac_of, ac_said, are_short};
+ghost use Rattle.ndef_make_tool.specs.Contents.{MakesAllowed, MakesContent, MakesHandoverSaid, handover_bar, handover_contents};
+ghost use Rattle.ndef_make_tool.specs.Handovers.{ChecksReferences, AreNames, FitReferences, AreShort, AsksError};
+ghost use Rattle.ndef_make_tool.specs.Handovers.{IsSelected, MakesAcRecord, MakesAlternative, MakesError, MakesHandoverOf};
+ghost use Rattle.ndef_make_tool.specs.Handovers.{MakesRequestRecord, MakesSelectRecord, ac_of, ac_said, are_short};
 ghost use Rattle.ndef_make_tool.specs.Handovers.{collision_said, goes_with, handover_said, minor_named, power_named};
 ghost use Rattle.ndef_make_tool.specs.Handovers.{side_named};
+ghost use Rattle.ndef_make_tool.specs.declared.misuse.Misuse.TheVariants as misuse;
 ghost use Rattle.ndef_make_tool.specs.Options.{is_comma};
 ghost use Rattle.ndef_make_tool.specs.Records.{AreAnsweredBy, MakesSaid, MakesItem};
 
 use crate::contents::{Property, make_contents, words_for};
+use crate::forbidden::{bar_unless, request_bar};
+use crate::octets::octets_in;
 use crate::options::{cut_at_colon, cut_at_equals, is_said, number_below, word_or};
 use crate::records::{make_known, well_known};
-use crate::{Fault, Refused};
+use crate::{Fault, Misuse, Refused};
 use clap::ArgMatches;
 use ndef_lang::Kind;
-use ndef_program::{cut_at, option_text};
+use ndef_program::{cut_at, flag_given, option_text};
 use ndef_types::{Ac, HandoverError, Power, Request, Select};
 use ndef_value::{Bytes, Message, MessageError, Name, Record};
 use std::alloc::{AllocError, Global};
@@ -89,7 +91,7 @@ fn count_of(text: &[u8]) -> usize
 
 /// Checks the references of a carrier: none is too long, and at most 255 are auxiliary.
 fn check_references(text: &[u8]) -> Result<(), Fault>
-    ensures { AreChecked (slice_split is_comma text.now) result }
+    ensures { ChecksReferences (slice_split is_comma text.now) result }
 {
     if !are_short(text) {
         return Err(Fault::Refused(Refused::PartTooLong));
@@ -119,7 +121,7 @@ fn make_ac(
     reference: Name,
     auxiliary: Vec<Name>,
 ) -> Result<Record, Fault>
-    ensures { MakesAc
+    ensures { MakesAcRecord
         (record { power = power; reference = reference; auxiliary = auxiliary.items; rest = [] }) result }
 {
     match Ac::new(power, reference, auxiliary, Bytes::new(alloc)) {
@@ -133,8 +135,9 @@ fn make_ac(
 
 /// The record of an alternative carrier with these references, of which the first is the carrier's.
 fn make_linked(alloc: Global, power: Power, references: &[&[u8]]) -> Result<Record, Fault>
-    requires { AreReferences (map (λ reference. reference.now) references.now) }
-    ensures { MakesSaid MakesAlternative (ac_of power (map (λ reference. reference.now) references.now)) result }
+    requires { FitReferences (map (λ reference. reference.now) references.now) }
+    ensures { MakesSaid misuse.Carrier MakesAlternative
+        (ac_of power (map (λ reference. reference.now) references.now)) result }
 {
     match references {
         [reference, auxiliary @ ..] => {
@@ -142,49 +145,23 @@ fn make_linked(alloc: Global, power: Power, references: &[&[u8]]) -> Result<Reco
             let auxiliary = make_names(alloc, auxiliary)?;
             make_ac(alloc, power, reference, auxiliary)
         }
-        [] => Err(Fault::Usage),
+        [] => Err(Fault::Usage(Misuse::Carrier)),
     }
 }
 
 /// The record of the alternative carrier of a word.
 pub(crate) fn make_alternative(alloc: Global, word: &str) -> Result<Record, Fault>
-    ensures { MakesSaid MakesAlternative (ac_said word.now) result }
+    ensures { MakesSaid misuse.Carrier MakesAlternative (ac_said word.now) result }
 {
     let Some((name, references)) = cut_at_equals(word) else {
-        return Err(Fault::Usage);
+        return Err(Fault::Usage(Misuse::Carrier));
     };
     let Some(power) = power_named(name) else {
-        return Err(Fault::Usage);
+        return Err(Fault::Usage(Misuse::Carrier));
     };
     check_references(references.as_bytes())?;
     let references = references_of(alloc, references)?;
     make_linked(alloc, power, references.as_slice())
-}
-
-/// Whether all of these are hexadecimal digits.
-fn are_digits(digits: &[u8]) -> bool
-    ensures { result ≡ list_all is_hex_digit digits.now }
-{
-    for digit in digits {
-        if !digit.is_ascii_hexdigit() {
-            return false;
-        }
-    }
-    true
-}
-
-/// The bytes of hexadecimal digits.
-fn octets_in(alloc: Global, digits: &str) -> Result<Vec<u8>, Fault>
-    ensures { SaysOctets digits.now result }
-{
-    let digits = digits.as_bytes();
-    if digits.len() % 2 != 0 || !are_digits(digits) {
-        return Err(Fault::Usage);
-    }
-    match hex::decode(alloc, digits) {
-        Ok(octets) => Ok(octets),
-        Err(_) => Err(Fault::Memory),
-    }
 }
 
 /// The record of an error with this reason and this data.
@@ -201,22 +178,22 @@ pub(crate) fn make_error(alloc: Global, word: &str) -> Result<Record, Fault>
     ensures { AsksError word.now result }
 {
     let Some((reason, digits)) = cut_at_colon(word) else {
-        return Err(Fault::Usage);
+        return Err(Fault::Usage(Misuse::Reason));
     };
     let Some(reason) = number_below(256, reason) else {
-        return Err(Fault::Usage);
+        return Err(Fault::Usage(Misuse::Reason));
     };
-    let detail = octets_in(alloc, digits)?;
+    let detail = octets_in(alloc, Misuse::Reason, digits)?;
     make_reason(alloc, reason as u8, detail.as_slice())
 }
 
 /// The record of the collision resolution of a word.
 pub(crate) fn make_collision(alloc: Global, word: &str) -> Result<Record, Fault>
-    ensures { MakesSaid MakesItem (collision_said word.now) result }
+    ensures { MakesSaid misuse.Collision MakesItem (collision_said word.now) result }
 {
     match number_below(65536, word) {
         Some(number) => make_known(alloc, Kind::Collision, &(number as u16).to_be_bytes()),
-        None => Err(Fault::Usage),
+        None => Err(Fault::Usage(Misuse::Collision)),
     }
 }
 
@@ -282,20 +259,20 @@ fn handover_said(matches: &ArgMatches<'_>) -> Option<Handover>
 
 /// The records within the handover of a part.
 fn contents(alloc: Global, matches: &ArgMatches<'_>) -> Result<Vec<Record>, Fault>
-    ensures { AreAnsweredBy MakesContent (handover_contents (rows_of (found_of matches.now))) result }
+    ensures { AreAnsweredBy (MakesContent []) (handover_contents (rows_of (found_of matches.now))) result }
 {
     let options = [
         words_for(Property::Collision, "collision"),
         words_for(Property::Carrier, "carrier"),
         words_for(Property::Error, "error"),
     ];
-    make_contents(alloc, matches, options.as_slice())
+    make_contents(alloc, matches, options.as_slice(), b"")
 }
 
 /// The record of a request of these records.
 fn make_request(alloc: Global, minor: u8, records: Vec<Record>) -> Result<Record, Fault>
     requires { minor < 16 }
-    ensures { MakesRequest minor records.items result }
+    ensures { MakesRequestRecord minor records.items result }
 {
     let message = match Message::new(records) {
         Ok(message) => message,
@@ -325,7 +302,7 @@ fn selected(records: Vec<Record>) -> Result<Option<Message>, Fault>
 /// The record of a select of these records.
 fn make_select(alloc: Global, minor: u8, records: Vec<Record>) -> Result<Record, Fault>
     requires { minor < 16 }
-    ensures { MakesSelect minor records.items result }
+    ensures { MakesSelectRecord minor records.items result }
 {
     match Select::new(minor, selected(records)?) {
         Ok(select) => {
@@ -347,13 +324,40 @@ fn make_handover(alloc: Global, handover: Handover, records: Vec<Record>) -> Res
     }
 }
 
+/// What is forbidden of the records of a handover, if something is.
+fn handover_bar(side: Side, records: &[Record]) -> Option<Misuse>
+    ensures { result ≡ handover_bar side records.now }
+{
+    match side {
+        Side::Request => request_bar(records),
+        Side::Select => None,
+    }
+}
+
+/// The record of a handover of these records, where they may be written or aren't checked.
+fn make_allowed(
+    alloc: Global,
+    matches: &ArgMatches<'_>,
+    handover: Handover,
+    records: Vec<Record>,
+) -> Result<Record, Fault>
+    requires { handover.minor < 16 }
+    ensures { MakesAllowed (rows_of (found_of matches.now)) handover records.items result }
+{
+    let bar = handover_bar(handover.side, records.as_slice());
+    match bar_unless(flag_given(matches, "unchecked"), bar) {
+        None => make_handover(alloc, handover, records),
+        Some(misuse) => Err(Fault::Usage(misuse)),
+    }
+}
+
 /// The record of the handover of a part.
 pub(crate) fn handover_record(alloc: Global, matches: &ArgMatches<'_>) -> Result<Record, Fault>
     ensures { MakesHandoverSaid (rows_of (found_of matches.now)) result }
 {
     let Some(handover) = handover_said(matches) else {
-        return Err(Fault::Usage);
+        return Err(Fault::Usage(Misuse::Handover));
     };
     let records = contents(alloc, matches)?;
-    make_handover(alloc, handover, records)
+    make_allowed(alloc, matches, handover, records)
 }

@@ -10,19 +10,29 @@
 //!   `specs/Carriers.antt`, `specs/Handovers.antt`: the record of a part; `contents.rt`, `specs/Contents.antt`: the
 //!   records within a poster or a handover.
 //! - `references.rt`, `specs/References.antt`: that each reference of a handover has a record.
+//! - `forbidden.rt`, `specs/MayBeWritten.antt`: what the standards forbid to write.
 //! - `specs/Checking.antt`: which payloads are written. `laws.rt`, `specs/Reading.antt`: what is read of it.
-//! - `input.rt`: the payload of a record or the data of a carrier, from standard input.
+//! - `inputs.rt`, `specs/Inputs.antt`: the payload of a part, from digits or an input. `octets.rt`,
+//!   `specs/Octets.antt`: what digits stand for.
+//! - `measure.rt`, `specs/Measures.antt`: what is written of a message, and whether a tag has room for it.
+//! - `causes.rt`, `specs/Causes.antt`: the line that says why a file is not read.
+//! - `misuse.rt`, `specs/Misuses.antt`: what is wrong with words.
 //! - `fault.rt`, `specs/Faults.antt`: why there is no message, the line that says so, and the status.
 #![tactic(auto)]
 
 mod carrier;
+mod causes;
 mod command;
 mod contents;
 mod fault;
+mod forbidden;
 mod handover;
-mod input;
+mod inputs;
 mod laws;
 mod making;
+mod measure;
+mod misuse;
+mod octets;
 mod options;
 mod pages;
 mod parts;
@@ -31,7 +41,11 @@ mod records;
 mod references;
 mod running;
 
+pub use causes::cause_line;
 pub use fault::{Fault, Refused};
+pub use inputs::{Inputs, MOST, read_input};
 pub use laws::made_is_read;
 pub use making::{Shown, Written, make};
+pub use misuse::Misuse;
+pub use parts::words_fault;
 pub use running::run;

@@ -1,18 +1,17 @@
 //! The message that the words ask for.
-ghost use Rattle.std.specs.Prelude.{◌≡◌, ◌≢◌, [], drop, map, string_bytes, IfOk};
-ghost use Rattle.ndef_message.specs.States.{source_state};
+ghost use Rattle.std.specs.Prelude.{◌≡◌, ◌≢◌, [], map, string_bytes, IfOk};
 ghost use Rattle.ndef_make_tool.specs.Asked.{asked_part};
-ghost use Rattle.ndef_make_tool.specs.Making.{AreAnswered, IsMade, MakesMessage, ReadsFor, has_flag, is_reader};
-ghost use Rattle.ndef_make_tool.specs.Making.{readers_of, shown_by, written_as};
+ghost use Rattle.ndef_make_tool.specs.Making.{AreAnswered, IsMadeOf, IsMadeOfRecords, IsMadeOfWords};
+ghost use Rattle.ndef_make_tool.specs.Making.{MakesFrom, MakesMessage, WritesMessage, has_flag, shown_by, shown_of, written_as};
 
-use crate::input::read_payload;
-use crate::options::{Subject, subject_named};
-use crate::parts::{Said, parts, say_all};
+use crate::inputs::{Inputs, read_for, readers_of};
+use crate::measure::{Measure, Measured, measure_words, misfit};
+use crate::parts::{Said, parts, say_all, words_behind};
 use crate::records::make_record;
 use crate::references::find_all;
-use crate::{Fault, Refused};
-use ndef_message::{Form, Source, encode};
-use ndef_program::{flag_given, hexadecimal_line};
+use crate::{Fault, Misuse, Refused};
+use ndef_message::{Form, encode, encoded_length, short_is_canonical};
+use ndef_program::{flag_given, hexadecimal_line, push_number};
 use ndef_value::{Bytes, Message, MessageError, NoMemory, Record};
 use std::alloc::Global;
 
@@ -25,6 +24,15 @@ pub enum Shown {
     Digits,
     /// As hexadecimal digits and a newline, because they go to a terminal.
     DigitsForTerminal,
+    /// As their number and a newline, in place of them.
+    Number,
+}
+
+/// How a message is written: whether to a terminal, and what of it.
+#[derive(Clone, Copy, Debug)]
+pub(crate) struct Writing {
+    pub(crate) terminal: bool,
+    pub(crate) measure: Measure,
 }
 
 /// What is written of a message.
@@ -34,42 +42,6 @@ pub struct Written {
     pub text: Bytes,
     /// Which of the two.
     pub shown: Shown,
-}
-
-/// Whether a part takes the input.
-fn is_reader(said: &Said<'_>) -> bool
-    ensures { result ≡ is_reader (asked_part said.now) }
-{
-    match subject_named(said.name) {
-        Some(Subject::Record) => true,
-        Some(Subject::Carrier) => true,
-        _ => false,
-    }
-}
-
-/// The number of parts that take the input.
-fn readers_of(said: &[Said<'_>]) -> usize
-    ensures { result ≡ readers_of (map asked_part said.now) }
-{
-    let mut count = 0;
-    for part in said {
-        if is_reader(part) {
-            count += 1;
-        }
-    }
-    count
-}
-
-/// The input, where one part takes it; it is left where none does.
-fn read_for<S: Source>(alloc: Global, said: &[Said<'_>], source: &mut S) -> Result<Bytes, Fault>
-    ensures { ReadsFor (readers_of (map asked_part said.now))
-        (source_state S.Source source.old) (source_state S.Source source.new) result }
-{
-    match readers_of(said) {
-        0 => Ok(Bytes::new(alloc)),
-        1 => read_payload(alloc, source),
-        _ => Err(Fault::Usage),
-    }
 }
 
 /// Whether a part has the flag.
@@ -97,15 +69,50 @@ fn shown_by(terminal: bool, said: &[Said<'_>]) -> Shown
     Shown::Octets
 }
 
-/// The records of the parts, with the input.
-fn make_records(alloc: Global, said: &[Said<'_>], input: &[u8]) -> Result<Vec<Record>, Fault>
-    ensures { AreAnswered (map asked_part said.now) input.now result }
+/// How what is asked for of a message is written, where its bytes are written so.
+fn shown_of(measure: Measure, shown: Shown) -> Shown
+    ensures { result ≡ shown_of measure shown }
+{
+    match measure {
+        Measure::Count => Shown::Number,
+        Measure::Whole | Measure::Room(_) => shown,
+    }
+}
+
+/// The record that a part asks for, with its payload.
+fn read_and_make<I: Inputs>(alloc: Global, said: &Said<'_>, inputs: &mut I) -> Result<Record, Fault>
+    ensures { MakesFrom I.gives (asked_part said.now) inputs.old inputs.new result }
+{
+    let payload = read_for(alloc, said, inputs)?;
+    make_record(alloc, said, payload.as_slice())
+}
+
+/// The records of the parts, each with its payload.
+fn make_records<I: Inputs>(
+    alloc: Global,
+    said: &[Said<'_>],
+    inputs: &mut I,
+) -> Result<Vec<Record>, Fault>
+    ensures { AreAnswered I.gives (map asked_part said.now) inputs.old inputs.new result }
 {
     let mut records = Vec::new(alloc);
     for part in said {
-        records.push(make_record(alloc, part, input)?)?;
+        match read_and_make(alloc, part, inputs) {
+            Ok(item) => records.push(item)?,
+            Err(fault) => return Err(fault.at(records.len() as u64 + 1)),
+        }
     }
     Ok(records)
+}
+
+/// The number of these bytes as a line.
+fn number_line(alloc: Global, bytes: &[u8]) -> Result<Bytes, NoMemory>
+    ensures { IfOk result (λ text. text ≡ written_as Shown.Number bytes.now) }
+{
+    let mut line = Bytes::new(alloc);
+    push_number(&mut line, bytes.len() as u64)?;
+    line.extend(b"\n")?;
+    Ok(line)
 }
 
 /// The bytes as they are written.
@@ -115,52 +122,98 @@ fn text_in(alloc: Global, shown: Shown, bytes: Bytes) -> Result<Bytes, NoMemory>
     match shown {
         Shown::Octets => Ok(bytes),
         Shown::Digits | Shown::DigitsForTerminal => hexadecimal_line(alloc, bytes.as_slice()),
+        Shown::Number => number_line(alloc, bytes.as_slice()),
     }
 }
 
+/// What is written of a message.
+fn write_message(
+    alloc: Global,
+    measure: Measure,
+    shown: Shown,
+    message: &Message,
+) -> Result<Written, Fault>
+    ensures { WritesMessage measure shown message.now result }
+{
+    // For the proof alone.
+    short_is_canonical();
+    if let Some((size, room)) = misfit(measure, encoded_length(message, Form::Short)) {
+        return Err(Fault::Refused(Refused::NoRoom(size, room)));
+    }
+    let bytes = encode(alloc, message, Form::Short)?;
+    let text = text_in(alloc, shown, bytes)?;
+    Ok(Written { text, shown })
+}
+
 /// What is written of the records.
-fn write_records(alloc: Global, shown: Shown, records: Vec<Record>) -> Result<Written, Fault>
+fn write_records(
+    alloc: Global,
+    measure: Measure,
+    shown: Shown,
+    records: Vec<Record>,
+) -> Result<Written, Fault>
     requires { records.items ≢ [] }
-    ensures { MakesMessage shown records.items result }
+    ensures { MakesMessage measure shown records.items result }
 {
     match Message::new(records) {
-        Ok(message) => {
-            let bytes = encode(alloc, &message, Form::Short)?;
-            let text = text_in(alloc, shown, bytes)?;
-            Ok(Written { text, shown })
-        }
+        Ok(message) => write_message(alloc, measure, shown, &message),
         Err(MessageError::NoRecords(_)) => unreachable!(),
         Err(MessageError::TooMany(_)) => Err(Fault::Refused(Refused::TooManyRecords)),
     }
 }
 
-/// The words after the program's name.
-fn words_behind(words: &[String]) -> &[String]
-    ensures { map string_bytes result.now ≡ drop 1 (map string_bytes words.now) }
+/// What is written of the message of the records for which the parts ask.
+fn make_parts<I: Inputs>(
+    alloc: Global,
+    said: &[Said<'_>],
+    writing: Writing,
+    inputs: &mut I,
+) -> Result<Written, Fault>
+    requires { said.now ≢ [] }
+    ensures { IsMadeOf I.gives (map asked_part said.now) writing inputs.old inputs.new result }
 {
-    match words {
-        [_, rest @ ..] => rest,
-        [] => &[],
+    if readers_of(said) > 1 {
+        return Err(Fault::Usage(Misuse::TwoReaders));
     }
+    let records = make_records(alloc, said, inputs)?;
+    find_all(alloc, records.as_slice(), said)?;
+    let shown = shown_of(writing.measure, shown_by(writing.terminal, said));
+    write_records(alloc, writing.measure, shown, records)
+}
+
+/// What is written of the message for which the words of records ask.
+fn make_measured<I: Inputs>(
+    alloc: Global,
+    measured: Measured<'_>,
+    terminal: bool,
+    inputs: &mut I,
+) -> Result<Written, Fault>
+    ensures { IsMadeOfRecords I.gives (map string_bytes measured.entry.records.now)
+        (record { terminal = terminal; measure = measured.entry.measure }) inputs.old inputs.new result }
+{
+    let parts = parts(alloc, measured.records)?;
+    let said = say_all(alloc, parts.as_slice())?;
+    let writing = Writing {
+        terminal,
+        measure: measured.measure,
+    };
+    make_parts(alloc, said.as_slice(), writing, inputs)
 }
 
 /// What is written of the message for which the words ask, of which the first is the program's name.
 ///
-/// The source is read, to its end, exactly where one part is a `record` or a `carrier`. To a terminal
-/// digits are written, unless a part has the flag `raw`.
-pub fn make<S: Source>(
+/// Of the inputs those are read that parts name, one after another. At most one part takes standard input. To a
+/// terminal digits are written, unless a part has the flag `raw`.
+pub fn make<I: Inputs>(
     alloc: Global,
     words: &[String],
     terminal: bool,
-    source: &mut S,
+    inputs: &mut I,
 ) -> Result<Written, Fault>
-    ensures { IsMade (map string_bytes words.now) terminal
-        (source_state S.Source source.old) (source_state S.Source source.new) result }
+    ensures { IsMadeOfWords I.gives (map string_bytes words.now) terminal inputs.old inputs.new result }
 {
-    let parts = parts(alloc, words_behind(words))?;
-    let said = say_all(alloc, parts.as_slice())?;
-    let input = read_for(alloc, said.as_slice(), source)?;
-    let records = make_records(alloc, said.as_slice(), input.as_slice())?;
-    find_all(alloc, records.as_slice(), said.as_slice())?;
-    write_records(alloc, shown_by(terminal, said.as_slice()), records)
+    let Some(measured) = measure_words(words_behind(words)) else {
+        return Err(Fault::Usage(Misuse::Tag));
+    };
+    make_measured(alloc, measured, terminal, inputs)
 }

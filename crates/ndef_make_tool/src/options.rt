@@ -2,8 +2,8 @@
 ghost use Rattle.std.specs.Prelude.{◌≡◌, ◌<◌, option_map, IfSome};
 ghost use Rattle.clap.specs.Words.{found_of, rows_of};
 ghost use Rattle.ndef_program.specs.Options.{number_in};
-ghost use Rattle.ndef_make_tool.specs.Options.{cut_at, is_colon, is_equals, is_said, number_below, subject_named};
-ghost use Rattle.ndef_make_tool.specs.Options.{tnf_named, word_or};
+ghost use Rattle.ndef_make_tool.specs.Options.{cut_at, is_colon, is_equals, is_said, is_slash, number_below};
+ghost use Rattle.ndef_make_tool.specs.Options.{subject_named, tnf_named, word_or};
 
 use clap::ArgMatches;
 use ndef_program::option_text;
@@ -20,9 +20,15 @@ pub(crate) enum Subject {
     Poster,
     /// A Handover Request or Handover Select record (Connection Handover 1.2).
     Handover,
-    /// A record whose payload is the input.
+    /// A record of given parts.
     Record,
-    /// A Handover Carrier record, whose data is the input (Connection Handover 1.2).
+    /// A record of a media type (NDEF 1.0, TNF 2).
+    Media,
+    /// A record of an external type (NDEF 1.0, TNF 4).
+    External,
+    /// A record that names the package of an Android application.
+    App,
+    /// A Handover Carrier record (Connection Handover 1.2).
     Carrier,
 }
 
@@ -56,6 +62,9 @@ pub(crate) fn subject_named(name: &str) -> Option<Subject>
         "poster" => Some(Subject::Poster),
         "handover" => Some(Subject::Handover),
         "record" => Some(Subject::Record),
+        "media" => Some(Subject::Media),
+        "external" => Some(Subject::External),
+        "app" => Some(Subject::App),
         "carrier" => Some(Subject::Carrier),
         _ => None,
     }
@@ -88,6 +97,13 @@ pub(crate) fn cut_at_colon(word: &str) -> Option<(&str, &str)>
     ensures { option_map (λ cut. (cut.0.now, cut.1.now)) result ≡ cut_at is_colon word.now }
 {
     word.split_once(':')
+}
+
+/// What stands before the first slash of a word, and what after it.
+pub(crate) fn cut_at_slash(word: &str) -> Option<(&str, &str)>
+    ensures { option_map (λ cut. (cut.0.now, cut.1.now)) result ≡ cut_at is_slash word.now }
+{
+    word.split_once('/')
 }
 
 /// The number for which a word stands.

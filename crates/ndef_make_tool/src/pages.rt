@@ -1,8 +1,9 @@
 //! The pages about the program itself.
-ghost use Rattle.std.specs.Prelude.{◌≡◌};
-ghost use Rattle.ndef_make_tool.specs.Pages.{ndef_make_help, ndef_make_page};
+ghost use Rattle.std.specs.Prelude.{◌≡◌, map, string_bytes};
+ghost use Rattle.ndef_make_tool.specs.Pages.{asks_help, help_word, make_page_asked, ndef_make_help, ndef_make_page};
 
-use ndef_program::Page;
+use crate::parts::words_behind;
+use ndef_program::{Page, page_asked};
 
 /// The page of help.
 fn ndef_make_help() -> &'static [u8]
@@ -21,11 +22,46 @@ pub(crate) fn ndef_make_page(page: Page) -> &'static [u8]
     }
 }
 
+/// Whether a word asks for help, or ends options.
+fn help_word(word: &str) -> Option<bool>
+    ensures { result ≡ help_word word.now }
+{
+    match word {
+        "--" => Some(false),
+        "--help" => Some(true),
+        _ => None,
+    }
+}
+
+/// Whether the words ask for help, before a word that ends options.
+fn asks_help(words: &[String]) -> bool
+    ensures { result ≡ asks_help (map string_bytes words.now) }
+{
+    let mut rest = words;
+    while let [word, others @ ..] = rest {
+        match help_word(word.as_str()) {
+            Some(asks) => return asks,
+            None => rest = others,
+        }
+    }
+    false
+}
+
+/// The page for which the words ask, of which the first is the program's name.
+pub(crate) fn make_page_asked(words: &[String]) -> Option<Page>
+    ensures { result ≡ make_page_asked (map string_bytes words.now) }
+{
+    if asks_help(words_behind(words)) {
+        return Some(Page::Help);
+    }
+    page_asked(words)
+}
+
 /// What the program does, its words, and examples.
 const HELP: &[u8] = b"\
 ndef-make writes a message of the NFC Data Exchange Format.
 
-Usage: ndef-make RECORD [--and RECORD]..
+Usage: ndef-make [--size | --tag TAG] RECORD [--and RECORD]..
 
 Each RECORD is a subcommand with its options. Separate records with --and.
 
@@ -38,6 +74,8 @@ Each RECORD is a subcommand with its options. Separate records with --and.
     --action A        what to do with the URI: do, save or open
     --size N          the size in bytes of what the URI leads to
     --media TYPE      the media type of what the URI leads to
+    --icon FILE       the file of an icon, with --icon-type
+    --icon-type TYPE  the media type of the icon
   handover request    a handover request; the records of its carriers are further parts
   handover select     a handover select, likewise
     --version 1.M     the version, 1.0 to 1.15; without it: 1.2
@@ -47,30 +85,44 @@ Each RECORD is a subcommand with its options. Separate records with --and.
                       repeated
     --error R:DATA    of a select: the reason of an error, 0 to 255, and its data in
                       hexadecimal digits
-  record              a record of any type; its payload is standard input
+  record              a record of any type
     --tnf N           the type name format, 0 to 5
     --type T          the type
-    --id I            the id
-    --unchecked       write any payload, also one that readers refuse
-  carrier             a handover carrier; its data is standard input
+  media TYPE          a record of a media type, as image/png
+  external TYPE       a record of an external type, as example.com:a
+  app PACKAGE         an Android application record
+  carrier             a handover carrier; its data is its payload
     --format N        the carrier type format, 0 to 7
     --type T          the carrier type
-    --id I            the id
+
+The payload of a record, media, external or carrier is standard input, or
+
+    --file FILE       what a file holds; - is standard input
+    --payload DIGITS  what hexadecimal digits stand for
 
 Options of every RECORD:
 
+  --id I              the id of the record
+  --unchecked         write what a strict reader refuses or a standard forbids, too
   --hex               write hexadecimal digits and a newline, as to a terminal
   --raw               write bytes, to a terminal too
 
-Without a RECORD:
+Before the first RECORD:
 
-  --help              print this page
-  --version           print the name and the version
+  --size              print the number of the message's bytes in place of it
+  --tag TAG           write it only if it fits on the tag: ntag213, ntag215, ntag216, or
+                      a number of bytes; counted with 3 bytes around it, or 5 around
+                      255 and more
+
+In place of a message:
+
+  --help              print this page; it may stand anywhere before the word --
+  --version           print the name and the version, where it stands alone
 
 Examples:
 
   ndef-make text Hello --and uri http://www.example.com > tag.bin
   ndef-make poster http://www.example.com --title en=Example --action save > tag.bin
   printf 123 | ndef-make record --hex --tnf 2 --type a/b --id x
-  ndef-make handover select --carrier active=0 --and record --tnf 2 --type a/b --id 0 < data > tag.bin
+  ndef-make handover select --carrier active=0 --and media a/b --id 0 --file data > tag.bin
 ";

@@ -1,27 +1,31 @@
 //! The record of a smart poster.
-ghost use Rattle.std.specs.Prelude.{◌≡◌};
+ghost use Rattle.std.specs.Prelude.{◌≡◌, codes};
 ghost use Rattle.clap.specs.Words.{found_of, rows_of};
-ghost use Rattle.ndef_make_tool.specs.Contents.{MakesContent, MakesPoster, poster_contents};
+ghost use Rattle.ndef_make_tool.specs.Contents.{MakesContent, MakesPosterOf, MakesPosterRecord, go_together, poster_contents};
+ghost use Rattle.ndef_make_tool.specs.Options.{is_said};
 ghost use Rattle.ndef_make_tool.specs.Posters.{MakesNested, action_octet, action_said, size_said, title_said};
 ghost use Rattle.ndef_make_tool.specs.Records.{AreAnsweredBy, MakesSaid, MakesItem, MakesText};
+ghost use Rattle.ndef_make_tool.specs.declared.misuse.Misuse.TheVariants as misuse;
 
 use crate::contents::{Property, make_contents, words_for};
-use crate::options::{cut_at_equals, number_in};
+use crate::forbidden::{bar_unless, poster_bar};
+use crate::options::{cut_at_equals, is_said, number_in};
 use crate::records::{make_known, make_text, well_known};
-use crate::{Fault, Refused};
+use crate::{Fault, Misuse, Refused};
 use clap::ArgMatches;
 use ndef_lang::Kind;
+use ndef_program::flag_given;
 use ndef_types::{Encoding, SmartPoster};
 use ndef_value::{Message, MessageError, Record};
 use std::alloc::Global;
 
 /// The record of a title.
 pub(crate) fn make_title(alloc: Global, word: &str) -> Result<Record, Fault>
-    ensures { MakesSaid MakesText (title_said word.now) result }
+    ensures { MakesSaid misuse.Title MakesText (title_said word.now) result }
 {
     match cut_at_equals(word) {
         Some((language, text)) => make_text(alloc, Encoding::Utf8, language, text),
-        None => Err(Fault::Usage),
+        None => Err(Fault::Usage(Misuse::Title)),
     }
 }
 
@@ -39,27 +43,39 @@ fn action_octet(name: &str) -> Option<u8>
 
 /// The record of an action.
 pub(crate) fn make_action(alloc: Global, name: &str) -> Result<Record, Fault>
-    ensures { MakesSaid MakesItem (action_said name.now) result }
+    ensures { MakesSaid misuse.Action MakesItem (action_said name.now) result }
 {
     match action_octet(name) {
         Some(octet) => make_known(alloc, Kind::Action, &[octet]),
-        None => Err(Fault::Usage),
+        None => Err(Fault::Usage(Misuse::Action)),
     }
 }
 
 /// The record of a size.
 pub(crate) fn make_size(alloc: Global, word: &str) -> Result<Record, Fault>
-    ensures { MakesSaid MakesItem (size_said word.now) result }
+    ensures { MakesSaid misuse.Size MakesItem (size_said word.now) result }
 {
     match number_in(word) {
         Some(size) => make_known(alloc, Kind::Size, &size.to_be_bytes()),
-        None => Err(Fault::Usage),
+        None => Err(Fault::Usage(Misuse::Size)),
     }
 }
 
-/// The records within the poster of a part.
-fn contents(alloc: Global, matches: &ArgMatches<'_>) -> Result<Vec<Record>, Fault>
-    ensures { AreAnsweredBy MakesContent (poster_contents (rows_of (found_of matches.now))) result }
+/// Whether an icon and its type go together: both are said, or neither.
+fn has_whole_icon(matches: &ArgMatches<'_>) -> bool
+    ensures { result ≡ go_together (is_said (codes "icon") (rows_of (found_of matches.now)))
+        (is_said (codes "icon-type") (rows_of (found_of matches.now))) }
+{
+    if is_said(matches, "icon") {
+        is_said(matches, "icon-type")
+    } else {
+        !is_said(matches, "icon-type")
+    }
+}
+
+/// The records within the poster of a part, whose icon has this payload.
+fn contents(alloc: Global, matches: &ArgMatches<'_>, payload: &[u8]) -> Result<Vec<Record>, Fault>
+    ensures { AreAnsweredBy (MakesContent payload.now) (poster_contents (rows_of (found_of matches.now))) result }
 {
     let options = [
         words_for(Property::Uri, "uri"),
@@ -67,8 +83,9 @@ fn contents(alloc: Global, matches: &ArgMatches<'_>) -> Result<Vec<Record>, Faul
         words_for(Property::Action, "action"),
         words_for(Property::Size, "size"),
         words_for(Property::Media, "media"),
+        words_for(Property::Icon, "icon-type"),
     ];
-    make_contents(alloc, matches, options.as_slice())
+    make_contents(alloc, matches, options.as_slice(), payload)
 }
 
 /// The record of the poster of this message.
@@ -95,10 +112,34 @@ fn make_nested(alloc: Global, records: Vec<Record>) -> Result<Record, Fault>
     }
 }
 
-/// The record of the poster of a part.
-pub(crate) fn poster_record(alloc: Global, matches: &ArgMatches<'_>) -> Result<Record, Fault>
-    ensures { MakesPoster (rows_of (found_of matches.now)) result }
+/// The record of the poster of these records, where they may be written or aren't checked.
+fn make_allowed(
+    alloc: Global,
+    matches: &ArgMatches<'_>,
+    records: Vec<Record>,
+) -> Result<Record, Fault>
+    ensures { MakesPosterOf (rows_of (found_of matches.now)) records.items result }
 {
-    let records = contents(alloc, matches)?;
-    make_nested(alloc, records)
+    match bar_unless(
+        flag_given(matches, "unchecked"),
+        poster_bar(records.as_slice()),
+    ) {
+        None => make_nested(alloc, records),
+        Some(misuse) => Err(Fault::Usage(misuse)),
+    }
+}
+
+/// The record of the poster of a part, whose icon has this payload.
+pub(crate) fn poster_record(
+    alloc: Global,
+    matches: &ArgMatches<'_>,
+    payload: &[u8],
+) -> Result<Record, Fault>
+    ensures { MakesPosterRecord (rows_of (found_of matches.now)) payload.now result }
+{
+    if !has_whole_icon(matches) {
+        return Err(Fault::Usage(Misuse::Icon));
+    }
+    let records = contents(alloc, matches, payload)?;
+    make_allowed(alloc, matches, records)
 }

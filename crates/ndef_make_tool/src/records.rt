@@ -1,20 +1,23 @@
 //! The records that parts ask for.
-ghost use Rattle.std.specs.Prelude.{◌≡◌, ◌<◌, ◌≤◌, ◌^◌, length, chars};
-ghost use Rattle.clap.specs.Words.{found_of, rows_of};
+ghost use Rattle.std.specs.Prelude.{◌≡◌, ◌<◌, ◌≤◌, ◌^◌, length, chars, codes, option_map};
+ghost use Rattle.clap.specs.Words.{first_of, found_of, rows_of};
 ghost use Rattle.ndef_format.specs.Kinds.{kind_name};
 ghost use Rattle.ndef_make_tool.specs.Asked.{asked_part};
-ghost use Rattle.ndef_make_tool.specs.Checking.{Checked, is_unchecked};
+ghost use Rattle.ndef_make_tool.specs.Checking.{Checked, IsAllowed, is_unchecked};
 ghost use Rattle.ndef_make_tool.specs.Making.{Makes, MakesBy};
 ghost use Rattle.ndef_make_tool.specs.Options.{subject_named};
-ghost use Rattle.ndef_make_tool.specs.Records.{MakesSaid, MakesItem, MakesText, MakesUri, item_said, text_said};
-ghost use Rattle.ndef_make_tool.specs.Records.{uri_said, well_known};
+ghost use Rattle.ndef_make_tool.specs.Records.{IsNamed, MakesItem, MakesSaid, MakesText, MakesUri, app_said};
+ghost use Rattle.ndef_make_tool.specs.Records.{external_said, external_type, item_said, media_said, media_type, text_said};
+ghost use Rattle.ndef_make_tool.specs.Records.{typed_record, uri_said};
+ghost use Rattle.ndef_make_tool.specs.declared.misuse.Misuse.TheVariants as misuse;
 
 use crate::carrier::carrier_record;
+use crate::forbidden::bar_of;
 use crate::handover::handover_record;
-use crate::options::{Subject, subject_named, tnf_named, word_or};
+use crate::options::{Subject, cut_at_colon, cut_at_slash, subject_named, tnf_named, word_or};
 use crate::parts::Said;
 use crate::poster::poster_record;
-use crate::{Fault, Refused};
+use crate::{Fault, Misuse, Refused};
 use clap::ArgMatches;
 use ndef_lang::{Kind, refusal_of};
 use ndef_nest::Typed;
@@ -27,7 +30,7 @@ use std::alloc::Global;
 pub(crate) fn well_known(alloc: Global, kind: Kind, payload: Bytes) -> Record
     requires kind { 1 ≤ length (kind_name kind) }
     requires payload { length payload < 2 ^ 32 }
-    ensures { result ≡ well_known (kind_name kind) payload }
+    ensures { result ≡ typed_record (kind_name kind) payload }
 {
     let Ok(kind) = Name::from_slice(alloc, kind.name()) else {
         unreachable!()
@@ -35,11 +38,24 @@ pub(crate) fn well_known(alloc: Global, kind: Kind, payload: Bytes) -> Record
     Record::from_parts(Tnf::WellKnown, kind, Name::new(alloc), payload)
 }
 
+/// A record of these parts.
+pub(crate) fn make_item(
+    alloc: Global,
+    tnf: Tnf,
+    kind: &[u8],
+    id: &[u8],
+    payload: &[u8],
+) -> Result<Record, Fault>
+    ensures { MakesItem (record { tnf = tnf; kind = kind.now; id = id.now; payload = payload.now }) result }
+{
+    Ok(Record::new(alloc, tnf, kind, id, payload)?)
+}
+
 /// A record of the well-known type of a kind with this payload.
 pub(crate) fn make_known(alloc: Global, kind: Kind, payload: &[u8]) -> Result<Record, Fault>
-    ensures { MakesItem (well_known (kind_name kind) payload.now) result }
+    ensures { MakesItem (typed_record (kind_name kind) payload.now) result }
 {
-    Ok(Record::new(alloc, Tnf::WellKnown, kind.name(), b"", payload)?)
+    make_item(alloc, Tnf::WellKnown, kind.name(), b"", payload)
 }
 
 /// The record of a text.
@@ -58,10 +74,10 @@ pub(crate) fn make_text(
 
 /// The record of the text of a part.
 fn text_record(alloc: Global, matches: &ArgMatches<'_>) -> Result<Record, Fault>
-    ensures { MakesSaid MakesText (text_said (rows_of (found_of matches.now))) result }
+    ensures { MakesSaid misuse.Words MakesText (text_said (rows_of (found_of matches.now))) result }
 {
     let Some(text) = option_text(matches, "text") else {
-        return Err(Fault::Usage);
+        return Err(Fault::Usage(Misuse::Words));
     };
     let language = word_or(matches, "language", "en");
     let encoding = if flag_given(matches, "utf16") {
@@ -83,41 +99,147 @@ pub(crate) fn make_uri(alloc: Global, uri: &str) -> Result<Record, Fault>
 
 /// The record of the URI of a part.
 fn uri_record(alloc: Global, matches: &ArgMatches<'_>) -> Result<Record, Fault>
-    ensures { MakesSaid MakesUri (uri_said (rows_of (found_of matches.now))) result }
+    ensures { MakesSaid misuse.Words MakesUri (uri_said (rows_of (found_of matches.now))) result }
 {
     match option_text(matches, "uri") {
         Some(uri) => make_uri(alloc, uri),
-        None => Err(Fault::Usage),
+        None => Err(Fault::Usage(Misuse::Words)),
     }
 }
 
 /// The record of the parts that a part gives, with this payload.
 fn given_record(alloc: Global, matches: &ArgMatches<'_>, payload: &[u8]) -> Result<Record, Fault>
-    ensures { MakesSaid MakesItem (item_said (rows_of (found_of matches.now)) payload.now) result }
+    ensures { MakesSaid misuse.Tnf MakesItem (item_said (rows_of (found_of matches.now)) payload.now) result }
 {
     let Some(name) = option_text(matches, "tnf") else {
-        return Err(Fault::Usage);
+        return Err(Fault::Usage(Misuse::Tnf));
     };
     let Some(tnf) = tnf_named(name) else {
-        return Err(Fault::Usage);
+        return Err(Fault::Usage(Misuse::Tnf));
     };
     let kind = word_or(matches, "type", "");
     let id = word_or(matches, "id", "");
-    Ok(Record::new(alloc, tnf, kind.as_bytes(), id.as_bytes(), payload)?)
+    make_item(alloc, tnf, kind.as_bytes(), id.as_bytes(), payload)
 }
 
-/// The record that a part asks for, with the input, whatever its payload.
-fn asked_record(alloc: Global, said: &Said<'_>, input: &[u8]) -> Result<Record, Fault>
-    ensures { MakesBy (subject_named (asked_part said.now).0) (asked_part said.now).1 input.now result }
+/// The media type that a part gives.
+fn media_type<'a>(matches: &ArgMatches<'a>) -> Option<&'a str>
+    ensures { option_map (λ kind. kind.now) result ≡ media_type (rows_of (found_of matches.now)) }
+{
+    let kind = option_text(matches, "type")?;
+    match cut_at_slash(kind) {
+        Some(_) => Some(kind),
+        None => None,
+    }
+}
+
+/// The record of the media type of a part, with this payload.
+fn media_record(alloc: Global, matches: &ArgMatches<'_>, payload: &[u8]) -> Result<Record, Fault>
+    ensures { MakesSaid misuse.MediaType MakesItem (media_said (rows_of (found_of matches.now)) payload.now) result }
+{
+    match media_type(matches) {
+        Some(kind) => {
+            let id = word_or(matches, "id", "");
+            make_item(alloc, Tnf::Media, kind.as_bytes(), id.as_bytes(), payload)
+        }
+        None => Err(Fault::Usage(Misuse::MediaType)),
+    }
+}
+
+/// The external type that a part gives.
+fn external_type<'a>(matches: &ArgMatches<'a>) -> Option<&'a str>
+    ensures { option_map (λ kind. kind.now) result ≡ external_type (rows_of (found_of matches.now)) }
+{
+    let kind = option_text(matches, "type")?;
+    match cut_at_colon(kind) {
+        Some(_) => Some(kind),
+        None => None,
+    }
+}
+
+/// The record of the external type of a part, with this payload.
+fn external_record(alloc: Global, matches: &ArgMatches<'_>, payload: &[u8]) -> Result<Record, Fault>
+    ensures { MakesSaid misuse.ExternalType MakesItem
+        (external_said (rows_of (found_of matches.now)) payload.now) result }
+{
+    match external_type(matches) {
+        Some(kind) => {
+            let id = word_or(matches, "id", "");
+            make_item(
+                alloc,
+                Tnf::External,
+                kind.as_bytes(),
+                id.as_bytes(),
+                payload,
+            )
+        }
+        None => Err(Fault::Usage(Misuse::ExternalType)),
+    }
+}
+
+/// The record of the application of a part.
+fn app_record(alloc: Global, matches: &ArgMatches<'_>) -> Result<Record, Fault>
+    ensures { MakesSaid misuse.Words MakesItem (app_said (rows_of (found_of matches.now))) result }
+{
+    match option_text(matches, "package") {
+        Some(package) => {
+            let id = word_or(matches, "id", "");
+            make_item(
+                alloc,
+                Tnf::External,
+                b"android.com:pkg",
+                id.as_bytes(),
+                package.as_bytes(),
+            )
+        }
+        None => Err(Fault::Usage(Misuse::Words)),
+    }
+}
+
+/// The record with the id that a part gives; the same record where it gives none.
+fn named(
+    alloc: Global,
+    matches: &ArgMatches<'_>,
+    bare: Result<Record, Fault>,
+) -> Result<Record, Fault>
+    ensures { IsNamed (first_of (codes "id") (rows_of (found_of matches.now))) bare result }
+{
+    let Some(id) = option_text(matches, "id") else {
+        return bare;
+    };
+    let bare = bare?;
+    make_item(
+        alloc,
+        bare.tnf(),
+        bare.kind(),
+        id.as_bytes(),
+        bare.payload(),
+    )
+}
+
+/// The record that a part asks for, with this payload, whatever that is.
+fn asked_record(alloc: Global, said: &Said<'_>, payload: &[u8]) -> Result<Record, Fault>
+    ensures { MakesBy (subject_named (asked_part said.now).0) (asked_part said.now).1 payload.now result }
 {
     match subject_named(said.name) {
-        Some(Subject::Text) => text_record(alloc, &said.matches),
-        Some(Subject::Uri) => uri_record(alloc, &said.matches),
-        Some(Subject::Poster) => poster_record(alloc, &said.matches),
-        Some(Subject::Handover) => handover_record(alloc, &said.matches),
-        Some(Subject::Record) => given_record(alloc, &said.matches, input),
-        Some(Subject::Carrier) => carrier_record(alloc, &said.matches, input),
-        None => Err(Fault::Usage),
+        Some(Subject::Text) => named(alloc, &said.matches, text_record(alloc, &said.matches)),
+        Some(Subject::Uri) => named(alloc, &said.matches, uri_record(alloc, &said.matches)),
+        Some(Subject::Poster) => {
+            named(
+                alloc,
+                &said.matches,
+                poster_record(alloc, &said.matches, payload),
+            )
+        }
+        Some(Subject::Handover) => {
+            named(alloc, &said.matches, handover_record(alloc, &said.matches))
+        }
+        Some(Subject::Record) => given_record(alloc, &said.matches, payload),
+        Some(Subject::Media) => media_record(alloc, &said.matches, payload),
+        Some(Subject::External) => external_record(alloc, &said.matches, payload),
+        Some(Subject::App) => app_record(alloc, &said.matches),
+        Some(Subject::Carrier) => carrier_record(alloc, &said.matches, payload),
+        None => Err(Fault::Usage(Misuse::Words)),
     }
 }
 
@@ -125,28 +247,35 @@ fn asked_record(alloc: Global, said: &Said<'_>, input: &[u8]) -> Result<Record, 
 fn is_unchecked(said: &Said<'_>) -> bool
     ensures { result ≡ is_unchecked (asked_part said.now) }
 {
-    match subject_named(said.name) {
-        Some(Subject::Record) => flag_given(&said.matches, "unchecked"),
-        _ => false,
+    flag_given(&said.matches, "unchecked")
+}
+
+/// The record, where nothing of it is forbidden.
+fn allowed(item: Record) -> Result<Record, Fault>
+    ensures { IsAllowed item result }
+{
+    match bar_of(&item) {
+        None => Ok(item),
+        Some(misuse) => Err(Fault::Usage(misuse)),
     }
 }
 
-/// The record, where its payload is one of its type for a strict reader.
+/// The record, where its payload is one of its type for a strict reader and may be written.
 fn checked(item: Record) -> Result<Record, Fault>
     ensures { Checked item result }
 {
     let kind = Kind::of(item.tnf(), item.kind());
     match refusal_of::<Typed>(kind, MOST_RECORDS, Profile::Strict, item.payload()) {
-        None => Ok(item),
+        None => allowed(item),
         Some(refusal) => Err(Fault::Refused(Refused::BadPayload(refusal))),
     }
 }
 
-/// The record that a part asks for, with the input, where its payload is one of its type or isn't checked.
-pub(crate) fn make_record(alloc: Global, said: &Said<'_>, input: &[u8]) -> Result<Record, Fault>
-    ensures { Makes (asked_part said.now) input.now result }
+/// The record that a part asks for, with this payload, where that is one of its type or isn't checked.
+pub(crate) fn make_record(alloc: Global, said: &Said<'_>, payload: &[u8]) -> Result<Record, Fault>
+    ensures { Makes (asked_part said.now) payload.now result }
 {
-    let item = asked_record(alloc, said, input)?;
+    let item = asked_record(alloc, said, payload)?;
     if is_unchecked(said) {
         return Ok(item);
     }

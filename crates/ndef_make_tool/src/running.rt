@@ -1,13 +1,14 @@
-//! The program, over any source and sinks.
+//! The program, over any inputs and sinks.
 ghost use Rattle.std.specs.Prelude.{◌≡◌, false, map, string_bytes};
 ghost use Rattle.ndef_message.specs.States.{sink_state};
 ghost use Rattle.ndef_make_tool.specs.Runs.{Notes, PrintsAll, RunsForRecords, RunsNdefMake, three_streams};
 
 use crate::fault::{fault_status, line_of};
+use crate::inputs::Inputs;
 use crate::making::{Shown, make};
-use crate::pages::ndef_make_page;
-use ndef_message::{Sink, Source, send};
-use ndef_program::{Status, page_asked};
+use crate::pages::{make_page_asked, ndef_make_page};
+use ndef_message::{Sink, send};
+use ndef_program::Status;
 use std::alloc::Global;
 
 /// Writes a text.
@@ -32,7 +33,7 @@ fn note<L: Sink>(shown: Shown, lines: &mut L)
         → Notes shown (sink_state L.Sink lines.old) (sink_state L.Sink lines.new) }
 {
     match shown {
-        Shown::Octets | Shown::Digits => {}
+        Shown::Octets | Shown::Digits | Shown::Number => {}
         Shown::DigitsForTerminal => {
             print(NOTE, lines);
         }
@@ -40,20 +41,20 @@ fn note<L: Sink>(shown: Shown, lines: &mut L)
 }
 
 /// Writes the message of records for which the words ask, or says why there is none.
-fn run_for<S: Source, K: Sink, L: Sink>(
+fn run_for<I: Inputs, K: Sink, L: Sink>(
     alloc: Global,
     words: &[String],
     terminal: bool,
-    source: &mut S,
+    inputs: &mut I,
     sink: &mut K,
     lines: &mut L,
 ) -> Status
     ensures { K.has_failed sink.old ≡ false → L.has_failed lines.old ≡ false
-        → RunsForRecords (map string_bytes words.now) terminal
-        (three_streams S.Source K.Sink L.Sink source.old sink.old lines.old)
-        (three_streams S.Source K.Sink L.Sink source.new sink.new lines.new) result }
+        → RunsForRecords I.gives (map string_bytes words.now) terminal
+        (three_streams K.Sink L.Sink inputs.old sink.old lines.old)
+        (three_streams K.Sink L.Sink inputs.new sink.new lines.new) result }
 {
-    match make(alloc, words, terminal, source) {
+    match make(alloc, words, terminal, inputs) {
         Ok(made) => {
             note(made.shown, lines);
             print(made.text.as_slice(), sink)
@@ -71,21 +72,21 @@ fn run_for<S: Source, K: Sink, L: Sink>(
 ///
 /// After a writing fault of the first the status is `Fault`, and a front of the text is written. To a terminal the
 /// message goes in hexadecimal digits, and the other sink says so, unless the words say how it is written.
-pub fn run<S: Source, K: Sink, L: Sink>(
+pub fn run<I: Inputs, K: Sink, L: Sink>(
     alloc: Global,
     words: &[String],
     terminal: bool,
-    source: &mut S,
+    inputs: &mut I,
     sink: &mut K,
     lines: &mut L,
 ) -> Status
     ensures { K.has_failed sink.old ≡ false → L.has_failed lines.old ≡ false
-        → RunsNdefMake (map string_bytes words.now) terminal
-        (three_streams S.Source K.Sink L.Sink source.old sink.old lines.old)
-        (three_streams S.Source K.Sink L.Sink source.new sink.new lines.new) result }
+        → RunsNdefMake I.gives (map string_bytes words.now) terminal
+        (three_streams K.Sink L.Sink inputs.old sink.old lines.old)
+        (three_streams K.Sink L.Sink inputs.new sink.new lines.new) result }
 {
-    match page_asked(words) {
+    match make_page_asked(words) {
         Some(page) => print(ndef_make_page(page), sink),
-        None => run_for(alloc, words, terminal, source, sink, lines),
+        None => run_for(alloc, words, terminal, inputs, sink, lines),
     }
 }

@@ -1,16 +1,12 @@
 use Rattle.clap.specs.Words.{with_subcommand}
-use Rattle.ndef_make_tool.specs.CommandLine.{carrier_app, empty_make_app, handover_app, poster_app, record_app, text_app, uri_app}
+use Rattle.ndef_make_tool.specs.CommandLine.{carrier_app, external_app, media_app, plain_make_app, record_app}
 use Rattle.ndef_make_tool.proofs.command.make_command.Goals as goal
 
 pub returns : goal.returns
 returns c =
-    let with_text = with_subcommand empty_make_app text_app.top in
-    let with_uri = with_subcommand with_text uri_app.top in
-    let text = c.over-command.ensures empty_make_app text_app (c.empty_command.ensures.app, c.empty_command.ensures.local) c.text_command.ensures in
-    let uri = c.over-command-2.ensures with_text uri_app text c.uri_command.ensures in
-    let poster = c.over-command-3.ensures with_uri poster_app uri c.poster_command.ensures in
-    let with_poster = with_subcommand with_uri poster_app.top in
-    let handover = c.over-command-4.ensures with_poster handover_app poster c.handover_command.ensures in
-    let with_handover = with_subcommand with_poster handover_app.top in
-    let given = c.over-command-5.ensures with_handover record_app handover c.record_command.ensures in
-    c.over.ensures (with_subcommand with_handover record_app.top) carrier_app given c.carrier_command.ensures
+    let with_record = with_subcommand plain_make_app record_app.top in
+    let with_media = with_subcommand with_record media_app.top in
+    let given = c.over-command.ensures plain_make_app record_app c.plain_make_command.ensures c.record_command.ensures in
+    let media = c.over-command-2.ensures with_record media_app given c.media_command.ensures in
+    let external = c.over-command-3.ensures with_media external_app media c.external_command.ensures in
+    c.over.ensures (with_subcommand with_media external_app.top) carrier_app external c.carrier_command.ensures

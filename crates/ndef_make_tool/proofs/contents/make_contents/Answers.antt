@@ -15,15 +15,15 @@ returns-in_err-push_words c =
     let is : c.from_residual.result ≡ Err fault = search rules in
     let options = c.args.options.now in
     let n = c.loop-option.option-index in
-    rw is (options_fail (rows_of (found_of c.args.matches.now)) options n (get_or options n missing) c.loop-option.records.items c.push_words.new.records.items fault c.loop-option-test.true (got_there options n missing _ c.loop-option-test.true)
+    rw is (options_fail c.args.payload.now (rows_of (found_of c.args.matches.now)) options n (get_or options n missing) c.loop-option.records.items c.push_words.new.records.items fault c.loop-option-test.true (got_there options n missing _ c.loop-option-test.true)
     c.loop-option.invariant c.in_err-push_words.ensures)
 
 pub loop-option-preserved : goal.loop-option-preserved
 loop-option-preserved c =
     let options = c.args.options.now in
     let n = c.loop-option.option-index in
-    options_more (rows_of (found_of c.args.matches.now)) options n (get_or options n missing) c.loop-option.records.items c.push_words.new.records.items c.loop-option-test.true (got_there options n missing _ c.loop-option-test.true)
+    options_more c.args.payload.now (rows_of (found_of c.args.matches.now)) options n (get_or options n missing) c.loop-option.records.items c.push_words.new.records.items c.loop-option-test.true (got_there options n missing _ c.loop-option-test.true)
     c.loop-option.invariant c.in_ok-push_words.ensures
 
 pub returns : goal.returns
-returns c = options_whole (rows_of (found_of c.args.matches.now)) c.args.options.now c.loop-option.option-index c.loop-option.records.items c.loop-option-test.false c.loop-option.invariant
+returns c = options_whole c.args.payload.now (rows_of (found_of c.args.matches.now)) c.args.options.now c.loop-option.option-index c.loop-option.records.items c.loop-option-test.false c.loop-option.invariant

@@ -6,4 +6,4 @@ use Rattle.ndef_make_tool.proofs.contents.make_contents.Given as goal
 
 abbrev pub invariant-loop-option : goal.invariant-loop-option
 invariant-loop-option l =
-    AreMadeBy MakesContent (contents_by (map option_of (take l.option-index l.options)) (rows_of (found_of l.matches))) l.records.items
+    AreMadeBy (MakesContent l.payload) (contents_by (map option_of (take l.option-index l.options)) (rows_of (found_of l.matches))) l.records.items

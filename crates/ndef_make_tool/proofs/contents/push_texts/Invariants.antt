@@ -5,4 +5,4 @@ use Rattle.ndef_make_tool.proofs.contents.push_texts.Given as goal
 
 abbrev pub invariant-loop-text : goal.invariant-loop-text
 invariant-loop-text l =
-    AreKept MakesContent (map (λ text. (l.property, text.now)) (take l.text-index l.texts)) l.initial.records.items l.records.items
+    AreKept (MakesContent l.payload) (map (λ text. (l.property, text.now)) (take l.text-index l.texts)) l.initial.records.items l.records.items

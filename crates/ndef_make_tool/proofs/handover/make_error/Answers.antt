@@ -14,4 +14,4 @@ pub returns : goal.returns
 returns c =
     let cut : cut_at is_colon c.args.word.now ≡ Some (c.in-Some.reason.now, c.in-Some.digits.now) = search rules in
     let number : number_below 256 c.in-Some.reason.now ≡ Some c.in-Some-number_below.reason = search rules in
-    error_asked c.args.word.now _ c.make_reason.result (error_of_parts c.args.word.now _ _ _ c.in_ok-detail.detail.items cut number c.in_ok-detail.ensures) (search rules)
+    error_asked c.args.word.now _ c.make_reason.result (error_of_parts c.args.word.now _ _ _ c.in_ok-detail.detail cut number c.in_ok-detail.ensures) (search rules)

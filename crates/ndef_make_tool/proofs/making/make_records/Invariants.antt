@@ -4,4 +4,4 @@ use Rattle.ndef_make_tool.specs.Making.{AreMade}
 use Rattle.ndef_make_tool.proofs.making.make_records.Given as goal
 
 abbrev pub invariant-loop-part : goal.invariant-loop-part
-invariant-loop-part l = AreMade (map asked_part (take l.part-index l.said)) l.input l.records.items
+invariant-loop-part g l = AreMade g.I.Inputs.gives (map asked_part (take l.part-index l.said)) l.initial.inputs l.inputs l.records.items

@@ -10,7 +10,7 @@ pub returns-in_err-item : goal.returns-in_err-item
 returns-in_err-item c =
     let part = asked_part c.args.said.now in
     let o = subject_named part.0 in
-    let input = c.args.input.now in
+    let payload = c.args.payload.now in
     let fault = c.in_err-item.field-0.0 in
     let is : c.from_residual.result ≡ Err fault = search rules in
-    rw is (unmade_if (is_unchecked part) (MakesBy o part.1 input) fault (λ r h. unrefused o part.1 input r h) c.in_err-item.ensures)
+    rw is (unmade_if (is_unchecked part) (MakesBy o part.1 payload) fault (λ r h. unrefused o part.1 payload r h) c.in_err-item.ensures)

@@ -1,9 +1,9 @@
 use Rattle.std.proofs.Common.{◌≡◌, ◌∙◌, sym, arith, true, false}
 use Rattle.ndef_make_tool.specs.Asked.{asked_part}
-use Rattle.ndef_make_tool.specs.Making.{is_reader}
+use Rattle.ndef_make_tool.specs.Inputs.{is_reader}
 use Rattle.ndef_make_tool.proofs.Lists.{counted_no, counted_yes}
-use Rattle.ndef_make_tool.proofs.making.readers_of.Goals as goal
-use Rattle.ndef_make_tool.proofs.making.readers_of.Goals.{then-is_reader, else-is_reader}
+use Rattle.ndef_make_tool.proofs.inputs.readers_of.Goals as goal
+use Rattle.ndef_make_tool.proofs.inputs.readers_of.Goals.{then-is_reader, else-is_reader}
 
 pub loop-part-preserved : goal.loop-part-preserved
 loop-part-preserved c =

@@ -1,0 +1,65 @@
+-- What is written of a message, by the words before its records.
+use Rattle.std.specs.Prelude.{◌-◌, ℕ, List, [], ◌∷◌, drop, map, nat_lt, Option, Some, None, codes, if◌then◌else◌, option_map, string_bytes}
+use Rattle.std.specs.Option.{option_map_or}
+use Rattle.std.specs.Str.{bytes_eq}
+use Rattle.clap.specs.Words.{Text}
+use Rattle.ndef_program.specs.Options.{number_in}
+use Rattle.ndef_make_tool.specs.declared.measure.Front.{Front}
+use Rattle.ndef_make_tool.specs.declared.measure.Front.TheVariants as front
+use Rattle.ndef_make_tool.specs.declared.measure.Measure.{Measure}
+use Rattle.ndef_make_tool.specs.declared.measure.Measure.TheVariants.{Whole, Count, Room}
+use Rattle.ndef_make_tool.specs.declared.measure.Measured.{Measured}
+
+-- ---- words
+
+-- the word of this name before the records
+abbrev pub front_named : Text → Option Front
+front_named name = if bytes_eq name (codes "--size") then Some front.Size
+    else (if bytes_eq name (codes "--tag") then Some front.Tag else None)
+
+-- NXP NTAG213, NTAG215 and NTAG216, user memory: the bytes of the tag of this name, or that many
+abbrev pub room_named : Text → Option ℕ
+room_named name = if bytes_eq name (codes "ntag213") then Some 144
+    else (if bytes_eq name (codes "ntag215") then Some 504
+    else (if bytes_eq name (codes "ntag216") then Some 888 else number_in name))
+
+-- the tag that the first word names, and the words after it
+abbrev pub tag_words : List Text → Option (Measure × List Text)
+tag_words [] = None
+tag_words (name ∷ records) = option_map (λ room. (Room room, records)) (room_named name)
+
+-- what is written by the first word, and the words of the records
+abbrev pub measure_by : Option Front → (all records : List Text) → Option (Measure × List Text)
+measure_by (Some front.Size) all records = Some (Count, records)
+measure_by (Some front.Tag) all records = tag_words records
+measure_by None all records = Some (Whole, all)
+
+-- the same of all words
+abbrev pub measure_in : List Text → Option (Measure × List Text)
+measure_in [] = Some (Whole, [])
+measure_in (word ∷ records) = measure_by (front_named word) (word ∷ records) records
+
+-- the words of the records, after the program's name
+abbrev pub record_words : List Text → List Text
+record_words words = option_map_or (λ m. m.1) (measure_in (drop 1 words)) []
+
+-- what a value of the program says
+abbrev pub measured_words : Measured → Measure × List Text
+measured_words m = (m.measure, map string_bytes m.records.now)
+
+-- ---- sizes
+
+-- Type 2 Tag, NDEF Message TLV and Terminator TLV: the bytes around a message of this length on a tag:
+-- its TLV's tag, a length of one octet, or of three from 255 on, and the terminator
+abbrev pub around : ℕ → ℕ
+around n = if nat_lt n 255 then 3 else 5
+
+-- the bytes that a tag with this many has for a message of this length
+abbrev pub free_for : (n room : ℕ) → ℕ
+free_for n room = room - around n
+
+-- the length of a message and the bytes of the tag, where these are too few
+abbrev pub misfit : Measure → ℕ → Option (ℕ × ℕ)
+misfit Whole n = None
+misfit Count n = None
+misfit (Room room) n = if nat_lt (free_for n room) n then Some (n, room) else None

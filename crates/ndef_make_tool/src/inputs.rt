@@ -1,0 +1,125 @@
+//! The payloads of parts: hexadecimal digits, or what inputs of a name hold.
+ghost use Rattle.std.specs.Prelude.{◌≡◌, ℕ, List, Result, map, option_map};
+ghost use Rattle.clap.specs.Words.{found_of, rows_of};
+ghost use Rattle.ndef_message.specs.Inputs.{bytes_of};
+ghost use Rattle.ndef_message.specs.declared.input.InputError.{InputError as ReadError};
+ghost use Rattle.ndef_message.specs.States.{source_state};
+ghost use Rattle.ndef_make_tool.specs.Asked.{asked_part};
+ghost use Rattle.ndef_make_tool.specs.Inputs.{IsInput, ReadsFor, ReadsNamed, input_of, is_reader, payload_input};
+ghost use Rattle.ndef_make_tool.specs.Inputs.{payload_of, readers_of};
+
+use crate::octets::octets_in;
+use crate::options::{Subject, subject_named};
+use crate::parts::Said;
+use crate::{Fault, Misuse};
+use clap::ArgMatches;
+use ndef_message::{InputError, Source, read_all};
+use ndef_program::option_text;
+use ndef_value::Bytes;
+use std::alloc::Global;
+
+/// The most bytes of a payload that are read.
+pub const MOST: usize = 1048576;
+
+/// Reads an input to its end, at most 1048576 bytes of it. `TooLong` where there are more: that many are taken.
+pub fn read_input<S: Source>(alloc: Global, source: &mut S) -> Result<Vec<u8>, InputError>
+    ensures { IsInput (source_state S.Source source.old) (source_state S.Source source.new) (bytes_of result) }
+{
+    read_all(alloc, source, MOST)
+}
+
+/// Gives inputs by their names.
+pub trait Inputs {
+    /// What an input of a name may give, and what is left of the inputs.
+    ghost gives: { Self → List ℕ → Result (List ℕ) ReadError → Self → Type 0 };
+
+    /// The bytes of the input of this name. Standard input has the name `-`.
+    fn read(&mut self, alloc: Global, name: &str) -> Result<Vec<u8>, InputError>
+        ensures { gives self.old name.now (bytes_of result) self.new };
+}
+
+/// The name of the input whose bytes are the payload, by the options that say it: standard input, unless there are
+/// digits.
+fn payload_input<'a>(matches: &ArgMatches<'a>) -> Option<&'a str>
+    ensures { option_map (λ name. name.now) result ≡ payload_input (rows_of (found_of matches.now)) }
+{
+    match (
+        option_text(matches, "file"),
+        option_text(matches, "payload"),
+    ) {
+        (Some(name), _) => Some(name),
+        (None, Some(_)) => None,
+        (None, None) => Some("-"),
+    }
+}
+
+/// The name of the input that holds the payload of a part, if one does.
+fn input_of<'a>(said: &Said<'a>) -> Option<&'a str>
+    ensures { option_map (λ name. name.now) result ≡ input_of (asked_part said.now) }
+{
+    match subject_named(said.name) {
+        Some(Subject::Record) => payload_input(&said.matches),
+        Some(Subject::Media) => payload_input(&said.matches),
+        Some(Subject::External) => payload_input(&said.matches),
+        Some(Subject::Carrier) => payload_input(&said.matches),
+        Some(Subject::Poster) => option_text(&said.matches, "icon"),
+        _ => None,
+    }
+}
+
+/// Whether the payload of a part is standard input.
+fn is_reader(said: &Said<'_>) -> bool
+    ensures { result ≡ is_reader (asked_part said.now) }
+{
+    match input_of(said) {
+        Some(name) => name == "-",
+        None => false,
+    }
+}
+
+/// The number of parts whose payload is standard input.
+pub(crate) fn readers_of(said: &[Said<'_>]) -> usize
+    ensures { result ≡ readers_of (map asked_part said.now) }
+{
+    let mut count = 0;
+    for part in said {
+        if is_reader(part) {
+            count += 1;
+        }
+    }
+    count
+}
+
+/// The payload that was read, where it isn't too long.
+fn payload_of(read: Result<Vec<u8>, InputError>) -> Result<Bytes, Fault>
+    ensures { result ≡ payload_of (bytes_of read) }
+{
+    let bytes = read?;
+    if bytes.len() > MOST {
+        return Err(Fault::TooLong);
+    }
+    Ok(Bytes::from(bytes))
+}
+
+/// Reads the input of this name.
+fn read_named<I: Inputs>(alloc: Global, name: &str, inputs: &mut I) -> Result<Bytes, Fault>
+    ensures { ReadsNamed I.gives name.now inputs.old inputs.new result }
+{
+    payload_of(inputs.read(alloc, name))
+}
+
+/// The payload of a part: what its digits stand for, or what its input holds; none where neither is said.
+pub(crate) fn read_for<I: Inputs>(
+    alloc: Global,
+    said: &Said<'_>,
+    inputs: &mut I,
+) -> Result<Bytes, Fault>
+    ensures { ReadsFor I.gives (asked_part said.now) inputs.old inputs.new result }
+{
+    match (option_text(&said.matches, "payload"), input_of(said)) {
+        (Some(_), Some(_)) => Err(Fault::Usage(Misuse::TwoPayloads)),
+        (Some(digits), None) => octets_in(alloc, Misuse::Digits, digits),
+        (None, Some(name)) => read_named(alloc, name, inputs),
+        (None, None) => Ok(Bytes::new(alloc)),
+    }
+}

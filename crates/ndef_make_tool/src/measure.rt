@@ -1,0 +1,125 @@
+//! What is written of a message, by the words before its records.
+ghost use Rattle.std.specs.Prelude.{◌≡◌, map, option_map, string_bytes};
+ghost use Rattle.ndef_make_tool.specs.Measures.{around, free_for, front_named, measure_in, measured_words};
+ghost use Rattle.ndef_make_tool.specs.Measures.{misfit, room_named, tag_words};
+
+use crate::options::number_in;
+
+/// What is written of a message.
+#[derive(Clone, Copy, Debug, PartialEq, Eq)]
+pub enum Measure {
+    /// All of it.
+    Whole,
+    /// The number of its bytes.
+    Count,
+    /// All of it, where a tag with this many bytes of memory holds it (Type 2 Tag, NDEF Message TLV).
+    Room(u32),
+}
+
+/// A word before the records.
+#[derive(Clone, Copy, Debug, PartialEq, Eq)]
+pub(crate) enum Front {
+    /// The size is asked for.
+    Size,
+    /// A tag is named.
+    Tag,
+}
+
+/// What is written of a message, and the words of its records.
+#[derive(Clone, Copy, Debug)]
+pub(crate) struct Measured<'a> {
+    pub(crate) measure: Measure,
+    pub(crate) records: &'a [String],
+}
+
+/// The word of this name before the records.
+fn front_named(name: &str) -> Option<Front>
+    ensures { result ≡ front_named name.now }
+{
+    match name {
+        "--size" => Some(Front::Size),
+        "--tag" => Some(Front::Tag),
+        _ => None,
+    }
+}
+
+/// The bytes of memory for a message on the tag of this name, or that many bytes (NXP NTAG213/215/216, user memory).
+fn room_named(name: &str) -> Option<u32>
+    ensures { result ≡ room_named name.now }
+{
+    match name {
+        "ntag213" => Some(144),
+        "ntag215" => Some(504),
+        "ntag216" => Some(888),
+        _ => number_in(name),
+    }
+}
+
+/// The tag that the first word names, and the words of the records after it.
+fn tag_words(words: &[String]) -> Option<Measured<'_>>
+    ensures { option_map measured_words result ≡ tag_words (map string_bytes words.now) }
+{
+    match words {
+        [name, records @ ..] => match room_named(name.as_str()) {
+            Some(room) => Some(Measured {
+                measure: Measure::Room(room),
+                records,
+            }),
+            None => None,
+        },
+        [] => None,
+    }
+}
+
+/// What is written of a message, and the words of its records; none where a tag isn't known.
+pub(crate) fn measure_words(words: &[String]) -> Option<Measured<'_>>
+    ensures { option_map measured_words result ≡ measure_in (map string_bytes words.now) }
+{
+    match words {
+        [word, records @ ..] => match front_named(word.as_str()) {
+            Some(Front::Size) => Some(Measured {
+                measure: Measure::Count,
+                records,
+            }),
+            Some(Front::Tag) => tag_words(records),
+            None => Some(Measured {
+                measure: Measure::Whole,
+                records: words,
+            }),
+        },
+        [] => Some(Measured {
+            measure: Measure::Whole,
+            records: words,
+        }),
+    }
+}
+
+/// The bytes around a message of this length on a tag: the tag and the length of its TLV, and the terminator TLV.
+fn around(length: u64) -> u64
+    ensures { result ≡ around length }
+{
+    if length < 255 { 3 } else { 5 }
+}
+
+/// The bytes that a tag with this many has for a message of this length.
+pub(crate) fn free_for(length: u64, room: u32) -> u64
+    ensures { result ≡ free_for length room }
+{
+    u64::from(room).saturating_sub(around(length))
+}
+
+/// The length of a message and the bytes of the tag, where these are too few.
+pub(crate) fn misfit(measure: Measure, length: u64) -> Option<(u64, u32)>
+    ensures { result ≡ misfit measure length }
+{
+    match measure {
+        Measure::Whole | Measure::Count => None,
+        Measure::Room(room) => {
+            if free_for(length, room) < length {
+                Some((length, room))
+            } else {
+                None
+            }
+        }
+    }
+}
