@@ -3,13 +3,13 @@
 
 ghost use Rattle.std.specs.Prelude.{⊤};
 
-use ndef_explain_tool::{Inputs, read_input, run};
-use ndef_message::{InputError, StdSink, StdSource};
+use ndef_explain_tool::{Inputs, cause_line, read_input, run, words_fault};
+use ndef_message::{InputError, Sink, StdSink, StdSource};
 use ndef_program::{Status, exit_code, exit_code_after, read_words, tell_words, texts};
 use std::alloc::Global;
 use std::env::VarError;
 use std::fs::File;
-use std::io::{self, BufReader, BufWriter, IsTerminal, Read, Write};
+use std::io::{self, BufReader, BufWriter, ErrorKind, IsTerminal, Read, Write};
 use std::process::ExitCode;
 
 /// All that a reader gives.
@@ -18,6 +18,22 @@ fn read_from<R: Read + Drop>(alloc: Global, reader: R) -> Result<Vec<u8>, InputE
         return Err(InputError::NoMemory);
     };
     read_input(alloc, &mut StdSource::new(reader))
+}
+
+/// Opens a file that isn't a directory.
+fn open_file(rt: &HostRuntime, name: &str) -> io::Result<File> {
+    let file = File::open(rt, name)?;
+    if file.metadata()?.is_dir() {
+        return Err(io::Error::from(ErrorKind::IsADirectory));
+    }
+    Ok(file)
+}
+
+/// Says on standard error why an input of this name can't be read.
+fn tell_cause(rt: &HostRuntime, name: &str, kind: ErrorKind) {
+    if let Ok(line) = cause_line(rt.alloc(), name, kind) {
+        let _ = rt.stderr().write_all(line.as_slice());
+    }
 }
 
 /// The files of the system, and standard input.
@@ -30,13 +46,21 @@ impl<'a> Inputs for Files<'a> {
     ghost gives = { λ _ _ _ _. ⊤ };
 
     fn read(&mut self, alloc: Global, name: &str) -> Result<Vec<u8>, InputError> {
-        if name == "-" {
-            return read_from(alloc, self.rt.reader());
+        let read = if name == "-" {
+            read_from(alloc, self.rt.reader())
+        } else {
+            match open_file(self.rt, name) {
+                Ok(file) => read_from(alloc, file),
+                Err(error) => {
+                    tell_cause(self.rt, name, error.kind());
+                    return Err(InputError::ReadFault);
+                }
+            }
+        };
+        if let Err(InputError::ReadFault) = &read {
+            tell_cause(self.rt, name, ErrorKind::Other);
         }
-        match File::open(self.rt, name) {
-            Ok(file) => read_from(alloc, file),
-            Err(_) => Err(InputError::ReadFault),
-        }
+        read
     }
 }
 
@@ -48,6 +72,22 @@ fn takes_color(rt: &HostRuntime) -> bool {
         Err(_) => true,
     };
     rt.stdout().is_terminal() && !wants_none
+}
+
+/// Runs the program for the words. Where they don't parse, clap says on standard error what is wrong with them.
+fn run_words<K: Sink>(
+    rt: &HostRuntime,
+    words: &[String],
+    inputs: &mut Files<'_>,
+    sink: &mut K,
+) -> Status {
+    let status = run(rt.alloc(), words, takes_color(rt), inputs, sink);
+    if status == Status::Usage
+        && let Some(error) = words_fault(rt.alloc(), words)
+    {
+        let _ = error.print(rt);
+    }
+    status
 }
 
 /// Runs the program with files, standard input and output, flushes standard output and ends with the
@@ -64,13 +104,7 @@ fn main(rt: HostRuntime) -> ExitCode {
     let mut inputs = Files { rt: &rt };
     let mut sink = StdSink::new(&mut writer);
     let status = match texts(alloc, words.as_slice()) {
-        Ok(words) => run(
-            alloc,
-            words.as_slice(),
-            takes_color(&rt),
-            &mut inputs,
-            &mut sink,
-        ),
+        Ok(words) => run_words(&rt, words.as_slice(), &mut inputs, &mut sink),
         Err(fault) => tell_words(alloc, fault, &mut sink),
     };
     drop(sink);

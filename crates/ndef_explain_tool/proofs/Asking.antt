@@ -2,14 +2,15 @@
 use Rattle.std.proofs.Common.{◌≡◌, ◌∙◌, List, [], Option, Result, map, refl, sym, ap, subst, true}
 use Rattle.std.specs.Prelude.{codes, option_map, unwrap_or}
 use Rattle.std.specs.Borrow.{Bor}
-use Rattle.clap.specs.Words.{App, HasMatchesOf, Text, fault_of, found_of, is_simple, is_simple_and_free, matched_of, matches_of, raw_values, rows_of}
+use Rattle.clap.specs.Words.{App, HasKind, HasMatchesOf, Text, fault_of, found_of, is_simple, is_simple_and_free, matched_of, matches_of, raw_values, rows_of}
+use Rattle.clap.specs.declared.error.Error.{Error}
 use Rattle.clap.specs.declared.parser.matches.ArgMatches.{ArgMatches}
 use Rattle.clap.specs.declared.parser.matches.Found.{Found}
 use Rattle.clap.proofs.OnLiterals.{clap_on_literals}
 use Rattle.clap.proofs.WalkLemmas.{raw_values-rows}
 use Rattle.ndef_program.specs.OptionLaws.{faultless}
-use Rattle.ndef_tool.specs.declared.choice.WordsError.{WordsError}
-use Rattle.ndef_explain_tool.specs.Chosen.{Answers, asked_by, asked_in, files_in}
+use Rattle.ndef_program.specs.declared.words_error.WordsError.{WordsError}
+use Rattle.ndef_explain_tool.specs.Chosen.{IsAskedOutcome, explaining_asked_by, asked_in, files_in}
 use Rattle.ndef_explain_tool.specs.CommandLine.{explain_app}
 use Rattle.ndef_explain_tool.specs.declared.choice.Asked.{Asked}
 
@@ -24,12 +25,18 @@ explain_is_free = refl
 -- what is answered to the matches of a parse is answered to its words
 pub parsed : (built wanted : App) (words : List Text) (m : ArgMatches) (r : Result Asked WordsError) → built ≡ wanted → is_simple wanted ≡ true
     → is_simple_and_free wanted ≡ true → HasMatchesOf built words m → (is_simple_and_free built ≡ true → fault_of built words ≡ [])
-    → Answers (asked_in (rows_of (found_of m))) r → Answers (asked_by wanted words) r
+    → IsAskedOutcome (asked_in (rows_of (found_of m))) r → IsAskedOutcome (explaining_asked_by wanted words) r
 parsed built wanted words m r is simple free matches kinds answers =
     let rows : rows_of (found_of m) ≡ matches_of wanted words = (matches (ap is_simple is ∙ simple)).0 ∙ ap (λ (a : App). matches_of a words) is in
-    subst (λ o. Answers o r) (ap asked_in rows ∙ sym (faultless built wanted words (asked_in (matches_of wanted words)) is free kinds)) answers
+    subst (λ o. IsAskedOutcome o r) (ap asked_in rows ∙ sym (faultless built wanted words (asked_in (matches_of wanted words)) is free kinds)) answers
 
 -- the names of files that are given
 pub files_given : (f : Found) (r : Option (Bor (List (Bor Text)))) → option_map (λ s. map (λ v. v.now) s.now) r ≡ option_map raw_values (matched_of f (codes "file"))
     → unwrap_or (option_map (λ s. map (λ v. v.now) s.now) r) [] ≡ files_in (rows_of f)
 files_given f r e = ap (λ o. unwrap_or o []) (e ∙ raw_values-rows f (codes "file"))
+
+-- what clap finds wrong with words
+pub faulty_by : (built wanted : App) (words : List Text) (error : Error) → built ≡ wanted → is_simple_and_free wanted ≡ true
+    → (is_simple_and_free built ≡ true → HasKind (fault_of built words) error) → HasKind (fault_of wanted words) error
+faulty_by built wanted words error is free kinds =
+    subst (λ (a : App). HasKind (fault_of a words) error) is (kinds (ap is_simple_and_free is ∙ free))

@@ -6,13 +6,12 @@ use Rattle.ndef_format.specs.Limits.{LimitValues}
 use Rattle.ndef_fields.specs.Tellings.{TellsFields}
 use Rattle.ndef_fields.specs.declared.telling.Told.{Told}
 use Rattle.ndef_program.specs.Quoting.{Text}
-use Rattle.ndef_explain_tool.specs.Explaining.{AddsMessage, AddsStop, AreMessageTexts, AreTold, Explains, IsExplained, IsStopText, bytes_told}
+use Rattle.ndef_explain_tool.specs.Explaining.{AddsMessage, AreMessageTexts, AreTold, bytes_told}
 use Rattle.ndef_explain_tool.specs.Forms.{Form}
-use Rattle.ndef_explain_tool.specs.declared.explaining.Progress.{Progress}
 use Rattle.ndef_explain_tool.specs.declared.explaining.Stop.{Stop}
 
 -- what continues with the rest continues with the input: `more` are the messages of the rest
-pub record GoesOn (form : Form) (limits : LimitValues) (input : List ℕ) (at number : ℕ) (old text : Text) (more : List Told) (stop : Stop) : Type 0 where
+pub record Continues (form : Form) (limits : LimitValues) (input : List ℕ) (at number : ℕ) (old text : Text) (more : List Told) (stop : Stop) : Type 0 where
   pub told : List Told
   pub are_told : AreTold limits told input stop
   pub at_is : at + bytes_told more ≡ bytes_told told
@@ -23,7 +22,7 @@ pub record GoesOn (form : Form) (limits : LimitValues) (input : List ℕ) (at nu
 
 abbrev pub KeepsOn : Form → LimitValues → (input rest : List ℕ) → (at number : ℕ) → (old new : Text) → Type 0
 KeepsOn form limits input rest at number old new = (more : List Told) (stop : Stop) (later : Text) → AreTold limits more rest stop
-    → AreMessageTexts form number at rest more later → GoesOn form limits input at number old (new ++ later) more stop
+    → AreMessageTexts form number at rest more later → Continues form limits input at number old (new ++ later) more stop
 
 pub keeps_first : (form : Form) (limits : LimitValues) (input : List ℕ) (old : Text) → KeepsOn form limits input input 0 1 old old
 keeps_first form limits input old more stop later h t =
@@ -50,7 +49,7 @@ keeps_next form limits input rest next at number old new newer told keeps tells 
 
 -- no message more
 pub keeps_last : (form : Form) (limits : LimitValues) (input rest : List ℕ) (at number : ℕ) (old new : Text) (stop : Stop)
-    → KeepsOn form limits input rest at number old new → AreTold limits [] rest stop → GoesOn form limits input at number old new [] stop
+    → KeepsOn form limits input rest at number old new → AreTold limits [] rest stop → Continues form limits input at number old new [] stop
 keeps_last form limits input rest at number old new stop keeps h =
     let g = keeps [] stop [] h refl in
     record {
@@ -71,20 +70,3 @@ none_left at size (b ∷ s) input e n l = absurd (omega (arith, e, n, l))
 pub some_left : (at size : ℕ) (s input : List ℕ) → at + length s ≡ length input → size ≡ length input → at < size → s ≢ []
 some_left at size [] input e n l = absurd (omega (arith, e, n, l))
 some_left at size (b ∷ s) input e n l = λ h. let k = ap length h in omega (arith, k)
-
--- ---- all of it
-pub explained : (form : Form) (limits : LimitValues) (input : List ℕ) (old new newer : Text) (progress : Progress) → old ≡ []
-    → Explains form limits input old new progress → AddsStop form progress.number progress.at progress.rest.now progress.stop new newer
-    → IsExplained form limits input progress.stop newer
-explained form limits input old new newer progress none e s = record {
-  told = e.told;
-  are_told = e.are_told;
-  messages = e.messages;
-  are_messages = e.are_messages;
-  last = s.0;
-  ends =
-      subst (λ k. IsStopText form k (bytes_told e.told) (drop (bytes_told e.told) input) progress.stop s.0) e.number_is
-      (subst (λ n. IsStopText form progress.number n (drop n input) progress.stop s.0) e.at_is
-      (subst (λ x. IsStopText form progress.number progress.at x progress.stop s.0) e.rest_is s.1));
-  text_is = s.2 ∙ ap (λ x. x ++ s.0) (e.text_is ∙ ap (λ x. x ++ e.messages) none);
-}

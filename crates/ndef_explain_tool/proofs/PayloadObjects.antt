@@ -11,7 +11,7 @@ use Rattle.ndef_message.specs.Views.{only_payload}
 use Rattle.ndef_program.specs.Quoting.{Text}
 use Rattle.serde_json.specs.Data.{Data}
 use Rattle.serde_json.specs.Written.{comma_if, compact_text, items_text}
-use Rattle.ndef_explain_tool.specs.JsonText.{counted, items_of, member_start, member_text}
+use Rattle.ndef_explain_tool.specs.JsonText.{number_value, items_of, member_start, member_text}
 use Rattle.ndef_explain_tool.specs.Objects.{AddsItems, AddsJoined, AddsPayloadObjects, AddsPayloadsArray, ArePayloadObjects, ArePayloadObjectsBy, fields_array, payload_object, run_kind}
 use Rattle.ndef_explain_tool.proofs.ObjectTexts.{five, item_more, object_text}
 
@@ -56,39 +56,39 @@ pair_grouped a b c = simp (append_assoc, append-nil)
 -- ---- record by record
 
 -- what is appended after some records continues with those that are left
-pub record KeepsOn (runs rest : List Run) (number : ℕ) (behind : Bool) (old new : Text) : Type 0 where
+pub record KeepsOn (first : ℕ) (runs rest : List Run) (number : ℕ) (behind : Bool) (old new : Text) : Type 0 where
   pub done : List Data
   pub adds : AddsItems done false behind old new
-  pub goes_on : (more : List Data) → ArePayloadObjects number rest more → ArePayloadObjects 1 runs (done ++ more)
+  pub goes_on : (more : List Data) → ArePayloadObjects number rest more → ArePayloadObjects first runs (done ++ more)
 
-pub keeps_first : (runs : List Run) (old : Text) → KeepsOn runs runs 1 false old old
-keeps_first runs old = record { done = []; adds = λ rest. refl; goes_on = λ more h. h }
+pub keeps_first : (first : ℕ) (runs : List Run) (old : Text) → KeepsOn first runs runs first false old old
+keeps_first first runs old = record { done = []; adds = λ rest. refl; goes_on = λ more h. h }
 
-pub keeps_next : (runs rest : List Run) (run : Run) (number : ℕ) (behind next : Bool) (old new newer : Text) → KeepsOn runs (run ∷ rest) number behind old new
-    → AddsPayloadObjects number run behind next new newer → KeepsOn runs rest (number + 1) next old newer
-keeps_next runs rest run number behind next old new newer k (one, is, adds) = record {
+pub keeps_next : (first : ℕ) (runs rest : List Run) (run : Run) (number : ℕ) (behind next : Bool) (old new newer : Text) → KeepsOn first runs (run ∷ rest) number behind old new
+    → AddsPayloadObjects number run behind next new newer → KeepsOn first runs rest (number + 1) next old newer
+keeps_next first runs rest run number behind next old new newer k (one, is, adds) = record {
   done = k.done ++ one;
   adds = λ more. adds more ∙ k.adds (one ++ more) ∙ ap (λ values. old ++ items_text false (items_of values)) (sym (append_assoc k.done one more));
   goes_on = λ more h. rw (append_assoc k.done one more) (k.goes_on (one ++ more) (one, more, is, h, refl));
 }
 
-pub keeps_last : (runs rest : List Run) (number : ℕ) (behind : Bool) (old begun new newer : Text) → begun ≡ old ++ codes "[" → KeepsOn runs rest number behind begun new → rest ≡ []
-    → newer ≡ new ++ codes "]" → AddsPayloadsArray runs old newer
-keeps_last runs [] number behind old begun new newer b k e n =
+pub keeps_last : (first : ℕ) (runs rest : List Run) (number : ℕ) (behind : Bool) (old begun new newer : Text) → begun ≡ old ++ codes "[" → KeepsOn first runs rest number behind begun new → rest ≡ []
+    → newer ≡ new ++ codes "]" → AddsPayloadsArray first runs old newer
+keeps_last first runs [] number behind old begun new newer b k e n =
     let values = k.done ++ [] in
     let t = items_text false (items_of values) in
     (values, k.goes_on [] refl, n ∙ k.adds [] ∙ ap (λ s. s ++ t) b ∙ append_assoc old (codes "[") t)
-keeps_last runs (r ∷ rest) number behind old begun new newer b k e n = absurd (let n = ap length e in omega (arith, n))
+keeps_last first runs (r ∷ rest) number behind old begun new newer b k e n = absurd (let n = ap length e in omega (arith, n))
 
 -- the object of a payload
-pub payload_done : (number : ℕ) (payload : List ℕ) (fields : List Field) (o a b c d e f : Text) → a ≡ o ++ codes "{" → b ≡ a ++ member_start false (codes "fields") → c ≡ b ++ compact_text (fields_array 0 payload fields)
-    → d ≡ c ++ member_text true (codes "length") (counted (length payload)) → e ≡ d ++ member_text true (codes "record") (counted number) → f ≡ e ++ codes "}"
+pub payload_done : (number : ℕ) (payload : List ℕ) (fields : List Field) (o a b c d e f : Text) → a ≡ o ++ codes "{" → b ≡ a ++ member_start false (codes "fields") → c ≡ b ++ compact_text (fields_array true 0 payload fields)
+    → d ≡ c ++ member_text true (codes "length") (number_value (length payload)) → e ≡ d ++ member_text true (codes "record") (number_value number) → f ≡ e ++ codes "}"
     → f ≡ o ++ compact_text (payload_object number payload fields)
 payload_done number payload fields o a b c d e f i j k l m n =
     let start = member_start false (codes "fields") in
-    let value = compact_text (fields_array 0 payload fields) in
-    let size = member_text true (codes "length") (counted (length payload)) in
-    let record_number = member_text true (codes "record") (counted number) in
-    let last = (codes "length", counted (length payload)) ∷ (codes "record", counted number) ∷ [] in
+    let value = compact_text (fields_array true 0 payload fields) in
+    let size = member_text true (codes "length") (number_value (length payload)) in
+    let record_number = member_text true (codes "record") (number_value number) in
+    let last = (codes "length", number_value (length payload)) ∷ (codes "record", number_value number) ∷ [] in
     five o a c d e f (codes "{") (start ++ value) size record_number (codes "}") i (k ∙ ap (λ t. t ++ value) j ∙ append_assoc a start value) l m n
-    ∙ sym (ap (λ t. o ++ t) (object_text (codes "fields") (fields_array 0 payload fields) last ∙ ap (λ t. codes "{" ++ ((start ++ value) ++ t)) (pair_grouped size record_number (codes "}"))))
+    ∙ sym (ap (λ t. o ++ t) (object_text (codes "fields") (fields_array true 0 payload fields) last ∙ ap (λ t. codes "{" ++ ((start ++ value) ++ t)) (pair_grouped size record_number (codes "}"))))

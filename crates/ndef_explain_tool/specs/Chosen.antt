@@ -4,12 +4,12 @@ use Rattle.std.specs.Option.{option_map_or}
 use Rattle.std.specs.Str.{bytes_eq}
 use Rattle.clap.specs.Words.{App, Row, Text, all_of, fault_of, first_of, matches_of}
 use Rattle.ndef_program.specs.Options.{flag_of, hex_of, unless_fault}
-use Rattle.ndef_tool.specs.Chosen.{chosen_limits}
-use Rattle.ndef_tool.specs.declared.choice.WordsError.{WordsError}
-use Rattle.ndef_tool.specs.declared.choice.WordsError.TheVariants.{Usage, NoMemory}
+use Rattle.ndef_program.specs.LimitOptions.{chosen_limits}
+use Rattle.ndef_program.specs.declared.words_error.WordsError.{WordsError}
+use Rattle.ndef_program.specs.declared.words_error.WordsError.TheVariants.{Usage, NoMemory}
 use Rattle.ndef_explain_tool.specs.CommandLine.{explain_app}
 use Rattle.ndef_explain_tool.specs.declared.choice.Asked.{Asked}
-use Rattle.ndef_explain_tool.specs.declared.choice.Choice.{Choice}
+use Rattle.ndef_explain_tool.specs.declared.choice.ExplainChoice.{ExplainChoice}
 use Rattle.ndef_explain_tool.specs.declared.choice.Color.{Color}
 use Rattle.ndef_explain_tool.specs.declared.choice.Color.TheVariants as color
 
@@ -24,38 +24,43 @@ abbrev pub chosen_color : List Row → Option Color
 chosen_color rows = option_map_or color_named (first_of (codes "color") rows) (Some color.Auto)
 
 -- the choice of the options
-abbrev pub choice_in : List Row → Option Choice
+abbrev pub choice_in : List Row → Option ExplainChoice
 choice_in rows =
     option_and_then (λ limits.
-    option_map (λ c. record { hex = hex_of rows; color = c; json = flag_of (codes "json") rows; limits = limits })
-    (chosen_color rows)) (chosen_limits rows)
+    option_map (λ c. record {
+      hex = hex_of rows;
+      color = c;
+      json = flag_of (codes "json") rows;
+      utf8 = flag_of (codes "utf8") rows;
+      limits = limits;
+    }) (chosen_color rows)) (chosen_limits rows)
 
 -- the names of files that are given
 abbrev pub files_in : List Row → List Text
 files_in rows = unwrap_or (all_of (codes "file") rows) []
 
 -- the choice, and the names of files
-abbrev pub asked_in : List Row → Option (Choice × List Text)
+abbrev pub asked_in : List Row → Option (ExplainChoice × List Text)
 asked_in rows = option_map (λ choice. (choice, files_in rows)) (choice_in rows)
 
 -- what words ask for on a command line: nothing where clap finds a fault in them
-abbrev pub asked_by : App → List Text → Option (Choice × List Text)
-asked_by app words = unless_fault (fault_of app words) (asked_in (matches_of app words))
+abbrev pub explaining_asked_by : App → List Text → Option (ExplainChoice × List Text)
+explaining_asked_by app words = unless_fault (fault_of app words) (asked_in (matches_of app words))
 
 -- what the words ask for by the options of ndef-explain
-abbrev pub asked_of : List Text → Option (Choice × List Text)
-asked_of words = asked_by explain_app words
+abbrev pub explaining_asked : List Text → Option (ExplainChoice × List Text)
+explaining_asked words = explaining_asked_by explain_app words
 
 -- what a value of the program says
-abbrev pub asked_parts : Asked → Choice × List Text
+abbrev pub asked_parts : Asked → ExplainChoice × List Text
 asked_parts asked = (asked.choice, map (λ file. file.now) asked.files.items)
 
 -- the outcome of words that ask for this: the usage line exactly where it is nothing
-abbrev pub Answers : Option (Choice × List Text) → Result Asked WordsError → Type 0
-Answers wanted (Ok asked) = wanted ≡ Some (asked_parts asked)
-Answers wanted (Err Usage) = wanted ≡ None
-Answers wanted (Err NoMemory) = ⊤
+abbrev pub IsAskedOutcome : Option (ExplainChoice × List Text) → Result Asked WordsError → Type 0
+IsAskedOutcome wanted (Ok asked) = wanted ≡ Some (asked_parts asked)
+IsAskedOutcome wanted (Err Usage) = wanted ≡ None
+IsAskedOutcome wanted (Err NoMemory) = ⊤
 
 -- the outcome of the words
 abbrev pub Asks : List Text → Result Asked WordsError → Type 0
-Asks words asked = Answers (asked_of words) asked
+Asks words asked = IsAskedOutcome (explaining_asked words) asked

@@ -1,7 +1,6 @@
 -- What is printed of an input: the fields of its messages, one after another, and where it is refused. It has
 -- either form.
-use Rattle.std.specs.Prelude.{◌≡◌, ◌≢◌, ℕ, ◌+◌, ◌^◌, ◌<◌, ⊤, List, [], ◌∷◌, ◌++◌, codes, decimal, drop, length, slice_index, take, Ok}
-use Rattle.std.specs.List.{flat_map}
+use Rattle.std.specs.Prelude.{◌≡◌, ◌≢◌, ℕ, Bool, true, false, ◌+◌, ◌^◌, ◌<◌, ◌≤◌, Option, ⊤, List, [], ◌∷◌, ◌++◌, codes, decimal, drop, length, slice_index, take, Ok}
 use Rattle.ndef_format.specs.Reasons.{reason_number, reason_name}
 use Rattle.ndef_format.specs.Limits.{LimitValues}
 use Rattle.ndef_format.specs.declared.refusal.Refusal.{Refusal}
@@ -15,15 +14,22 @@ use Rattle.ndef_fields.specs.declared.field.Field.{Field}
 use Rattle.ndef_fields.specs.declared.last.ByteField.{ByteField}
 use Rattle.ndef_fields.specs.declared.telling.Told.{Told}
 use Rattle.ndef_program.specs.Quoting.{Text}
-use Rattle.ndef_explain_tool.specs.Cells.{cells, start_of}
-use Rattle.ndef_explain_tool.specs.FieldLines.{field_text}
+use Rattle.ndef_advice.specs.Wants.{IsWanted}
+use Rattle.ndef_advice.specs.Wordings.{wanted_text}
+use Rattle.ndef_advice.specs.declared.hint.Hint.{Hint}
+use Rattle.ndef_advice.specs.declared.wanted.Wanted.{Wanted}
+use Rattle.ndef_explain_tool.specs.Advice.{IsHint, hint_line, said_hint}
+use Rattle.ndef_explain_tool.specs.Cells.{cells, place_text, start_of}
+use Rattle.ndef_explain_tool.specs.FieldLines.{field_texts}
 use Rattle.ndef_explain_tool.specs.Forms.{Form, lines, objects}
 use Rattle.ndef_explain_tool.specs.Objects.{IsMessageObject, IsRefusedObject}
 use Rattle.ndef_explain_tool.specs.PayloadLines.{ArePayloadTexts}
-use Rattle.ndef_format.specs.Sentences.{reason_sentence}
-use Rattle.ndef_explain_tool.specs.declared.explaining.Progress.{Progress}
+use Rattle.ndef_explain_tool.specs.RemarkLists.{AreRecordRemarks, record_remark_lines}
+use Rattle.ndef_explain_tool.specs.Wordings.{first_wording}
+use Rattle.ndef_explain_tool.specs.declared.explaining.ExplainedMessages.{ExplainedMessages}
 use Rattle.ndef_explain_tool.specs.declared.explaining.Stop.{Stop}
 use Rattle.ndef_explain_tool.specs.declared.explaining.Stop.TheVariants.{End, Refused}
+use Rattle.ndef_explain_tool.specs.declared.remark_lists.RecordRemark.{RecordRemark}
 
 -- ---- the messages
 
@@ -45,17 +51,20 @@ message_head number at bytes =
     codes "message " ++ decimal number ++ codes " at " ++ decimal at ++ codes ": bytes " ++ decimal bytes ++ codes "\n"
 
 -- the lines of a message and of its fields
-abbrev pub fields_text : (number at : ℕ) (input : List ℕ) → Told → Text
-fields_text number at input told = message_head number at told.taken ++ flat_map (field_text at input) told.fields
+abbrev pub fields_text : (utf8 : Bool) (number at : ℕ) (input : List ℕ) → Told → Text
+fields_text utf8 number at input told =
+    message_head number at told.taken ++ field_texts (first_wording utf8 true) at input told.fields
 
--- these, and the lines of its payloads in several pieces
-abbrev pub AreMessageLines : (number at : ℕ) (input : List ℕ) → Told → Text → Type 0
-AreMessageLines number at input told text =
-    (payloads : Text) × ArePayloadTexts 1 told.items payloads × (text ≡ fields_text number at input told ++ payloads)
+-- these, the lines of its payloads in several pieces, and those of the remarks on its records
+abbrev pub AreMessageLines : (utf8 : Bool) (number at : ℕ) (input : List ℕ) → Told → Text → Type 0
+AreMessageLines utf8 number at input told text =
+    (payloads : Text) × (remarks : List RecordRemark) × ArePayloadTexts utf8 1 told.items payloads
+    × AreRecordRemarks (take told.taken input) remarks
+    × (text ≡ fields_text utf8 number at input told ++ (payloads ++ record_remark_lines remarks))
 
 -- what is printed of a message: its lines, or its object
 abbrev pub IsMessageText : Form → (number at : ℕ) (input : List ℕ) → Told → Text → Type 0
-IsMessageText lines number at input told text = AreMessageLines number at input told text
+IsMessageText (lines utf8) number at input told text = AreMessageLines utf8 number at input told text
 IsMessageText (objects file) number at input told text = IsMessageObject file number at input told text
 
 -- the same of messages, of which the first has this number and this place
@@ -77,12 +86,12 @@ abbrev pub byte_line : (place octet : ℕ) → ByteField → Text
 byte_line place octet byte =
     start_of place byte.depth ++ cells (octet ∷ []) ++ codes "^ " ++ name_text byte.name ++ codes "\n"
 
--- the line of a refusal, as `ndef check` prints it, and a sentence
-abbrev pub reason_lines : (at : ℕ) → Refusal → Text
-reason_lines at refusal =
-    codes "refused at " ++ decimal (at + refusal.at) ++ codes ": " ++ decimal (reason_number refusal.reason)
-    ++ codes " "
-    ++ reason_name refusal.reason ++ codes "\n" ++ reason_sentence refusal.reason ++ codes "\n"
+-- the line of a refusal, as `ndef check` prints it but for its place in hexadecimal digits, and a sentence
+abbrev pub reason_lines : (at : ℕ) → Refusal → (sentence : Text) → Text
+reason_lines at refusal sentence =
+    codes "refused at " ++ decimal (at + refusal.at) ++ codes " (0x" ++ place_text (at + refusal.at) ++ codes "): "
+    ++ decimal (reason_number refusal.reason) ++ codes " "
+    ++ reason_name refusal.reason ++ codes "\n" ++ sentence ++ codes "\n"
 
 -- the lines of a refused byte, where there is one
 abbrev pub IsByteText : (at : ℕ) (input : List ℕ) → Refusal → Text → Type 0
@@ -96,40 +105,52 @@ abbrev pub AddsByte : (at : ℕ) (input : List ℕ) → Refusal → (old new : T
 AddsByte at input refusal old new = (text : Text) × IsByteText at input refusal text × (new ≡ old ++ text)
 
 -- the lines of the fields before a refused byte
-abbrev pub before_text : (at : ℕ) (front : List ℕ) → List Field → Text
-before_text at front before = flat_map (field_text at front) before
+abbrev pub before_text : (utf8 : Bool) (at : ℕ) (front : List ℕ) → List Field → Text
+before_text utf8 at front before = field_texts (first_wording utf8 false) at front before
 
 -- these lines are appended
-abbrev pub AddsBefore : (at : ℕ) (front : List ℕ) (old new : Text) → Type 0
-AddsBefore at front old new =
-    (before : List Field) × AreFieldsBefore front before × (new ≡ old ++ before_text at front before)
+abbrev pub AddsBefore : (utf8 : Bool) (at : ℕ) (front : List ℕ) (old new : Text) → Type 0
+AddsBefore utf8 at front old new =
+    (before : List Field) × AreFieldsBefore front before × (new ≡ old ++ before_text utf8 at front before)
+
+-- the lines of what was wanted: those of a refusal with a sentence for it, and a hint, if one applies
+abbrev pub AreWantedLines : LimitValues → (at : ℕ) (input : List ℕ) → Refusal → Text → Type 0
+AreWantedLines limits at input refusal text =
+    (wanted : Wanted) × (hint : Option Hint) × IsWanted input refusal wanted × IsHint limits input refusal hint
+    × (text ≡ reason_lines at refusal (wanted_text refusal.reason wanted) ++ hint_line (said_hint at hint))
+
+-- these lines are appended
+abbrev pub AddsWanted : LimitValues → (at : ℕ) (input : List ℕ) → Refusal → (old new : Text) → Type 0
+AddsWanted limits at input refusal old new =
+    (text : Text) × AreWantedLines limits at input refusal text × (new ≡ old ++ text)
 
 -- the lines of a refusal, at this place, with this input left
-abbrev pub AreRefusedLines : (at : ℕ) (input : List ℕ) → Refusal → Text → Type 0
-AreRefusedLines at input refusal text =
-    (before : List Field) × (byte : Text) × AreFieldsBefore (take refusal.at input) before
-    × IsByteText at input refusal byte
-    × (text ≡ before_text at (take refusal.at input) before ++ (byte ++ reason_lines at refusal))
+abbrev pub AreRefusedLines : (utf8 : Bool) → LimitValues → (at : ℕ) (input : List ℕ) → Refusal → Text → Type 0
+AreRefusedLines utf8 limits at input refusal text =
+    (before : List Field) × (byte : Text) × (wanted : Text) × AreFieldsBefore (take refusal.at input) before
+    × IsByteText at input refusal byte × AreWantedLines limits at input refusal wanted
+    × (text ≡ before_text utf8 at (take refusal.at input) before ++ (byte ++ wanted))
 
 -- these lines are appended
-abbrev pub AddsRefusedLines : (at : ℕ) (input : List ℕ) → Refusal → (old new : Text) → Type 0
-AddsRefusedLines at input refusal old new =
-    (text : Text) × AreRefusedLines at input refusal text × (new ≡ old ++ text)
+abbrev pub AddsRefusedLines : (utf8 : Bool) → LimitValues → (at : ℕ) (input : List ℕ) → Refusal
+    → (old new : Text) → Type 0
+AddsRefusedLines utf8 limits at input refusal old new =
+    (text : Text) × AreRefusedLines utf8 limits at input refusal text × (new ≡ old ++ text)
 
 -- what is printed of a refusal: its lines, or its object with the number that a message would have
-abbrev pub IsRefusedText : Form → (number at : ℕ) (input : List ℕ) → Refusal → Text → Type 0
-IsRefusedText lines number at input refusal text = AreRefusedLines at input refusal text
-IsRefusedText (objects file) number at input refusal text = IsRefusedObject file number at input refusal text
+abbrev pub IsRefusedText : Form → LimitValues → (number at : ℕ) (input : List ℕ) → Refusal → Text → Type 0
+IsRefusedText (lines utf8) limits number at input refusal text = AreRefusedLines utf8 limits at input refusal text
+IsRefusedText (objects file) limits number at input refusal text =
+    IsRefusedObject file limits number at input refusal text
 
 -- what is printed where the messages stop
-abbrev pub IsStopText : Form → (number at : ℕ) (input : List ℕ) → Stop → Text → Type 0
-IsStopText form number at input End text = text ≡ []
-IsStopText form number at input (Refused refusal) text = IsRefusedText form number at input refusal text
+abbrev pub IsStopText : Form → LimitValues → (number at : ℕ) (input : List ℕ) → Stop → Text → Type 0
+IsStopText form limits number at input End text = text ≡ []
+IsStopText form limits number at input (Refused refusal) text = IsRefusedText form limits number at input refusal text
 
--- what is printed where the messages stop is appended
-abbrev pub AddsStop : Form → (number at : ℕ) (input : List ℕ) → Stop → (old new : Text) → Type 0
-AddsStop form number at input stop old new =
-    (text : Text) × IsStopText form number at input stop text × (new ≡ old ++ text)
+-- a text of this kind is appended
+abbrev pub Appends : (Text → Type 0) → (old new : Text) → Type 0
+Appends IsText old new = (text : Text) × IsText text × (new ≡ old ++ text)
 
 -- the place of a refusal can be counted, and the bytes before it are a front of a message
 abbrev pub FitsStop : (at : ℕ) (input : List ℕ) → Stop → Type 0
@@ -137,24 +158,15 @@ FitsStop at input End = ⊤
 FitsStop at input (Refused refusal) = (at + refusal.at < 2 ^ 64) × IsMessageFront (take refusal.at input)
 
 -- what is printed of the messages is appended, and the rest of the input is left
-pub record Explains (form : Form) (limits : LimitValues) (input : List ℕ) (old new : Text) (progress : Progress)
-    : Type 0 where
+pub record Explains (form : Form) (limits : LimitValues) (input : List ℕ) (old new : Text)
+    (progress : ExplainedMessages) : Type 0 where
   pub told : List Told
   pub are_told : AreTold limits told input progress.stop
   pub number_is : progress.number ≡ length told + 1
+  pub numbers : progress.number ≤ progress.at + 1
   pub at_is : progress.at ≡ bytes_told told
   pub rest_is : progress.rest.now ≡ drop progress.at input
   pub messages : Text
   pub are_messages : AreMessageTexts form 1 0 input told messages
   pub text_is : new ≡ old ++ messages
   pub fits : FitsStop progress.at progress.rest.now progress.stop
-
--- all that is printed of an input
-pub record IsExplained (form : Form) (limits : LimitValues) (input : List ℕ) (stop : Stop) (text : Text) : Type 0 where
-  pub told : List Told
-  pub are_told : AreTold limits told input stop
-  pub messages : Text
-  pub are_messages : AreMessageTexts form 1 0 input told messages
-  pub last : Text
-  pub ends : IsStopText form (length told + 1) (bytes_told told) (drop (bytes_told told) input) stop last
-  pub text_is : text ≡ messages ++ last

@@ -4,15 +4,16 @@ use Rattle.ndef_program.specs.Quoting.{Text}
 use Rattle.ndef_explain_tool.specs.declared.explaining.Style.{Style}
 use Rattle.ndef_explain_tool.specs.declared.explaining.Style.TheVariants.{Lines, Objects}
 
--- lines; or an object in JSON in a line for each message, with the name of the input where inputs are named
+-- lines, printable UTF-8 as itself where that is asked for; or an object in JSON in a line for each message, with the
+-- name of the input where inputs are named
 pub data Form : Type 0 where
-  lines : Form
+  lines : (utf8 : Bool) → Form
   objects : (file : Option Text) → Form
 
 -- the form of a value of the program
-abbrev pub form_of : Style → Form
-form_of Lines = lines
-form_of (Objects file) = objects (option_map (λ name. name.now) file)
+abbrev pub style_form : Style → Form
+style_form (Lines utf8) = lines utf8
+style_form (Objects file) = objects (option_map (λ name. name.now) file)
 
 -- the name, where inputs are named
 abbrev pub file_of : (named : Bool) → (name : Text) → Option Text
@@ -20,6 +21,6 @@ file_of true name = Some name
 file_of false name = None
 
 -- the form for an input of this name
-abbrev pub form_in : (json named : Bool) → (name : Text) → Form
-form_in false named name = lines
-form_in true named name = objects (file_of named name)
+abbrev pub form_in : (json utf8 named : Bool) → (name : Text) → Form
+form_in false utf8 named name = lines utf8
+form_in true utf8 named name = objects (file_of named name)

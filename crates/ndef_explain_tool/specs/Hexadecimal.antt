@@ -3,9 +3,9 @@ use Rattle.std.specs.Prelude.{◌≡◌, ◌+◌, ◌==◌, ◌&&◌, ◌||◌, 
 use Rattle.std.specs.List.{before_first, flat_map, list_all, list_any, prefix_len, slice_split, starts_with}
 use Rattle.hex.specs.Hex.{decode_of}
 use Rattle.hex.specs.declared.error.FromHexError.{FromHexError}
-use Rattle.ndef_tool.specs.Hexadecimal.{fault_of}
+use Rattle.ndef_program.specs.Endings.{fault_of}
 use Rattle.ndef_program.specs.Quoting.{Text}
-use Rattle.ndef_tool.specs.declared.ending.Ending.TheVariants.{Hex, Memory}
+use Rattle.ndef_program.specs.declared.ending.Ending.TheVariants.{Hex, Memory}
 use Rattle.ndef_explain_tool.specs.Lines.{lines_of}
 use Rattle.ndef_explain_tool.specs.declared.inputs.Unread.{Unread}
 use Rattle.ndef_explain_tool.specs.declared.inputs.Unread.TheVariants as unread
@@ -115,10 +115,10 @@ StandsByDigits digits (Err (unread.Ends Memory)) = ⊤
 StandsByDigits digits (Err _) = ⊥
 
 -- the same of a text; or the first line without a place and a colon, where there is one
-abbrev pub StandsIn : Option ℕ → (text : Text) → Result (List ℕ) Unread → Type 0
-StandsIn (Some line) text octets = octets ≡ Err (unread.NoPlace line)
-StandsIn None text octets = StandsByDigits (digits_of text) octets
+abbrev pub StandsForPlaced : Option ℕ → (text : Text) → Result (List ℕ) Unread → Type 0
+StandsForPlaced (Some line) text octets = octets ≡ Err (unread.NoPlace line)
+StandsForPlaced None text octets = StandsByDigits (digits_of text) octets
 
 -- the bytes for which a text stands, or why there are none
 abbrev pub StandsFor : (text : Text) → Result (List ℕ) Unread → Type 0
-StandsFor text octets = StandsIn (unplaced_line text) text octets
+StandsFor text octets = StandsForPlaced (unplaced_line text) text octets

@@ -9,8 +9,8 @@ abbrev pub Pair : Type 0
 Pair = Text × Data
 
 -- a number
-abbrev pub counted : ℕ → Data
-counted n = number (unsigned n)
+abbrev pub number_value : ℕ → Data
+number_value n = number (unsigned n)
 
 -- the values of an array
 abbrev pub items_of : List Data → Items
@@ -18,13 +18,13 @@ items_of [] = no_items
 items_of (value ∷ values) = item value (items_of values)
 
 -- the members of an object
-abbrev pub members_of : List Pair → Members
-members_of [] = no_members
-members_of ((name, value) ∷ pairs) = member name value (members_of pairs)
+abbrev pub pair_members : List Pair → Members
+pair_members [] = no_members
+pair_members ((name, value) ∷ pairs) = member name value (pair_members pairs)
 
 -- an object with these members
 abbrev pub object_of : List Pair → Data
-object_of pairs = object (members_of pairs)
+object_of pairs = object (pair_members pairs)
 
 -- RFC 8259, objects: the name of a member and the colon, after a comma where members come before
 abbrev pub member_start : (later : Bool) → (name : Text) → Text

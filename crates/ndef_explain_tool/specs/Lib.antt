@@ -1,6 +1,10 @@
+pub mod Advice
+pub mod Causes
 pub mod Cells
 pub mod Chosen
+pub mod Codes
 pub mod CommandLine
+pub mod Explained
 pub mod Explaining
 pub mod FieldLines
 pub mod Forms
@@ -10,7 +14,13 @@ pub mod JsonText
 pub mod Lines
 pub mod Meanings
 pub mod Objects
+pub mod Onward
 pub mod Pages
 pub mod Painting
 pub mod PayloadLines
+pub mod RecordObjects
+pub mod References
+pub mod RefusedRecords
+pub mod RemarkLists
 pub mod Running
+pub mod Wordings

@@ -1,30 +1,32 @@
 -- What the octets of a field say.
-use Rattle.std.specs.Prelude.{ℕ, ◌==◌, ◌-◌, ◌/◌, ◌%◌, nat_le, nat_lt, length, Bool, true, false, List, [], ◌∷◌, ◌++◌, codes, decimal, slice_index, slice_index_or, if◌then◌else◌}
+use Rattle.std.specs.Prelude.{ℕ, ◌-◌, ◌/◌, ◌%◌, nat_le, nat_lt, length, Bool, true, false, List, [], ◌∷◌, ◌++◌, codes, decimal, slice_index, slice_index_or, if◌then◌else◌}
 use Rattle.std.specs.Int.{w16, w32, from_be_bytes}
-use Rattle.hex.specs.Hex.{encode_lower}
 use Rattle.ndef_format.specs.HeadReasons.{is_set, tnf_number}
 use Rattle.ndef_fields.specs.declared.field.Field.{Field}
 use Rattle.ndef_fields.specs.declared.name.FieldName.{FieldName}
 use Rattle.ndef_fields.specs.declared.name.FieldName.TheVariants as names
-use Rattle.ndef_explain_tool.specs.declared.meaning.Reading.{Reading}
-use Rattle.ndef_explain_tool.specs.declared.meaning.Reading.TheVariants as readings
-use Rattle.ndef_program.specs.Quoting.{Text, quoted}
+use Rattle.ndef_explain_tool.specs.declared.meaning.FieldReading.{FieldReading}
+use Rattle.ndef_explain_tool.specs.declared.meaning.FieldReading.TheVariants as readings
+use Rattle.ndef_program.specs.Quoting.{Text}
+use Rattle.ndef_explain_tool.specs.Codes.{action_word, code_text, error_word, format_text, power_text, prefix_word}
+use Rattle.ndef_explain_tool.specs.Wordings.{text_in_utf8, worded}
+use Rattle.ndef_explain_tool.specs.declared.wording.Wording.{Wording}
 
 -- how the octets of a field of this name are read
-abbrev pub reading_of : FieldName → Reading
+abbrev pub reading_of : FieldName → FieldReading
 reading_of names.Header = readings.Header
 reading_of names.Status = readings.Status
 reading_of names.KindLength = readings.Number
 reading_of names.PayloadLength = readings.Number
 reading_of names.IdLength = readings.Number
-reading_of names.UriCode = readings.Number
-reading_of names.Action = readings.Number
+reading_of names.UriCode = readings.Prefix
+reading_of names.Action = readings.Action
 reading_of names.Size = readings.Number
 reading_of names.Power = readings.PowerState
 reading_of names.ReferenceLength = readings.Number
 reading_of names.AuxiliaryCount = readings.Number
 reading_of names.AuxiliaryLength = readings.Number
-reading_of names.ErrorReason = readings.Number
+reading_of names.ErrorReason = readings.ErrorReason
 reading_of names.CarrierFormat = readings.Format
 reading_of names.Version = readings.Version
 reading_of names.Collision = readings.Number
@@ -32,7 +34,7 @@ reading_of names.CarrierKindLength = readings.Number
 reading_of names.Kind = readings.Quoted
 reading_of names.Id = readings.Quoted
 reading_of names.Language = readings.Quoted
-reading_of names.Text = readings.Quoted
+reading_of names.Text = readings.Text
 reading_of names.UriRest = readings.Quoted
 reading_of names.MediaType = readings.Quoted
 reading_of names.Reference = readings.Quoted
@@ -73,12 +75,12 @@ octets_number (a ∷ b ∷ []) = from_be_bytes w16 (a ∷ b ∷ [])
 octets_number octets = slice_index octets 0
 
 -- NDEF 1.0, SR: the number of octets of PAYLOAD_LENGTH in a record with this header octet
-abbrev pub length_octets : (header : ℕ) → ℕ
-length_octets header = if is_set 4 header then 1 else 4
+abbrev pub payload_length_width : (header : ℕ) → ℕ
+payload_length_width header = if is_set 4 header then 1 else 4
 
 -- the number of octets of a number of this name, in a record with this header octet
 abbrev pub whole_length : FieldName → (header : ℕ) → ℕ
-whole_length names.PayloadLength header = length_octets header
+whole_length names.PayloadLength header = payload_length_width header
 whole_length names.Size header = 4
 whole_length names.Collision header = 2
 whole_length _ header = 1
@@ -96,14 +98,6 @@ abbrev pub number_text : (whole : ℕ) → List ℕ → Text
 number_text whole octets = if nat_lt (length octets) whole then cut_text (length octets) whole
     else codes " " ++ decimal (octets_number octets)
 
--- the bits that are reserved and set, where some are
-abbrev pub reserved_text : ℕ → Text
-reserved_text bits = if bits == 0 then [] else codes ", reserved bits set: " ++ encode_lower (bits ∷ [])
-
--- an octet whose lower bits are one of that many values, and whose other bits are reserved
-abbrev pub bits_text : (values octet : ℕ) → Text
-bits_text values octet = codes " " ++ decimal (octet % values) ++ reserved_text (octet - octet % values)
-
 -- Connection Handover 1.2, version octet: the major and the minor version
 abbrev pub version_text : ℕ → Text
 version_text octet = codes " " ++ decimal (octet / 16) ++ codes "." ++ decimal (octet % 16)
@@ -114,14 +108,22 @@ status_text status =
     (if nat_le 128 status then codes " UTF-16" else codes " UTF-8") ++ codes ", language code of "
     ++ decimal (status % 64)
 
--- what octets say that are read so, of a field of the whole length. Connection Handover 1.2: a carrier power state has
--- two bits, a carrier type format three
-abbrev pub meaning_of : Reading → (whole : ℕ) → List ℕ → Text
-meaning_of readings.Header whole octets = flags_text (slice_index octets 0) ++ tnf_meaning (slice_index octets 0)
-meaning_of readings.Number whole octets = number_text whole octets
-meaning_of readings.PowerState whole octets = bits_text 4 (slice_index octets 0)
-meaning_of readings.Format whole octets = bits_text 8 (slice_index octets 0)
-meaning_of readings.Version whole octets = version_text (slice_index octets 0)
-meaning_of readings.Quoted whole octets = codes " " ++ quoted octets
-meaning_of readings.Status whole octets = status_text (slice_index octets 0)
-meaning_of readings.Octets whole octets = []
+-- what octets say that are read so, of a field of the whole length
+abbrev pub meaning_of : FieldReading → Wording → (whole : ℕ) → List ℕ → Text
+meaning_of readings.Header wording whole octets =
+    flags_text (slice_index octets 0) ++ tnf_meaning (slice_index octets 0)
+meaning_of readings.Number wording whole octets = number_text whole octets
+meaning_of readings.Prefix wording whole octets =
+    code_text (slice_index octets 0) (prefix_word (slice_index octets 0))
+meaning_of readings.Action wording whole octets =
+    code_text (slice_index octets 0) (action_word (slice_index octets 0))
+meaning_of readings.ErrorReason wording whole octets =
+    code_text (slice_index octets 0) (error_word (slice_index octets 0))
+meaning_of readings.PowerState wording whole octets = power_text (slice_index octets 0)
+meaning_of readings.Format wording whole octets = format_text (slice_index octets 0)
+meaning_of readings.Version wording whole octets = version_text (slice_index octets 0)
+meaning_of readings.Quoted wording whole octets = codes " " ++ worded wording.utf8 octets
+meaning_of readings.Text wording whole octets =
+    codes " " ++ worded wording.utf8 (text_in_utf8 wording.encoding octets)
+meaning_of readings.Status wording whole octets = status_text (slice_index octets 0)
+meaning_of readings.Octets wording whole octets = []

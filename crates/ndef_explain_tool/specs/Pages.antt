@@ -23,6 +23,7 @@ help_text =
     ++ codes "  --color WHEN        always, never, or auto: in colour where output is a terminal and\n"
     ++ codes "                      NO_COLOR isn't set, as without the option\n"
     ++ codes "  --json              print an object in JSON in a line for each message\n"
+    ++ codes "  --utf8              print printable UTF-8 as itself, and not as \\xHH\n"
     ++ codes "\n"
     ++ codes "Alone:\n"
     ++ codes "\n"

@@ -1,5 +1,5 @@
 -- Output in colour.
-use Rattle.std.specs.Prelude.{◌==◌, ◌||◌, ℕ, Bool, true, false, [], ◌∷◌, ◌++◌, codes, nat_eq, drop, take, map, slice_index, if◌then◌else◌}
+use Rattle.std.specs.Prelude.{◌==◌, ◌||◌, Bool, true, false, ◌++◌, codes, nat_eq, drop, take, map, slice_index, if◌then◌else◌}
 use Rattle.std.specs.List.{join_with_byte, starts_with}
 use Rattle.ndef_program.specs.Quoting.{Text}
 use Rattle.ndef_explain_tool.specs.Lines.{lines_of}
@@ -7,26 +7,28 @@ use Rattle.ndef_explain_tool.specs.declared.painting.Ink.{Ink}
 use Rattle.ndef_explain_tool.specs.declared.painting.Ink.TheVariants as ink
 
 -- the line begins with this word
-abbrev pub begins : Text → Text → Bool
-begins line word = starts_with nat_eq line word
+abbrev pub line_begins : Text → Text → Bool
+line_begins line word = starts_with nat_eq line word
 
 -- the line of a message or of an input
 abbrev pub is_heading : Text → Bool
-is_heading line = begins line (codes "message ") || begins line (codes "file ")
+is_heading line = line_begins line (codes "message ") || line_begins line (codes "file ")
 
 -- the line of a refused byte has a caret after the octets, which end two columns later in a message within a payload
 abbrev pub is_refused_byte : Text → Bool
 is_refused_byte line = slice_index line 33 == 94 || slice_index line 35 == 94
 
 -- the line of a refusal or a fault
-abbrev pub is_fault : Text → Bool
-is_fault line = begins line (codes "refused ") || begins line (codes "fault: ") || begins line (codes "hex: ")
+abbrev pub is_fault_line : Text → Bool
+is_fault_line line =
+    line_begins line (codes "refused ") || line_begins line (codes "fault: ") || line_begins line (codes "hex: ")
 
 -- the ink of a line
 abbrev pub ink_of : Text → Ink
 ink_of line = if is_heading line then ink.Bold
-    else (if is_fault line then ink.Red
-    else (if begins line (codes "0") then (if is_refused_byte line then ink.Red else ink.FaintPlace) else ink.Plain))
+    else (if is_fault_line line then ink.Red
+    else (if line_begins line (codes "0") then (if is_refused_byte line then ink.Red else ink.FaintPlace)
+    else ink.Plain))
 
 -- ECMA-48, select graphic rendition: a text in this rendition, and the usual one after it
 abbrev pub rendered : (rendition : Text) → Text → Text

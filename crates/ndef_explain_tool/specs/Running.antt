@@ -4,25 +4,25 @@ use Rattle.ndef_format.specs.Limits.{LimitValues}
 use Rattle.ndef_message.specs.States.{SinkState}
 use Rattle.ndef_message.specs.declared.input.InputError.{InputError}
 use Rattle.ndef_message.specs.declared.sending.WriteFault.{WriteFault}
-use Rattle.ndef_tool.specs.Output.{ending_text, status_of}
+use Rattle.ndef_program.specs.Endings.{ending_text, status_of}
 use Rattle.ndef_program.specs.Quoting.{Text, quoted}
 use Rattle.ndef_program.specs.Statuses.{status_after}
 use Rattle.ndef_program.specs.Outputs.{GoesOut}
 use Rattle.ndef_program.specs.Pages.{page_asked}
-use Rattle.ndef_tool.specs.declared.choice.WordsError.{WordsError}
-use Rattle.ndef_tool.specs.declared.choice.WordsError.TheVariants.{Usage, NoMemory}
+use Rattle.ndef_program.specs.declared.words_error.WordsError.{WordsError}
+use Rattle.ndef_program.specs.declared.words_error.WordsError.TheVariants.{Usage, NoMemory}
 use Rattle.ndef_program.specs.declared.pages.Page.{Page}
 use Rattle.ndef_program.specs.declared.status.Status.{Status}
 use Rattle.ndef_program.specs.declared.status.Status.TheVariants as status
 use Rattle.ndef_explain_tool.specs.Chosen.{Asks, asked_parts}
-use Rattle.ndef_explain_tool.specs.Explaining.{IsExplained}
+use Rattle.ndef_explain_tool.specs.Explained.{IsExplained}
 use Rattle.ndef_explain_tool.specs.Forms.{Form, form_in, lines, objects}
-use Rattle.ndef_explain_tool.specs.Inputs.{AreOctets}
-use Rattle.ndef_explain_tool.specs.Objects.{line_of, unread_object}
+use Rattle.ndef_explain_tool.specs.Inputs.{AreInputOctets}
+use Rattle.ndef_explain_tool.specs.Objects.{json_line, unread_object}
 use Rattle.ndef_explain_tool.specs.Pages.{page_text}
 use Rattle.ndef_explain_tool.specs.Painting.{shown_in}
 use Rattle.ndef_explain_tool.specs.declared.choice.Asked.{Asked}
-use Rattle.ndef_explain_tool.specs.declared.choice.Choice.{Choice}
+use Rattle.ndef_explain_tool.specs.declared.choice.ExplainChoice.{ExplainChoice}
 use Rattle.ndef_explain_tool.specs.declared.choice.Color.{Color}
 use Rattle.ndef_explain_tool.specs.declared.choice.Color.TheVariants as color
 use Rattle.ndef_explain_tool.specs.declared.explaining.Stop.{Stop}
@@ -53,20 +53,20 @@ fault_line (Ends ending) = ending_text 0 ending
 fault_line (NoPlace line) = place_line line
 
 -- the line of a fault, or its object
-abbrev pub fault_text : Form → Unread → Text
-fault_text lines unread = fault_line unread
-fault_text (objects file) unread = line_of (unread_object file unread)
+abbrev pub unread_text : Form → Unread → Text
+unread_text (lines utf8) unread = fault_line unread
+unread_text (objects file) unread = json_line (unread_object file unread)
 
 -- the status of a fault
-abbrev pub fault_status : Unread → Status
-fault_status (Ends ending) = status_of ending
-fault_status (NoPlace line) = status.Refused
+abbrev pub unread_status : Unread → Status
+unread_status (Ends ending) = status_of ending
+unread_status (NoPlace line) = status.Refused
 
 -- what is printed of the bytes of an input, and the status; or of the fault, where there are none
-abbrev pub IsBody : Form → LimitValues → (octets : Result (List ℕ) Unread) → Text → Status → Type 0
-IsBody form limits (Ok octets) text st =
+abbrev pub IsInputBody : Form → LimitValues → (octets : Result (List ℕ) Unread) → Text → Status → Type 0
+IsInputBody form limits (Ok octets) text st =
     (stop : Stop) × IsExplained form limits octets stop text × (st ≡ stop_status stop)
-IsBody form limits (Err unread) text st = (text ≡ fault_text form unread) × (st ≡ fault_status unread)
+IsInputBody form limits (Err unread) text st = (text ≡ unread_text form unread) × (st ≡ unread_status unread)
 
 -- lines stand after the name of the input, in colour or not; objects stand as they are
 abbrev pub sheet : Manner → (json : Bool) → (name : Text) → (body : Text) → Text
@@ -76,8 +76,8 @@ sheet manner true name body = body
 -- all that is printed of an input of this name, of which this was read, and its status
 abbrev pub IsTold : Manner → (name : Text) → (read : Result (List ℕ) InputError) → Text → Status → Type 0
 IsTold manner name read text st =
-    (octets : Result (List ℕ) Unread) × (body : Text) × AreOctets manner.hex read octets
-    × IsBody (form_in manner.json manner.named name) manner.limits octets body st
+    (octets : Result (List ℕ) Unread) × (body : Text) × AreInputOctets manner.hex read octets
+    × IsInputBody (form_in manner.json manner.utf8 manner.named name) manner.limits octets body st
     × (text ≡ sheet manner manner.json name body)
 
 -- where memory runs out
@@ -101,9 +101,19 @@ pub record World (I : Type 0) : Type 0 where
 abbrev pub world : {I : Type 0} → I → SinkState → World I
 world inputs output = record { inputs = inputs; output = output }
 
+-- how it goes: what is before the program and after it, and the status to which it comes
+pub record Course (I : Type 0) : Type 0 where
+  pub before : World I
+  pub after : World I
+  pub status : Status
+
+-- from here to there, with this status
+abbrev pub course : {I : Type 0} → World I → World I → Status → Course I
+course before after status = record { before = before; after = after; status = status }
+
 -- which bytes, or which fault, an input of a name gives, and what is left of the inputs
-abbrev pub Gives : Type 0 → Type 1
-Gives I = I → (name : Text) → (read : Result (List ℕ) InputError) → I → Type 0
+abbrev pub GivesInput : Type 0 → Type 1
+GivesInput I = I → (name : Text) → (read : Result (List ℕ) InputError) → I → Type 0
 
 -- the greater of two statuses: a fault, a refusal, or none
 abbrev pub worse : Status → Status → Status
@@ -126,27 +136,25 @@ TellsNext manner name read before after told =
     (text : Text) × (st : Status) × IsToldInMemory manner name read text st × SendsOut text st before after told
 
 -- what comes next comes, unless writing failed
-abbrev pub GoesOn : {I : Type 0} → Result Status WriteFault → (next : Status → Type 0) → (before after : World I)
-    → Status
-    → Type 0
-GoesOn (Ok st) next before after result = next st
-GoesOn (Err fault) next before after result = (after ≡ before) × (result ≡ status.Fault)
+abbrev pub GoesOnUnlessFailed : {I : Type 0} → Result Status WriteFault → (next : Status → Type 0) → Course I → Type 0
+GoesOnUnlessFailed (Ok st) next c = next st
+GoesOnUnlessFailed (Err fault) next c = (c.after ≡ c.before) × (c.status ≡ status.Fault)
 
 -- the inputs of these names are read and explained, one after another, after others that came to a status
-abbrev pub TellsAll : {I : Type 0} → Gives I → Manner → (names : List Text) → Status → (before after : World I) → Status
-    → Type 0
-TellsAll gives manner [] st before after result = (after ≡ before) × (result ≡ st)
-TellsAll {I} gives manner (name ∷ names) st before after result =
+abbrev pub TellsAll : {I : Type 0} → GivesInput I → Manner → (names : List Text) → Status → Course I → Type 0
+TellsAll gives manner [] st c = (c.after ≡ c.before) × (c.status ≡ st)
+TellsAll {I} gives manner (name ∷ names) st c =
     (read : Result (List ℕ) InputError) × (middle : World I) × (told : Result Status WriteFault)
-    × gives before.inputs name read middle.inputs × TellsNext manner name read before.output middle.output told
-    × GoesOn told (λ next. TellsAll gives manner names (worse st next) middle after result) middle after result
+    × gives c.before.inputs name read middle.inputs × TellsNext manner name read c.before.output middle.output told
+    × GoesOnUnlessFailed told (λ next. TellsAll gives manner names (worse st next) (course middle c.after c.status))
+    (course middle c.after c.status)
 
 -- ---- a run
 
 -- for words that don't parse
 abbrev pub usage_line : Text
 usage_line = codes "usage: ndef-explain [--hex] [--payload N] [--records N] [--pieces N] "
-    ++ codes "[--profile strict|standard] [--color auto|always|never] [--json] [FILE]..\n"
+    ++ codes "[--profile strict|standard] [--color auto|always|never] [--json] [--utf8] [FILE]..\n"
 
 -- a text goes out, or a front of it before writing fails, and this is the status
 abbrev pub PrintsText : Text → Status → (before after : SinkState) → Status → Type 0
@@ -154,9 +162,9 @@ PrintsText text st before after result =
     GoesOut before.written after.written after.failed text × (result ≡ status_after after.failed st)
 
 -- the same, and the inputs are left
-abbrev pub Answers : {I : Type 0} → Text → Status → (before after : World I) → Status → Type 0
-Answers text st before after result =
-    (after.inputs ≡ before.inputs) × PrintsText text st before.output after.output result
+abbrev pub AnswersWords : {I : Type 0} → Text → Status → Course I → Type 0
+AnswersWords text st c =
+    (c.after.inputs ≡ c.before.inputs) × PrintsText text st c.before.output c.after.output c.status
 
 -- whether output is in colour
 abbrev pub is_in_color : Color → (takes_color : Bool) → Bool
@@ -175,39 +183,35 @@ inputs_of [] = codes "-" ∷ []
 inputs_of (name ∷ names) = name ∷ names
 
 -- how inputs are explained
-abbrev pub manner_of : Choice → (takes_color named : Bool) → Manner
+abbrev pub manner_of : ExplainChoice → (takes_color named : Bool) → Manner
 manner_of choice takes_color named = record {
   limits = choice.limits;
   hex = choice.hex;
   in_color = is_in_color choice.color takes_color;
   json = choice.json;
+  utf8 = choice.utf8;
   named = named;
 }
 
 -- the inputs for which the words ask are explained
-abbrev pub TellsAsked : {I : Type 0} → Gives I → (takes_color : Bool) → Choice × List Text → (before after : World I)
-    → Status → Type 0
-TellsAsked gives takes_color (choice, files) before after result =
-    TellsAll gives (manner_of choice takes_color (is_named files)) (inputs_of files) status.Clean before after result
+abbrev pub TellsAsked : {I : Type 0} → GivesInput I → (takes_color : Bool) → ExplainChoice × List Text → Course I
+    → Type 0
+TellsAsked gives takes_color (choice, files) c =
+    TellsAll gives (manner_of choice takes_color (is_named files)) (inputs_of files) status.Clean c
 
 -- what the words come to
-abbrev pub RunsFor : {I : Type 0} → Gives I → (takes_color : Bool) → Result Asked WordsError → (before after : World I)
-    → Status → Type 0
-RunsFor gives takes_color (Ok asked) before after result =
-    TellsAsked gives takes_color (asked_parts asked) before after result
-RunsFor gives takes_color (Err Usage) before after result = Answers usage_line status.Usage before after result
-RunsFor gives takes_color (Err NoMemory) before after result = Answers [] status.Fault before after result
+abbrev pub RunsFor : {I : Type 0} → GivesInput I → (takes_color : Bool) → Result Asked WordsError → Course I → Type 0
+RunsFor gives takes_color (Ok asked) c = TellsAsked gives takes_color (asked_parts asked) c
+RunsFor gives takes_color (Err Usage) c = AnswersWords usage_line status.Usage c
+RunsFor gives takes_color (Err NoMemory) c = AnswersWords [] status.Fault c
 
 -- a page, or what the words come to
-abbrev pub RunsAsked : {I : Type 0} → Gives I → List Text → (takes_color : Bool) → Option Page
-    → (before after : World I)
-    → Status → Type 0
-RunsAsked gives words takes_color (Some page) before after result =
-    Answers (page_text page) status.Clean before after result
-RunsAsked gives words takes_color None before after result =
-    (asked : Result Asked WordsError) × Asks words asked × RunsFor gives takes_color asked before after result
+abbrev pub RunsAsked : {I : Type 0} → GivesInput I → List Text → (takes_color : Bool) → Option Page → Course I
+    → Type 0
+RunsAsked gives words takes_color (Some page) c = AnswersWords (page_text page) status.Clean c
+RunsAsked gives words takes_color None c =
+    (asked : Result Asked WordsError) × Asks words asked × RunsFor gives takes_color asked c
 
 -- the whole program
-abbrev pub Runs : {I : Type 0} → Gives I → List Text → (takes_color : Bool) → (before after : World I) → Status → Type 0
-Runs gives words takes_color before after result =
-    RunsAsked gives words takes_color (page_asked words) before after result
+abbrev pub Runs : {I : Type 0} → GivesInput I → List Text → (takes_color : Bool) → Course I → Type 0
+Runs gives words takes_color c = RunsAsked gives words takes_color (page_asked words) c

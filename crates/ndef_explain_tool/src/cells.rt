@@ -2,7 +2,8 @@
 ghost use Rattle.std.specs.Prelude.{◌≡◌, ◌++◌, ◌+◌, ◌%◌, ◌^◌, ◌≤◌, ◌∷◌, [], OnOk, length};
 ghost use Rattle.std.specs.Int.{w32, to_be_bytes};
 ghost use Rattle.hex.specs.Hex.{encode_lower};
-ghost use Rattle.ndef_explain_tool.specs.Cells.{cell, cells, indentation, later_cells, later_start, start_of};
+ghost use Rattle.ndef_explain_tool.specs.Cells.{cell, cells, indentation, later_cells, later_start, place_text};
+ghost use Rattle.ndef_explain_tool.specs.Cells.{start_of};
 
 use ndef_value::{Bytes, NoMemory};
 
@@ -53,11 +54,18 @@ fn push_indentation(line: &mut Bytes, depth: u8) -> Result<(), NoMemory>
     }
 }
 
+/// Appends a place in eight digits; it is `offset` bytes after `at`.
+pub(crate) fn push_place(line: &mut Bytes, at: u64, offset: u64) -> Result<(), NoMemory>
+    ensures { OnOk result (line.new ≡ line.old ++ place_text (at + offset)) }
+{
+    line.extend(&wide_digits_of(place_at(at, offset)))
+}
+
 /// Appends a place in eight digits, and the indentation of a depth; the place is `offset` bytes after `at`.
 pub(crate) fn push_start(line: &mut Bytes, at: u64, offset: u64, depth: u8) -> Result<(), NoMemory>
     ensures { OnOk result (line.new ≡ line.old ++ start_of (at + offset) depth) }
 {
-    line.extend(&wide_digits_of(place_at(at, offset)))?;
+    push_place(line, at, offset)?;
     push_indentation(line, depth)
 }
 

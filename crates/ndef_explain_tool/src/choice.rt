@@ -1,14 +1,14 @@
 //! What the words ask for.
-ghost use Rattle.std.specs.Prelude.{◌≡◌, map, string_bytes, IfOk};
-ghost use Rattle.clap.specs.Words.{found_of, rows_of};
-ghost use Rattle.ndef_explain_tool.specs.Chosen.{Answers, Asks, asked_in, choice_in, chosen_color, color_named};
+ghost use Rattle.std.specs.Prelude.{◌≡◌, map, string_bytes, IfOk, IfSome};
+ghost use Rattle.clap.specs.Words.{HasKind, fault_of, found_of, rows_of};
+ghost use Rattle.ndef_explain_tool.specs.Chosen.{IsAskedOutcome, Asks, asked_in, choice_in, chosen_color, color_named};
 ghost use Rattle.ndef_explain_tool.specs.Chosen.{files_in};
+ghost use Rattle.ndef_explain_tool.specs.CommandLine.{explain_app};
 
 use crate::command::explain_command;
-use clap::ArgMatches;
 use clap::error::ErrorKind;
-use ndef_program::{flag_given, hex_given, option_text};
-use ndef_tool::{WordsError, limits_given};
+use clap::{ArgMatches, Error};
+use ndef_program::{WordsError, flag_given, hex_given, limits_given, option_text};
 use ndef_value::{Limits, NoMemory};
 use std::alloc::{AllocError, Global};
 
@@ -23,19 +23,21 @@ pub(crate) enum Color {
 
 /// What the options choose.
 #[derive(Clone, Copy, Debug)]
-pub(crate) struct Choice {
+pub(crate) struct ExplainChoice {
     /// Input is hexadecimal text.
     pub(crate) hex: bool,
     pub(crate) color: Color,
     /// Output is in JSON.
     pub(crate) json: bool,
+    /// Printable characters of UTF-8 stand in lines as themselves.
+    pub(crate) utf8: bool,
     pub(crate) limits: Limits,
 }
 
 /// What the words ask for.
 #[derive(Debug, Drop)]
 pub(crate) struct Asked<'a> {
-    pub(crate) choice: Choice,
+    pub(crate) choice: ExplainChoice,
     /// The names of the inputs that are given.
     pub(crate) files: Vec<&'a str>,
 }
@@ -63,15 +65,16 @@ fn color_given(matches: &ArgMatches<'_>) -> Option<Color>
 }
 
 /// What the options choose.
-fn choice_given(matches: &ArgMatches<'_>) -> Option<Choice>
+fn choice_given(matches: &ArgMatches<'_>) -> Option<ExplainChoice>
     ensures { result ≡ choice_in (rows_of (found_of matches.now)) }
 {
     let limits = limits_given(matches)?;
     let color = color_given(matches)?;
-    Some(Choice {
+    Some(ExplainChoice {
         hex: hex_given(matches),
         color,
         json: flag_given(matches, "json"),
+        utf8: flag_given(matches, "utf8"),
         limits,
     })
 }
@@ -96,7 +99,7 @@ fn files_given<'a>(alloc: Global, matches: &ArgMatches<'a>) -> Result<Vec<&'a st
 
 /// What the matches of clap ask for.
 fn said<'a>(alloc: Global, matches: &ArgMatches<'a>) -> Result<Asked<'a>, WordsError>
-    ensures { Answers (asked_in (rows_of (found_of matches.now))) result }
+    ensures { IsAskedOutcome (asked_in (rows_of (found_of matches.now))) result }
 {
     let Some(choice) = choice_given(matches) else {
         return Err(WordsError::Usage);
@@ -120,5 +123,19 @@ pub(crate) fn ask<'a>(alloc: Global, words: &'a [String]) -> Result<Asked<'a>, W
             ErrorKind::OutOfMemory => Err(WordsError::NoMemory),
             _ => Err(WordsError::Usage),
         },
+    }
+}
+
+/// What clap says is wrong with words, for standard error: it names the word, and the option that was likely meant.
+/// Nothing where clap takes them. Of the words the first is the program's name.
+pub fn words_fault(alloc: Global, words: &[String]) -> Option<Error>
+    ensures { IfSome result (λ error. HasKind (fault_of explain_app (map string_bytes words.now)) error) }
+{
+    let Ok(command) = explain_command(alloc) else {
+        return None;
+    };
+    match command.try_get_matches_from(words) {
+        Ok(_) => None,
+        Err(error) => Some(error),
     }
 }

@@ -5,8 +5,7 @@ ghost use Rattle.ndef_explain_tool.specs.CommandLine.{explain_app, options_app, 
 ghost use Rattle.ndef_program.specs.CommandLine.{IsCommand};
 
 use clap::{Arg, ArgAction, Command};
-use ndef_program::{flag, with, word_option};
-use ndef_tool::reading_command;
+use ndef_program::{flag, reading_command, with, word_option};
 use std::alloc::{AllocError, Global};
 
 /// Words without an option, of which there may be any number.
@@ -24,6 +23,7 @@ fn options_command<'a>(alloc: Global) -> Result<Command<'a>, AllocError>
     let command = reading_command(alloc, "ndef-explain");
     let command = with(command, word_option(alloc, "color"));
     let command = with(command, flag(alloc, "json"));
+    let command = with(command, flag(alloc, "utf8"));
     with(command, words(alloc, "file"))
 }
 

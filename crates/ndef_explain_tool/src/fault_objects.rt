@@ -1,12 +1,12 @@
 //! The objects of faults, in JSON.
 ghost use Rattle.std.specs.Prelude.{◌≡◌, ◌++◌, OnOk, option_map};
-ghost use Rattle.ndef_explain_tool.specs.Objects.{digit_fault, fault_object, hex_object, line_fault, line_of};
+ghost use Rattle.ndef_explain_tool.specs.Objects.{digit_fault, fault_object, hex_object, line_fault, json_line};
 ghost use Rattle.ndef_explain_tool.specs.Objects.{named_fault, unread_object};
 
 use crate::inputs::Unread;
 use crate::json_text::{push_counted_member, push_string_member};
 use crate::message_objects::push_file;
-use ndef_tool::{Ending, HexFault};
+use ndef_program::{Ending, HexFault};
 use ndef_value::{Bytes, NoMemory};
 use std::alloc::Global;
 
@@ -18,7 +18,7 @@ fn push_named_fault(
     fault: &[u8],
 ) -> Result<(), NoMemory>
     ensures { OnOk result (line.new
-        ≡ line.old ++ line_of (named_fault (option_map (λ name. name.now) file.entry) fault.now)) }
+        ≡ line.old ++ json_line (named_fault (option_map (λ name. name.now) file.entry) fault.now)) }
 {
     line.extend(b"{")?;
     push_string_member(line, false, b"fault", fault)?;
@@ -35,7 +35,7 @@ fn push_digit_fault(
     digit: u64,
 ) -> Result<(), NoMemory>
     ensures { OnOk result (line.new
-        ≡ line.old ++ line_of (digit_fault (option_map (λ name. name.now) file.entry) digit)) }
+        ≡ line.old ++ json_line (digit_fault (option_map (λ name. name.now) file.entry) digit)) }
 {
     line.extend(b"{")?;
     push_counted_member(line, false, b"digit", digit)?;
@@ -53,7 +53,7 @@ fn push_hex_fault(
     fault: HexFault,
 ) -> Result<(), NoMemory>
     ensures { OnOk result (line.new
-        ≡ line.old ++ line_of (hex_object (option_map (λ name. name.now) file.entry) fault)) }
+        ≡ line.old ++ json_line (hex_object (option_map (λ name. name.now) file.entry) fault)) }
 {
     match fault {
         HexFault::Odd => push_named_fault(alloc, line, file, b"odd number of digits"),
@@ -69,7 +69,7 @@ fn push_fault_object(
     ending: Ending,
 ) -> Result<(), NoMemory>
     ensures { OnOk result (line.new
-        ≡ line.old ++ line_of (fault_object (option_map (λ name. name.now) file.entry) ending)) }
+        ≡ line.old ++ json_line (fault_object (option_map (λ name. name.now) file.entry) ending)) }
 {
     match ending {
         Ending::Hex(fault) => push_hex_fault(alloc, line, file, fault),
@@ -91,7 +91,7 @@ fn push_line_fault(
     number: u64,
 ) -> Result<(), NoMemory>
     ensures { OnOk result (line.new
-        ≡ line.old ++ line_of (line_fault (option_map (λ name. name.now) file.entry) number)) }
+        ≡ line.old ++ json_line (line_fault (option_map (λ name. name.now) file.entry) number)) }
 {
     line.extend(b"{")?;
     push_string_member(line, false, b"fault", b"no place and colon")?;
@@ -109,7 +109,7 @@ pub(crate) fn push_unread_object(
     unread: Unread,
 ) -> Result<(), NoMemory>
     ensures { OnOk result (line.new
-        ≡ line.old ++ line_of (unread_object (option_map (λ name. name.now) file.entry) unread)) }
+        ≡ line.old ++ json_line (unread_object (option_map (λ name. name.now) file.entry) unread)) }
 {
     match unread {
         Unread::Ends(ending) => push_fault_object(alloc, line, file, ending),

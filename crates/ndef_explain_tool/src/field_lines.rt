@@ -1,12 +1,14 @@
 //! The lines of fields.
 ghost use Rattle.std.specs.Prelude.{◌≡◌, ◌++◌, OnOk, drop, take};
-ghost use Rattle.std.specs.List.{flat_map};
-ghost use Rattle.ndef_explain_tool.specs.FieldLines.{back_text, field_text, front_text, octets_of};
+ghost use Rattle.ndef_explain_tool.specs.FieldLines.{back_text, field_text, field_texts, front_text, octets_of};
 
+use crate::advice::{push_remark_line, said_remark};
 use crate::cells::{COLUMNS, push_cells, push_later_cells, push_start};
 use crate::meaning::{push_meaning, whole_of};
+use crate::wording::Wording;
 use ndef_fields::{Field, Fields};
 use ndef_value::{Bytes, NoMemory};
+use std::alloc::Global;
 
 /// At most `count` octets at the front, and those after them.
 pub(crate) fn cut(octets: &[u8], count: usize) -> (&[u8], &[u8])
@@ -34,34 +36,53 @@ fn push_front(line: &mut Bytes, at: u64, field: &Field, octets: &[u8]) -> Result
 }
 
 /// Appends what the octets of a field say, where a number has `whole` of them, and the octets after the first eight.
-fn push_back(line: &mut Bytes, whole: usize, field: &Field, octets: &[u8]) -> Result<(), NoMemory>
-    ensures { OnOk result (line.new ≡ line.old ++ back_text whole field.now octets.now) }
+fn push_back(
+    alloc: Global,
+    line: &mut Bytes,
+    wording: Wording,
+    whole: usize,
+    field: &Field,
+    octets: &[u8],
+) -> Result<(), NoMemory>
+    ensures { OnOk result (line.new ≡ line.old ++ back_text wording whole field.now octets.now) }
 {
-    push_meaning(line, field.name, whole, octets)?;
+    push_meaning(alloc, line, field.name, wording, whole, octets)?;
     push_later_cells(line, field.depth, cut(octets, COLUMNS).1)?;
     line.extend(b"\n")
 }
 
-/// Appends the lines of a field of these bytes, with `at` bytes of the input before them.
-fn push_field(line: &mut Bytes, at: u64, bytes: &[u8], field: &Field) -> Result<(), NoMemory>
-    ensures { OnOk result (line.new ≡ line.old ++ field_text at bytes.now field.now) }
+/// Appends the lines of a field of these bytes, and of what is strange in it, with `at` bytes of the input before them.
+fn push_field(
+    alloc: Global,
+    line: &mut Bytes,
+    wording: Wording,
+    at: u64,
+    bytes: &[u8],
+    field: &Field,
+) -> Result<(), NoMemory>
+    ensures { OnOk result (line.new ≡ line.old ++ field_text wording at bytes.now field.now) }
 {
     let octets = octets_of(bytes, field);
     push_front(line, at, field, octets)?;
-    push_back(line, whole_of(bytes, field), field, octets)
+    push_back(alloc, line, wording, whole_of(bytes, field), field, octets)?;
+    push_remark_line(line, said_remark(wording.remarks, field.name, octets))
 }
 
-/// Appends the lines of the fields of these bytes, with `at` bytes of the input before them.
+/// Appends the lines of the fields of these bytes, with `at` bytes of the input before them. The first is worded so.
 pub(crate) fn push_fields(
+    alloc: Global,
     line: &mut Bytes,
+    first: Wording,
     at: u64,
     bytes: &[u8],
     fields: Fields<'_>,
 ) -> Result<(), NoMemory>
-    ensures { OnOk result (line.new ≡ line.old ++ flat_map (field_text at bytes.now) fields.entry) }
+    ensures { OnOk result (line.new ≡ line.old ++ field_texts first at bytes.now fields.entry) }
 {
+    let mut wording = first;
     for field in fields {
-        push_field(line, at, bytes, &field)?;
+        push_field(alloc, line, wording, at, bytes, &field)?;
+        wording = wording.after(field.name, octets_of(bytes, &field));
     }
     Ok(())
 }

@@ -3,7 +3,7 @@ ghost use Rattle.std.specs.Prelude.{◌≡◌, ◌∷◌, ◌++◌, ◌<◌, [],
 ghost use Rattle.std.specs.List.{list_all};
 ghost use Rattle.std.specs.Option.{option_map_or};
 ghost use Rattle.ndef_message.specs.Inputs.{bytes_of};
-ghost use Rattle.ndef_tool.specs.Hexadecimal.{fault_of};
+ghost use Rattle.ndef_program.specs.Endings.{fault_of};
 ghost use Rattle.ndef_explain_tool.specs.Hexadecimal.{StandsByDigits, StandsFor, before_gap, behind_place, digits_of};
 ghost use Rattle.ndef_explain_tool.specs.Hexadecimal.{hexdump_digits, is_digit, is_placed, is_separator, layout_by};
 ghost use Rattle.ndef_explain_tool.specs.Hexadecimal.{line_digits, place_length, unplaced, unplaced_line};
@@ -14,8 +14,7 @@ ghost use Rattle.ndef_explain_tool.specs.Lines.{lines_of};
 use crate::field_lines::cut;
 use crate::inputs::Unread;
 use hex::FromHexError;
-use ndef_program::cut_at;
-use ndef_tool::{Ending, HexFault};
+use ndef_program::{Ending, HexFault, cut_at};
 use ndef_value::{Bytes, NoMemory};
 use std::alloc::Global;
 

@@ -3,13 +3,13 @@ ghost use Rattle.std.specs.Prelude.{◌≡◌, ℕ, List, Result, IfErr};
 ghost use Rattle.ndef_message.specs.Inputs.{bytes_of};
 ghost use Rattle.ndef_message.specs.declared.input.InputError.{InputError as ReadError};
 ghost use Rattle.ndef_message.specs.States.{source_state};
-ghost use Rattle.ndef_tool.specs.declared.ending.Ending.TheVariants.{Memory};
-ghost use Rattle.ndef_explain_tool.specs.Inputs.{AreOctets, FitsUnread, ReadsInput};
+ghost use Rattle.ndef_program.specs.declared.ending.Ending.TheVariants.{Memory};
+ghost use Rattle.ndef_explain_tool.specs.Inputs.{AreInputOctets, FitsUnread, ReadsWholeInput};
 ghost use Rattle.ndef_explain_tool.specs.declared.inputs.Unread.TheVariants.{Ends};
 
 use crate::hexadecimal::decode;
 use ndef_message::{InputError, Source, read_all};
-use ndef_tool::Ending;
+use ndef_program::Ending;
 use ndef_value::NoMemory;
 use std::alloc::Global;
 
@@ -35,7 +35,7 @@ impl From<NoMemory> for Unread {
 
 /// Reads an input to its end, at most 16777216 bytes of it. `TooLong` where there are more: that many are consumed.
 pub fn read_input<S: Source>(alloc: Global, source: &mut S) -> Result<Vec<u8>, InputError>
-    ensures { ReadsInput (source_state S.Source source.old) (source_state S.Source source.new) (bytes_of result) }
+    ensures { ReadsWholeInput (source_state S.Source source.old) (source_state S.Source source.new) (bytes_of result) }
 {
     read_all(alloc, source, MOST)
 }
@@ -56,7 +56,7 @@ pub(crate) fn octets_of(
     hex: bool,
     read: Result<Vec<u8>, InputError>,
 ) -> Result<Vec<u8>, Unread>
-    ensures octets { AreOctets hex (bytes_of read) (bytes_of result) }
+    ensures octets { AreInputOctets hex (bytes_of read) (bytes_of result) }
     ensures room { IfErr result FitsUnread }
 {
     match read {

@@ -5,9 +5,9 @@ ghost use Rattle.json.specs.Print.{escape_byte, escape_letter};
 ghost use Rattle.hex.specs.Hex.{encode_lower};
 ghost use Rattle.serde_json.specs.Data.{string};
 ghost use Rattle.serde_json.specs.Written.{comma_if, compact_text};
-ghost use Rattle.ndef_explain_tool.specs.JsonText.{counted, member_start, member_text};
+ghost use Rattle.ndef_explain_tool.specs.JsonText.{number_value, member_start, member_text};
 
-use ndef_tool::push_number;
+use ndef_program::push_number;
 use ndef_value::{Bytes, NoMemory};
 use std::alloc::Global;
 
@@ -55,7 +55,7 @@ fn push_escaped(line: &mut Bytes, byte: u8) -> Result<(), NoMemory>
 }
 
 /// Appends a text as a string.
-fn push_string(line: &mut Bytes, text: &[u8]) -> Result<(), NoMemory>
+pub(crate) fn push_string(line: &mut Bytes, text: &[u8]) -> Result<(), NoMemory>
     ensures { OnOk result (line.new ≡ line.old ++ compact_text (string text.now)) }
 {
     line.extend(b"\"")?;
@@ -88,7 +88,7 @@ pub(crate) fn push_counted_member(
     name: &[u8],
     value: u64,
 ) -> Result<(), NoMemory>
-    ensures { OnOk result (line.new ≡ line.old ++ member_text later name.now (counted value)) }
+    ensures { OnOk result (line.new ≡ line.old ++ member_text later name.now (number_value value)) }
 {
     push_member_start(line, later, name)?;
     push_number(line, value)

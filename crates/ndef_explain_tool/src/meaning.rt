@@ -1,23 +1,31 @@
 //! What the octets of a field say.
 ghost use Rattle.std.specs.Prelude.{◌≡◌, ◌++◌, ◌≤◌, ◌<◌, ◌%◌, OnOk, decimal, length, nat_le, slice_index};
 ghost use Rattle.ndef_format.specs.HeadReasons.{is_set, tnf_number};
-ghost use Rattle.ndef_explain_tool.specs.Meanings.{bits_text, cut_text, flags_text, meaning_of, number_text};
-ghost use Rattle.ndef_explain_tool.specs.Meanings.{octets_number, reading_of, reserved_text, said, status_text};
+ghost use Rattle.ndef_explain_tool.specs.Codes.{code_text, prefix_word};
+ghost use Rattle.ndef_explain_tool.specs.Meanings.{cut_text, flags_text, meaning_of, number_text};
+ghost use Rattle.ndef_explain_tool.specs.Meanings.{octets_number, reading_of, said, status_text};
 ghost use Rattle.ndef_explain_tool.specs.Meanings.{tnf_meaning, tnf_word, version_text, whole_length, whole_of};
 
-use crate::cells::digits_of;
+use crate::codes::{action_word, error_word, push_code, push_format, push_power, push_prefix_word};
+use crate::wording::{Wording, push_text, push_worded};
 use ndef_fields::{Field, FieldName};
-use ndef_program::push_quoted;
-use ndef_tool::push_number;
+use ndef_program::push_number;
 use ndef_value::{Bytes, NoMemory};
+use std::alloc::Global;
 
 /// How the octets of a field are read.
 #[derive(Clone, Copy, Debug)]
-pub(crate) enum Reading {
+pub(crate) enum FieldReading {
     /// The flags and the type name format of a header octet.
     Header,
     /// A number.
     Number,
+    /// A URI identifier code, which stands for a prefix.
+    Prefix,
+    /// The action of a smart poster.
+    Action,
+    /// The reason of a handover error.
+    ErrorReason,
     /// A carrier power state in two bits.
     PowerState,
     /// A carrier type format in three bits.
@@ -26,6 +34,8 @@ pub(crate) enum Reading {
     Version,
     /// Text, or bytes that mostly are.
     Quoted,
+    /// The characters of a text, in its encoding.
+    Text,
     /// The status octet of a text.
     Status,
     /// Octets that speak for themselves.
@@ -33,42 +43,42 @@ pub(crate) enum Reading {
 }
 
 /// How the octets of a field of this name are read.
-fn reading_of(name: FieldName) -> Reading
+fn reading_of(name: FieldName) -> FieldReading
     ensures { result ≡ reading_of name }
 {
     match name {
-        FieldName::Header => Reading::Header,
-        FieldName::Status => Reading::Status,
+        FieldName::Header => FieldReading::Header,
+        FieldName::Status => FieldReading::Status,
         FieldName::KindLength
         | FieldName::PayloadLength
         | FieldName::IdLength
-        | FieldName::UriCode
-        | FieldName::Action
         | FieldName::Size
         | FieldName::ReferenceLength
         | FieldName::AuxiliaryCount
         | FieldName::AuxiliaryLength
-        | FieldName::ErrorReason
         | FieldName::CarrierKindLength
-        | FieldName::Collision => Reading::Number,
-        FieldName::Power => Reading::PowerState,
-        FieldName::CarrierFormat => Reading::Format,
-        FieldName::Version => Reading::Version,
+        | FieldName::Collision => FieldReading::Number,
+        FieldName::UriCode => FieldReading::Prefix,
+        FieldName::Action => FieldReading::Action,
+        FieldName::ErrorReason => FieldReading::ErrorReason,
+        FieldName::Power => FieldReading::PowerState,
+        FieldName::CarrierFormat => FieldReading::Format,
+        FieldName::Version => FieldReading::Version,
         FieldName::Kind
         | FieldName::Id
         | FieldName::Language
-        | FieldName::Text
         | FieldName::UriRest
         | FieldName::MediaType
         | FieldName::Reference
         | FieldName::Auxiliary
-        | FieldName::CarrierKind => Reading::Quoted,
-        _ => Reading::Octets,
+        | FieldName::CarrierKind => FieldReading::Quoted,
+        FieldName::Text => FieldReading::Text,
+        _ => FieldReading::Octets,
     }
 }
 
 /// The first octet; 0 where there is none.
-fn first(octets: &[u8]) -> u8
+pub(crate) fn first(octets: &[u8]) -> u8
     ensures { result ≡ slice_index octets.now 0 }
 {
     match octets {
@@ -199,28 +209,6 @@ fn push_number_text(line: &mut Bytes, whole: usize, octets: &[u8]) -> Result<(),
     push_number(line, u64::from(number_of(octets)))
 }
 
-/// Appends the reserved bits that are set, if some are.
-fn push_reserved(line: &mut Bytes, bits: u8) -> Result<(), NoMemory>
-    ensures { OnOk result (line.new ≡ line.old ++ reserved_text bits) }
-{
-    if bits == 0 {
-        return Ok(());
-    }
-    line.extend(b", reserved bits set: ")?;
-    line.extend(&digits_of(bits))
-}
-
-/// Appends the value of the lower bits of an octet, one of `values`, and the others that are set.
-fn push_bits(line: &mut Bytes, values: u8, octet: u8) -> Result<(), NoMemory>
-    requires { 0 < values }
-    ensures { OnOk result (line.new ≡ line.old ++ bits_text values octet) }
-{
-    let value = octet % values;
-    line.extend(b" ")?;
-    push_number(line, u64::from(value))?;
-    push_reserved(line, octet - value)
-}
-
 /// Appends the major and the minor version.
 fn push_version(line: &mut Bytes, octet: u8) -> Result<(), NoMemory>
     ensures { OnOk result (line.new ≡ line.old ++ version_text octet) }
@@ -231,29 +219,47 @@ fn push_version(line: &mut Bytes, octet: u8) -> Result<(), NoMemory>
     push_number(line, u64::from(octet % 16))
 }
 
+/// Appends a URI identifier code and its prefix.
+fn push_prefix(line: &mut Bytes, code: u8) -> Result<(), NoMemory>
+    ensures { OnOk result (line.new ≡ line.old ++ code_text code (prefix_word code)) }
+{
+    push_code(line, code, b"")?;
+    push_prefix_word(line, code)
+}
+
 /// Appends what the octets of a field of this name say, after a blank, or nothing. A number has `whole` octets.
 pub(crate) fn push_meaning(
+    alloc: Global,
     line: &mut Bytes,
     name: FieldName,
+    wording: Wording,
     whole: usize,
     octets: &[u8],
 ) -> Result<(), NoMemory>
-    ensures { OnOk result (line.new ≡ line.old ++ meaning_of (reading_of name) whole octets.now) }
+    ensures { OnOk result (line.new ≡ line.old ++ meaning_of (reading_of name) wording whole octets.now) }
 {
+    let octet = first(octets);
     match reading_of(name) {
-        Reading::Header => {
-            push_flags(line, first(octets))?;
-            push_tnf(line, first(octets))
+        FieldReading::Header => {
+            push_flags(line, octet)?;
+            push_tnf(line, octet)
         }
-        Reading::Number => push_number_text(line, whole, octets),
-        Reading::PowerState => push_bits(line, 4, first(octets)),
-        Reading::Format => push_bits(line, 8, first(octets)),
-        Reading::Version => push_version(line, first(octets)),
-        Reading::Quoted => {
+        FieldReading::Number => push_number_text(line, whole, octets),
+        FieldReading::Prefix => push_prefix(line, octet),
+        FieldReading::Action => push_code(line, octet, action_word(octet)),
+        FieldReading::ErrorReason => push_code(line, octet, error_word(octet)),
+        FieldReading::PowerState => push_power(line, octet),
+        FieldReading::Format => push_format(line, octet),
+        FieldReading::Version => push_version(line, octet),
+        FieldReading::Quoted => {
             line.extend(b" ")?;
-            push_quoted(line, octets)
+            push_worded(line, wording.utf8, octets)
         }
-        Reading::Status => push_status(line, first(octets)),
-        Reading::Octets => Ok(()),
+        FieldReading::Text => {
+            line.extend(b" ")?;
+            push_text(alloc, line, wording, octets)
+        }
+        FieldReading::Status => push_status(line, octet),
+        FieldReading::Octets => Ok(()),
     }
 }

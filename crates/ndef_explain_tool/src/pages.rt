@@ -39,6 +39,7 @@ Without a FILE, and for the FILE -, it reads standard input.
   --color WHEN        always, never, or auto: in colour where output is a terminal and
                       NO_COLOR isn't set, as without the option
   --json              print an object in JSON in a line for each message
+  --utf8              print printable UTF-8 as itself, and not as \\xHH
 
 Alone:
 

@@ -1,6 +1,6 @@
 //! Output in colour.
 ghost use Rattle.std.specs.Prelude.{◌≡◌, ◌++◌, OnOk};
-ghost use Rattle.ndef_explain_tool.specs.Painting.{ink_of, is_fault, is_heading, is_refused_byte, painted};
+ghost use Rattle.ndef_explain_tool.specs.Painting.{ink_of, is_fault_line, is_heading, is_refused_byte, painted};
 ghost use Rattle.ndef_explain_tool.specs.Painting.{painted_in, painted_line, rendered, shown_in};
 
 use crate::field_lines::cut;
@@ -32,8 +32,8 @@ fn is_refused_byte(line: &[u8]) -> bool
 }
 
 /// Whether the line is that of a refusal or a fault.
-fn is_fault(line: &[u8]) -> bool
-    ensures { result ≡ is_fault line.now }
+fn is_fault_line(line: &[u8]) -> bool
+    ensures { result ≡ is_fault_line line.now }
 {
     line.starts_with(b"refused ") || line.starts_with(b"fault: ") || line.starts_with(b"hex: ")
 }
@@ -44,7 +44,7 @@ fn ink_of(line: &[u8]) -> Ink
 {
     if is_heading(line) {
         Ink::Bold
-    } else if is_fault(line) {
+    } else if is_fault_line(line) {
         Ink::Red
     } else if line.starts_with(b"0") {
         if is_refused_byte(line) {

@@ -18,6 +18,7 @@ fn fields_of(kind: Kind, payload: &[u8]) -> Fields<'_>
     ensures told { ArePayloadFields kind payload.now result }
     ensures fit { PlacesFit 0 result }
 {
+    // For the proof alone.
     payload_fields_are_exact();
     payload_fields(kind, payload)
 }
@@ -36,7 +37,7 @@ fn push_payload_members(
 {
     line.extend(b"{")?;
     push_member_start(line, false, b"fields")?;
-    push_fields_array(alloc, line, 0, payload, fields)?;
+    push_fields_array(alloc, line, true, 0, payload, fields)?;
     push_counted_member(line, true, b"length", payload.len() as u64)?;
     push_counted_member(line, true, b"record", number)?;
     line.extend(b"}")?;
@@ -78,17 +79,19 @@ fn push_payload(
     Ok(true)
 }
 
-/// Appends the array of the payloads that come in several pieces, of records that are numbered from 1.
+/// Appends the array of the payloads that come in several pieces, of records of which the first has this number.
 pub(crate) fn push_payloads_array(
     alloc: Global,
     line: &mut Bytes,
+    first: u64,
     items: Items<'_>,
 ) -> Result<(), NoMemory>
-    requires { length items ≤ 65535 }
-    ensures { OnOk result (AddsPayloadsArray items.entry line.old line.new) }
+    requires few { length items ≤ 65535 }
+    requires numbers { first + 65535 < 2 ^ 64 }
+    ensures { OnOk result (AddsPayloadsArray first items.entry line.old line.new) }
 {
     line.extend(b"[")?;
-    let mut number = 1;
+    let mut number = first;
     let mut later = false;
     for item in items {
         later = push_payload(alloc, line, later, number, &item)?;

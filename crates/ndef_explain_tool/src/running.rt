@@ -2,25 +2,24 @@
 ghost use Rattle.std.specs.Prelude.{◌≡◌, false, map, string_bytes};
 ghost use Rattle.ndef_message.specs.Inputs.{bytes_of};
 ghost use Rattle.ndef_message.specs.States.{sink_state};
-ghost use Rattle.ndef_tool.specs.Runs.{EndsCommand};
+ghost use Rattle.ndef_program.specs.Statuses.{EndsCommand};
 ghost use Rattle.ndef_program.specs.declared.status.Status.TheVariants.{Clean};
 ghost use Rattle.ndef_explain_tool.specs.Chosen.{asked_parts};
 ghost use Rattle.ndef_explain_tool.specs.Running.{PrintsText, Runs, SendsOut, TellsAll, TellsAsked, TellsNext};
-ghost use Rattle.ndef_explain_tool.specs.Running.{is_in_color, manner_of, memory_text, usage_line, world, worse};
+ghost use Rattle.ndef_explain_tool.specs.Running.{course, is_in_color, manner_of, memory_text, usage_line, world, worse};
 
-use crate::choice::{Asked, Choice, Color, ask};
+use crate::choice::{Asked, Color, ExplainChoice, ask};
 use crate::inputs::Inputs;
 use crate::pages::page_text;
 use crate::telling::{Manner, tell};
 use ndef_message::{InputError, Sink, WriteFault, send};
-use ndef_program::{Page, Status, page_asked};
-use ndef_tool::WordsError;
+use ndef_program::{Page, Status, WordsError, page_asked};
 use ndef_value::NoMemory;
 use std::alloc::Global;
 
 /// What is printed where the words don't parse.
 const USAGE: &[u8] = b"usage: ndef-explain [--hex] [--payload N] [--records N] [--pieces N] \
-    [--profile strict|standard] [--color auto|always|never] [--json] [FILE]..\n";
+    [--profile strict|standard] [--color auto|always|never] [--json] [--utf8] [FILE]..\n";
 
 /// The status, unless the text couldn't be written.
 fn end(written: Result<u64, WriteFault>, status: Status) -> Status
@@ -72,7 +71,7 @@ fn is_in_color(color: Color, takes_color: bool) -> bool
 }
 
 /// How inputs are explained.
-fn manner_of(choice: Choice, takes_color: bool, named: bool) -> Manner
+fn manner_of(choice: ExplainChoice, takes_color: bool, named: bool) -> Manner
     ensures { result ≡ manner_of choice takes_color named }
 {
     Manner {
@@ -80,6 +79,7 @@ fn manner_of(choice: Choice, takes_color: bool, named: bool) -> Manner
         hex: choice.hex,
         in_color: is_in_color(choice.color, takes_color),
         json: choice.json,
+        utf8: choice.utf8,
         named,
     }
 }
@@ -129,7 +129,8 @@ fn tell_all<I: Inputs, K: Sink>(
     sink: &mut K,
 ) -> Status
     ensures { K.has_failed sink.old ≡ false → TellsAll I.gives manner.now (map (λ name. name.now) names.now) Clean
-        (world inputs.old (sink_state K.Sink sink.old)) (world inputs.new (sink_state K.Sink sink.new)) result }
+        (course (world inputs.old (sink_state K.Sink sink.old))
+        (world inputs.new (sink_state K.Sink sink.new)) result) }
 {
     let mut status = Status::Clean;
     for name in names {
@@ -151,7 +152,8 @@ fn run_for<I: Inputs, K: Sink>(
     sink: &mut K,
 ) -> Status
     ensures { K.has_failed sink.old ≡ false → TellsAsked I.gives takes_color (asked_parts asked.now)
-        (world inputs.old (sink_state K.Sink sink.old)) (world inputs.new (sink_state K.Sink sink.new)) result }
+        (course (world inputs.old (sink_state K.Sink sink.old))
+        (world inputs.new (sink_state K.Sink sink.new)) result) }
 {
     let files = asked.files.as_slice();
     if files.is_empty() {
@@ -177,7 +179,8 @@ pub fn run<I: Inputs, K: Sink>(
     sink: &mut K,
 ) -> Status
     ensures { K.has_failed sink.old ≡ false → Runs I.gives (map string_bytes words.now) takes_color
-        (world inputs.old (sink_state K.Sink sink.old)) (world inputs.new (sink_state K.Sink sink.new)) result }
+        (course (world inputs.old (sink_state K.Sink sink.old))
+        (world inputs.new (sink_state K.Sink sink.new)) result) }
 {
     if let Some(page) = page_asked(words) {
         return answer(page_text(page), Status::Clean, sink);

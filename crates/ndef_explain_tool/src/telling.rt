@@ -1,19 +1,19 @@
 //! What is printed of an input.
 ghost use Rattle.std.specs.Prelude.{◌≡◌, ◌++◌, false, IfErr, IfOk, OnOk};
 ghost use Rattle.ndef_message.specs.Inputs.{bytes_of};
-ghost use Rattle.ndef_tool.specs.Output.{status_of};
-ghost use Rattle.ndef_explain_tool.specs.Forms.{form_in, form_of};
+ghost use Rattle.ndef_program.specs.Endings.{status_of};
+ghost use Rattle.ndef_explain_tool.specs.Forms.{form_in, style_form};
 ghost use Rattle.ndef_explain_tool.specs.Inputs.{FitsUnread};
-ghost use Rattle.ndef_explain_tool.specs.Running.{IsBody, IsTold, fault_line, fault_status, fault_text, heading};
+ghost use Rattle.ndef_explain_tool.specs.Running.{IsInputBody, IsTold, fault_line, unread_status, unread_text, heading};
 ghost use Rattle.ndef_explain_tool.specs.Running.{place_line, sheet, stop_status};
 
-use crate::explaining::{Stop, Style, explain};
+use crate::explained::explain;
+use crate::explaining::{Stop, Style};
 use crate::fault_objects::push_unread_object;
 use crate::inputs::{Unread, octets_of};
 use crate::painting::push_shown;
 use ndef_message::InputError;
-use ndef_program::{Status, push_quoted};
-use ndef_tool::{Action, Ending, ending_line, push_number};
+use ndef_program::{Ending, Status, ending_text, push_number, push_quoted};
 use ndef_value::{Bytes, Limits, NoMemory};
 use std::alloc::Global;
 
@@ -27,13 +27,15 @@ pub(crate) struct Manner {
     pub(crate) in_color: bool,
     /// It is in JSON.
     pub(crate) json: bool,
+    /// Printable characters of UTF-8 stand in lines as themselves.
+    pub(crate) utf8: bool,
     /// A line names each of them.
     pub(crate) named: bool,
 }
 
 /// What is printed of an input, and its status.
 #[derive(Debug, Drop)]
-pub(crate) struct Told {
+pub(crate) struct ExplainedInput {
     pub(crate) text: Bytes,
     pub(crate) status: Status,
 }
@@ -51,8 +53,8 @@ fn status_of(ending: Ending) -> Status
 }
 
 /// The status of an input of which there are no bytes.
-fn fault_status(unread: Unread) -> Status
-    ensures { result ≡ fault_status unread }
+fn unread_status(unread: Unread) -> Status
+    ensures { result ≡ unread_status unread }
 {
     match unread {
         Unread::Ends(ending) => status_of(ending),
@@ -76,7 +78,7 @@ fn push_fault_line(text: &mut Bytes, unread: Unread) -> Result<(), NoMemory>
     ensures { OnOk result (text.new ≡ text.old ++ fault_line unread) }
 {
     match unread {
-        Unread::Ends(ending) => text.extend(ending_line(Action::Check, 0, ending).as_slice()),
+        Unread::Ends(ending) => text.extend(ending_text(0, ending).as_slice()),
         Unread::NoPlace(line) => push_place_fault(text, line),
     }
 }
@@ -105,10 +107,10 @@ fn push_heading(text: &mut Bytes, named: bool, name: &str) -> Result<(), NoMemor
 
 /// The form of what is printed of an input of this name.
 fn style_of<'a>(manner: &Manner, name: &'a str) -> Style<'a>
-    ensures { form_of result ≡ form_in manner.now.json manner.now.named name.now }
+    ensures { style_form result ≡ form_in manner.now.json manner.now.utf8 manner.now.named name.now }
 {
     if !manner.json {
-        return Style::Lines;
+        return Style::Lines { utf8: manner.utf8 };
     }
     Style::Objects(if manner.named { Some(name) } else { None })
 }
@@ -121,25 +123,25 @@ fn push_fault(
     unread: Unread,
 ) -> Result<(), NoMemory>
     requires { FitsUnread unread }
-    ensures { OnOk result (text.new ≡ text.old ++ fault_text (form_of style.entry) unread) }
+    ensures { OnOk result (text.new ≡ text.old ++ unread_text (style_form style.entry) unread) }
 {
     match style {
-        Style::Lines => push_fault_line(text, unread),
+        Style::Lines { .. } => push_fault_line(text, unread),
         Style::Objects(file) => push_unread_object(alloc, text, file, unread),
     }
 }
 
 /// What is printed of a fault.
-fn tell_fault(alloc: Global, style: Style<'_>, unread: Unread) -> Result<Told, NoMemory>
+fn tell_fault(alloc: Global, style: Style<'_>, unread: Unread) -> Result<ExplainedInput, NoMemory>
     requires { FitsUnread unread }
     ensures { IfOk result (λ told.
-        (told.text ≡ fault_text (form_of style.entry) unread) × (told.status ≡ fault_status unread)) }
+        (told.text ≡ unread_text (style_form style.entry) unread) × (told.status ≡ unread_status unread)) }
 {
     let mut text = Bytes::new(alloc);
     push_fault(alloc, &mut text, style, unread)?;
-    Ok(Told {
+    Ok(ExplainedInput {
         text,
-        status: fault_status(unread),
+        status: unread_status(unread),
     })
 }
 
@@ -149,14 +151,15 @@ fn tell_octets(
     style: Style<'_>,
     limits: Limits,
     octets: Result<Vec<u8>, Unread>,
-) -> Result<Told, NoMemory>
+) -> Result<ExplainedInput, NoMemory>
     requires { IfErr octets FitsUnread }
-    ensures { IfOk result (λ told. IsBody (form_of style.entry) limits (bytes_of octets) told.text told.status) }
+    ensures { IfOk result (λ told.
+        IsInputBody (style_form style.entry) limits (bytes_of octets) told.text told.status) }
 {
     match octets {
         Ok(octets) => {
             let explained = explain(alloc, style, limits, octets.as_slice())?;
-            Ok(Told {
+            Ok(ExplainedInput {
                 text: explained.text,
                 status: stop_status(explained.stop),
             })
@@ -183,7 +186,7 @@ pub(crate) fn tell(
     manner: &Manner,
     name: &str,
     read: Result<Vec<u8>, InputError>,
-) -> Result<Told, NoMemory>
+) -> Result<ExplainedInput, NoMemory>
     ensures { IfOk result (λ told. IsTold manner.now name.now (bytes_of read) told.text told.status) }
 {
     let octets = octets_of(alloc, manner.hex, read);
@@ -191,7 +194,7 @@ pub(crate) fn tell(
     if manner.json {
         return Ok(body);
     }
-    Ok(Told {
+    Ok(ExplainedInput {
         text: sheet_of(alloc, manner, name, body.text.as_slice())?,
         status: body.status,
     })

@@ -1,9 +1,10 @@
 //! Runs of `ndef-make` where memory is used up.
 use super::command::words;
+use super::making::StandardInput;
 use super::run_memory::spare_blocks;
 use ndef_cases::memory::use_up;
 use ndef_make_tool::run;
-use ndef_message::{FailingSink, SliceSource};
+use ndef_message::FailingSink;
 use ndef_program::Status;
 use std::alloc::Global;
 use std::test::Fail;
@@ -45,12 +46,12 @@ fn message(alloc: Global) -> Result<Vec<u8>, Fail> {
 /// Whether the message is written, and nothing told; none where memory was wanting, which is told, and nothing is
 /// written.
 fn is_made(alloc: Global, words: &[String], wanted: &[u8]) -> Option<bool> {
-    let mut source = SliceSource::whole(b"");
+    let mut inputs = StandardInput { bytes: b"" };
     let mut room = [0; 256];
     let mut told = [0; 256];
     let mut sink = FailingSink::new(&mut room, 256, None);
     let mut lines = FailingSink::new(&mut told, 256, None);
-    let status = run(alloc, words, false, &mut source, &mut sink, &mut lines);
+    let status = run(alloc, words, false, &mut inputs, &mut sink, &mut lines);
     let written = sink.written();
     let lines = lines.written();
     match status {

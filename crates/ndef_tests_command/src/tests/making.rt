@@ -1,10 +1,30 @@
 //! What the program `ndef-make` writes, and what `show` prints of it.
+ghost use Rattle.std.specs.Prelude.{⊤};
+
 use super::command::{ran, texts_of, words};
 use ndef_cases::lines::octets_of;
-use ndef_make_tool::run;
-use ndef_message::{SliceSource, StdSink};
+use ndef_make_tool::{Inputs, read_input, run};
+use ndef_message::{InputError, SliceSource, StdSink};
 use std::alloc::Global;
 use std::test::Fail;
+
+/// Standard input, which holds these bytes, and no file.
+#[derive(Drop)]
+pub(super) struct StandardInput<'a> {
+    pub(super) bytes: &'a [u8],
+}
+
+impl<'a> Inputs for StandardInput<'a> {
+    ghost gives = { λ _ _ _ _. ⊤ };
+
+    fn read(&mut self, alloc: Global, name: &str) -> Result<Vec<u8>, InputError> {
+        if name == "-" {
+            read_input(alloc, &mut SliceSource::whole(self.bytes))
+        } else {
+            Err(InputError::ReadFault)
+        }
+    }
+}
 
 /// What came of a run: its status, what was written, and what was told.
 #[derive(Drop)]
@@ -17,7 +37,7 @@ struct Outcome {
 /// Runs the program on an input, and writes to a terminal or not.
 fn run_on(alloc: Global, texts: &[&str], terminal: bool, input: &[u8]) -> Result<Outcome, Fail> {
     let words = words(alloc, texts)?;
-    let mut source = SliceSource::whole(input);
+    let mut inputs = StandardInput { bytes: input };
     let mut bytes = Vec::new(alloc);
     let mut lines = Vec::new(alloc);
     let mut sink = StdSink::new(&mut bytes);
@@ -26,7 +46,7 @@ fn run_on(alloc: Global, texts: &[&str], terminal: bool, input: &[u8]) -> Result
         alloc,
         words.as_slice(),
         terminal,
-        &mut source,
+        &mut inputs,
         &mut sink,
         &mut told,
     );
@@ -77,7 +97,7 @@ const WRITTEN: [(&str, &[u8], &str, &str); 23] = [
         "message 1 at 0: records 1, bytes 11\n 1 tnf 1 type \"T\" id \"\" payload 7 text utf-16 \"en\" \"a\"\n",
     ),
     (
-        "text --language= -- --hex",
+        "text --unchecked --language= -- --hex",
         b"",
         "d1010654002d2d686578",
         "message 1 at 0: records 1, bytes 10\n 1 tnf 1 type \"T\" id \"\" payload 6 text utf-8 \"\" \"--hex\"\n",
@@ -275,16 +295,12 @@ fn prints_pages(rt: HostRuntime) -> Result<(), Fail> {
     Ok(())
 }
 
-const USAGE: &str =
-    "usage: ndef-make text [--language L] [--utf16] TEXT | uri URI | poster URI [--title L=TEXT].. [--action do|save|open] [--size N] [--media TYPE] | handover request --collision N [--version 1.M] [--carrier POWER=ID[,ID]..].. | handover select [--version 1.M] [--carrier POWER=ID[,ID]..].. [--error REASON:DATA] | record --tnf N [--type T] [--id I] [--unchecked] < payload | carrier --format N --type T [--id I] < data; [--hex] [--raw]; more records: --and ..; --help | --version\n";
-
 /// Words that don't parse.
 const NO_WORDS: &str = "
 
 --hex
 help
---help --version
-text --help
+--version --hex
 show
 text
 text a b
@@ -325,12 +341,22 @@ handover select --error 1
 carrier --format 8 --type x
 carrier --format 2
 carrier --type x
+media png
+external a
+record --tnf 5 --payload 0
+record --tnf 5 --payload 00 --file a
+poster a --icon-type a/b
+text --language= a
+poster a --title en=b --title en=c
+handover request --collision 1
 ";
 
 #[test]
 fn tells_usage(rt: HostRuntime) -> Result<(), Fail> {
     for line in NO_WORDS.lines() {
-        assert!(rt; tells(rt.alloc(), line, b"", 2, USAGE)?, "{line}");
+        let none = run_line(rt.alloc(), line, b"")?;
+        let told = none.lines.as_slice().starts_with(b"usage: ");
+        assert!(rt; none.status == 2 && none.bytes.is_empty() && told, "{line}");
     }
     Ok(())
 }

@@ -2,7 +2,8 @@
 use ndef_cases::memory::{spare_blocks, use_up};
 use ndef_cases::samples::{POSTER, SELECT};
 use ndef_message::{SliceSource, StdSink};
-use ndef_tool::{Action, Choice, Ending, handle};
+use ndef_program::Ending;
+use ndef_tool::{Action, Choice, handle};
 use ndef_value::Limits;
 use std::alloc::Global;
 use std::test::Fail;

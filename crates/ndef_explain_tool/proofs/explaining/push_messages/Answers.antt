@@ -1,6 +1,6 @@
 use Rattle.std.proofs.Common.{◌∙◌, ap, arith, drop, length, length-drop}
 use Rattle.std.proofs.lemmas.List.{drop-drop}
-use Rattle.ndef_explain_tool.specs.Forms.{form_of}
+use Rattle.ndef_explain_tool.specs.Forms.{style_form}
 use Rattle.ndef_explain_tool.specs.declared.explaining.Stop.TheVariants.{End, Refused}
 use Rattle.ndef_explain_tool.proofs.Messages.{keeps_last, keeps_next, none_left, some_left}
 use Rattle.ndef_explain_tool.proofs.explaining.push_messages.Goals as goal
@@ -18,7 +18,7 @@ loop-at-preserved c =
     let within = s.1 in
     let n = ap length b ∙ length-drop told.taken rest in
     record {
-      keeps = keeps_next (form_of c.args.style) c.args.limits c.args.input.now rest _ c.loop-at.at c.loop-at.number _ c.loop-at.line _ told i.keeps c.in-Ok.ensures.told
+      keeps = keeps_next (style_form c.args.style) c.args.limits c.args.input.now rest _ c.loop-at.at c.loop-at.number _ c.loop-at.line _ told i.keeps c.in-Ok.ensures.told
           c.in_ok-push_message-in-Ok.ensures b;
       rest = b ∙ ap (drop told.taken) i.rest ∙ drop-drop told.taken c.loop-at.at c.args.input.now;
       size = omega (arith, size, within, n);
@@ -34,7 +34,7 @@ returns-in-Err c =
     let rest = c.loop-at.rest.now in
     let l = c.loop-at-test.true in
     let some = some_left c.loop-at.at _ rest c.args.input.now i.size i.size_is (omega (arith, l)) in
-    let g = keeps_last (form_of c.args.style) c.args.limits c.args.input.now rest c.loop-at.at c.loop-at.number _ c.loop-at.line (Refused refusal) i.keeps (some, c.in-Err.ensures.told) in
+    let g = keeps_last (style_form c.args.style) c.args.limits c.args.input.now rest c.loop-at.at c.loop-at.number _ c.loop-at.line (Refused refusal) i.keeps (some, c.in-Err.ensures.told) in
     let a = g.at_is in
     let k = g.number_is in
     let within = c.in-Err.ensures.told.place.within in
@@ -45,6 +45,7 @@ returns-in-Err c =
       told = g.told;
       are_told = g.are_told;
       number_is = omega (arith, k);
+      numbers = i.numbers;
       at_is = omega (arith, a);
       rest_is = i.rest;
       messages = g.messages;
@@ -60,13 +61,14 @@ returns c =
     let value = i.size_is in
     let l = c.loop-at-test.false in
     let none = none_left c.loop-at.at _ rest c.args.input.now i.size value (omega (arith, l)) in
-    let g = keeps_last (form_of c.args.style) c.args.limits c.args.input.now rest c.loop-at.at c.loop-at.number _ c.loop-at.line End i.keeps none in
+    let g = keeps_last (style_form c.args.style) c.args.limits c.args.input.now rest c.loop-at.at c.loop-at.number _ c.loop-at.line End i.keeps none in
     let a = g.at_is in
     let k = g.number_is in
     record {
       told = g.told;
       are_told = g.are_told;
       number_is = omega (arith, k);
+      numbers = i.numbers;
       at_is = omega (arith, a);
       rest_is = i.rest;
       messages = g.messages;

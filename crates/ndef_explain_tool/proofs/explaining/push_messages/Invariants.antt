@@ -1,11 +1,11 @@
 use Rattle.std.proofs.Common.{◌≡◌, ◌+◌, ◌-◌, ◌<◌, ◌≤◌, ◌^◌, drop, length}
-use Rattle.ndef_explain_tool.specs.Forms.{form_of}
+use Rattle.ndef_explain_tool.specs.Forms.{style_form}
 use Rattle.ndef_explain_tool.proofs.Messages.{KeepsOn}
 use Rattle.ndef_explain_tool.proofs.explaining.push_messages.Given as goal
 
 abbrev pub invariant-loop-at : goal.invariant-loop-at
 invariant-loop-at l = record {
-  keeps : KeepsOn (form_of l.style) l.limits l.input l.rest l.at l.number l.initial.line l.line;
+  keeps : KeepsOn (style_form l.style) l.limits l.input l.rest l.at l.number l.initial.line l.line;
   rest : l.rest ≡ drop l.at l.input;
   size : l.at + length l.rest ≡ length l.input;
   numbers : l.number ≤ l.at + 1;

@@ -4,5 +4,5 @@ use Rattle.ndef_explain_tool.proofs.message_objects.push_refused_object.Goals as
 
 pub returns : goal.returns
 returns c =
-    refused (option_map (λ name. name.now) c.args.file) c.args.number c.args.at c.args.bytes.now _ c.args.refusal _ c.refused_byte-byte.result c.args.line.now _ _
-    c.cut.ensures.front c.fields_of_front.ensures.told c.refused_byte-byte.ensures c.in_ok-push_message_front.ensures c.in_ok-push_refused_back.ensures
+    refused (option_map (λ name. name.now) c.args.file) c.args.limits c.args.place c.args.bytes.now _ c.args.refusal _ c.args.line.now _ _
+    c.cut.ensures.front c.fields_of_front-fields.ensures.told c.in_ok-push_message_front.ensures c.in_ok-push_refused_back.ensures

@@ -8,12 +8,12 @@ loop-item-preserved c =
     let steps = c.in-Some.ensures.steps in
     let n = ap length steps in
     let few = i.few in
-    let keeps = subst (λ rest. KeepsOn c.args.items rest c.loop-item.number c.args.line.now c.loop-item.line) steps i.keeps in
+    let keeps = subst (λ rest. KeepsOn c.args.utf8 c.args.first c.args.items rest c.loop-item.number c.args.line.now c.loop-item.line) steps i.keeps in
     record {
-      keeps = keeps_next c.args.items c.next.new.self c.in-Some.item c.loop-item.number c.args.line.now c.loop-item.line c.push_payload.new.line keeps c.in_ok-push_payload.ensures;
+      keeps = keeps_next c.args.utf8 c.args.first c.args.items c.next.new.self c.in-Some.item c.loop-item.number c.args.line.now c.loop-item.line c.push_payload.new.line keeps c.in_ok-push_payload.ensures;
       few = omega (arith, n, few);
     }
 
 pub returns : goal.returns
 returns c =
-    keeps_last c.args.items c.loop-item.item-iterator c.loop-item.number c.args.line.now c.loop-item.line c.loop-item.invariant.keeps c.in-None.ensures.steps.0
+    keeps_last c.args.utf8 c.args.first c.args.items c.loop-item.item-iterator c.loop-item.number c.args.line.now c.loop-item.line c.loop-item.invariant.keeps c.in-None.ensures.steps.0

@@ -4,6 +4,6 @@ use Rattle.ndef_explain_tool.proofs.payload_objects.push_payloads_array.Given as
 
 abbrev pub invariant-loop-item : goal.invariant-loop-item
 invariant-loop-item l = record {
-  keeps : KeepsOn l.fn.items l.item-iterator l.number l.later l.initial.line l.line;
-  few : l.number + length l.item-iterator ≤ 65536;
+  keeps : KeepsOn l.first l.fn.items l.item-iterator l.number l.later l.initial.line l.line;
+  few : l.number + length l.item-iterator ≤ l.first + 65535;
 }

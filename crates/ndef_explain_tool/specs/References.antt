@@ -1,0 +1,68 @@
+-- The references of a handover's carriers, in JSON.
+use Rattle.std.specs.Prelude.{◌≡◌, ℕ, ◌+◌, ◌<◌, List, [], ◌∷◌, ◌++◌, Option, Some, None, Result, Ok, Err, IfSome, codes, map}
+use Rattle.ndef_format.specs.Messages.{run_record}
+use Rattle.ndef_message.specs.Views.{Viewed}
+use Rattle.ndef_advice.specs.RecordRemarks.{BeginsWithFew}
+use Rattle.ndef_program.specs.Quoting.{Text, quoted_bytes}
+use Rattle.ndef_types.specs.Links.{FindsLinks}
+use Rattle.ndef_types.specs.declared.link.Link.{Link}
+use Rattle.ndef_types.specs.declared.link.LinkError.{LinkError}
+use Rattle.ndef_types.specs.declared.power.Power.{Power}
+use Rattle.ndef_types.specs.declared.power.Power.TheVariants as powers
+use Rattle.serde_json.specs.Data.{Data, array, string}
+use Rattle.ndef_explain_tool.specs.JsonText.{Pair, items_of, later_members, number_value, object_of}
+
+-- Connection Handover 1.2, carrier power state: its name
+abbrev pub power_name : Power → Text
+power_name powers.Inactive = codes "inactive"
+power_name powers.Active = codes "active"
+power_name powers.Activating = codes "activating"
+power_name powers.Unknown = codes "unknown"
+
+-- the number of the record to which a reference leads, if there is one
+abbrev pub record_pairs : (index : Option ℕ) → List Pair
+record_pairs None = []
+record_pairs (Some index) = (codes "record", number_value (index + 1)) ∷ []
+
+-- Connection Handover 1.2, Alternative Carrier record: its power state, its carrier data reference and that record
+abbrev pub reference_object : Link → Data
+reference_object link =
+    object_of ((codes "power", string (power_name link.ac.power)) ∷ (record_pairs link.index
+    ++ (codes "reference", string (quoted_bytes link.ac.reference)) ∷ []))
+
+-- the array of these, where there is one
+abbrev pub reference_pairs : List Link → List Pair
+reference_pairs [] = []
+reference_pairs (link ∷ links) =
+    (codes "references", array (items_of (map reference_object (link ∷ links)))) ∷ []
+
+-- the same, where the handover could be read
+abbrev pub found_pairs : Result (List Link) LinkError → List Pair
+found_pairs (Ok links) = reference_pairs links
+found_pairs (Err error) = []
+
+-- Connection Handover 1.2: the references of the first handover of a message of few records
+abbrev pub AreReferencesIn : Option Viewed → List Pair → Type 0
+AreReferencesIn None pairs = pairs ≡ []
+AreReferencesIn (Some message) pairs =
+    (found : Result (List Link) LinkError) × FindsLinks message.profile (map run_record message.runs) found
+    × (pairs ≡ found_pairs found)
+
+-- Connection Handover 1.2: those of the message with which the bytes begin
+abbrev pub AreReferencePairs : (bytes : List ℕ) → List Pair → Type 0
+AreReferencePairs bytes pairs =
+    (message : Option Viewed) × BeginsWithFew bytes message × AreReferencesIn message pairs
+
+-- those of a message are appended
+abbrev pub AddsReferencesIn : Viewed → (old new : Text) → Type 0
+AddsReferencesIn message old new =
+    (pairs : List Pair) × AreReferencesIn (Some message) pairs × (new ≡ old ++ later_members pairs)
+
+-- those of the message with which the bytes begin are appended
+abbrev pub AddsReferencePairs : (bytes : List ℕ) → (old new : Text) → Type 0
+AddsReferencePairs bytes old new =
+    (pairs : List Pair) × AreReferencePairs bytes pairs × (new ≡ old ++ later_members pairs)
+
+-- the records are among these
+abbrev pub IsAmong : (count : ℕ) → Link → Type 0
+IsAmong count link = IfSome link.index (λ index. index < count)
