@@ -4,8 +4,9 @@
  * point to. So every call is safe in any thread and in an interrupt handler. Every call returns, whatever bytes it
  * is given.
  *
- * On x86-64 the archive libndef.a runs on every processor. libndef-v2.a needs SSSE3 and SSE4.1 (x86-64-v2), and checks
- * long texts that are not ASCII some twelve times as fast.
+ * On x86-64 the archive libndef.a and the shared library run on every processor. With glibc both take the code for
+ * x86-64-v2 where the processor has that (the shared library by a file in glibc-hwcaps), and check long texts that are
+ * not ASCII some twelve times as fast. libndef-v2.a has that code alone, and needs SSSE3 and SSE4.1.
  *
  * The caller must keep these rules:
  *   - A pointer that comes with a length points to that many bytes (or elements). Where the length is 0, the pointer
@@ -73,20 +74,6 @@ enum ndef_reason {
     NDEF_REASON_URI_MISSING = 20, NDEF_REASON_URI_AGAIN = 21, NDEF_REASON_VERSION = 22, NDEF_REASON_DOES_NOT_FIT = 23,
     NDEF_REASON_END_OF_INPUT = 24, NDEF_REASON_COLLISION_MISSING = 25
 };
-
-/* The list of reasons, for tables of your own: NDEF_REASONS(X) is X(number, name, text) for each, without a separator.
- * NDEF_REASON_ and the name make the constant; the text is what ndef_reason_name writes. So a table of texts is
- *     #define TEXT(number, name, text) [number] = text,
- *     static const char *const texts[] = { NDEF_REASONS(TEXT) }; */
-#define NDEF_REASONS(X) \
-    X(1, RESERVED_TNF, "ReservedTnf") X(2, BEGIN_MISSING, "BeginMissing") X(3, BEGIN_AGAIN, "BeginAgain") \
-    X(4, UNCHANGED_OUTSIDE, "UnchangedOutside") X(5, CHANGED_INSIDE, "ChangedInside") X(6, ID_INSIDE, "IdInside") \
-    X(7, CHUNK_AT_END, "ChunkAtEnd") X(8, CHUNK_OF_EMPTY, "ChunkOfEmpty") X(9, TOO_MANY_PIECES, "TooManyPieces") \
-    X(10, TOO_MANY_RECORDS, "TooManyRecords") X(11, TYPE_NOT_EMPTY, "TypeNotEmpty") X(12, TYPE_EMPTY, "TypeEmpty") \
-    X(13, EMPTY_NOT_EMPTY, "EmptyNotEmpty") X(14, PAYLOAD_TOO_LARGE, "PayloadTooLarge") X(15, TEXT_BIT, "TextBit") \
-    X(16, LANGUAGE, "Language") X(17, UTF8, "Utf8") X(18, UTF16, "Utf16") X(19, URI_CODE, "UriCode") \
-    X(20, URI_MISSING, "UriMissing") X(21, URI_AGAIN, "UriAgain") X(22, VERSION, "Version") \
-    X(23, DOES_NOT_FIT, "DoesNotFit") X(24, END_OF_INPUT, "EndOfInput") X(25, COLLISION_MISSING, "CollisionMissing")
 
 /* The type name format of a record (TNF, NDEF 1.0, 3.2.6). */
 enum ndef_tnf {
@@ -160,6 +147,18 @@ uint32_t ndef_reason_name(uint32_t reason, uint8_t *room, ndef_size size, ndef_s
 /* Writes what a reason means to the room: a sentence of English in ASCII, at most 70 bytes, as ndef-explain prints it.
  * NDEF_OK, NDEF_NO_ROOM. NDEF_BAD_ARGUMENT: there is no such reason. */
 uint32_t ndef_reason_sentence(uint32_t reason, uint8_t *room, ndef_size size, ndef_size *count);
+
+/* Writes what was wanted where the bytes are refused, or what the reason means: a sentence of ASCII, at most 192 bytes.
+ * NDEF_OK, NDEF_NO_ROOM. NDEF_END: they begin with a message. NDEF_BAD_ARGUMENT: as of ndef_fields. After these two the
+ *   room and *count are unchanged. */
+uint32_t ndef_why(const uint8_t *bytes, ndef_size length, const ndef_limits *limits, uint8_t *room, ndef_size size,
+                  ndef_size *count);
+
+/* Writes a sentence that may help where the bytes are refused, as ndef_why does: a message begins at one of the places 1
+ * to 16, the code of a URI may be missing, or NDEF_STANDARD reads the bytes. It may take 17 times as long as a check.
+ * NDEF_OK, NDEF_NO_ROOM, NDEF_BAD_ARGUMENT: as of ndef_why. NDEF_END: also where nothing is known to help. */
+uint32_t ndef_hint(const uint8_t *bytes, ndef_size length, const ndef_limits *limits, uint8_t *room, ndef_size size,
+                   ndef_size *count);
 
 /* ---- read records */
 
@@ -491,58 +490,11 @@ uint32_t ndef_find_id(const uint8_t *bytes, ndef_size length, ndef_size at, cons
  * why->place, and the last of them ends there, so that bytes of it may be missing. They look into payloads:
  * NDEF_BAD_ARGUMENT also answers the flag NDEF_OPAQUE. */
 
-/* The names of fields. ndef_field_name gives each as text. */
-enum ndef_field_names {
-    NDEF_FIELD_HEADER = 1,               /* the header byte: MB, ME, CF, SR, IL and TNF */
-    NDEF_FIELD_TYPE_LENGTH = 2,
-    NDEF_FIELD_PAYLOAD_LENGTH = 3,       /* 1 byte in a short record, else 4 */
-    NDEF_FIELD_ID_LENGTH = 4,            /* only where IL is set */
-    NDEF_FIELD_TYPE = 5,
-    NDEF_FIELD_ID = 6,
-    NDEF_FIELD_PAYLOAD = 7,              /* a payload of another type, or a chunk */
-    NDEF_FIELD_STATUS = 8,               /* of a text */
-    NDEF_FIELD_LANGUAGE = 9,             /* of a text */
-    NDEF_FIELD_MARK = 10,                /* of a text in UTF-16 */
-    NDEF_FIELD_TEXT = 11,
-    NDEF_FIELD_URI_CODE = 12,            /* of a URI */
-    NDEF_FIELD_URI_REST = 13,            /* behind the prefix for which the code stands */
-    NDEF_FIELD_ACTION = 14,              /* of a smart poster */
-    NDEF_FIELD_SIZE = 15,                /* of a smart poster */
-    NDEF_FIELD_MEDIA_TYPE = 16,          /* of a smart poster */
-    NDEF_FIELD_VERSION = 17,             /* of a handover */
-    NDEF_FIELD_COLLISION = 18,           /* of a collision resolution */
-    NDEF_FIELD_POWER = 19,               /* of an alternative carrier, as the next six */
-    NDEF_FIELD_REFERENCE_LENGTH = 20,
-    NDEF_FIELD_REFERENCE = 21,
-    NDEF_FIELD_AUXILIARY_COUNT = 22,
-    NDEF_FIELD_AUXILIARY_LENGTH = 23,
-    NDEF_FIELD_AUXILIARY = 24,
-    NDEF_FIELD_AFTER_AUXILIARY = 25,     /* the bytes behind the references */
-    NDEF_FIELD_ERROR_REASON = 26,        /* of a handover's error */
-    NDEF_FIELD_ERROR_DATA = 27,
-    NDEF_FIELD_CARRIER_FORMAT = 28,      /* of a handover carrier, as the next three */
-    NDEF_FIELD_CARRIER_TYPE_LENGTH = 29, NDEF_FIELD_CARRIER_TYPE = 30, NDEF_FIELD_CARRIER_DATA = 31
-};
-
-/* The list of names, as NDEF_REASONS: NDEF_FIELDS(X) is X(number, name, text) for each. */
-#define NDEF_FIELDS(X) \
-    X(1, HEADER, "header") X(2, TYPE_LENGTH, "TYPE_LENGTH") X(3, PAYLOAD_LENGTH, "PAYLOAD_LENGTH") \
-    X(4, ID_LENGTH, "ID_LENGTH") X(5, TYPE, "TYPE") X(6, ID, "ID") X(7, PAYLOAD, "PAYLOAD") X(8, STATUS, "status") \
-    X(9, LANGUAGE, "language code") X(10, MARK, "byte order mark") X(11, TEXT, "text") \
-    X(12, URI_CODE, "identifier code") X(13, URI_REST, "URI") X(14, ACTION, "action") X(15, SIZE, "size") \
-    X(16, MEDIA_TYPE, "media type") X(17, VERSION, "version") X(18, COLLISION, "random number") \
-    X(19, POWER, "carrier power state") X(20, REFERENCE_LENGTH, "carrier data reference length") \
-    X(21, REFERENCE, "carrier data reference") X(22, AUXILIARY_COUNT, "auxiliary data reference count") \
-    X(23, AUXILIARY_LENGTH, "auxiliary data reference length") X(24, AUXILIARY, "auxiliary data reference") \
-    X(25, AFTER_AUXILIARY, "reserved") X(26, ERROR_REASON, "error reason") X(27, ERROR_DATA, "error data") \
-    X(28, CARRIER_FORMAT, "carrier type format") X(29, CARRIER_TYPE_LENGTH, "carrier type length") \
-    X(30, CARRIER_TYPE, "carrier type") X(31, CARRIER_DATA, "carrier data")
-
 /* A field: at least one byte. */
 typedef struct ndef_field {
     ndef_size at, length; /* where it begins, and its bytes */
     uint32_t depth;       /* 0 in the message itself, 1 in a message within a payload */
-    uint32_t name;        /* one of ndef_field_names */
+    uint32_t name;        /* one of ndef_field_names (ndef_names.h), such as NDEF_FIELD_TYPE */
 } ndef_field;
 
 /* Fills the array with the fields, in order. It has `size` elements; *count is the number of the fields.
@@ -582,6 +534,21 @@ uint32_t ndef_payload_fields(uint32_t tnf, const uint8_t *type, ndef_size type_l
  * NDEF_FIELD_PAYLOAD_LENGTH.
  * NDEF_OK, NDEF_NO_ROOM. NDEF_BAD_ARGUMENT: there is no such name. */
 uint32_t ndef_field_name(uint32_t name, uint8_t *room, ndef_size size, ndef_size *count);
+
+/* Writes what is strange in a field of a message that ndef_check accepts to the room: a sentence of ASCII, at most 192 bytes,
+ * as ndef-explain prints it. `octets` are the bytes of the field, `name` is its name.
+ * NDEF_OK, NDEF_NO_ROOM. NDEF_END: nothing is known to be strange. NDEF_BAD_ARGUMENT: there is no such name. After these two
+ *   the room and *count are unchanged. */
+uint32_t ndef_field_remark(uint32_t name, const uint8_t *octets, ndef_size octets_length, uint8_t *room, ndef_size size,
+                           ndef_size *count);
+
+/* Writes what is strange in a record beside the others to the room, as ndef_field_remark does: two titles in one language,
+ * a request without an alternative carrier or with a second collision record, a reference to no record, a text that may be
+ * little-endian; or else an id that another record has too. `bytes` begin with a message that ndef_check accepts; the
+ * record with `index` 0 is its first. Messages of more than 64 records are not looked through.
+ * NDEF_OK, NDEF_NO_ROOM. NDEF_END: nothing is known to be strange, or there is no such record. */
+uint32_t ndef_record_remark(const uint8_t *bytes, ndef_size length, ndef_size index, uint8_t *room, ndef_size size,
+                            ndef_size *count);
 
 /* ---- names */
 

@@ -57,7 +57,7 @@ struct error {
     std::uint64_t place = 0;         ///< with NDEF_REFUSED, the place of the first refused byte; else 0
     ndef_size needed = 0;            ///< with NDEF_NO_ROOM, the size that the room must have; else 0
 
-    /// With NDEF_REFUSED, what the reason means, in a sentence; else "".
+    /// With NDEF_REFUSED, what the reason means, in a sentence; else "". ndef::why says what was wanted, of the bytes.
     constexpr std::string_view sentence() const noexcept { return ndef::sentence(why); }
 };
 

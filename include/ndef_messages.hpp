@@ -1,4 +1,5 @@
-/// ndef_messages.hpp: messages, their records, and checks of bytes that arrive in parts. Include ndef.hpp.
+/// ndef_messages.hpp: messages, their records, why bytes are refused and what is strange in them, and checks of bytes that
+/// arrive in parts. Include ndef.hpp.
 #ifndef NDEF_MESSAGES_HPP
 #define NDEF_MESSAGES_HPP
 
@@ -151,6 +152,46 @@ private:
 
     bytes whole;
 };
+
+// ---- why bytes are refused
+
+// Release 0.2.0 of ndef.h doesn't declare these calls.
+#if NDEF_VERSION_MAJOR > 0 || NDEF_VERSION_MINOR >= 3
+
+namespace detail {
+/// The sentence that a call of ndef.h writes: call(given.., memory, size, count). None where it writes none.
+template <class Call, class... Given> std::optional<std::string> said(Call call, const Given &...given) {
+    std::string text = as_string([&](std::uint8_t *memory, ndef_size size, ndef_size *count, ndef_checked *) {
+        return call(given..., memory, size, count);
+    });
+    if (text.empty()) return std::nullopt;
+    return text;
+}
+} // namespace detail
+
+/// What was wanted where bytes are refused, in a sentence of English, or what the reason means, as ndef_why writes it. None
+/// where they begin with a message, where a limit is out of range, and where NDEF_OPAQUE or an unknown flag is set.
+inline std::optional<std::string> why(bytes of, const ndef_limits &within = limits()) {
+    return detail::said(ndef_why, of.data(), of.size(), &within);
+}
+
+/// A sentence that may help where bytes are refused, as ndef_hint writes it. None also where nothing is known to help.
+inline std::optional<std::string> hint(bytes of, const ndef_limits &within = limits()) {
+    return detail::said(ndef_hint, of.data(), of.size(), &within);
+}
+
+// ---- what is strange in messages that are accepted
+
+/// What is strange in the record with an index, counted from 0, of the message with which the bytes begin, beside its other
+/// records, in a sentence of English, as ndef_record_remark writes it. None where nothing is known to be strange, where there is no such record or
+/// no message, and where the message has more than 64 records.
+inline std::optional<std::string> record_remark(bytes of, ndef_size index) {
+    return detail::said(ndef_record_remark, of.data(), of.size(), index);
+}
+
+#endif
+
+// ---- bytes that arrive in parts
 
 /// Checks a message that arrives in parts. It holds none of its bytes.
 class checker {

@@ -2,6 +2,7 @@
 from __future__ import annotations
 
 import dataclasses
+import re
 from typing import Dict, Iterator, Mapping, Sequence
 
 from .model import Call, Constant, Field, Group, Interface, Parameter, Struct
@@ -85,6 +86,12 @@ def of_lists(header: Interface, crates: Interface) -> Iterator[str]:
             yield f'{name}: the numbers are not in order'
 
 
+def of_comment(comment: str, crates: Call) -> Iterator[str]:
+    for status in crates.answers:
+        if not re.search(rf'\b{status}\b', comment):
+            yield f'{HEADER}: the comment of {crates.name} does not say when it answers {status}, as {crates.where} does'
+
+
 def differences(header: Interface, crates: Interface) -> Iterator[str]:
     """Where the header declares another thing than the crates have, in sentences that name it."""
     if header.version != crates.version:
@@ -95,6 +102,7 @@ def differences(header: Interface, crates: Interface) -> Iterator[str]:
     for name, call in header.calls.items():
         if name in crates.calls:
             yield from of_call(call, crates.calls[name])
+            yield from of_comment(header.comments[name], crates.calls[name])
     for name, struct in header.structs.items():
         if name in crates.structs:
             yield from of_struct(struct, crates.structs[name])

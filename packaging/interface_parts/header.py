@@ -6,6 +6,7 @@ from typing import Dict, List, Tuple
 
 from .model import TOP, Call, Constant, Field, Group, Interface, Parameter, Rows, Struct, Unknown
 
+PATH, NAMES = 'include/ndef.h', 'include/ndef_names.h'
 COMMENT = r'/\*((?:[^*]|\*(?!/))*)\*/'
 CALL = re.compile(r'^(uint32_t|void) (ndef_\w+)\(([^()]*)\);', re.M)
 STRUCT = re.compile(r'^typedef struct (\w+) \{(.*?)\} \1;', re.M | re.S)
@@ -75,17 +76,22 @@ def left_over(text: str) -> None:
         raise Unknown(f'include/ndef.h declares what the script does not know: {text.splitlines()[0]!r}')
 
 
-def read() -> Interface:
-    """The interface as the header declares it."""
-    text, names = ((TOP / 'include' / name).read_text() for name in ('ndef.h', 'ndef_names.h'))
-    bare = without_comments(text)
+def read() -> Dict[str, str]:
+    """The headers, and their texts."""
+    return {path: (TOP / path).read_text() for path in (PATH, NAMES)}
+
+
+def declared(texts: Dict[str, str]) -> Interface:
+    """The interface as the headers with these texts declare it."""
+    text = texts[PATH]
+    bare, names = without_comments(text), without_comments(texts[NAMES])
     left_over(bare)
-    said = comments(text)
-    calls = {name: Call(name, result, parameters(given), '', 'include/ndef.h') for result, name, given in CALL.findall(bare)}
+    said = {**comments(text), **comments(texts[NAMES])}
+    calls = {name: Call(name, result, parameters(given), '', PATH) for result, name, given in CALL.findall(bare)}
     silent = [name for name in calls if name not in said]
     if silent:
         raise Unknown(f'include/ndef.h: no comment stands before {", ".join(silent)}')
     structs = {name: Struct(name, fields(body)) for name, body in STRUCT.findall(bare)}
-    groups = [Group(name, constants(body)) for name, body in ENUM.findall(bare)]
+    groups = [Group(name, constants(body)) for name, body in ENUM.findall(bare) + ENUM.findall(names)]
     version = tuple(int(number) for number in re.findall(r'^#define NDEF_VERSION_(?:MAJOR|MINOR|PATCH) (\d+)$', bare, re.M))
-    return Interface(calls, structs, groups, {**lists(bare), **lists(without_comments(names))}, version, said)
+    return Interface(calls, structs, groups, lists(names), version, said)

@@ -33,11 +33,15 @@ class Parameter:
 
 @dataclasses.dataclass(frozen=True)
 class Call:
+    """A call: `text` is the first sentence of its doc comment, and `doc` all its lines; both are Rattle's, as for a struct. `answers` are
+    statuses of its contract."""
     name: str
     result: str
     parameters: Tuple[Parameter, ...]
     text: str = ''
     where: str = ''
+    doc: str = ''
+    answers: Tuple[str, ...] = ()
 
 
 @dataclasses.dataclass(frozen=True)
@@ -55,22 +59,26 @@ class Struct:
     fields: Tuple[Field, ...]
     text: str = ''
     where: str = ''
+    doc: str = ''
 
 
 @dataclasses.dataclass(frozen=True)
 class Constant:
+    """A constant; `said` is how doc comments of Rattle name it, as `Kind::Text`."""
     name: str
     number: int
     text: str = ''
+    said: str = ''
 
 
 @dataclasses.dataclass(frozen=True)
 class Group:
-    """The constants of one enum; its name is empty where the enum has none."""
+    """The constants of one enum; its name is empty where the enum has none. Such a one stands right after the declaration `beside`."""
     name: str
     constants: Tuple[Constant, ...]
     text: str = ''
     where: str = ''
+    beside: str = ''
 
 
 # A list of the header, as NDEF_REASONS: a number, the name of a constant without its prefix, and a text.
@@ -79,13 +87,18 @@ Rows = List[Tuple[int, str, str]]
 
 @dataclasses.dataclass
 class Interface:
-    """An interface, in the order in which it is said; `comments` has what the header says of calls and structs."""
+    """An interface, in the order in which it is said; `comments` has what the header says of calls and structs. Of the crates, `files`
+    has the names of the calls and structs of each file, in its order, `heads` its subject, and `words` the names that C has for those of
+    Rattle: for one of a parameter or member that is another, `CALL.NAME` or `STRUCT.NAME`."""
     calls: Dict[str, Call] = dataclasses.field(default_factory=dict)
     structs: Dict[str, Struct] = dataclasses.field(default_factory=dict)
     groups: List[Group] = dataclasses.field(default_factory=list)
     lists: Dict[str, Rows] = dataclasses.field(default_factory=dict)
     version: Tuple[int, ...] = ()
     comments: Dict[str, str] = dataclasses.field(default_factory=dict)
+    files: Dict[str, Tuple[str, ...]] = dataclasses.field(default_factory=dict)
+    heads: Dict[str, str] = dataclasses.field(default_factory=dict)
+    words: Dict[str, str] = dataclasses.field(default_factory=dict)
 
     def constants(self) -> Dict[str, int]:
         return {constant.name: constant.number for group in self.groups for constant in group.constants}

@@ -4,17 +4,21 @@ from __future__ import annotations
 import re
 from typing import Dict, List, Tuple
 
+from .comments import unlinked
 from .model import TOP, Call, Constant, Field, Group, Interface, Parameter, Rows, Struct, Unknown, first_sentence
 
 DOC = r'((?:^ *///[^\n]*\n)*)'
 CALL = re.compile(DOC + r'#\[unsafe\(no_mangle\)\]\npub (?:unsafe )?extern "C" fn (\w+)(?:<[^>]*>)?\((.*?)\)(?: -> (\w+))?\n(.*?)^\{',
                   re.M | re.S)
 STRUCT = re.compile(DOC + r'#\[repr\(C\)\]\n(?:#\[[^\n]*\]\n)*pub struct (\w+) \{\n(.*?)^\}', re.M | re.S)
+OPEN = re.compile(r'^pub struct (\w+) \{$', re.M)
 MEMBER = re.compile(DOC + r'^    (?:pub )?(\w+): (.+),$', re.M)
 # A struct whose bytes mean something to the library alone: this promise says how many there are.
 SEALED = re.compile(r'prove!\(size_of::<(\w+)>\(\) <= (\d+)\)')
 CONSTANT = re.compile(DOC + r'^pub const (\w+): u32 = (\d+);$', re.M)
 VARIANT = re.compile(DOC + r'^    (\w+)(?: = (\d+))?,$', re.M)
+# A status that a contract says a call answers, or does not answer.
+ANSWER = re.compile(r'\bresult [≡≢] ([A-Z_]+)\b')
 TYPE = re.compile(r"(?:&(?:'\w+ )?|\*)(mut )?(\[)?(\w+)\]?")
 
 NUMBERS = {'u8': 'uint8_t', 'u32': 'uint32_t', 'u64': 'uint64_t', 'usize': 'ndef_size'}
@@ -36,7 +40,9 @@ FLAGS = {
     'NDEF_WRITE_LONG': (4, 'Write the payload length in four bytes.'),
     'NDEF_AS_UTF16': (1, 'Write the text in UTF-16.'),
 }
-FLAG_GROUPS = (('NDEF_STANDARD', 'NDEF_OPAQUE'), ('NDEF_WRITE_FIRST', 'NDEF_WRITE_LAST', 'NDEF_WRITE_LONG'), ('NDEF_AS_UTF16',))
+# The flags of one enum, by the struct or call right after which the header has it.
+FLAG_GROUPS = {'ndef_limits': ('NDEF_STANDARD', 'NDEF_OPAQUE'), 'ndef_writing': ('NDEF_WRITE_FIRST', 'NDEF_WRITE_LAST', 'NDEF_WRITE_LONG'),
+               'ndef_write_text': ('NDEF_AS_UTF16',)}
 
 
 def upper(name: str) -> str:
@@ -46,7 +52,7 @@ def upper(name: str) -> str:
 
 def described(doc: str) -> str:
     """The words of a doc comment."""
-    return ' '.join(line.strip().removeprefix('///').strip() for line in doc.splitlines())
+    return unlinked(' '.join(line.strip().removeprefix('///').strip() for line in doc.splitlines()))
 
 
 def sources() -> Dict[str, str]:
@@ -97,7 +103,9 @@ class Crates:
                 raise Unknown(f'{path}: a function with `no_mangle` is written in another way than the others')
             for doc, name, said, result, contract in (call.groups() for call in found):
                 kind = self.type_of(result, path) if result else 'void'
-                made[name] = Call(name, kind, self.parameters(name, said, contract, path), first_sentence(described(doc)), path)
+                answers = tuple('NDEF_' + status for status in sorted(set(ANSWER.findall(contract))))
+                parameters = self.parameters(name, said, contract, path)
+                made[name] = Call(name, kind, parameters, first_sentence(described(doc)), path, doc, answers)
         return made
 
     def structs(self) -> Dict[str, Struct]:
@@ -109,19 +117,39 @@ class Crates:
             for doc, name, said in (struct.groups() for struct in found):
                 fields = tuple(Field(WORDS.get(f'{name}.{member[2]}', member[2]), self.type_of(member[3], path), 0, described(member[1]))
                                for member in MEMBER.finditer(said))
-                made[self.types[name]] = Struct(self.types[name], fields, first_sentence(described(doc)), path)
+                made[self.types[name]] = Struct(self.types[name], fields, first_sentence(described(doc)), path, doc)
             for sealed in SEALED.finditer(text):
-                doc = re.search(DOC + rf'(?:#\[.*\]\n)*^pub struct {sealed[1]}\b', text, re.M)
+                found_doc = re.search(DOC + rf'(?:#\[.*\]\n)*^pub struct {sealed[1]}\b', text, re.M)
+                doc = found_doc[1] if found_doc else ''
                 words = Field('words', 'uint64_t', int(sealed[2]) // 8, 'They have a meaning for the library alone.')
                 name = self.types[sealed[1]]
-                made[name] = Struct(name, (words,), first_sentence(described(doc[1] if doc else '')), path)
+                made[name] = Struct(name, (words,), first_sentence(described(doc)), path, doc)
         return made
+
+    def order(self) -> Dict[str, Tuple[str, ...]]:
+        """The calls and structs of each file, in its order."""
+        made = {}
+        for path, text in self.files.items():
+            found = [(call.start(), call[2]) for call in CALL.finditer(text)]
+            found += [(struct.start(), self.types[struct[1]]) for struct in OPEN.finditer(text) if struct[1] in self.types]
+            made[path] = tuple(name for _, name in sorted(found))
+        return made
+
+    def heads(self) -> Dict[str, str]:
+        """The subject of each file: the first sentence of its doc comment."""
+        said = {path: ' '.join(re.findall(r'^//! ?(.*)', text, re.M)) for path, text in self.files.items()}
+        return {path: first_sentence(text) for path, text in said.items()}
+
+    def words(self) -> Dict[str, str]:
+        """The names that C has for those of Rattle in doc comments."""
+        changed = (key.split('.') + [name] for key, name in WORDS.items())
+        return {**self.types, **{f'{self.types.get(owner, owner)}.{given}': name for owner, given, name in changed}}
 
 
 def constants(path: str, prefix: str) -> Tuple[Constant, ...]:
     """The numbers that a file names, as C names them."""
     found = CONSTANT.finditer((TOP / path).read_text())
-    return tuple(Constant(prefix + one[2], int(one[3]), described(one[1])) for one in found)
+    return tuple(Constant(prefix + one[2], int(one[3]), described(one[1]), one[2]) for one in found)
 
 
 def variants(path: str, enum: str, prefix: str) -> Tuple[Constant, ...]:
@@ -132,7 +160,7 @@ def variants(path: str, enum: str, prefix: str) -> Tuple[Constant, ...]:
     made: List[Constant] = []
     for variant in VARIANT.finditer(found[1]):
         number = int(variant[3]) if variant[3] else made[-1].number + 1 if made else 0
-        made.append(Constant(prefix + upper(variant[2]), number, described(variant[1])))
+        made.append(Constant(prefix + upper(variant[2]), number, described(variant[1]), f'{enum}::{variant[2]}'))
     return tuple(sorted(made, key=lambda constant: constant.number))
 
 
@@ -161,8 +189,8 @@ def groups() -> List[Group]:
         Group('ndef_handover', constants('crates/ndef_c/src/handover_writing.rt', 'NDEF_'), 'What a handover is.',
               'crates/ndef_c/src/handover_writing.rt'),
     ]
-    flags = (tuple(Constant(name, *FLAGS[name]) for name in names) for names in FLAG_GROUPS)
-    return made + [Group('', constants, 'Flags.', 'packaging/interface_parts/rattle.py') for constants in flags]
+    return made + [Group('', tuple(Constant(name, *FLAGS[name]) for name in names), 'Flags.', 'packaging/interface_parts/rattle.py', beside)
+                   for beside, names in FLAG_GROUPS.items()]
 
 
 def read() -> Interface:
@@ -177,4 +205,5 @@ def read() -> Interface:
         'NDEF_FIELDS': rows('crates/ndef_fields/src/name.rt', 'FieldName', by_name['ndef_field_names'], 'NDEF_FIELD_'),
     }
     version = tuple(one.number for one in constants('crates/ndef_c/src/version.rt', ''))
-    return Interface(crates.calls(), crates.structs(), made, lists, version)
+    return Interface(crates.calls(), crates.structs(), made, lists, version, files=crates.order(), heads=crates.heads(),
+                     words={**crates.words(), **{one.said: one.name for group in made for one in group.constants if one.said}})

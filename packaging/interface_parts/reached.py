@@ -20,7 +20,6 @@ SOURCES = {
     'Java': ('java/native/ndef_jni.c',),
     'Go': ('go/*.go',),
 }
-WRITES = 'write_record write_uri write_text write_carrier write_alternative write_action write_size write_collision write_error'
 WHOLE = 'write_poster write_request write_select'
 POSTER = 'poster_titles title poster_media_type poster_icons'
 APPEND = 'append append_text append_uri'
@@ -32,33 +31,32 @@ REASONS: Tuple[Tuple[str, Dict[str, str]], ...] = (
         'Go': 'reference link_at field_at next_field'}),
     ('It walks the records itself: what is looked for is picked of them.', {
         'C++': 'poster_titles poster_icons', 'Python': 'find_type find_id ' + POSTER, 'Rust': 'find_type link_at links ' + POSTER,
-        'JavaScript': 'find_type find_id ' + POSTER, 'Java': 'find_type find_id poster_titles', 'Go': 'find_type find_id poster_titles title'}),
+        'JavaScript': 'find_type find_id title', 'Java': 'find_type find_id poster_titles', 'Go': 'find_type find_id poster_titles title'}),
     ('The file ndef.hpp includes ndef.h: a program makes this call as in C.', {'C++': 'pieces payload_fields version uri_prefix'}),
     ('The file ndef_names.h has these texts, and they are taken from there.', {
         'C++': 'reason_name reason_sentence field_name status_name', 'Go': 'reason_name reason_sentence field_name'}),
     ('Its classes are those of ndeflib, which has nothing of the kind.', {'Python': 'kind links link_at'}),
     ('A payload is given with its chunks joined, and not where they lie.', {
         'Python': 'pieces', 'JavaScript': 'pieces', 'Java': 'pieces', 'Go': 'pieces'}),
+    ('An error has the sentence of its reason, and not that of the bytes.', {'Go': 'why hint'}),
+    ('The release of which it is made lacks the call.', {'Go': 'field_remark record_remark'}),
     ('It gives the fields of messages alone.', {
         'Python': 'payload_fields', 'Rust': 'payload_fields', 'JavaScript': 'payload_fields', 'Java': 'payload_fields',
         'Go': 'payload_fields'}),
     ('A refusal is an error of the language, so a status has no name there.', {
         'Python': 'status_name', 'Rust': 'status_name', 'Java': 'status_name', 'Go': 'status_name'}),
     ('The package has the version of the library that it brings or asks for.', {
-        'Python': 'version', 'JavaScript': 'version', 'Java': 'version', 'Go': 'version'}),
+        'Python': 'version', 'Java': 'version', 'Go': 'version'}),
     ('A URI is given whole, with its prefix spelled out.', {
         'Python': 'uri_view uri_prefix', 'Rust': 'uri_view uri_prefix', 'JavaScript': 'uri_view uri_prefix', 'Java': 'uri_view uri_prefix',
         'Go': 'uri_view uri_prefix'}),
     ('A message is written of all its records at once, into memory that grows.', {
-        'Python': APPEND, 'Rust': APPEND, 'Java': APPEND, 'Go': APPEND}),
+        'Python': APPEND, 'Rust': APPEND, 'JavaScript': APPEND, 'Java': APPEND, 'Go': APPEND}),
     ('A message is written again by decoding it and encoding its records.', {
         'Python': 'rewrite', 'Rust': 'rewrite', 'Java': 'rewrite', 'Go': 'rewrite'}),
     ('Posters and handovers are written record by record.', {'Python': WHOLE, 'Rust': WHOLE, 'Java': WHOLE}),
     ('Posters and handovers are written whole, by one call each.', {
         'Go': 'write_alternative write_action write_size write_collision write_error write_error_number write_handover'}),
-    ('It reads messages, and writes none.', {
-        'JavaScript': f'{WRITES} write_error_number write_handover {WHOLE} {APPEND} rewrite'}),
-    ('It checks bytes that are all there.', {'JavaScript': 'begin feed'}),
     ('The class Limits has these numbers.', {'Java': 'usual_limits'}),
 )
 
