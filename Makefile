@@ -15,7 +15,8 @@
 #   make check       runs the gate; it needs rt
 #   make deb         makes a Debian package of it in out; MAINTAINER names who distributes it
 #   make debian      makes the folder debian/ in FOLDER, or here: dpkg-buildpackage makes four Debian packages of dist/ with it
-#   make web         makes the web page and the module for JavaScript in out/web
+#   make web         makes the web page and the modules for JavaScript in out/web
+#   make npm         makes the package for JavaScript in out, with the library of dist/
 #   make amalgamation    makes the library for C as one C file, in out/amalgamation; it needs rt
 #   make dist        makes dist/ anew of what is proved; it needs rt (ports/README.md says what comes first)
 #   make release     makes out/simbegyor-VERSION.tar.xz (CONTRIBUTING.md says how a release is made); it needs rt
@@ -23,9 +24,11 @@
 #
 # NDEF_FROM=crates or NDEF_FROM=dist, in the environment or as a word, says of what each of these makes things.
 #
-# The programs, the shared library and libndef.a run on every x86-64. libndef-v2.a needs SSSE3 and SSE4.1, and is
-# faster on long texts; it is made on x86-64 alone. libsimbegyor-ndef.a is the same as libndef.a; nfc-tools has
-# another library of the name ndef.
+# All of it runs on every x86-64 but libndef-v2.a, which needs x86-64-v2 and is made on x86-64 alone: with SSSE3 and
+# SSE4.1 long texts are checked faster. libndef.a holds both, and chooses where a program is loaded (packaging/both); so
+# does what is linked of it, as the Python module. The shared library is two files, of which the loader takes the one for
+# its processor (glibc-hwcaps). libsimbegyor-ndef.a is the same as libndef.a; nfc-tools has another library of the name
+# ndef.
 
 PREFIX ?= /usr/local
 LIBDIR ?= $(PREFIX)/lib
@@ -34,6 +37,8 @@ PYTHONDIR ?= $(shell packaging/python_folder $(PYTHON) $(PREFIX))
 VERSION := $(shell cat VERSION)
 # The same as Python writes it.
 python_version := $(patsubst %.dev,%.dev0,$(VERSION))
+# The same as npm writes it.
+npm_version := $(patsubst %.dev,%-dev,$(VERSION))
 # The interface of the shared library: another number where a program must be linked anew.
 ABI := 0
 MAINTAINER ?= The Simbegyor authors <simbegyor@example.org>
@@ -58,25 +63,29 @@ completions := $(wildcard share/completion/*)
 zsh_completions := $(wildcard share/zsh/*)
 fish_completions := $(wildcard share/fish/*)
 shared := -shared -Wl,-z,defs -Wl,-z,relro -Wl,-z,now
-whole := -Wl,--whole-archive out/lib/libndef.a -Wl,--no-whole-archive
+whole = -Wl,--whole-archive $(1) -Wl,--no-whole-archive
+hwcaps := glibc-hwcaps/x86-64-v2
 fill = packaging/fill PREFIX='$(PREFIX)' LIBDIR='$(LIBDIR)' VERSION=$(VERSION) ABI=$(ABI)
 CROSS_CC ?= aarch64-linux-gnu-gcc
 
-# What all is made of: the programs, the headers for C and the archives, one for every x86-64 and on x86-64 a faster
-# one.
+# What all is made of: the programs, the headers for C with the description of the interface, and the archives, one for
+# every x86-64 and on x86-64 a faster one. Releases before 0.3.0 have no description.
 ifeq ($(NDEF_FROM),dist)
 made_programs := $(addprefix out/dist/,$(commands))
 made_archive := out/dist/libndef.a
 made_faster := $(if $(filter x86_64 amd64,$(shell uname -m)),out/dist/libndef-v2.a)
 header := dist/ndef.h
+description := $(wildcard dist/interface.json)
 else
 made_programs := crates/ndef/out/ndef crates/ndef_make/out/ndef_make crates/ndef_explain/out/ndef_explain
 made_archive := crates/ndef_c/out/libndef_c.a
 made_faster := out/x86-64-v2/libndef.a
 header := include/ndef.h
+description := share/interface.json
 endif
 headers := $(wildcard $(dir $(header))ndef*.h include/ndef*.hpp)
 faster := $(if $(made_faster),out/lib/libndef-v2.a)
+faster_library := $(if $(made_faster),out/lib/$(hwcaps)/$(notdir $(library)))
 
 ifdef TARGET
 proved := ndef_c
@@ -92,7 +101,7 @@ cost:
 	@[ $(NDEF_FROM) = dist ] || packaging/cost $(proved)
 
 programs: out/bin/ndef
-library: out/lib/libndef.a $(faster) $(library)
+library: out/lib/libndef.a $(faster) $(library) $(faster_library)
 python: $(module)/libndef.so $(patsubst python/%,out/python/%,$(modules)) out/python/$(module_data)/METADATA
 
 prove:
@@ -127,7 +136,7 @@ out/aarch64-linux/libndef.a: dist/ndef.c out/from
 dist/ndef.c dist/ndef.h:
 	packaging/from_dist version
 else
-below_c := ndef_format ndef_value ndef_piece ndef_lang ndef_nest ndef_message ndef_types ndef_fields ndef_c
+below_c := ndef_format ndef_value ndef_piece ndef_lang ndef_nest ndef_message ndef_types ndef_fields ndef_advice ndef_c
 sources = $(shell find $(foreach crate,$(1),$(wildcard $(addprefix crates/$(crate)/,src specs proofs))) -type f)
 every_source := crates.txt $(call sources,$(notdir $(wildcard crates/*)))
 
@@ -158,17 +167,20 @@ out/bin/ndef: $(made_programs) out/from
 	cp -P $(word 3,$(made_programs)) $(@D)/ndef-explain
 	cp $< $@
 
-out/lib/libndef.a: $(made_archive) out/from
+out/lib/libndef.a: $(made_archive) $(made_faster) $(wildcard packaging/both packaging/choose.c) out/from
 	mkdir -p $(@D)
-	cp $< $@
+	$(if $(made_faster),packaging/both $(made_archive) $(made_faster) $(header) $@,cp $< $@)
 
 out/lib/libndef-v2.a: $(made_faster) out/from
 	mkdir -p $(@D)
 	cp $< $@
 
-$(library): out/lib/libndef.a packaging/libsimbegyor-ndef.map
+$(library): $(made_archive)
+$(faster_library): $(made_faster)
+$(library) $(faster_library): packaging/libsimbegyor-ndef.map out/from
+	mkdir -p $(@D)
 	$(CC) $(LDFLAGS) $(shared) -Wl,--version-script=packaging/libsimbegyor-ndef.map \
-	    -Wl,-soname,libsimbegyor-ndef.so.$(ABI) -o $@ $(whole)
+	    -Wl,-soname,libsimbegyor-ndef.so.$(ABI) -o $@ $(call whole,$(filter %.a,$^))
 
 out/aarch64-linux/libndef.so: out/aarch64-linux/libndef.a packaging/ndef.map
 	$(CROSS_CC) $(shared) -Wl,--version-script=packaging/ndef.map -o $@ -Wl,--whole-archive $< -Wl,--no-whole-archive
@@ -177,13 +189,17 @@ out/aarch64-linux/libndef.so: out/aarch64-linux/libndef.a packaging/ndef.map
 web: $(if $(filter crates,$(NDEF_FROM)),$(made_archive))
 	web/build
 
+npm:
+	packaging/make_npm 'out/simbegyor-ndef-$(npm_version).tgz'
+	@echo 'out/simbegyor-ndef-$(npm_version).tgz'
+
 out/python/%: python/% VERSION
 	mkdir -p $(@D)
 	packaging/fill VERSION=$(python_version) <$< >$@
 
 $(module)/libndef.so: out/lib/libndef.a packaging/ndef.map
 	mkdir -p $(@D)
-	$(CC) $(LDFLAGS) $(shared) -Wl,--version-script=packaging/ndef.map -o $@ $(whole)
+	$(CC) $(LDFLAGS) $(shared) -Wl,--version-script=packaging/ndef.map -o $@ $(call whole,$<)
 
 wheel: library
 	cd python && NDEF_LIB_DIR=../out/lib $(PYTHON) -B -c 'import backend; print("out/" + backend.build_wheel("../out"))'
@@ -219,7 +235,10 @@ install: all out/man3/simbegyor-ndef.3
 	    else install -m 755 out/bin/$$command $(DESTDIR)$(PREFIX)/bin; fi || exit; \
 	done
 	install -m 644 $(headers) $(DESTDIR)$(PREFIX)/include
+	$(if $(description),install -D -m 644 $(description) $(DESTDIR)$(PREFIX)/share/simbegyor-ndef/interface.json)
 	install -m 644 out/lib/libndef.a $(faster) $(library) $(DESTDIR)$(LIBDIR)
+	$(if $(faster_library),install -d $(DESTDIR)$(LIBDIR)/$(hwcaps) && install -m 644 $(faster_library) $(DESTDIR)$(LIBDIR)/$(hwcaps) && \
+	    ln -sf $(notdir $(library)) $(DESTDIR)$(LIBDIR)/$(hwcaps)/libsimbegyor-ndef.so.$(ABI))
 	ln -sf libndef.a $(DESTDIR)$(LIBDIR)/libsimbegyor-ndef.a
 	ln -sf $(notdir $(library)) $(DESTDIR)$(LIBDIR)/libsimbegyor-ndef.so.$(ABI)
 	ln -sf libsimbegyor-ndef.so.$(ABI) $(DESTDIR)$(LIBDIR)/libsimbegyor-ndef.so
@@ -244,8 +263,9 @@ uninstall:
 	rm -f $(addprefix $(DESTDIR)$(PREFIX)/bin/,$(commands)) $(addprefix $(DESTDIR)$(PREFIX)/include/,$(notdir $(headers)))
 	rm -f $(addprefix $(DESTDIR)$(LIBDIR)/,libndef.a libndef-v2.a)
 	rm -f $(addprefix $(DESTDIR)$(LIBDIR)/libsimbegyor-ndef,.a .so .so.$(ABI) .so.$(VERSION))
+	rm -f $(addprefix $(DESTDIR)$(LIBDIR)/$(hwcaps)/libsimbegyor-ndef.so.,$(ABI) $(VERSION))
 	rm -f $(addprefix $(DESTDIR)$(LIBDIR)/pkgconfig/,ndef.pc ndef-v2.pc simbegyor-ndef.pc)
-	rm -rf $(DESTDIR)$(cmake) $(addprefix $(DESTDIR)$(PYTHONDIR)/,simbegyor_ndef $(module_data))
+	rm -rf $(DESTDIR)$(cmake) $(DESTDIR)$(PREFIX)/share/simbegyor-ndef $(addprefix $(DESTDIR)$(PYTHONDIR)/,simbegyor_ndef $(module_data))
 	rm -f $(addprefix $(DESTDIR)$(PREFIX)/share/man/man1/,$(notdir $(pages)))
 	rm -f $(addprefix $(DESTDIR)$(PREFIX)/share/man/man3/,$(notdir $(call_pages)))
 	rm -f $(addprefix $(DESTDIR)$(PREFIX)/share/bash-completion/completions/,$(notdir $(completions)))
@@ -270,4 +290,4 @@ dist:
 release:
 	packaging/release
 
-.PHONY: all amalgamation cost dist programs library python wheel sdist java prove from-dist install uninstall check deb debian web release FORCE
+.PHONY: all amalgamation cost dist programs library python wheel sdist java prove from-dist install uninstall check deb debian web npm release FORCE

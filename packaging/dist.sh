@@ -120,7 +120,7 @@ make_library() {
     shift
     find_compiler
     check_files ndef.c
-    for header in "$top"/dist/ndef*.h; do check_files "${header##*/}"; done
+    for file in "$top"/dist/ndef*.h "$top"/dist/interface.json; do [ ! -e "$file" ] || check_files "${file##*/}"; done
     # shellcheck disable=SC2086
     compile "$object" -std=c99 ${CFLAGS:--O2} -fPIC "$@" -c "$top/dist/ndef.c"
     ${AR:-ar} rc "$archive.$$" "$object" && rm -f "$object" && mv -f "$archive.$$" "$archive" || exit 3
