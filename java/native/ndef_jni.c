@@ -15,12 +15,15 @@
 /* What `bytes` is asked for; the class Library has the same numbers. */
 enum {
     READ_PAYLOAD, READ_URI, READ_TEXT, WRITE_URI, WRITE_TEXT, WRITE_CARRIER, WRITE_ACTION, WRITE_SIZE, WRITE_COLLISION,
-    WRITE_ERROR, WRITE_ERROR_NUMBER, WRITE_HANDOVER, WRITE_ALTERNATIVE
+    WRITE_ERROR, WRITE_ERROR_NUMBER, WRITE_HANDOVER, WRITE_ALTERNATIVE, WHY, HINT,
+    FIELD_REMARK, RECORD_REMARK
 };
 /* What `list` and `name` are asked for. */
 enum { MESSAGE, RECORDS, REFERENCES, ICONS, TITLE, MEDIA_TYPE, LINKS, FIELDS };
 enum { REASON_NAME, REASON_SENTENCE, FIELD_NAME };
 enum { CHECKER_WORDS = sizeof(ndef_checker) / sizeof(uint64_t) };
+/* Whether the header declares ndef_why, ndef_hint and the calls for remarks: that of release 0.2.0 doesn't. */
+#define HAS_SENTENCES (NDEF_VERSION_MAJOR > 0 || NDEF_VERSION_MINOR >= 3)
 
 /* ---- exceptions */
 
@@ -311,6 +314,7 @@ typedef struct asked {
     uint32_t first, second;
     const ndef_part *parts;
     ndef_size parts_count;
+    ndef_limits limits;
 } asked;
 
 static uint32_t call_library(const asked *what, const span *in, uint8_t *room, ndef_size size, ndef_size *count,
@@ -333,6 +337,12 @@ static uint32_t call_library(const asked *what, const span *in, uint8_t *room, n
         case WRITE_HANDOVER: return ndef_write_handover(first, 1, second, bytes, length, room, size, count);
         case WRITE_ALTERNATIVE:
             return ndef_write_alternative(first, bytes, length, what->parts, what->parts_count, room, size, count);
+#if HAS_SENTENCES
+        case WHY: return ndef_why(bytes, length, &what->limits, room, size, count);
+        case HINT: return ndef_hint(bytes, length, &what->limits, room, size, count);
+        case FIELD_REMARK: return ndef_field_remark(first, bytes, length, room, size, count);
+        case RECORD_REMARK: return ndef_record_remark(bytes, length, first, room, size, count);
+#endif
         default: return NDEF_BAD_ARGUMENT;
     }
 }
@@ -374,7 +384,7 @@ static jbyteArray make(JNIEnv *env, const asked *what, span *in, jlongArray why)
 
 METHOD(jbyteArray, bytes)(JNIEnv *env, jclass type, jint call, jbyteArray one, jbyteArray two, jint first, jint second,
                           jlongArray why) {
-    const asked what = { call, (uint32_t)first, (uint32_t)second, NULL, 0 };
+    const asked what = { call, (uint32_t)first, (uint32_t)second, NULL, 0, { 0, 0, 0, 0 } };
     span in[2] = { find_all(env, one), find_all(env, two) };
     (void)type;
     return make(env, &what, in, why);
@@ -395,8 +405,29 @@ METHOD(jbyteArray, alternative)(JNIEnv *env, jclass type, jint power, jbyteArray
         parts[i] = (ndef_part){ at, (ndef_size)words[i] };
         at += parts[i].length;
     }
-    const asked what = { WRITE_ALTERNATIVE, (uint32_t)power, 0, parts, (ndef_size)count };
+    const asked what = { WRITE_ALTERNATIVE, (uint32_t)power, 0, parts, (ndef_size)count, { 0, 0, 0, 0 } };
     return make(env, &what, in, NULL);
+}
+
+/* The sentence that the call writes of the bytes, in ASCII; NULL where it writes none. */
+METHOD(jbyteArray, sentence)(JNIEnv *env, jclass type, jint call, jbyteArray bytes, jintArray limits) {
+    asked what = { call, 0, 0, NULL, 0, { 0, 0, 0, 0 } };
+    span in[2] = { find_all(env, bytes), find_all(env, NULL) };
+    (void)type;
+    if (!HAS_SENTENCES)
+        raise(env, "java/lang/UnsupportedOperationException", "the library of release 0.2.0 has no sentences of bytes");
+    if ((*env)->ExceptionCheck(env) || !get_limits(env, limits, &what.limits)) return NULL;
+    return make(env, &what, in, NULL);
+}
+
+/* The sentence that the call writes of the field with these bytes and this number of a name, or of the record with this
+ * index; NULL where it writes none. */
+METHOD(jbyteArray, remark)(JNIEnv *env, jclass type, jint call, jbyteArray bytes, jint number) {
+    const asked what = { call, (uint32_t)number, 0, NULL, 0, { 0, 0, 0, 0 } };
+    span in[2] = { find_all(env, bytes), find_all(env, NULL) };
+    (void)type;
+    if (!HAS_SENTENCES) raise(env, "java/lang/UnsupportedOperationException", "the library of release 0.2.0 has no remarks");
+    return (*env)->ExceptionCheck(env) ? NULL : make(env, &what, in, NULL);
 }
 
 /* ---- what payloads say */

@@ -7,6 +7,7 @@ from . import handover, message, record, smartposter, text, uri
 from ._fields import Field, fields
 from ._many import decode_many
 from ._ndeflib import install_as_ndef
+from ._sentences import field_remark, hint, record_remark, why
 from .errors import DecodeError, EncodeError
 from .handover import HandoverCarrierRecord, HandoverRequestRecord, HandoverSelectRecord
 from .message import message_decoder, message_encoder
@@ -19,4 +20,4 @@ __version__ = '@VERSION@'
 
 __all__ = ['DecodeError', 'EncodeError', 'Field', 'GlobalRecord', 'HandoverCarrierRecord', 'HandoverRequestRecord',
            'HandoverSelectRecord', 'LocalRecord', 'Record', 'SmartposterRecord', 'TextRecord', 'UriRecord', 'decode_many',
-           'fields', 'install_as_ndef', 'message_decoder', 'message_encoder']
+           'field_remark', 'fields', 'hint', 'install_as_ndef', 'message_decoder', 'message_encoder', 'record_remark', 'why']

@@ -59,11 +59,16 @@ def _told_of(name: str, words: argparse.Namespace, before: str) -> int:
         lines: List[str] = [str(error)]
         refusal: Dict[str, Any] = {'reason': str(error)}
     except DecodeError as error:
-        lines = ['refused at %d: %d %s' % (error.place, error.number, error.reason)]
+        explains = words.command == 'explain'
+        place = '%d (0x%08x)' % (error.place, error.place) if explains else '%d' % error.place
+        lines = ['refused at %s: %d %s' % (place, error.number, error.reason)]
         refusal = {'place': error.place, 'number': error.number, 'reason': error.reason}
-        if words.command == 'explain':
+        if explains:
             lines.append(error.sentence)
             refusal['sentence'] = error.sentence
+            if error.hint:
+                lines.append('hint: ' + error.hint)
+                refusal['hint'] = error.hint
     print(json.dumps({'refused': refusal}) if words.json else '\n'.join(before + line for line in lines))
     return 1
 

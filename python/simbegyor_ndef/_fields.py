@@ -1,7 +1,7 @@
 """In which field each octet of a message stands."""
 from __future__ import annotations
 
-from typing import List, NamedTuple, Union
+from typing import Any, List, NamedTuple, Tuple, Union
 
 from . import _library as library
 from .record import Record
@@ -24,28 +24,41 @@ class Field(NamedTuple):
     octets: bytes
 
 
+Octets = Union[bytes, bytearray, memoryview]
 _FLAGS = {'strict': 0, 'standard': library.STANDARD}
 
 
-def fields(octets: Union[bytes, bytearray, memoryview], profile: str = 'strict') -> List[Field]:
-    """The fields of the message with which the octets begin, in order; none where there are no octets.
-
-    `profile` says what becomes of the reserved type name format 7 and of reserved identifier codes of URIs: 'strict', they
-    are refused; 'standard', they are read as the standards say. They follow one another without a gap from the first octet of the message to its last. Where the octets are refused,
-    DecodeError is raised; its `fields` are those before the refused octet.
-    """
+def bytes_of(octets: Octets) -> bytes:
+    """The octets, which are given in one of three ways."""
     if not isinstance(octets, (bytes, bytearray, memoryview)):
         raise TypeError('octets are needed, not %s' % type(octets).__name__)
+    return bytes(octets)
+
+
+def given_of(octets: Octets, profile: str) -> Tuple[bytes, Any]:
+    """The octets, and the limits within which they are read by a profile."""
+    given = bytes_of(octets)
     if profile not in _FLAGS:
         raise ValueError("profile is 'strict' or 'standard', not %r" % (profile,))
-    given = bytes(octets)
+    return given, library.limits(Record.MAX_PAYLOAD_SIZE, _FLAGS[profile])
+
+
+def fields(octets: Octets, profile: str = 'strict') -> List[Field]:
+    """The fields of the message with which the octets begin, in order; none where there are no octets.
+
+    They follow one another without a gap from the first octet of the message to its last. `profile` says what becomes of
+    the reserved type name format 7 and of reserved identifier codes of URIs: 'strict', they are refused; 'standard', they
+    are read as the standards say. Where the octets are refused, DecodeError is raised; its `fields` are those before the
+    refused octet.
+    """
+    given, within = given_of(octets, profile)
     if not given:
         return []
-    checked, told = library.fields(given, library.limits(Record.MAX_PAYLOAD_SIZE, _FLAGS[profile]))
+    checked, told = library.fields(given, within)
     listed = [Field(part.at, part.length, part.depth, library.field_name(part.name), given[part.at:part.at + part.length])
               for part in told]
     if checked.reason:
-        error = library.refused(checked)
+        error = library.refused_octets(checked, given, within)
         error.fields = listed
         raise error
     return listed

@@ -287,6 +287,14 @@ class Calls(Protocol):
         """Writes what the reason with a number means to the room: a sentence of English, in ASCII and with no NUL after
         it."""
 
+    def why(self, bytes: Octets, length: Size, limits: Reference, room: Octets, size: Size, count: Reference) -> int:
+        """Writes why the bytes are refused to the room: a sentence of English that says what was wanted, in ASCII and
+        with no NUL after it."""
+
+    def hint(self, bytes: Octets, length: Size, limits: Reference, room: Octets, size: Size, count: Reference) -> int:
+        """Writes what may help where the bytes are refused to the room: a sentence of English, in ASCII and with no NUL
+        after it."""
+
     def record_at(self, bytes: Octets, length: Size, at: Size, out: Reference) -> int:
         """The record at a place of the bytes."""
 
@@ -420,6 +428,16 @@ class Calls(Protocol):
 
     def field_name(self, name: u32, room: Octets, size: Size, count: Reference) -> int:
         """Writes the name of the field with a number, in ASCII and with no NUL after it, to the room."""
+
+    def field_remark(self, name: u32, octets: Octets, octets_length: Size, room: Octets, size: Size,
+                     count: Reference) -> int:
+        """Writes what is strange in a field of a message that is accepted to the room: a sentence of English, in ASCII
+        and with no NUL after it."""
+
+    def record_remark(self, bytes: Octets, length: Size, index: Size, room: Octets, size: Size,
+                      count: Reference) -> int:
+        """Writes what is strange in a record of a message that is accepted, beside the other records, to the room: a
+        sentence of English, in ASCII and with no NUL after it."""
 
     def version(self) -> int:
         """The version of the library: the first number in the high 16 bits, the second in the next 8, and the third in

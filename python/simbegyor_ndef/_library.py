@@ -9,14 +9,14 @@ import ctypes
 import functools
 import os
 import struct
-from typing import Any, Callable, Dict, List, Tuple
+from typing import Any, Callable, Dict, List, Optional, Tuple
 
 from . import _interface as interface
 from ._interface import BAD_ARGUMENT as BAD_ARGUMENT, END as END, MORE as MORE, NO_ROOM as NO_ROOM, OK as OK, REFUSED as REFUSED
 from ._interface import AlternativeParts as AlternativeParts, CarrierParts as CarrierParts, Checked as Checked, Checker as Checker
 from ._interface import ErrorParts as ErrorParts, Limits as Limits, Part as Part, PosterParts as PosterParts, Writing as Writing
 from ._interface import RequestParts as RequestParts, SelectParts as SelectParts, TextParts as TextParts, u32 as u32
-from ._platform import library_name
+from ._platform import asked_for, library_name
 from .errors import DecodeError, EncodeError
 
 STANDARD, OPAQUE, UTF16 = interface.STANDARD, interface.OPAQUE, interface.AS_UTF16
@@ -43,20 +43,48 @@ SIZES = _Sizes({value: _size.from_param(value) for value in range(USUAL_SIZES)})
 
 RecordParts, FieldParts = interface.Record, interface.Field
 
-# The fields of a RecordParts, or of the octets that it lies in, all of them at once.
+# The fields of a RecordParts, a TextParts or a Checked, or of the octets that it lies in, all of them at once. Octets are read
+# faster than the struct itself.
 record_fields = struct.Struct('@10N2I').unpack_from
+text_fields = struct.Struct('@4NI').unpack_from
+
+# A Checked and a reference to it, then octets and a reference to them, in which a RecordParts or a TextParts lies.
+Desk = Tuple[Checked, Any, bytearray, Any]
+
+# Desks that nobody works at now. Who needs one takes it out, so that no two threads share one, and puts it back.
+desks: List[Desk] = []
+_MOST_DESKS = 16
 
 
-def record_room() -> Tuple[bytearray, Any]:
-    """The octets of a RecordParts, and a reference to it: `record_fields` reads octets faster than the struct itself."""
-    octets = bytearray(ctypes.sizeof(RecordParts))
-    return octets, byref(RecordParts.from_buffer(octets))
+def taken_desk() -> Desk:
+    """A desk, taken out or new."""
+    try:
+        return desks.pop()
+    except IndexError:
+        checked, octets = Checked(), bytearray(ctypes.sizeof(RecordParts))
+        return checked, byref(checked), octets, byref(RecordParts.from_buffer(octets))
+
+
+def put_back(desk: Desk) -> None:
+    """Puts back the desk of a generator. A program may have begun many at once, and not all of their desks are kept."""
+    if len(desks) < _MOST_DESKS:
+        desks.append(desk)
 
 
 _path = os.path.join(os.path.dirname(os.path.abspath(__file__)), library_name())
+
+
+def _loaded(load: Callable[[str], Any]) -> interface.Calls:
+    """The calls of the library: of the file for this processor, or where the loader knows none, of that beside this one."""
+    try:
+        return interface.calls(load(asked_for(_path)))
+    except OSError:
+        return interface.calls(load(_path))
+
+
 try:
     # Other threads run while a call looks at a whole message; the other calls are too short for that.
-    _long, _short = interface.calls(ctypes.CDLL(_path)), interface.calls(ctypes.PyDLL(_path))
+    _long, _short = _loaded(ctypes.CDLL), _loaded(ctypes.PyDLL)
 except OSError as missing:
     raise ImportError('simbegyor_ndef needs the library for C, for this machine, at %s' % _path) from missing
 
@@ -94,6 +122,9 @@ error = _short.error
 write_error = _short.write_error
 write_error_number = _short.write_error_number
 write_handover = _short.write_handover
+# The library of release 0.2.0 has no sentences about octets, and no remarks.
+has_sentences = hasattr(_long, 'why')
+has_remarks = hasattr(_long, 'record_remark')
 
 
 @functools.lru_cache
@@ -186,6 +217,38 @@ def field_name(name: int) -> str:
     return put(_field_name, u32(name))[1].decode('ascii')
 
 
+@functools.lru_cache(maxsize=None)
+def field_numbers() -> Dict[str, int]:
+    """The number of each field by its name."""
+    return {field_name(number): number for number in range(interface.FIELD_HEADER, interface.FIELD_CARRIER_DATA + 1)}
+
+
+def _sentence(call: Callable[..., int], *arguments: Any) -> Optional[str]:
+    """The sentence that a call writes of these arguments; None where it writes none."""
+    status, sentence = put(call, *arguments)
+    return sentence.decode('ascii') if status == OK else None
+
+
+def why(octets: bytes, within: Any) -> Optional[str]:
+    """What was wanted where the octets are refused within these limits; None where they aren't, or payloads aren't looked into."""
+    return _sentence(_long.why, octets, SIZES[len(octets)], within)
+
+
+def hint(octets: bytes, within: Any) -> Optional[str]:
+    """What may help there; None also where nothing is known to."""
+    return _sentence(_long.hint, octets, SIZES[len(octets)], within)
+
+
+def field_remark(name: int, octets: bytes) -> Optional[str]:
+    """What is strange in a field with this number of a name; None where nothing is known to be."""
+    return _sentence(_long.field_remark, u32(name), octets, SIZES[len(octets)])
+
+
+def record_remark(octets: bytes, index: int) -> Optional[str]:
+    """What is strange in the record with this index; None where nothing is known to be, and where there is none."""
+    return _sentence(_long.record_remark, octets, SIZES[len(octets)], SIZES[index])
+
+
 def fields(octets: bytes, within: Any) -> Tuple[Checked, List[Any]]:
     """What a check within these limits tells of the octets, and the fields of the message, or those before the refused octet."""
     checked, count, room = Checked(), _size(), 128
@@ -198,7 +261,7 @@ def fields(octets: bytes, within: Any) -> Tuple[Checked, List[Any]]:
 
 
 def parts_of_references(payload: bytes, count: int) -> List[Any]:
-    """Where the references of an alternative carrier lie, of which there are so many."""
+    """Where the references of an alternative carrier lie; their number is given."""
     parts, told = (Part * count)(), _size()
     references(payload, SIZES[len(payload)], parts, SIZES[count], byref(told))
     return list(parts)
@@ -214,9 +277,16 @@ def copy(into: Checker, checker: Checker) -> None:
     ctypes.memmove(byref(into), byref(checker), ctypes.sizeof(Checker))
 
 
-def refused(why: Checked, before: int = 0) -> DecodeError:
+def refused(checked: Checked, before: int = 0) -> DecodeError:
     """The error for a refusal of octets that lie after `before` others."""
-    return DecodeError(reason_name(why.reason), before + why.place, why.reason)
+    return DecodeError(reason_name(checked.reason), before + checked.place, checked.reason)
+
+
+def refused_octets(checked: Checked, octets: bytes, within: Any) -> DecodeError:
+    """The error for a refusal of these octets within these limits, which has them for its sentence and its hint."""
+    error = refused(checked)
+    error._refused = (octets, within) if has_sentences else None
+    return error
 
 
 def too_large(size: int, most: int) -> EncodeError:

@@ -2,9 +2,11 @@
 from __future__ import annotations
 
 import io
-from typing import Any, Callable, Dict, Iterator, List, Tuple, Union
+from typing import Any, Callable, Dict, Iterator, List, Optional, Tuple, Union
 
+from . import _library as library
 from ._fields import Field, fields
+from ._sentences import field_remark, record_remarks
 from .errors import DecodeError
 from .message import message_decoder
 from .record import Record
@@ -77,50 +79,74 @@ def checked(octets: bytes, as_json: bool) -> Iterator[Line]:
             yield 'message %d at %d: records %d, bytes %d' % (count, at, len(records), end - at)
 
 
-def _field_lines(at: int, told: List[Field]) -> Iterator[str]:
-    """The lines of the fields of the message that begins at a place."""
+def _remark(field: Field, accepted: bool) -> Optional[str]:
+    """What is strange in a field of a message that is accepted, if something is known to be, and the library has remarks."""
+    return field_remark(field.name, field.octets) if accepted and library.has_remarks else None
+
+
+def _field_lines(at: int, told: List[Field], accepted: bool) -> Iterator[str]:
+    """The lines of the fields of the message that begins at a place; with remarks where it is accepted."""
     for field in told:
         digits = [' '.join('%02x' % octet for octet in field.octets[start:start + _IN_A_LINE])
                   for start in range(0, field.length, _IN_A_LINE)]
         indent = 2 * field.depth * ' '
         yield '%08x  %s%-23s  %s' % (at + field.at, indent, digits[0], field.name)
         yield from ('          ' + indent + further for further in digits[1:])
+        remark = _remark(field, accepted)
+        if remark:
+            yield 'remark: ' + remark
 
 
-def _field_objects(at: int, told: List[Field]) -> List[Dict[str, Any]]:
+def _field_object(at: int, field: Field, accepted: bool) -> Dict[str, Any]:
+    """A field as JSON has it."""
+    remark = _remark(field, accepted)
+    return {'at': at + field.at, 'length': field.length, 'depth': field.depth, 'name': field.name, 'octets': field.octets.hex(),
+            **({'remark': remark} if remark else {})}
+
+
+def _accepted_lines(count: int, at: int, octets: bytes, records: int) -> Iterator[str]:
+    """The lines of a message that is accepted: its number, its place, its octets, and how many records it has."""
+    yield 'message %d at %d: bytes %d' % (count, at, len(octets))
+    yield from _field_lines(at, fields(octets), True)
+    yield from ('remark: record %d: %s' % remark for remark in record_remarks(octets, records))
+
+
+def _accepted_object(count: int, at: int, octets: bytes, records: int) -> Dict[str, Any]:
     """The same as JSON has it."""
-    return [{'at': at + field.at, 'length': field.length, 'depth': field.depth, 'name': field.name, 'octets': field.octets.hex()}
-            for field in told]
+    remarks = [{'record': number, 'sentence': sentence} for number, sentence in record_remarks(octets, records)]
+    return {'message': count, 'at': at, 'length': len(octets), 'fields': [_field_object(at, field, True) for field in fields(octets)],
+            **({'remarks': remarks} if remarks else {})}
 
 
 def explained(octets: bytes, as_json: bool) -> Iterator[Line]:
-    """A line for each field, with its octets; of a message that is refused, for the fields before the refused octet."""
+    """A line for each field, with its octets, and for what is strange; of a message that is refused, for the fields before the
+    refused octet."""
     count = behind = 0
     try:
-        for count, (at, behind, _) in enumerate(_messages(octets), 1):
-            told = fields(octets[at:behind])
+        for count, (at, behind, records) in enumerate(_messages(octets), 1):
+            accepted = (count, at, octets[at:behind], len(records))
             if as_json:
-                yield {'message': count, 'at': at, 'length': behind - at, 'fields': _field_objects(at, told)}
+                yield _accepted_object(*accepted)
             else:
-                yield 'message %d at %d: bytes %d' % (count, at, behind - at)
-                yield from _field_lines(at, told)
+                yield from _accepted_lines(*accepted)
     except DecodeError as error:
-        before = _before(octets[behind:])
+        _look_again(error, octets, behind)
         if as_json:
-            yield {'message': count + 1, 'at': behind, 'fields': _field_objects(behind, before)}
+            yield {'message': count + 1, 'at': behind, 'fields': [_field_object(behind, field, False) for field in error.fields]}
         else:
-            yield from _field_lines(behind, before)
+            yield from _field_lines(behind, error.fields, False)
             yield from ('%08x  %02x  ^' % (error.place, octet) for octet in octets[error.place:error.place + 1])
         raise
 
 
-def _before(octets: bytes) -> List[Field]:
-    """The fields before the refused octet."""
+def _look_again(error: DecodeError, octets: bytes, at: int) -> None:
+    """Gives the error the fields before the refused octet of the message that begins at a place, its sentence and its hint.
+    A place in a hint counts from there, and is given only where the first octet is refused: so there is none after a message."""
     try:
-        return fields(octets)
-    except DecodeError as error:
-        told: List[Field] = error.fields
-        return told
+        error.fields = fields(octets[at:])
+    except DecodeError as found:
+        error.fields, error.sentence = found.fields, found.sentence
+        error.hint = None if at and not found.place else found.hint
 
 
 # What is printed, by the first word of the program.

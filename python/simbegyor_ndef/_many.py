@@ -4,6 +4,7 @@ from __future__ import annotations
 from typing import Any, Iterable, Iterator, List, Mapping, Optional, Type, Union
 
 from . import _library as library
+from ._library import OK, SIZES, USUAL_SIZES, check_short, record_at, record_fields, taken_desk
 from .errors import DecodeError
 from .message import Known, Told, known_of, record_of
 from .record import Record
@@ -26,17 +27,18 @@ def decode_many(messages: Iterable[Octets], known_types: Optional[Mapping[str, T
 
 def _answers(messages: Iterable[Octets], limits: Any, known: Known, told: Told) -> Iterator[Answer]:
     """The answers. What the calls write to is made once."""
-    checked, room = library.Checked(), library.record_room()
-    out, sizes = library.byref(checked), library.SIZES
+    desk = taken_desk()
+    checked, why, room, out = desk
     for octets in messages:
         if not isinstance(octets, bytes):
             octets = _bytes_of(octets)
         count = len(octets)
-        size, check = sizes[count], library.check_short if count < library.USUAL_SIZES else library.check
-        if check(octets, size, limits, out) == library.OK:
-            yield _records_in(octets, size, known, told, room)
+        size = SIZES[count]
+        if (check_short if count < USUAL_SIZES else library.check)(octets, size, limits, why) == OK:
+            yield _records_in(octets, size, known, told, room, out)
         else:
-            yield library.refused(checked) if octets else []
+            yield library.refused_octets(checked, octets, limits) if octets else []
+    library.put_back(desk)
 
 
 def _bytes_of(octets: Octets) -> bytes:
@@ -46,13 +48,12 @@ def _bytes_of(octets: Octets) -> bytes:
     return bytes(octets)
 
 
-def _records_in(octets: bytes, size: Any, known: Known, told: Told, room: Any) -> Answer:
+def _records_in(octets: bytes, size: Any, known: Known, told: Told, room: bytearray, out: Any) -> Answer:
     """The records of a message that the library has accepted; or the error where a class of one's own refuses one."""
-    sizes, record_at, record_fields, (written, out) = library.SIZES, library.record_at, library.record_fields, room
     at, is_last, records = 0, 0, []
     try:
-        while not is_last and record_at(octets, size, sizes[at], out) == library.OK:
-            fields = record_fields(written)
+        while not is_last and record_at(octets, size, SIZES[at], out) == OK:
+            fields = record_fields(room)
             records.append(record_of(octets, fields, known, 0, at == 0, told))
             at, is_last = fields[1], fields[11]
     except DecodeError as error:

@@ -1,4 +1,5 @@
-"""The name of the library's file. The backend that makes the wheel runs this file too."""
+"""The name of the library's file, and what the loader is asked for. The backend that makes the wheel runs this file too."""
+import os
 import sys
 
 
@@ -7,3 +8,10 @@ def library_name(platform: str = sys.platform) -> str:
     if platform in ('win32', 'cygwin'):
         return 'ndef.dll'
     return 'libndef.dylib' if platform == 'darwin' else 'libndef.so'
+
+
+def asked_for(path: str) -> str:
+    """What the loader is asked for to load the library's file. Debian has a link there, to the shared library that all programs
+    use: the loader is asked for that by its name, and takes the one for this processor of several."""
+    name = os.path.basename(os.readlink(path)) if os.path.islink(path) else ''
+    return name if name.startswith('libsimbegyor-ndef.so.') else path

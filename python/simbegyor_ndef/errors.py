@@ -1,7 +1,8 @@
 """What is raised where octets are no message, and where a value can't be written."""
 from __future__ import annotations
 
-from typing import Any, List
+import functools
+from typing import Any, List, Optional, Tuple
 
 
 class DecodeError(Exception):
@@ -10,20 +11,37 @@ class DecodeError(Exception):
     reason: the name of the reason, as ndef.h gives it ('EndOfInput'), or the text of a record class of one's own.
     place: the place of the first octet with which no message goes on, counted from 0.
     number: the number of the reason in ndef.h, 1 to 25; 0 where a record class of one's own refuses.
-    sentence: what the reason means, in a sentence of English; the reason itself where its number is 0.
+    sentence: what was wanted there, in a sentence of English, or what the reason means; the reason itself where its number is 0.
+    hint: a sentence that may help; None where nothing is known to.
     fields: where `fields` raised it, the fields before that octet; else none.
+
+    The sentence and the hint are made of the octets of the message when they are first asked for. Where a stream gave the
+    octets, or `known_types` were given, the sentence says what the reason means, and there is no hint.
     """
 
     def __init__(self, reason: str = '', place: int = 0, number: int = 0) -> None:
         super().__init__(reason, place, number)
         self.reason, self.place, self.number = reason, place, number
         self.fields: List[Any] = []
+        # The octets and the limits within which they are refused, where they are at hand.
+        self._refused: Optional[Tuple[bytes, Any]] = None
 
-    @property
+    @functools.cached_property
     def sentence(self) -> str:
-        """What the reason means, in a sentence of English; the reason itself where its number is 0."""
+        """What was wanted there, in a sentence of English, or what the reason means; the reason itself where its number is 0."""
         from . import _library
-        return _library.reason_sentence(self.number) if self.number else _one_line(self.reason)
+        wanted = _library.why(*self._refused) if self._refused else None
+        return wanted or (_library.reason_sentence(self.number) if self.number else _one_line(self.reason))
+
+    @functools.cached_property
+    def hint(self) -> Optional[str]:
+        """A sentence that may help; None where nothing is known to."""
+        from . import _library
+        return _library.hint(*self._refused) if self._refused else None
+
+    def __reduce__(self) -> Tuple[Any, ...]:
+        """A copy has what is said of the octets, and not the octets."""
+        return type(self), self.args, {**vars(self), '_refused': None, 'sentence': self.sentence, 'hint': self.hint}
 
     def __str__(self) -> str:
         return 'refused at %d: %s' % (self.place, _one_line(self.reason))

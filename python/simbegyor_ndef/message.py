@@ -5,6 +5,7 @@ import io
 from typing import Any, BinaryIO, Dict, Generator, Iterable, Iterator, Mapping, Optional, Tuple, Type, Union, overload
 
 from . import _library as library
+from ._library import OK, SIZES, USUAL_SIZES, check_short, desks, record_at, record_fields, taken_desk
 from .errors import DecodeError, left_out
 from .record import Parts, Record, parts_of
 
@@ -12,8 +13,10 @@ __all__ = ['message_decoder', 'message_encoder']
 
 # How many octets ahead are looked at first; as many are worth a look at all pieces of a long record.
 _LOOK = 64
+_new, _limits = object.__new__, library.limits
 # A record that ends a message. Fed to a checker, it shows whether another record may begin there.
 _ENDING = Record()._written(library.LAST, 0)
+_AT_FRONT = SIZES[0]
 Known = Mapping[Parts, Type[Record]]
 Told = Optional[Dict[Type[Record], Any]]
 
@@ -21,7 +24,7 @@ Told = Optional[Dict[Type[Record], Any]]
 def known_of(known_types: Optional[Mapping[str, Type[Record]]]) -> Tuple[Any, Known, Told]:
     """How messages are read where these types are known: the limits, the classes, and what `records_of` is to be told."""
     if known_types is None:
-        return library.limits(Record.MAX_PAYLOAD_SIZE, 0), Record._known_parts, {}
+        return _limits(Record.MAX_PAYLOAD_SIZE, 0), Record._known_parts, {}
     known = {parts_of(spelled): record_class for spelled, record_class in known_types.items()}
     return library.limits(Record.MAX_PAYLOAD_SIZE, library.OPAQUE), known, None
 
@@ -38,12 +41,13 @@ def message_decoder(stream_or_bytes: Union[bytes, bytearray, memoryview, BinaryI
     `known_types` are classes by the spelling of their type, in place of those that are registered; with {} every payload is
     data. `errors` is 'strict'.
     """
-    if errors in ('relax', 'ignore'):
-        raise left_out('errors=%r' % errors)
     if errors != 'strict':
-        raise ValueError("errors is 'strict', not %r" % (errors,))
+        raise left_out('errors=%r' % errors) if errors in ('relax', 'ignore') else ValueError("errors is 'strict', not %r" % (errors,))
     limits, known, told = known_of(known_types)
-    if isinstance(stream_or_bytes, (bytes, bytearray, memoryview)):
+    records: Iterable[Record]
+    if type(stream_or_bytes) is bytes:
+        records = _from_octets(stream_or_bytes, limits, known, told)
+    elif isinstance(stream_or_bytes, (bytes, bytearray, memoryview)):
         records = _from_octets(bytes(stream_or_bytes), limits, known, told)
     elif hasattr(stream_or_bytes, 'read') and not isinstance(stream_or_bytes, io.TextIOBase):
         records = _from_stream(stream_or_bytes, limits, known, told)
@@ -52,20 +56,34 @@ def message_decoder(stream_or_bytes: Union[bytes, bytearray, memoryview, BinaryI
     yield from list(records) if whole else records
 
 
-def _from_octets(octets: bytes, limits: Any, known: Known, told: Told) -> Iterator[Record]:
-    """The records of the message with which the octets begin."""
-    if not octets:
-        return
-    checked = library.Checked()
-    status = library.check(octets, library.SIZES[len(octets)], limits, library.byref(checked))
-    # A message goes on with each octet before the place; so each record that ends there is given.
-    yield from records_of(octets, 0, checked.place, known, told)
-    if status != library.OK:
-        raise library.refused(checked)
+def _from_octets(octets: bytes, limits: Any, known: Known, told: Told) -> Iterable[Record]:
+    """The records of the message with which the octets begin. A message of one record, as most are, needs no generator."""
+    count, desk, error = len(octets), taken_desk(), None
+    checked, why, room, out = desk
+    size = SIZES[count]
+    if (check_short if count < USUAL_SIZES else library.check)(octets, size, limits, why) == OK:
+        record_at(octets, size, _AT_FRONT, out)
+        fields = record_fields(room)
+        if fields[11]:
+            desks.append(desk)
+            return record_of(octets, fields, known, 0, True, told),
+    elif octets:
+        error = library.refused_octets(checked, octets, limits)
+    place = checked.place
+    # From here on another thread may work at the desk.
+    desks.append(desk)
+    return _refused(octets, place, error, known, told) if error else records_of(octets, 0, place, known, told)
+
+
+def _refused(octets: bytes, place: int, error: DecodeError, known: Known, told: Told) -> Iterator[Record]:
+    """The records before the octet at a place that is refused. A message goes on with each octet before it; so each record that
+    ends there is given."""
+    yield from records_of(octets, 0, place, known, told)
+    raise error
 
 
 def _read(stream: BinaryIO, size: int) -> bytes:
-    """At most so many octets of the stream; none where it ends."""
+    """At most this number of octets of the stream; none where it ends."""
     octets = stream.read(size) or b''
     if not isinstance(octets, (bytes, bytearray)):
         raise TypeError('a stream of octets is needed, not of %s' % type(octets).__name__)
@@ -73,7 +91,7 @@ def _read(stream: BinaryIO, size: int) -> bytes:
 
 
 def _ahead(stream: Any, size: int) -> bytes:
-    """At most so many octets that the stream gives next, which aren't taken; none where it can't show them."""
+    """At most this number of octets that the stream gives next, which aren't taken; none where it can't show them."""
     if hasattr(stream, 'peek'):
         return bytes(stream.peek(size)[:size])
     if not (hasattr(stream, 'seekable') and stream.seekable()):
@@ -164,16 +182,17 @@ def _from_stream(stream: BinaryIO, limits: Any, known: Known, told: Told) -> Ite
 def records_of(octets: bytes, start: int, end: int, known: Known, told: Told) -> Iterator[Record]:
     """The records of a message that has been checked and that lies between two places. `told` is None where payloads weren't
     looked into; else it has, for classes of which the library told the first record's value with the whole, what it told."""
-    (room, out), size, at = library.record_room(), library.SIZES[end], start
-    sizes, record_at, record_fields = library.SIZES, library.record_at, library.record_fields
-    while at != end and record_at(octets, size, sizes[at], out) == library.OK:
+    desk, size, at = taken_desk(), SIZES[end], start
+    _, _, room, out = desk
+    while at != end and record_at(octets, size, SIZES[at], out) == OK:
         fields = record_fields(room)
         yield record_of(octets, fields, known, 0, at == start, told)
         at = fields[1]
+    library.put_back(desk)
 
 
 def record_of(octets: bytes, fields: Tuple[int, ...], known: Known, before: int, is_first: bool, told: Told) -> Record:
-    """The record with these parts, of octets that lie behind so many others of their message."""
+    """The record with these parts, of octets that lie after this number of others in their message."""
     at, end, type_at, type_length, id_at, id_length, payload_at, part_length, length, pieces, tnf, _ = fields
     kind = tnf, octets[type_at:type_at + type_length]
     if pieces == 1:
@@ -184,7 +203,7 @@ def record_of(octets: bytes, fields: Tuple[int, ...], known: Known, before: int,
     if record_class is None:
         made = Record._made(kind, data)
     elif told is not None and record_class._looks_late:
-        made = record_class.__new__(record_class)
+        made = _new(record_class)
         made._unread = data
     elif told and record_class in told:
         made = record_class._of(told.pop(record_class))  # type: ignore[attr-defined]

@@ -50,7 +50,8 @@ class TextRecord(GlobalRecord):
     @property
     def text(self) -> str:
         """The text, a str of Unicode characters."""
-        self._look()
+        if self._unread is not None:
+            self._look()
         return self._text
 
     @text.setter
@@ -95,15 +96,16 @@ class TextRecord(GlobalRecord):
         return made
 
     def _read(self, octets: bytes) -> None:
-        parts, why, size = library.TextParts(), library.Checked(), library.SIZES[len(octets)]
-        if library.text(octets, size, library.byref(parts), library.byref(why)) != library.OK:
-            raise library.refused(why)
-        at = parts.language_at
-        self._language = octets[at:at + parts.language_length].decode('ascii')
-        at = parts.text_at
-        text, self._encoding = octets[at:at + parts.text_length], _ENCODINGS[parts.utf16]
-        if parts.utf16:
-            _, text = library.put(library.text_in_utf8, octets, size, given=2 * len(octets), behind=(library.byref(why),))
+        desk, size = library.taken_desk(), library.SIZES[len(octets)]
+        checked, why, room, out = desk
+        if library.text(octets, size, out, why) != library.OK:
+            raise library.refused(checked)
+        language_at, language_length, at, length, is_utf16 = library.text_fields(room)
+        text = octets[at:at + length]
+        if is_utf16:
+            _, text = library.put(library.text_in_utf8, octets, size, given=2 * len(octets), behind=(why,))
+        library.desks.append(desk)
+        self._language, self._encoding = octets[language_at:language_at + language_length].decode('ascii'), _ENCODINGS[is_utf16]
         self._text = text.decode('utf-8')
 
     def __format__(self, form: str) -> str:

@@ -41,7 +41,8 @@ class UriRecord(GlobalRecord):
     @property
     def iri(self) -> str:
         """The URI as the payload spells it, its prefix written out: a str of Unicode characters."""
-        self._look()
+        if self._unread is not None:
+            self._look()
         return self._iri
 
     @iri.setter
@@ -75,10 +76,11 @@ class UriRecord(GlobalRecord):
         return made
 
     def _read(self, octets: bytes) -> None:
-        why = library.Checked()
-        status, spelled = library.put(library.uri, octets, library.SIZES[len(octets)], 0, given=len(octets), behind=(library.byref(why),))
+        desk, count = library.taken_desk(), len(octets)
+        status, spelled = library.put(library.uri, octets, library.SIZES[count], 0, given=count, behind=(desk[1],))
         if status != library.OK:
-            raise library.refused(why)
+            raise library.refused(desk[0])
+        library.desks.append(desk)
         self._iri = spelled.decode('utf-8')
 
     def __format__(self, form: str) -> str:

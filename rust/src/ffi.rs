@@ -217,7 +217,11 @@ macro_rules! fills {
 fills! {
     reason_name(reason: u32) = ndef_reason_name(reason);
     reason_sentence(reason: u32) = ndef_reason_sentence(reason);
+    why(bytes: &[u8], limits: &Limits) = ndef_why(bytes.as_ptr(), size(bytes), limits);
+    hint(bytes: &[u8], limits: &Limits) = ndef_hint(bytes.as_ptr(), size(bytes), limits);
     field_name(name: u32) = ndef_field_name(name);
+    field_remark(name: u32, bytes: &[u8]) = ndef_field_remark(name, bytes.as_ptr(), size(bytes));
+    record_remark(bytes: &[u8], index: Size) = ndef_record_remark(bytes.as_ptr(), size(bytes), index);
     payload(bytes: &[u8], at: Size) = ndef_payload(bytes.as_ptr(), size(bytes), at);
     write_record(kind: &[u8], id: &[u8], payload: &[u8], how: &Writing) = ndef_write_record(
         kind.as_ptr(), size(kind), id.as_ptr(), size(id), payload.as_ptr(), size(payload), how);

@@ -56,9 +56,13 @@ mod poster_builder;
 mod reading;
 mod record;
 mod refusal;
+#[cfg(feature = "alloc")]
+mod remark;
 mod text;
 mod tnf;
 mod uri;
+#[cfg(feature = "alloc")]
+mod why;
 
 pub use alternative::{AlternativeCarrier, Auxiliaries, PowerState};
 pub use bytes::Bytes;
@@ -86,9 +90,13 @@ pub use poster_builder::SmartPosterBuilder;
 pub use reading::{read_message, ReadError};
 pub use record::Record;
 pub use refusal::{Reason, Refusal};
+#[cfg(feature = "alloc")]
+pub use remark::{field_remark, record_remark};
 pub use text::{Encoding, Text};
 pub use tnf::Tnf;
 pub use uri::Uri;
+#[cfg(feature = "alloc")]
+pub use why::{hint, why};
 
 /// The value that a contract of the library promises. It panics only if the library that is linked breaks its contract.
 #[track_caller]

@@ -103,7 +103,7 @@ impl Refusal {
         Self { at: why.place, reason: Reason::from_number(why.reason).unwrap_or(Reason::Unlisted) }
     }
 
-    /// What its reason means, in a sentence of English.
+    /// What its reason means, in a sentence of English. The function `why` says what was wanted, of the bytes themselves.
     pub const fn sentence(&self) -> &'static str {
         self.reason.sentence()
     }

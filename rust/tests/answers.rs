@@ -246,9 +246,14 @@ fn fields(bytes: &[u8], limits: &Limits, raw: &calls::Limits) {
     for (field, c) in told.clone().zip(&wanted) {
         assert_eq!((field.at as u64, field.depth, field.name as u32), (c.at, c.depth, c.name));
         is_part(field.bytes, bytes, c.at, c.length);
+        assert_eq!(field_remark(field.name, field.bytes), calls::field_remark(c.name, field.bytes));
         assert_eq!((told.at(field.at), told.at(field.at + field.bytes.len() - 1)), (Some(field), Some(field)));
     }
     assert_eq!(told.at(why.place as usize), None);
+    let said = (simbegyor_ndef::why(bytes, limits), hint(bytes, limits));
+    assert_eq!(said, (calls::why(bytes, &typed), calls::hint(bytes, &typed)));
+    assert_eq!(said.0.is_some(), told.refusal().is_some());
+    assert!((0..4).all(|index| record_remark(bytes, index) == calls::record_remark(bytes, index)));
 }
 
 /// How the messages were answered that were looked at.

@@ -15,6 +15,11 @@ fn header() -> String {
     without(&suite::file("include/ndef.h"), "/*", "*/")
 }
 
+/// The header that `ndef.h` includes, which has the names of fields.
+fn names_of_fields() -> String {
+    without(&suite::file("include/ndef_names.h"), "/*", "*/")
+}
+
 fn ours() -> String {
     without(include_str!("../src/ffi/calls.rs"), "//", "\n")
 }
@@ -113,7 +118,7 @@ fn structs_are_the_headers() {
 
 #[test]
 fn constants_are_the_headers() {
-    let (header, ours) = (header(), ours());
+    let (header, ours) = (header() + &names_of_fields(), ours());
     let value_of = |name: &str| -> Option<u32> {
         let values = header.split(['{', '}', ',', '\n']).filter_map(|part| part.trim().split_once(" = "));
         values.filter(|(told, _)| *told == name).find_map(|(_, value)| value.trim().parse().ok())

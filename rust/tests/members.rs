@@ -295,6 +295,54 @@ fn kinds_and_sentences_are_told() {
     assert_eq!((Reason::ALL.len(), Reason::Unlisted.name(), Reason::Unlisted.number()), (25, "Unlisted", 0));
 }
 
+/// The sentences are those of docs/EXPLAIN.md and test/explain/rows.txt.
+#[test]
+fn sentences_are_told_of_bytes() {
+    let usual = Limits::new();
+    let strict = |bytes: &[u8]| (why(bytes, &usual).unwrap(), hint(bytes, &usual));
+    let late = b"\xD1\x01\x06T\x3Fabcde";
+    assert_eq!(strict(late), ("The language code has 63 octets; 5 are left in the payload.".into(), None));
+    let size = b"\xD1\x02\x0CSp\x91\x01\x02U\x03a\x51\x01\x02s\x01\x02";
+    assert_eq!(strict(size), ("A size (`s`) has 4 octets; 2 were given.".into(), None));
+    let (sentence, help) = strict(b"\x03\x0C\xD1\x01\x08T\x02enHello");
+    assert_eq!(sentence, Reason::BeginMissing.sentence());
+    let near = "The bytes may begin with what surrounds a message on a tag; a message begins at byte 2.";
+    assert_eq!(help.as_deref(), Some(near));
+    let (_, help) = strict(b"\xD1\x01\x09Uhttp://ab");
+    assert_eq!(help.unwrap(), "68 (hexadecimal) is the letter h: was the identifier code left out?");
+    let (_, help) = strict(b"\xD7\0\x01a");
+    assert_eq!(help.unwrap(), "The standard profile reads this (`--profile standard`, in C NDEF_STANDARD).");
+    let standard = usual.with_profile(Profile::Standard);
+    for (bytes, limits) in [(&b"\xD7\0\x01a"[..], standard), (b"\xD0\0\0more", usual)] {
+        assert_eq!((why(bytes, &limits), hint(bytes, &limits)), (None, None));
+    }
+    // Payloads are looked into, whatever the limits say, and the other limits hold.
+    assert_eq!(why(late, &usual.with_payloads(Payloads::Opaque)), why(late, &usual));
+    let small = usual.with_payload(NonZeroU32::new(5).unwrap());
+    assert_eq!(why(b"\xD2\x01\x06aabcdef", &small).unwrap(), Reason::PayloadTooLarge.sentence());
+}
+
+/// The sentences are those of docs/EXPLAIN.md and test/explain/rows.txt.
+#[test]
+fn remarks_are_on_what_is_strange() {
+    let of_field = |name, bytes: &[u8]| field_remark(name, bytes).unwrap_or_default();
+    assert_eq!(of_field(FieldName::Action, &[3]), "The action 3 is reserved.");
+    assert_eq!(of_field(FieldName::Action, &[2]), "");
+    assert_eq!(of_field(FieldName::UriRest, b"a\n"), "The URI has a control character.");
+    assert_eq!(of_field(FieldName::Text, b"a\n"), "");
+    let size = "The payload length 3 fits one octet (SR): the message could be 3 bytes shorter.";
+    assert_eq!(of_field(FieldName::PayloadLength, &[0, 0, 0, 3]), size);
+    assert_eq!(of_field(FieldName::PayloadLength, &[3]), "");
+    assert_eq!(of_field(FieldName::Unlisted, &[0]), "");
+    let of_record = |bytes: &[u8], index| record_remark(bytes, index).unwrap_or_default();
+    let (twice, again) = (b"\x9D\0\0\x01a\x1D\0\0\x01b\x5D\0\0\x01a", "Another record has the same id.");
+    let told: Vec<_> = (0..4).map(|index| of_record(twice, index)).collect();
+    assert_eq!(told, [again, "", again, ""]);
+    assert_eq!([of_record(twice, usize::MAX), of_record(&twice[..14], 0)], ["", ""]);
+    let request = b"\xD1\x02\x08Hr\x12\xD1\x02\x02cr\x12\x34";
+    assert_eq!(of_record(request, 0), "The request has no alternative carrier (`ac`).");
+}
+
 /// What a caller does with its bytes afterwards changes nothing that owns its own; a builder takes what it is given by value.
 #[test]
 fn values_stay_where_their_bytes_go() {

@@ -137,3 +137,41 @@ fn records_own_what_they_are_given() {
     let poster = poster.build().unwrap();
     assert_eq!((poster.media_type(), poster.icons().next().unwrap().data), (Some("a/b"), &[1, 2][..]));
 }
+
+/// What `{:?}` says names each part, and the records within a payload with it.
+#[test]
+fn payloads_of_records_are_debugged() {
+    // RTD Smart Poster 1.0 and Connection Handover 1.2: a poster of one URI, and a select with one carrier.
+    let poster = Message::parse(b"\xD1\x02\x06Sp\xD1\x01\x02U\x00a").unwrap();
+    let select = b"\x91\x02\x0AHs\x12\xD1\x02\x04ac\x01\x010\x00\x5A\x03\x01\x01a/b0x";
+    let select = Message::parse(select).unwrap();
+    let told = format!("{:?}", poster.records().next().unwrap().decode().unwrap());
+    assert!(told.starts_with("SmartPoster(SmartPoster { uri: Uri {") && told.contains("records: [Record"), "{told}");
+    let told = format!("{:?}", select.records().next().unwrap().decode().unwrap());
+    assert!(
+        told.starts_with("HandoverSelect(HandoverSelect { version: (1, 2)") && told.contains("records: [Record"),
+        "{told}"
+    );
+    let links = select.links().unwrap();
+    assert_eq!(format!("{links:?}").matches("Link {").count(), links.count());
+}
+
+#[test]
+fn messages_are_walked_by_value_and_limits_have_a_default() {
+    let message = Message::parse(b"\x91\x01\x01T\x00\x51\x01\x01T\x00").unwrap();
+    let mut count = 0;
+    for record in message {
+        assert_eq!(record.kind(), b"T");
+        count += 1;
+    }
+    assert_eq!((count, Limits::default()), (2, Limits::new()));
+}
+
+/// A refusal has no further source, and what a reader says is the source of its error.
+#[test]
+fn errors_have_their_sources() {
+    let refused = read_message(&mut &b"\xFF"[..], &Limits::new()).unwrap_err();
+    assert!(matches!(refused, ReadError::Refused(_)) && refused.source().is_none());
+    let reading = ReadError::from(std::io::Error::other("gone"));
+    assert!(matches!(reading, ReadError::Io(_)) && reading.to_string() == "gone");
+}

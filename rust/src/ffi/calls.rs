@@ -392,6 +392,16 @@ extern "C" {
     /// Writes what the reason with a number means to the room: a sentence of English, in ASCII and with no NUL after
     /// it.
     pub(super) fn ndef_reason_sentence(reason: u32, room: *mut u8, size: Size, count: *mut Size) -> u32;
+    /// Writes why the bytes are refused to the room: a sentence of English that says what was wanted, in ASCII and with
+    /// no NUL after it.
+    pub(super) fn ndef_why(
+        bytes: *const u8, length: Size, limits: *const Limits, room: *mut u8, size: Size, count: *mut Size,
+    ) -> u32;
+    /// Writes what may help where the bytes are refused to the room: a sentence of English, in ASCII and with no NUL
+    /// after it.
+    pub(super) fn ndef_hint(
+        bytes: *const u8, length: Size, limits: *const Limits, room: *mut u8, size: Size, count: *mut Size,
+    ) -> u32;
     /// The record at a place of the bytes.
     pub(super) fn ndef_record_at(bytes: *const u8, length: Size, at: Size, out: *mut Record) -> u32;
     /// Says what the payload of a record is, by its type: the number of its kind, 0 for any other.
@@ -532,6 +542,16 @@ extern "C" {
     ) -> u32;
     /// Writes the name of the field with a number, in ASCII and with no NUL after it, to the room.
     pub(super) fn ndef_field_name(name: u32, room: *mut u8, size: Size, count: *mut Size) -> u32;
+    /// Writes what is strange in a field of a message that is accepted to the room: a sentence of English, in ASCII and
+    /// with no NUL after it.
+    pub(super) fn ndef_field_remark(
+        name: u32, octets: *const u8, octets_length: Size, room: *mut u8, size: Size, count: *mut Size,
+    ) -> u32;
+    /// Writes what is strange in a record of a message that is accepted, beside the other records, to the room: a
+    /// sentence of English, in ASCII and with no NUL after it.
+    pub(super) fn ndef_record_remark(
+        bytes: *const u8, length: Size, index: Size, room: *mut u8, size: Size, count: *mut Size,
+    ) -> u32;
     /// The version of the library: the first number in the high 16 bits, the second in the next 8, and the third in the
     /// last 8.
     pub(super) fn ndef_version() -> u32;

@@ -46,6 +46,10 @@ extern "C" {
     fn ndef_fields(
         bytes: Bytes, length: u64, limits: *const Limits, fields: *mut Field, size: u64, count: *mut u64, why: *mut Checked,
     ) -> u32;
+    fn ndef_why(bytes: Bytes, length: u64, limits: *const Limits, room: *mut u8, size: u64, count: *mut u64) -> u32;
+    fn ndef_hint(bytes: Bytes, length: u64, limits: *const Limits, room: *mut u8, size: u64, count: *mut u64) -> u32;
+    fn ndef_field_remark(name: u32, bytes: Bytes, length: u64, room: *mut u8, size: u64, count: *mut u64) -> u32;
+    fn ndef_record_remark(bytes: Bytes, length: u64, index: u64, room: *mut u8, size: u64, count: *mut u64) -> u32;
     fn ndef_text(payload: Bytes, length: u64, out: *mut Text, why: *mut Checked) -> u32;
     fn ndef_text_in_utf8(payload: Bytes, length: u64, room: *mut u8, size: u64, count: *mut u64, why: *mut Checked) -> u32;
     fn ndef_uri(
@@ -124,6 +128,32 @@ pub fn fields(bytes: &[u8], limits: &Limits) -> (Vec<Field>, Checked) {
         ndef_fields(bytes.as_ptr(), bytes.len() as u64, limits, room, size, count, &mut why)
     });
     (made, why)
+}
+
+/// The sentence that `ndef_why` writes, if it writes one.
+pub fn why(bytes: &[u8], limits: &Limits) -> Option<String> {
+    said(|room, size, count| unsafe { ndef_why(bytes.as_ptr(), bytes.len() as u64, limits, room, size, count) })
+}
+
+/// The same of `ndef_hint`.
+pub fn hint(bytes: &[u8], limits: &Limits) -> Option<String> {
+    said(|room, size, count| unsafe { ndef_hint(bytes.as_ptr(), bytes.len() as u64, limits, room, size, count) })
+}
+
+/// The same of `ndef_field_remark`.
+pub fn field_remark(name: u32, bytes: &[u8]) -> Option<String> {
+    said(|room, size, count| unsafe { ndef_field_remark(name, bytes.as_ptr(), bytes.len() as u64, room, size, count) })
+}
+
+/// The same of `ndef_record_remark`.
+pub fn record_remark(bytes: &[u8], index: usize) -> Option<String> {
+    let (at, length, index) = (bytes.as_ptr(), bytes.len() as u64, index as u64);
+    said(|room, size, count| unsafe { ndef_record_remark(at, length, index, room, size, count) })
+}
+
+fn said(call: impl FnMut(*mut u8, u64, &mut u64) -> u32) -> Option<String> {
+    let (status, made) = filled(call);
+    (status == OK).then(|| String::from_utf8(made).unwrap())
 }
 
 pub fn links(bytes: &[u8], payload: &[u8]) -> Vec<Link> {

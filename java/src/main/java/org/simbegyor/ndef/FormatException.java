@@ -76,7 +76,7 @@ public class FormatException extends Exception {
     }
 
     /**
-     * What is wrong, in a sentence of English.
+     * What is wrong, in a sentence of English. {@link Sentences#why(byte[])} says more, of the bytes.
      *
      * @return the sentence of the reason, or the message where the library has no reason
      */

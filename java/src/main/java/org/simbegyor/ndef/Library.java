@@ -11,6 +11,10 @@ final class Library {
     static final int READ_PAYLOAD = 0, READ_URI = 1, READ_TEXT = 2, WRITE_URI = 3, WRITE_TEXT = 4, WRITE_CARRIER = 5,
             WRITE_ACTION = 6, WRITE_SIZE = 7, WRITE_COLLISION = 8, WRITE_ERROR = 9, WRITE_ERROR_NUMBER = 10,
             WRITE_HANDOVER = 11;
+    /** What {@link #sentence} is asked for. */
+    static final int WHY = 13, HINT = 14;
+    /** What {@link #remark} is asked for. */
+    static final int FIELD_REMARK = 15, RECORD_REMARK = 16;
     /** What {@link #list} is asked for. */
     static final int MESSAGE = 0, RECORDS = 1, REFERENCES = 2, ICONS = 3, TITLE = 4, MEDIA_TYPE = 5, LINKS = 6,
             FIELDS = 7;
@@ -51,6 +55,12 @@ final class Library {
 
     /** Bytes that the call makes; null where it refuses its arguments. */
     static native byte[] bytes(int call, byte[] one, byte[] two, int first, int second, long[] why);
+
+    /** The sentence of ASCII that the call writes of bytes; null where it writes none. */
+    static native byte[] sentence(int call, byte[] bytes, int[] limits);
+
+    /** The sentence of ASCII on a field by the number of its name, or on a record by its index; null where there is none. */
+    static native byte[] remark(int call, byte[] bytes, int number);
 
     /** The payload of an alternative carrier; null where there is none. */
     static native byte[] alternative(int power, byte[] references, int[] lengths);

@@ -1,0 +1,38 @@
+//! What is strange in messages that are accepted, in sentences.
+use crate::ffi;
+use crate::why::said;
+use crate::FieldName;
+use alloc::string::String;
+
+/// What is strange in a field of a message that [`check`](crate::check()) accepts, in a sentence of English, by the name and the
+/// bytes of a [`Field`](crate::Field). `None`: nothing is known to be strange.
+///
+/// It needs a library of version 0.3.0 or later: with an earlier one a program that calls it isn't linked.
+///
+/// ```
+/// use simbegyor_ndef::{field_remark, FieldName};
+///
+/// assert_eq!(field_remark(FieldName::Action, &[3]).unwrap(), "The action 3 is reserved.");
+/// assert_eq!(field_remark(FieldName::Action, &[0]), None);
+/// ```
+#[inline]
+pub fn field_remark(name: FieldName, bytes: &[u8]) -> Option<String> {
+    said(|room| ffi::field_remark(name as u32, bytes, room))
+}
+
+/// What is strange in the record with an index, counted from 0, of the message with which the bytes begin, beside its other
+/// records: two titles in one language, a request without an alternative carrier, a reference to no record, an id that another
+/// record has too. `None`: nothing is known to be strange, there is no such record or no message, or the message has more than
+/// 64 records. The rest is as for [`field_remark`].
+///
+/// ```
+/// use simbegyor_ndef::record_remark;
+///
+/// let twice = b"\x9D\0\0\x01a\x5D\0\0\x01a";
+/// assert_eq!(record_remark(twice, 1).unwrap(), "Another record has the same id.");
+/// assert_eq!(record_remark(twice, 2), None);
+/// ```
+#[inline]
+pub fn record_remark(bytes: &[u8], index: usize) -> Option<String> {
+    said(|room| ffi::record_remark(bytes, index as u64, room))
+}

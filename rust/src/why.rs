@@ -1,0 +1,44 @@
+//! Why bytes are refused, and what may help, in sentences.
+use crate::ffi::{self, Unfilled};
+use crate::{promised, Limits, Payloads};
+use alloc::string::String;
+use alloc::vec::Vec;
+
+/// What was wanted where the bytes are refused, in a sentence of English, or what the reason means where nothing more is
+/// known. `None`: they begin with a message. Payloads are looked into, whatever the limits say.
+///
+/// It needs a library of version 0.3.0 or later: with an earlier one a program that calls it isn't linked.
+///
+/// ```
+/// use simbegyor_ndef::{why, Limits};
+///
+/// let sentence = why(b"\xD1\x01\x06T\x3Fabcde", &Limits::new());
+/// assert_eq!(sentence.unwrap(), "The language code has 63 octets; 5 are left in the payload.");
+/// assert_eq!(why(b"\xD1\x01\x08T\x02enHello", &Limits::new()), None);
+/// ```
+#[inline]
+pub fn why(bytes: &[u8], limits: &Limits) -> Option<String> {
+    said(|room| ffi::why(bytes, &limits.with_payloads(Payloads::Typed).raw(), room))
+}
+
+/// A sentence that may help where the bytes are refused: a message begins at one of the places 1 to 16, the identifier code
+/// of a URI may be missing, or [`Profile::Standard`](crate::Profile::Standard) reads them. `None`: nothing is known to help,
+/// or they begin with a message. It may take 17 times as long as [`check`](crate::check()); the rest is as for [`why`].
+///
+/// ```
+/// use simbegyor_ndef::{hint, Limits};
+///
+/// let sentence = hint(b"\x03\x0C\xD1\x01\x08T\x02enHello", &Limits::new()).unwrap();
+/// assert!(sentence.ends_with("; a message begins at byte 2."));
+/// ```
+#[inline]
+pub fn hint(bytes: &[u8], limits: &Limits) -> Option<String> {
+    said(|room| ffi::hint(bytes, &limits.with_payloads(Payloads::Typed).raw(), room))
+}
+
+/// The sentence that a call writes, if it writes one.
+pub(crate) fn said(call: impl FnOnce(&mut Vec<u8>) -> Result<usize, Unfilled>) -> Option<String> {
+    let mut written = Vec::with_capacity(192);
+    call(&mut written).ok()?;
+    Some(promised(String::from_utf8(written)))
+}
