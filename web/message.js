@@ -1,0 +1,67 @@
+// Reads messages: checks, decodes and explains bytes, and follows the links of a handover.
+import { octets } from "./given.js";
+import { Ndef } from "./ndef.js";
+import { NdefError, accepted, library, optionsOf } from "./library.js";
+import { NDEFMessage, recordsOf } from "./record.js";
+import { alternativesOf } from "./values.js";
+
+const { KIND } = Ndef;
+
+// Checks that the bytes begin with a message: its length in bytes and the number of its records. Throws NdefError.
+export function check(bytes, options) {
+    const { place, records } = accepted(library().check(bytes, optionsOf(options)));
+    return { length: place, records };
+}
+
+// The message of bytes that hold it and nothing before them, known to be whole.
+export function messageOf(bytes, flags) {
+    return new NDEFMessage({ records: recordsOf(bytes, KIND.OTHER, flags) });
+}
+
+// The message with which the bytes begin, and its length in bytes. Throws NdefError.
+export function decodePrefix(bytes, options) {
+    const given = octets(bytes), { flags } = optionsOf(options), { length } = check(given, options);
+    return { message: messageOf(given.subarray(0, length), flags), length };
+}
+
+// The message that the bytes are. Throws NdefError, also where other bytes follow it.
+export function decode(bytes, options) {
+    const { message, length } = decodePrefix(bytes, options);
+    if (length < octets(bytes).length) throw NdefError.trailing(length);
+    return message;
+}
+
+// The fields of the message with which the bytes begin: { at, length, depth, name } each. Throws NdefError.
+export function fields(bytes, options) {
+    return accepted(library().fields(bytes, optionsOf(options))).fields;
+}
+
+// All that can be said of the bytes, whatever they are: `refusal`, an NdefError or null; the `fields` before the refused
+// byte, or of the message; the `records` that are whole before it; and the `length` of the message, or of what is before
+// the refused byte.
+export function explain(bytes, options) {
+    const given = octets(bytes), how = optionsOf(options), answer = library().fields(given, how), { place } = answer;
+    const refusal = answer.status === Ndef.REFUSED ? NdefError.of(answer) : null;
+    return { refusal, length: place, fields: answer.fields, records: recordsOf(given.subarray(0, place), KIND.OTHER, how.flags) };
+}
+
+// A key for bytes in a map.
+const keyOf = (bytes) => bytes.join();
+
+// The carriers of the first handover of a message: { power, reference, auxiliary }, and the `record` and its `index` to
+// which the carrier data reference refers, or null. None where there is no handover. It looks at each record once.
+export function links(message) {
+    const { records } = message instanceof NDEFMessage ? message : new NDEFMessage(message);
+    const handover = records.find(({ kind }) => kind === KIND.REQUEST || kind === KIND.SELECT);
+    if (!handover) return [];
+    const places = new Map();
+    records.forEach((record, index) => {
+        const key = keyOf(record.idBytes);
+        if (key !== "" && !places.has(key)) places.set(key, index);
+    });
+    const { carriers } = handover.value;
+    return alternativesOf(handover.kind, handover.payload).map(({ references: [reference] }, number) => {
+        const index = places.get(keyOf(reference)) ?? null;
+        return { ...carriers[number], index, record: index === null ? null : records[index] };
+    });
+}

@@ -1,0 +1,26 @@
+// What the parts of the page share: elements, and bytes and numbers as text.
+export const byId = (id) => document.getElementById(id);
+const DIGITS = Array.from({ length: 256 }, (_, byte) => byte.toString(16).padStart(2, "0").toUpperCase());
+export const twoDigits = (byte) => DIGITS[byte];
+export const toHex = (bytes) => Array.from(bytes, twoDigits).join(" ");
+export const ascii = (byte) => (byte >= 0x20 && byte < 0x7f ? String.fromCharCode(byte) : null);
+export const quoted = (bytes) => Array.from(bytes, (byte) => ascii(byte) ?? "\\x" + twoDigits(byte).toLowerCase()).join("");
+export const plural = (count, word) => `${count} ${word}${count === 1 ? "" : "s"}`;
+export const capital = (text) => text[0].toUpperCase() + text.slice(1);
+
+// An element with a class, text and children.
+export function element(name, options = {}, ...children) {
+    const made = document.createElement(name);
+    Object.entries(options).forEach(([key, value]) => {
+        if (key === "text") made.textContent = value;
+        else if (key === "kind") made.className = value;
+        else made.setAttribute(key, value);
+    });
+    made.append(...children);
+    return made;
+}
+
+// A refusal: where, the reason by its number and name, and what it means.
+export function refusal(ndef, { place, reason }, where) {
+    return `refused at byte ${place}${where}, reason ${reason}, ${ndef.reasonName(reason)}: ${ndef.reasonSentence(reason)}`;
+}
