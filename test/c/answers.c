@@ -3,6 +3,7 @@
  * `cases.h` is made by test/c/case_table. Without a C library (-ffreestanding), the caller has `put` and calls `answers`. */
 #include "ndef.h"
 #include "cases.h"
+#include "since.h"
 
 #ifndef ROUNDS
 #define ROUNDS 20000
@@ -203,6 +204,18 @@ static void fill_fields(const uint8_t *bytes, ndef_size length, const ndef_limit
     }
 }
 
+/* Why bytes are refused, what may help, and what is strange in fields and records. */
+#if IS_SINCE(0, 3)
+static void say_why(const uint8_t *bytes, ndef_size length, const ndef_limits *limits) {
+    WRITTEN(200, ndef_why(bytes, length, limits, to, 40 + 8 * (length % 20), &count));
+    WRITTEN(200, ndef_hint(bytes, length, limits, to, 60 + 8 * (length % 20), &count));
+    WRITTEN(200, ndef_field_remark(length % 33, bytes, length, to, 40 + 8 * (length % 20), &count));
+    WRITTEN(200, ndef_record_remark(bytes, length, length % 3, to, 40 + 8 * (length % 20), &count));
+}
+#else
+static void say_why(const uint8_t *bytes, ndef_size length, const ndef_limits *limits) { (void)bytes, (void)length, (void)limits; }
+#endif
+
 static void mix_text(const ndef_text_parts *text) {
     mix(text->language_at), mix(text->language_length), mix(text->text_at), mix(text->text_length), mix(text->utf16);
 }
@@ -358,6 +371,7 @@ static void look_at(const uint8_t *bytes, ndef_size length, ndef_limits limits) 
         mix_status(ndef_check(bytes, length, &limits, &out)), mix_checked(&out);
         mix_status(ndef_check(bytes, length, &small, &out)), mix_checked(&out);
         fill_fields(bytes, length, &limits), fill_fields(bytes, length, &small);
+        say_why(bytes, length, &limits), say_why(bytes, length, &small);
         feed(bytes, length, &limits);
     }
     walk(bytes, length, 0);

@@ -1,6 +1,7 @@
 /* The calls that fill an array, find a record, give its kind or build a message, and those of names: with an array or a room that fits and
  * with one that is too small by one. VERSION_NUMBER is the version that the header names. */
 #include "ndef.h"
+#include "since.h"
 
 #include <stdio.h>
 #include <string.h>
@@ -535,6 +536,52 @@ static void select_written(void) {
     expect(count == 77 && room[0] == 0xa5, "select: a wrong argument leaves something else");
 }
 
+/* ---- remarks */
+
+#if IS_SINCE(0, 3)
+/* Whether a call wrote this text to a room, or ended without a text (NULL). */
+static int wrote(uint32_t status, const uint8_t *room, ndef_size count, const char *text) {
+    if (!text) return status == NDEF_END && count == 77;
+    return status == NDEF_OK && count == strlen(text) && memcmp(room, text, count) == 0;
+}
+
+static void field_remark_is(uint32_t name, const char *octets, ndef_size length, const char *text) {
+    uint8_t room[192];
+    ndef_size count = 77;
+    const uint32_t status = ndef_field_remark(name, (const uint8_t *)octets, length, room, sizeof room, &count);
+    expect(wrote(status, room, count, text), text ? text : "remarks: a field has one");
+}
+
+static void record_remark_is(const uint8_t *bytes, ndef_size length, ndef_size index, const char *text) {
+    uint8_t room[192];
+    ndef_size count = 77;
+    const uint32_t status = ndef_record_remark(bytes, length, index, room, sizeof room, &count);
+    expect(wrote(status, room, count, text), text ? text : "remarks: a record has one");
+}
+
+static void remarks(void) {
+    field_remark_is(NDEF_FIELD_ACTION, "\3", 1, "The action 3 is reserved.");
+    field_remark_is(NDEF_FIELD_ACTION, "\2", 1, NULL);
+    field_remark_is(NDEF_FIELD_URI_REST, "a\n", 2, "The URI has a control character.");
+    field_remark_is(NDEF_FIELD_TEXT, "a\n", 2, NULL);
+    static const uint8_t twice[] = { 0x9d, 0, 0, 1, 'a', 0x1d, 0, 0, 1, 'b', 0x5d, 0, 0, 1, 'a' };
+    record_remark_is(twice, sizeof twice, 0, "Another record has the same id.");
+    record_remark_is(twice, sizeof twice, 1, NULL);
+    record_remark_is(twice, sizeof twice, 2, "Another record has the same id.");
+    record_remark_is(twice, sizeof twice, 3, NULL);
+    record_remark_is(twice, sizeof twice - 1, 0, NULL);
+    static const uint8_t request[] = { 0xd1, 2, 8, 'H', 'r', 0x12, 0xd1, 2, 2, 'c', 'r', 1, 2 };
+    record_remark_is(request, sizeof request, 0, "The request has no alternative carrier (`ac`).");
+    uint8_t room[25];
+    ndef_size count = 77;
+    expect(ndef_field_remark(NDEF_FIELD_ACTION, (const uint8_t *)"\3", 1, room, 24, &count) == NDEF_NO_ROOM && count == 25, "remarks: a small room");
+    expect(ndef_field_remark(32, NULL, 0, room, sizeof room, &count) == NDEF_BAD_ARGUMENT && count == 25, "remarks: no such name");
+    expect(ndef_field_remark(0, NULL, 0, room, sizeof room, &count) == NDEF_BAD_ARGUMENT && count == 25, "remarks: the name 0");
+}
+#else
+static void remarks(void) {}
+#endif
+
 int main(void) {
     make_message();
     kinds_told();
@@ -554,5 +601,6 @@ int main(void) {
     poster_refused();
     request_written();
     select_written();
+    remarks();
     return failed != 0;
 }

@@ -1,6 +1,5 @@
 /* The names of the headers: the lists and the functions that return strings agree with the constants and with what the
- * library writes to rooms, and the old names are there where they are asked for. */
-#define NDEF_OLD_NAMES
+ * library writes to rooms. */
 #include "ndef.h"
 
 #include <stdio.h>
@@ -12,9 +11,8 @@ static void expect(int holds, const char *what) {
     if (!holds) failed++, printf("%s\n", what);
 }
 
-/* The list, and the names without a prefix, have the numbers of the constants. */
-#define NUMBERS(number, name, text) \
-    typedef char number_of_##name[number == NDEF_REASON_##name && number == NDEF_##name ? 1 : -1];
+/* The lists have the numbers of the constants. */
+#define NUMBERS(number, name, text) typedef char number_of_##name[number == NDEF_REASON_##name ? 1 : -1];
 NDEF_REASONS(NUMBERS)
 #define FIELD_NUMBERS(number, name, text) typedef char number_of_field_##name[number == NDEF_FIELD_##name ? 1 : -1];
 NDEF_FIELDS(FIELD_NUMBERS)
@@ -22,9 +20,6 @@ NDEF_FIELDS(FIELD_NUMBERS)
 NDEF_STATUSES(STATUS_NUMBERS)
 #define SENTENCES(number, name, text) typedef char number_of_sentence_##name[number == NDEF_REASON_##name ? 1 : -1];
 NDEF_SENTENCES(SENTENCES)
-typedef char formats[NDEF_EMPTY == 0 && NDEF_WELL_KNOWN == 1 && NDEF_MEDIA == 2 && NDEF_ABSOLUTE_URI == 3
-    && NDEF_EXTERNAL == 4 && NDEF_UNKNOWN == 5 ? 1 : -1];
-typedef char flags[NDEF_FIRST == 1 && NDEF_LAST == 2 && NDEF_LONG == 4 ? 1 : -1];
 
 #define TEXT(number, name, text) [number] = text,
 static const char *const texts[] = { NDEF_REASONS(TEXT) };
@@ -99,11 +94,10 @@ static void try_strings(void) {
     try_names(&of_fields, "the name of a field is another");
 }
 
-/* The version as text is that of the numbers, and here that of the library. */
+/* The version of the header as text is that of its numbers; more.c compares these with the library's. */
 static void try_version(void) {
     char text[40];
-    const unsigned version = ndef_version();
-    snprintf(text, sizeof text, "%u.%u.%u", version >> 16, version >> 8 & 255, version & 255);
+    snprintf(text, sizeof text, "%d.%d.%d", NDEF_VERSION_MAJOR, NDEF_VERSION_MINOR, NDEF_VERSION_PATCH);
     expect(!strcmp(ndef_version_string(), text), "the version as text is another");
     expect(!strcmp(NDEF_VERSION_STRING, text), "the version of the header as text is another");
 }

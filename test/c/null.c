@@ -1,5 +1,6 @@
 /* Where a length is 0 a pointer may be NULL: each call then answers as with another pointer. */
 #include "ndef.h"
+#include "since.h"
 
 #include <stdio.h>
 #include <string.h>
@@ -30,6 +31,12 @@ static void check_calls(int way, const uint8_t *none, uint8_t *room) {
     answer(way, ndef_payload(none, 0, 0, room, 0, &count));
     answer(way, ndef_reason_name(22, room, 0, &count));
     answer(way, ndef_reason_sentence(22, room, 0, &count));
+#if IS_SINCE(0, 3)
+    answer(way, ndef_why(none, 0, &limits, room, 0, &count));
+    answer(way, ndef_hint(none, 0, &limits, room, 0, &count));
+    answer(way, ndef_field_remark(NDEF_FIELD_URI_REST, none, 0, room, 0, &count));
+    answer(way, ndef_record_remark(none, 0, 0, room, 0, &count));
+#endif
     answer(way, ndef_link_at(none, 0, none, 0, 0, &link));
 }
 

@@ -6,7 +6,7 @@ import sys
 
 MAKE, = sys.argv[1:]
 WELL_KNOWN, MEDIA = 1, 2
-USAGE = b'usage: ndef-make '
+USAGE = b'usage: '
 counts = {True: 0, False: 0}
 
 # Lengths about powers of two and about a hundred.
@@ -90,7 +90,7 @@ def lists():
             continue
         row('%d records' % size, (['uri', 'a', '--and'] * size)[:-1], b'', message([(WELL_KNOWN, b'U', b'', b'\0a')] * size))
         titles = [(WELL_KNOWN, b'U', b'', b'\0a')] + [(WELL_KNOWN, b'T', b'', b'\x02ena')] * size
-        row('%d titles' % size, ['poster', 'a', *['--title', 'en=a'] * size], b'',
+        row('%d titles' % size, ['poster', 'a', '--unchecked', *['--title', 'en=a'] * size], b'',
             message([(WELL_KNOWN, b'Sp', b'', message(titles))]))
         carrier = (WELL_KNOWN, b'ac', b'', b'\x01\x01a\0')
         row('%d carriers' % size, ['handover', 'select', *['--carrier', 'active=a'] * size, '--and', 'record', '--tnf', '5', '--id',

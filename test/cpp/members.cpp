@@ -378,6 +378,24 @@ static void fields(ndef::bytes whole, const ndef_limits &limits) {
     }
 }
 
+/// The sentences that the calls write of bytes, of fields and of records.
+static void sentences(ndef::bytes whole, const ndef_limits &limits) {
+    const auto same = [](const std::optional<std::string> &told, auto call, auto... given) {
+        static char text[4096];
+        ndef_size count = 0;
+        if (call(given..., reinterpret_cast<std::uint8_t *>(text), sizeof text, &count) != NDEF_OK) return !told;
+        return told == std::string(text, static_cast<std::size_t>(count));
+    };
+    LOOK(same(ndef::why(whole, limits), ndef_why, whole.data(), whole.size(), &limits));
+    LOOK(same(ndef::hint(whole, limits), ndef_hint, whole.data(), whole.size(), &limits));
+    for (ndef::field one : ndef::fields(whole, limits)) {
+        const auto name = static_cast<std::uint32_t>(one.name);
+        LOOK(same(ndef::field_remark(one), ndef_field_remark, name, one.octets.data(), one.octets.size()));
+    }
+    for (ndef_size index = 0; index < 4; index++)
+        LOOK(same(ndef::record_remark(whole, index), ndef_record_remark, whole.data(), whole.size(), index));
+}
+
 /// How the messages were answered that were looked at.
 static unsigned long taken, refused, cut_off, chunked;
 
@@ -394,6 +412,7 @@ static void message(ndef::bytes whole, const ndef_limits &limits) {
             }
     checks(whole, limits);
     fields(whole, limits);
+    sentences(whole, limits);
     records(whole);
 }
 

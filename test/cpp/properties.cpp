@@ -163,6 +163,41 @@ static void results() {
     LOOK(text->size() == 4 && *text == "kept");
 }
 
+/// The sentences are those of docs/EXPLAIN.md and test/explain/rows.txt.
+static void sentences() {
+    const octets late = {0xd1, 1, 6, 'T', 0x3f, 'a', 'b', 'c', 'd', 'e'}, good = {0xd0, 0, 0, 0xff};
+    LOOK(ndef::why(late) == "The language code has 63 octets; 5 are left in the payload." && !ndef::hint(late));
+    const octets size = {0xd1, 2, 12, 'S', 'p', 0x91, 1, 2, 'U', 3, 'a', 0x51, 1, 2, 's', 1, 2};
+    LOOK(ndef::why(size) == "A size (`s`) has 4 octets; 2 were given.");
+    const octets block = {3, 3, 0xd0, 0, 0, 0xfe}, code = {0xd1, 1, 5, 'U', 'h', 't', 't', 'p'};
+    LOOK(ndef::why(block) == ndef::sentence(NDEF_REASON_BEGIN_MISSING));
+    LOOK(ndef::hint(block) == "The bytes may begin with what surrounds a message on a tag; a message begins at byte 2.");
+    LOOK(ndef::hint(code) == "68 (hexadecimal) is the letter h: was the identifier code left out?");
+    const octets reserved = {0xd7, 0, 0};
+    LOOK(ndef::hint(reserved) == "The standard profile reads this (`--profile standard`, in C NDEF_STANDARD).");
+    ndef::limits standard, opaque, none;
+    standard.flags = NDEF_STANDARD, opaque.flags = NDEF_OPAQUE, none.records = 0;
+    LOOK(!ndef::why(good) && !ndef::hint(good) && !ndef::why(reserved, standard) && !ndef::hint(reserved, standard));
+    for (const ndef::limits &limits : {opaque, none}) LOOK(!ndef::why(late, limits) && !ndef::hint(block, limits));
+}
+
+/// The remarks are those of docs/EXPLAIN.md and test/explain/rows.txt.
+static void remarks() {
+    const octets reserved = {3}, open = {2}, line = {'a', '\n'}, size = {0, 0, 0, 3};
+    const auto of_field = [](ndef::field_name name, ndef::bytes of) { return ndef::field_remark({of, 0, 0, name}).value_or(""); };
+    LOOK(of_field(NDEF_FIELD_ACTION, reserved) == "The action 3 is reserved." && of_field(NDEF_FIELD_ACTION, open).empty());
+    LOOK(of_field(NDEF_FIELD_URI_REST, line) == "The URI has a control character." && of_field(NDEF_FIELD_TEXT, line).empty());
+    LOOK(of_field(NDEF_FIELD_PAYLOAD_LENGTH, size) ==
+         "The payload length 3 fits one octet (SR): the message could be 3 bytes shorter.");
+    LOOK(!ndef::field_remark({}) && !ndef::field_remark({reserved, 0, 0, NDEF_FIELD_TEXT}));
+    const octets twice = {0x9d, 0, 0, 1, 'a', 0x1d, 0, 0, 1, 'b', 0x5d, 0, 0, 1, 'a'};
+    const std::string again = "Another record has the same id.";
+    LOOK(ndef::record_remark(twice, 0) == again && !ndef::record_remark(twice, 1) && ndef::record_remark(twice, 2) == again);
+    LOOK(!ndef::record_remark(twice, 3) && !ndef::record_remark(ndef::bytes(twice.data(), 14), 0) && !ndef::record_remark({}, 0));
+    const octets request = {0xd1, 2, 8, 'H', 'r', 0x12, 0xd1, 2, 2, 'c', 'r', 0x12, 0x34};
+    LOOK(ndef::record_remark(request, 0) == "The request has no alternative carrier (`ac`).");
+}
+
 static void views_of_bytes() {
     std::array<std::uint8_t, 3> numbers = {1, 2, 3};
     const std::array<std::byte, 2> raw = {std::byte{1}, std::byte{2}};
@@ -301,7 +336,7 @@ static void threads() {
 }
 
 int main() {
-    for (const auto test : {ranges, copies, two_of_each, results, views_of_bytes, defaults, aliasing, large, threads})
+    for (const auto test : {ranges, copies, two_of_each, results, sentences, remarks, views_of_bytes, defaults, aliasing, large, threads})
         test();
     std::cout << "comparisons " << compared << ", differ " << differ << '\n';
     return differ || !compared;

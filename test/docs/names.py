@@ -2,7 +2,7 @@
 import functools
 import re
 
-CODE = ('*.rt', '*.antt', '*.py', '*.h', '*.c', '*.hpp', '*.cpp', '*.rs', '*.go', '*.java', '*.js', '*.map', 'ndef', 'ndef-make', 'ndef-explain', 'Makefile', '*.sh',
+CODE = ('*.rt', '*.antt', '*.py', '*.h', '*.c', '*.hpp', '*.cpp', '*.rs', '*.go', '*.java', '*.js', '*.mjs', '*.map', 'ndef', 'ndef-make', 'ndef-explain', 'Makefile', '*.sh',
         'crates.txt', 'machines.txt', 'run', 'release', 'Cargo.toml')
 # Names of Rust's, of C's, of the kit's, of Debian's packages and of ndeflib's classes that pages use, and placeholders.
 FOREIGN = set('''
@@ -13,6 +13,9 @@ FOREIGN = set('''
     BluetoothEasyPairingRecord BluetoothLowEnergyRecord WifiSimpleConfigRecord WifiPeerToPeerRecord DeviceInformationRecord
     SignatureRecord HandoverMediationRecord HandoverInitiateRecord
 '''.split())
+# Names that releases before this one had, and the pages that may speak of them.
+FORMER = set('NDEF_OLD_NAMES NDEF_END_OF_INPUT NDEF_VERSION NDEF_UTF16 NDEF_EMPTY NDEF_MEDIA NDEF_FIRST NDEF_LAST NDEF_LONG'.split())
+HISTORY = ('CHANGELOG.md', 'DECISIONS.md')
 
 
 def slug(heading):
@@ -82,11 +85,12 @@ def is_file_there(name, paths):
 
 def unknown(top, page, known_names):
     words, paths = known_names
+    other = FOREIGN | (FORMER if page.name in HISTORY else set())
     for code in re.findall(r'`([^`\n]+)`', without_blocks(page.read_text())):
         if re.fullmatch(r'[\w./*-]+\.(rt|antt|md|h|c|py|rs|txt|edit|in|so)|[\w.*-]+(/[\w.*-]+)*/', code):
             if not is_file_there(code, paths) and not re.search(r'signature|[A-Z]{4}|/out', code, re.I) and 'out' not in code:
                 yield f'{code}: no such file'
         elif re.fullmatch(r'[A-Za-z_][\w-]*(::\w+)*(\(\))?', code):
             last = re.split('::', code.removesuffix('()'))[-1]
-            if last not in words and last not in FOREIGN and len(last) > 2:
+            if last not in words and last not in other and len(last) > 2:
                 yield f'{code}: no such name'

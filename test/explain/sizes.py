@@ -62,6 +62,13 @@ def inputs():
         else:
             run = told(['--records', str(count_)], records)
         count('%d payloads in pieces' % count_, run.returncode == 0 and run.stdout.count(b'payload of record ') == count_, run)
+    # Texts with the reserved bit 6 of the status octet set, and a URI after them.
+    for count_ in ABOUT + [20000]:
+        records = b''.join(bytes([0x11 | (at == 0) << 7, 1, 1, 84, 0x40]) for at in range(count_)) + b'\x51\1\2U\1a'
+        run = told([], records)
+        last = b'\nrecord %d goes on to byte %d\n' % (count_, 5 * count_)
+        good = last in run.stdout and run.stdout.endswith(b'\nrecords sound: 1 of %d\n' % (count_ + 1))
+        count('%d refused payloads' % count_, run.returncode == 1 and good, run)
 
 
 def most():

@@ -7,7 +7,10 @@ import static org.junit.jupiter.api.Assertions.assertThrows;
 import java.nio.ByteBuffer;
 import java.nio.charset.StandardCharsets;
 import java.util.Arrays;
+import java.util.List;
 import java.util.Locale;
+import java.util.Optional;
+import org.junit.jupiter.api.Assumptions;
 import org.junit.jupiter.api.Test;
 import org.junit.jupiter.api.function.Executable;
 import org.simbegyor.ndef.*;
@@ -306,6 +309,72 @@ class RecordTest {
         FormatException own = new FormatException();
         assertEquals("-1 null Another reason.", own.place() + " " + own.getMessage() + " " + own.sentence());
         assertEquals("mine", new FormatException("mine", refusal).sentence());
+    }
+
+    /** Whether the library has sentences of bytes: that of release 0.2.0 hasn't, and says so. */
+    private static boolean hasSentences() {
+        try {
+            Sentences.why(NONE);
+            return true;
+        } catch (UnsupportedOperationException old) {
+            assertThrows(UnsupportedOperationException.class, () -> Sentences.hint(hello()));
+            return false;
+        }
+    }
+
+    /** They are those of docs/EXPLAIN.md and test/explain/rows.txt. */
+    @Test
+    void remarks() {
+        byte[] twice = Cases.unhex("9d00000161" + "1d00000162" + "5d00000161");
+        assertThrows(IndexOutOfBoundsException.class, () -> Sentences.recordRemark(twice, -1));
+        Assumptions.assumeTrue(hasSentences());
+        Optional<String> again = Optional.of("Another record has the same id.");
+        Optional<String> none = Optional.empty();
+        assertEquals(List.of(again, none, again, none), List.of(Sentences.recordRemark(twice, 0),
+                Sentences.recordRemark(twice, 1), Sentences.recordRemark(twice, 2), Sentences.recordRemark(twice, 3)));
+        assertEquals(none, Sentences.recordRemark(Arrays.copyOf(twice, 14), 0));
+        List<Optional<String>> found = new java.util.ArrayList<>();
+        for (Field field : Fields.of(Cases.unhex("c1010000" + "00035504610a"))) {
+            found.add(Sentences.fieldRemark(field));
+        }
+        assertEquals(List.of(none, none,
+                Optional.of("The payload length 3 fits one octet (SR): the message could be 3 bytes shorter."), none, none,
+                Optional.of("The URI has a control character.")), found);
+    }
+
+    /** They are those of docs/EXPLAIN.md and test/explain/rows.txt. */
+    @Test
+    void sentences() {
+        Assumptions.assumeTrue(hasSentences());
+        byte[] late = Cases.unhex("d10106543f6162636465");
+        assertEquals("The language code has 63 octets; 5 are left in the payload.", Sentences.why(late).get());
+        assertEquals("A size (`s`) has 4 octets; 2 were given.",
+                Sentences.why(Cases.unhex("d1020c5370910102550361510102730102")).get());
+        byte[] block = Cases.unhex("030cd101085402656e48656c6c6f");
+        assertEquals(Reason.BEGIN_MISSING.sentence(), Sentences.why(block).get());
+        assertEquals("The bytes may begin with what surrounds a message on a tag; a message begins at byte 2.",
+                Sentences.hint(block).get());
+        assertEquals("68 (hexadecimal) is the letter h: was the identifier code left out?",
+                Sentences.hint(Cases.unhex("d1010955687474703a2f2f6162")).get());
+        byte[] reserved = Cases.unhex("d7000161");
+        assertEquals("The standard profile reads this (`--profile standard`, in C NDEF_STANDARD).",
+                Sentences.hint(reserved).get());
+        for (Optional<String> none : List.of(Sentences.why(hello()), Sentences.hint(hello()), Sentences.hint(late),
+                Sentences.why(reserved, Limits.usual(), Profile.STANDARD),
+                Sentences.hint(reserved, Limits.usual(), Profile.STANDARD))) {
+            assertEquals(Optional.empty(), none);
+        }
+    }
+
+    @Test
+    void sentencesWithinLimits() {
+        Assumptions.assumeTrue(hasSentences());
+        byte[] late = Cases.unhex("d10106543f6162636465");
+        assertEquals(Sentences.why(late), Sentences.why(late, Limits.usual().withOpaque(true), Profile.STRICT));
+        assertEquals(Reason.PAYLOAD_TOO_LARGE.sentence(),
+                Sentences.why(hello(), Limits.usual().withPayload(7), Profile.STRICT).get());
+        isNull(() -> Sentences.why(null), () -> Sentences.hint(null), () -> Sentences.why(late, null, Profile.STRICT),
+                () -> Sentences.hint(late, Limits.usual(), null));
     }
 
     @Test

@@ -6,9 +6,9 @@ import re
 TOP = pathlib.Path(__file__).resolve().parents[2]
 
 
-def texts(name, header='ndef.h'):
-    """The texts by their numbers, as a list of a header has them."""
-    header = (TOP / 'include' / header).read_text()
+def texts(name):
+    """The texts by their numbers, as a list of the header of names has them."""
+    header = (TOP / 'include/ndef_names.h').read_text()
     found = re.search(r'#define %s\(X\)((?:.*\\\n)*.*)' % name, header)[1]
     return {int(number): text for number, text in re.findall(r'X\((\d+), \w+, "([^"]+)"\)', found)}
 
@@ -20,7 +20,7 @@ def reasons():
 
 def sentences():
     """What reasons mean by their numbers."""
-    return texts('NDEF_SENTENCES', 'ndef_names.h')
+    return texts('NDEF_SENTENCES')
 
 
 def field_names():

@@ -13,12 +13,13 @@ import struct
 import unittest
 
 import simbegyor_ndef as ndef
-from cases import TOP, cases, field_names, reasons, values
+from cases import TOP, cases, field_names, reasons, sentences, values
 from simbegyor_ndef import _library as library, handover, smartposter
 from wild import Wild, corpus
 
 C = ctypes.CDLL(str(pathlib.Path(ndef.__path__[0], 'libndef.so')))
-REASONS, FIELDS = reasons(), field_names()
+REASONS, FIELDS, MEANT = reasons(), field_names(), sentences()
+NUMBERS = {name: number for number, name in FIELDS.items()}
 POWERS = ('inactive', 'active', 'activating', 'unknown')
 ACTIONS = ('exec', 'save', 'edit')
 SPELLED = ('', 'urn:nfc:wkt:', '', '', 'urn:nfc:ext:', 'unknown')
@@ -222,6 +223,14 @@ def write_handover(kind, version, payload):
 WRITTEN = {b'T': write_text, b'U': write_uri, b'Sp': write_poster, b'Hr': write_request, b'Hs': write_select, b'Hc': write_carrier}
 
 
+def said(octets, flags=0, most=USUAL):
+    """What was wanted of octets that are refused, and the hint, as the calls write them; what the library of 0.2.0 says, which has neither."""
+    if not library.has_sentences:
+        return MEANT[checked(octets, flags, most)[1]], None
+    why, hint = (roomed(name, *sized(octets), limits_of(flags, most)) for name in ('ndef_why', 'ndef_hint'))
+    return why.decode('ascii'), hint and hint.decode('ascii')
+
+
 class Short:
     """A stream that gives fewer octets than it is asked for, now and then; that can seek where this is said."""
 
@@ -350,6 +359,7 @@ class Calls(unittest.TestCase):
             place = raised.place if is_in_pieces else place
             self.assertEqual((raised.place, raised.number, raised.reason, raised.fields), (place, reason, REASONS[reason], []))
             self.assertEqual(decoded, [] if whole else decoded)
+            self.assertEqual((raised.sentence, raised.hint), (MEANT[reason], None) if known is not None or hasattr(given, 'read') else said(octets, 0, most))
         else:
             self.assertIsNone(raised)
         if hasattr(given, 'tell') and octets and not known:
@@ -365,11 +375,29 @@ class Calls(unittest.TestCase):
         told = [struct.unpack_from('2N2I', array, 24 * index) for index in range(count.value)]
         wanted = [(at, length, depth, FIELDS[name], octets[at:at + length]) for at, length, depth, name in told]
         place, reason = checked(octets, flags, most)
+        profile = ('strict', 'standard')[flags]
+        sentence, hint = said(octets, flags, most) if octets and reason else (None, None)
+        if library.has_sentences:
+            self.assertEqual((ndef.why(octets, profile), ndef.hint(octets, profile)), (sentence, hint))
         try:
-            self.assertEqual(ndef.fields(octets, ('strict', 'standard')[flags]), wanted)
+            listed = ndef.fields(octets, profile)
+            self.assertEqual(listed, wanted)
             self.assertFalse(octets and reason)
+            self.remarks(octets, listed)
         except ndef.DecodeError as error:
             self.assertEqual((error.fields, error.place, error.number, error.reason), (wanted, place, reason, REASONS[reason]))
+            self.assertEqual((error.sentence, error.hint), (sentence, hint))
+
+    def remarks(self, octets, listed):
+        """The remarks on fields and on records are those that the calls write."""
+        if not library.has_remarks:
+            return
+        for field in listed:
+            written = roomed('ndef_field_remark', ctypes.c_uint32(NUMBERS[field.name]), *sized(field.octets))
+            self.assertEqual(ndef.field_remark(field.name, field.octets), written and written.decode('ascii'))
+        for index in range(4):
+            written = roomed('ndef_record_remark', *sized(octets), ctypes.c_size_t(index))
+            self.assertEqual(ndef.record_remark(octets, index), written and written.decode('ascii'))
 
     def given(self, octets, way):
         """The octets, or one of six other ways in which they are given."""

@@ -8,6 +8,7 @@ import tempfile
 import unittest
 
 import simbegyor_ndef as ndef
+from simbegyor_ndef import _library as library
 
 HELLO = bytes.fromhex('d101085402656e48656c6c6f')
 
@@ -58,12 +59,70 @@ class CommandLine(unittest.TestCase):
                 '00000009    01                       identifier code', '0000000a    65 78 61 6d 70 6c 65 2e  URI', '            63 6f 6d 2f']
         last = ['00000016  d1                       header', '00000017  01                       TYPE_LENGTH',
                 '00000018  03                       PAYLOAD_LENGTH', '00000019  54                       TYPE']
-        wrong = ['0000001a  42  ^', 'refused at 26: 15 TextBit', 'Bit 6 of the status octet of a text is reserved: it has to be 0.']
+        wrong = ['0000001a  42  ^', 'refused at 26 (0x0000001a): 15 TextBit', 'Bit 6 of the status octet of a text is reserved: it has to be 0.']
         self.assertEqual(self.run_with('explain', files=[poster]), (1, head + last + wrong))
         self.assertEqual(self.run_with('explain', files=[poster[:22]]), (0, head))
-        self.assertEqual(self.run_with('explain', files=[poster[:24]]), (1, [*head, *last[:2], 'refused at 24: 24 EndOfInput',
-                                                                            'The input ends within a message.']))
+        status, lines = self.run_with('explain', files=[poster[:24]])
+        self.assertEqual((status, lines[:-1]), (1, [*head, *last[:2], 'refused at 24 (0x00000018): 24 EndOfInput']))
         self.assertEqual(self.run_with('explain', given=b''), (0, []))
+
+    @unittest.skipUnless(library.has_sentences, 'the library is that of release 0.2.0')
+    def test_sentences_of_explain(self):
+        """The last lines, as docs/EXPLAIN.md and test/explain/rows.txt have them."""
+        late, code, block = bytes.fromhex('d10106543f6162636465'), bytes.fromhex('d1010955687474703a2f2f6162'), b'\x03\x0c' + HELLO
+        wanted = 'The language code has 63 octets; 5 are left in the payload.'
+        left_out = '68 (hexadecimal) is the letter h: was the identifier code left out?'
+        near = 'The bytes may begin with what surrounds a message on a tag; a message begins at byte 2.'
+        cases = ((late, 4, 23, 'DoesNotFit', wanted, None), (HELLO + late, 16, 23, 'DoesNotFit', wanted, None),
+                 (HELLO[:2], 2, 24, 'EndOfInput', '1 octet of PAYLOAD_LENGTH is missing.', None),
+                 (code, 4, 19, 'UriCode', None, left_out), (HELLO + code, 16, 19, 'UriCode', None, left_out),
+                 (block, 0, 2, 'BeginMissing', None, near), (HELLO + block, 12, 2, 'BeginMissing', None, None))
+        _, lines = self.run_with('explain', files=[case[0] for case in cases])
+        _, objects = self.run_with('explain', '--json', files=[case[0] for case in cases])
+        objects = [told['refused'] for told in map(json.loads, objects) if 'refused' in told]
+        for file, (given, at, number, reason, sentence, hint) in enumerate(cases):
+            with self.subTest(given.hex()):
+                before, meant = '%d.bin: ' % file, sentence or ndef.DecodeError('', 0, number).sentence
+                last = ['refused at %d (0x%08x): %d %s' % (at, at, number, reason), meant] + ['hint: %s' % hint] * (hint is not None)
+                self.assertEqual([line for line in lines if line.startswith(before)][-len(last):], [before + line for line in last])
+                self.assertEqual(objects[file], {'place': at, 'number': number, 'reason': reason, 'sentence': meant, **({'hint': hint} if hint else {})})
+
+    # An action that is reserved, and a control character in a URI of the long form (test/explain/rows.txt); two records with one id.
+    ACTION = bytes.fromhex('d1020d53 70 91010255 0161 51030161 637403')
+    LONG = bytes.fromhex('c1010000 000355 04610a')
+    IDS = bytes.fromhex('9d00000161 5d00000161')
+
+    @unittest.skipUnless(library.has_remarks, 'the library is that of release 0.2.0')
+    def test_remarks_of_explain(self):
+        """They stand where docs/EXPLAIN.md says: after the field, and after all fields of the message."""
+        size = 'The payload length 3 fits one octet (SR): the message could be 3 bytes shorter.'
+        _, lines = self.run_with('explain', given=self.LONG)
+        self.assertEqual([line for line in lines if line[10:12] != '55'], [
+            'message 1 at 0: bytes 10', '00000000  c1                       header', '00000001  01                       TYPE_LENGTH',
+            '00000002  00 00 00 03              PAYLOAD_LENGTH', 'remark: ' + size, '00000007  04                       identifier code',
+            '00000008  61 0a                    URI', 'remark: The URI has a control character.'])
+        _, lines = self.run_with('explain', given=self.ACTION + self.IDS)
+        again = 'Another record has the same id.'
+        self.assertEqual([(at, line) for at, line in enumerate(lines) if line.startswith('remark: ')],
+                         [(16, 'remark: The action 3 is reserved.'), (28, 'remark: record 1: ' + again), (29, 'remark: record 2: ' + again)])
+        _, lines = self.run_with('explain', '--json', given=self.LONG + self.IDS)
+        first, second = map(json.loads, lines)
+        self.assertEqual([part.get('remark') for part in first['fields']], [None, None, size, None, None, 'The URI has a control character.'])
+        self.assertEqual(('remarks' in first, second['remarks']), (False, [{'record': number, 'sentence': again} for number in (1, 2)]))
+
+    @unittest.skipUnless(library.has_remarks, 'the library is that of release 0.2.0')
+    def test_remarks_of_many_records(self):
+        """Records are compared in messages of at most 64."""
+        for count, told in ((64, 64), (65, 0)):
+            given = b'\x9d\0\0\1a' + (count - 2) * b'\x1d\0\0\1a' + b'\x5d\0\0\1a'
+            _, lines = self.run_with('explain', given=given)
+            self.assertEqual(sum(line.startswith('remark: record ') for line in lines), told)
+
+    def test_nothing_is_strange(self):
+        """Remarks are on what is accepted alone, and there are none with the library of release 0.2.0."""
+        for given in (HELLO, self.LONG[:9], *([] if library.has_remarks else [self.LONG, self.IDS])):
+            for words in (['explain'], ['explain', '--json']):
+                self.assertNotIn('remark', '\n'.join(self.run_with(*words, given=given)[1]))
 
     def test_explain_in_json(self):
         status, lines = self.run_with('explain', '--json', files=[HELLO + HELLO[:3]])
@@ -73,7 +132,8 @@ class CommandLine(unittest.TestCase):
         self.assertEqual(first['fields'][6], {'at': 7, 'length': 5, 'depth': 0, 'name': 'text', 'octets': '48656c6c6f'})
         self.assertEqual((second['message'], second['at'], [(part['at'], part['name']) for part in second['fields']]),
                          (2, 12, list(zip((12, 13, 14), names))))
-        self.assertEqual(third, {'refused': {'place': 15, 'number': 24, 'reason': 'EndOfInput', 'sentence': 'The input ends within a message.'}})
+        sentence = '1 octet of TYPE is missing.' if library.has_sentences else 'The input ends within a message.'
+        self.assertEqual(third, {'refused': {'place': 15, 'number': 24, 'reason': 'EndOfInput', 'sentence': sentence}})
 
     def test_the_first_word(self):
         """Only the first word may be one of the three; `show` is meant without it."""

@@ -533,11 +533,52 @@ class Streams(unittest.TestCase):
 
         self.assertRaisesRegex(TypeError, 'a stream of octets is needed, not of str', decoded, Text())
 
+    def in_threads(self, work):
+        """Runs work(number, wrong) in eight threads, which take turns as often as may be; each adds to the list what is wrong."""
+        before, wrong = sys.getswitchinterval(), []
+        try:
+            sys.setswitchinterval(1e-6)
+            threads = [threading.Thread(target=work, args=(number, wrong)) for number in range(8)]
+            for thread in threads:
+                thread.start()
+            for thread in threads:
+                thread.join()
+        finally:
+            sys.setswitchinterval(before)
+        self.assertEqual(wrong, [])
+
+    def test_threads_share_no_desk(self):
+        """What calls write is read before another thread's call writes there."""
+        messages = [b''.join(ndef.message_encoder([ndef.TextRecord('x' * (10 * count + at)) for at in range(count)])) for count in range(1, 9)]
+        texts = [[record.text for record in ndef.message_decoder(octets)] for octets in messages]
+
+        def work(number, wrong):
+            for turn in range(1500):
+                octets, wanted = messages[(turn + number) % 8], texts[(turn + number) % 8]
+                if [record.text for record in ndef.message_decoder(octets)] != wanted:
+                    wrong.append('message_decoder')
+                if [[record.text for record in records] for records in ndef.decode_many([octets])] != [wanted]:
+                    wrong.append('decode_many')
+                try:
+                    list(ndef.message_decoder(octets[:-1]))
+                except ndef.DecodeError as error:
+                    if error.place != len(octets) - 1:
+                        wrong.append(error)
+
+        self.in_threads(work)
+
+    def test_many_decoders_at_once(self):
+        """Decoders that a program goes through in turn share no desk, and not all of their desks are kept."""
+        wanted = [['%d.%d' % (number, at) for at in range(3)] for number in range(40)]
+        decoders = [ndef.message_decoder(b''.join(ndef.message_encoder([ndef.TextRecord(text) for text in texts]))) for texts in wanted]
+        turns = [[next(decoder).text for decoder in decoders] for _ in range(3)]
+        self.assertEqual([list(texts) for texts in zip(*turns)], wanted)
+        self.assertEqual([list(decoder) for decoder in decoders], [[]] * 40)
+        self.assertLessEqual(len(library.desks), 16)
+
     def test_threads_share_no_room(self):
         """Payloads in pieces are joined in rooms that threads take in turn."""
-        before, wrong = sys.getswitchinterval(), []
-
-        def work(number):
+        def work(number, wrong):
             letter = b'%d' % number
             given = b'\xb5\0\1' + letter + b'\x36\0\1' + letter + b'\x56\0' + bytes([200]) + 200 * letter
             text = ndef.TextRecord(chr(0x4e00 + number) * 100, encoding='UTF-16')
@@ -546,16 +587,7 @@ class Streams(unittest.TestCase):
                 if record.data != 202 * letter or back(text).text != text.text:
                     wrong.append(number)
 
-        try:
-            sys.setswitchinterval(1e-6)
-            threads = [threading.Thread(target=work, args=(number,)) for number in range(8)]
-            for thread in threads:
-                thread.start()
-            for thread in threads:
-                thread.join()
-        finally:
-            sys.setswitchinterval(before)
-        self.assertEqual(wrong, [])
+        self.in_threads(work)
 
 
 if __name__ == '__main__':

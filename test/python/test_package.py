@@ -76,6 +76,16 @@ class Package(unittest.TestCase):
             self.assertEqual(_platform.library_name(platform), name)
         self.assertTrue(pathlib.Path(ndef.__path__[0], _platform.library_name()).exists())
 
+    def test_a_link_to_the_shared_library_is_asked_for_by_name(self):
+        """The loader chooses among the files of a shared library where it is asked for its name, and not where it is given a path.
+        Other links, as of a cache of packages, are paths."""
+        with tempfile.TemporaryDirectory() as folder:
+            for name, led_to, asked in (('a', '../lib/libsimbegyor-ndef.so.0', 'libsimbegyor-ndef.so.0'), ('b', '/cache/libndef.so', None),
+                                        ('c', None, None)):
+                path = pathlib.Path(folder, name)
+                path.symlink_to(led_to) if led_to else path.touch()
+                self.assertEqual(_platform.asked_for(str(path)), asked or str(path))
+
     def test_the_backend_on_other_platforms(self):
         made = runpy.run_path(str(TOP / 'python/backend.py'))
         self.assertEqual(made['LIBRARY'], _platform.library_name())

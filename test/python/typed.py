@@ -13,6 +13,9 @@ sent: Optional[bytes] = encoder.send(ndef.TextRecord('Hello'))
 fields: List[ndef.Field] = ndef.fields(octets, profile='standard')
 answers: List[Union[List[ndef.Record], ndef.DecodeError]] = list(ndef.decode_many([octets, bytearray(octets)], known_types={}))
 meant: List[str] = [answer.sentence for answer in answers if isinstance(answer, ndef.DecodeError)]
+helps: List[Optional[str]] = [answer.hint for answer in answers if isinstance(answer, ndef.DecodeError)]
+said: List[Optional[str]] = [ndef.why(octets), ndef.hint(memoryview(octets), profile='standard')]
+strange: List[Optional[str]] = [*(ndef.field_remark(field.name, field.octets) for field in fields), ndef.record_remark(bytearray(octets), 0)]
 names: Iterator[str] = (field.name for field in fields)
 ndef.Record('text/plain', b'name', bytearray(3)).name = 'a'
 ndef.HandoverCarrierRecord('a/b', b'x', 'a').carrier_data.extend(b'y')
@@ -24,3 +27,7 @@ wrong_answers: List[List[ndef.Record]] = list(ndef.decode_many([octets]))  # typ
 wrong_messages = ndef.decode_many(['text'])  # type: ignore[list-item]
 wrong_sent: bytes = encoder.send(ndef.TextRecord('Hello'))  # type: ignore[assignment]
 encoder.send('text')  # type: ignore[arg-type]
+wrong_said: str = ndef.why(octets)  # type: ignore[assignment]
+ndef.hint('text')  # type: ignore[arg-type]
+ndef.field_remark(3, b'')  # type: ignore[arg-type]
+wrong_remark: str = ndef.record_remark(octets, 0)  # type: ignore[assignment]

@@ -12,9 +12,30 @@ function isRecord(text, record) {
     return record.tnf === Number(tnf) && digits(record.type) === type && digits(record.id) === id && digits(record.payload) === payload;
 }
 
+const isSame = (told, wanted) => JSON.stringify(told) === JSON.stringify(wanted);
+
+// Two records at a time are those of all.
+function areReadInParts(bytes, records) {
+    const told = [];
+    let part;
+    do {
+        part = ndef.recordsFrom(bytes, told.length > 0 ? told[told.length - 1].end : 0, 2);
+        told.push(...part);
+    } while (part.length === 2 && !part[1].last);
+    return isSame(told, records);
+}
+
+// The first fields, and those of two bytes where one of the first 40 begins, are the same of all. Each field has a byte at least.
+function arePartsOf(all, bytes, options) {
+    const touching = (from, to) => all.filter(({ at, length }) => at < to && at + length > from);
+    return [0, 3, all.length + 1].every((most) => isSame(ndef.firstFields(bytes, most, options).fields, all.slice(0, most)))
+        && all.slice(0, 40).every(({ at }) => isSame(ndef.fieldsWithin(bytes, at, at + 2, options).fields, touching(at, at + 2)));
+}
+
 function areRecords(text, bytes, count) {
     const told = text.split(","), records = ndef.records(bytes);
-    return records.length === count && told.length === count && records.every((record, index) => isRecord(told[index], record));
+    return records.length === count && told.length === count && areReadInParts(bytes, records)
+        && records.every((record, index) => isRecord(told[index], record));
 }
 
 function optionsOf(words, profile, opaque) {
@@ -34,7 +55,7 @@ function areFields(bytes, options, checked) {
             const follows = at === end && length > 0 && depth <= 1 && name !== null;
             end = at + length;
             return follows;
-        }) && end === checked.place;
+        }) && end === checked.place && arePartsOf(told.fields, bytes, options);
 }
 
 function isAnswered([, , , , , , limits, hex, answer, records], profile, opaque) {

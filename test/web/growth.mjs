@@ -1,7 +1,8 @@
-// node test/web/growth.mjs: how the time of each walk of ndef.js grows with the records: prints microseconds for 100, 1000 and
-// 10000 of them. A walk that takes much more than ten times as long for ten times as many fails. The links of a handover are
-// left out of that: each carrier is looked for among the records.
+// node test/web/growth.mjs: how the time of each walk of ndef.js and of the package grows with the records: prints microseconds for
+// 100, 1000 and 10000 of them. A walk that takes much more than ten times as long for ten times as many fails. The links of ndef.js
+// are left out of that: each carrier is looked for among the records.
 import { readFileSync } from "node:fs";
+import { NDEFDecoderStream, decode, encode, explain, links } from "../../out/web/index.js";
 import { Ndef } from "../../out/web/ndef.js";
 
 const ndef = await Ndef.load(readFileSync(new URL("../../out/web/ndef.wasm", import.meta.url)));
@@ -70,4 +71,32 @@ row("links of a handover (carriers times records)", false, (count) => {
     if (ndef.links(bytes, payload).length !== count) throw new Error("other links");
     return () => ndef.links(bytes, payload);
 });
+row("decode, and all values", true, (count) => { const bytes = texts(count); return () => decode(bytes, MANY).records.map(({ text }) => text); });
+row("encode", true, (count) => { const message = decode(texts(count), MANY); return () => encode(message); });
+row("explain", true, (count) => { const bytes = texts(count); return () => explain(bytes, MANY); });
+row("titles of a poster", true, (count) => {
+    const poster = record(1, "Sp", message([record(1, "U", "\0a"), ...times(count, () => record(1, "T", "\x02enHello"))]));
+    const bytes = message([poster]);
+    return () => decode(bytes, MANY).records[0].value.titles;
+});
+row("links", true, (count) => {
+    const given = decode(handover(count).bytes, MANY);
+    if (links(given).filter(({ record }) => record).length !== count) throw new Error("other links");
+    return () => links(given);
+});
+
+// A stream's steps are waited for, so its time is that of the clock.
+for (const length of [1, 1 << 20]) {
+    const told = [];
+    for (const count of [100, 1000, 10000]) {
+        const bytes = Uint8Array.from({ length: 3 * count }, (_, at) => (at % 3 ? 0 : 0xd0)), before = performance.now();
+        const parts = new Blob([bytes]).stream().pipeThrough(new TransformStream({ transform: (part, controller) => {
+            for (let at = 0; at < part.length; at += length) controller.enqueue(part.subarray(at, at + length));
+        } }));
+        for await (const _ of parts.pipeThrough(new NDEFDecoderStream())) told.count = (told.count ?? 0) + 1;
+        told.push(1000 * (performance.now() - before));
+    }
+    if (told.count !== 11100) throw new Error("other messages");
+    console.log(["JavaScript", `messages of a stream in parts of ${length}`, ...told.map((time) => time.toFixed(0))].join(" | "));
+}
 process.exit(steep ? 1 : 0);

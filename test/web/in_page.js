@@ -1,5 +1,5 @@
-// What stands in the page and is shown there, tested within the page itself by test/web/page.mjs, which writes CASES before this
-// script. The last paragraph of the page has the failures then, and 'N passed, M failed'.
+// What stands in the page and is shown there, tested within the page itself by test/web/page.mjs, which sets CASES before this
+// script, and REMARKS: whether the library has them. The last paragraph of the page has the failures then, and 'N passed, M failed'.
 const find = (id) => document.getElementById(id);
 const textOf = (id) => find(id).textContent;
 const LIMITS = ["payload", "records", "pieces"];
@@ -13,8 +13,18 @@ function look(name, told, wanted) {
     if (failed++ < 10) report.append(`FAILED: ${name}: ${JSON.stringify(told)} is not ${JSON.stringify(wanted)}. `);
 }
 
-// Types bytes, with a profile and limits.
-function enter(hex, { profile = "strict", payloads = "typed", options = USUAL } = {}) {
+// What the page puts off to tasks of their own, in the order in which it is done. A test does it when it wants to.
+const putOff = [], waitFor = window.setTimeout.bind(window);
+window.setTimeout = (call, time = 0, ...given) => (time > 0 ? waitFor(call, time, ...given) : putOff.push(call));
+const doNext = () => putOff.shift()();
+
+// Types bytes, with a profile and limits, and shows all of them.
+function enter(hex, how) {
+    beginWith(hex, how);
+    while (putOff.length > 0) doNext();
+}
+
+function beginWith(hex, { profile = "strict", payloads = "typed", options = USUAL } = {}) {
     find("profile").value = profile;
     find("payloads").value = payloads;
     LIMITS.forEach((name) => { find(name).value = options[name]; });
@@ -23,8 +33,10 @@ function enter(hex, { profile = "strict", payloads = "typed", options = USUAL } 
 }
 
 const spans = () => [...document.querySelectorAll("#bytes [data-at]")];
-const rows = (nested) => [...document.querySelectorAll("tbody tr")].filter((row) => nested || row.className !== "nested")
-    .map((row) => [...row.children].map((cell) => cell.textContent));
+// What a cell says, without a remark.
+const saidIn = (cell) => [...cell.childNodes].filter((node) => node.className !== "remark").map((node) => node.textContent).join("");
+const rows = (nested) => [...document.querySelectorAll("#record-part tbody tr")].filter((row) => nested || row.className !== "nested")
+    .map((row) => [...row.children].map(saidIn));
 const values = (hex, options) => { enter(hex, options); return rows(true).map((row) => row[6]); };
 const colours = () => [...document.querySelectorAll("#legend li")].map((item) => item.textContent);
 
@@ -67,7 +79,7 @@ function showsValues() {
     look("an error", values("D1020C4873 14 D10305657272 02 00000104"), ["Handover select 1.4, error 2", "Error 2, number 260"]);
     look("an error without a number", values("D102094873 14 D10302657272 04 07")[1], "Error 4");
     look("what is refused within an opaque message", values("D1010154 40", { payloads: "opaque" }),
-        ["Refused at byte 0 of the payload, reason 15: Text bit"]);
+        ["Refused at byte 0 of the payload, reason 15, TextBit: Bit 6 of the status octet of a text is reserved: it has to be 0."]);
     look("another type", [...values("D2010178 54"), ...values("D101017854")], ["", ""]);
 }
 
@@ -83,7 +95,7 @@ function showsPayloads() {
     look("bytes that are no characters", rows(false)[0].slice(3, 5), ["a/\\x7f", "i\\x0a"]);
     enter("D102065370 D10102550061");
     look("the rows of a poster", rows(true).map((row) => row.slice(0, 4)), [["1", "0", "1 well-known", "Sp"], ["1.1", "0", "1 well-known", "U"]]);
-    look("how deep they are", [...document.querySelectorAll("tbody tr")].map((row) => row.style.getPropertyValue("--depth")), ["0", "1"]);
+    look("how deep they are", [...document.querySelectorAll("#record-part tbody tr")].map((row) => row.style.getPropertyValue("--depth")), ["0", "1"]);
     look("nested bytes", spans().map((span) => span.getAttribute("aria-label")).slice(4), [
         'Byte 4: 70 "p", record 1, TYPE', "Byte 5: D1, record 1.1, header", "Byte 6: 01, record 1.1, TYPE_LENGTH",
         "Byte 7: 02, record 1.1, PAYLOAD_LENGTH", 'Byte 8: 55 "U", record 1.1, TYPE', "Byte 9: 00, record 1.1, identifier code",
@@ -97,36 +109,118 @@ function showsPayloads() {
     enter("B102015370 D1 560005 0102550061");
     look("a poster in chunks", [begins(), names(), rows(true).map((row) => row[0])], [["0"], "1 1 1 1 1 1 1 1 1 1 1 1 1 1", ["1", "1.1"]]);
     enter("D102065370 D10102550061");
-    look("the columns", [...document.querySelectorAll("th")].map((cell) => cell.textContent),
+    look("the columns", [...document.querySelectorAll("#record-part th")].map((cell) => cell.textContent),
         ["Record", "Place", "Type name format", "Type", "Id", "Payload", "Value"]);
-    look("their names in the cells", [...document.querySelector("tbody tr").children].map((cell) => [cell.dataset.name, cell.className])[4], ["Id", "none"]);
+    look("their names in the cells", [...document.querySelector("#record-part tbody tr").children].map((cell) => [cell.dataset.name, cell.className])[4], ["Id", "none"]);
+}
+
+// The grid of the bytes, and the list of the fields.
+function showsRows() {
+    const grid = () => [...document.querySelectorAll("#bytes [role=row]")].map((row) => [row.children[0].textContent, row.querySelector(".text").textContent]);
+    const fields = () => [...document.querySelectorAll("#field-part tbody tr")].map((row) => [row.className, ...[...row.children].map((cell) => cell.textContent)]);
+    enter(`D1 01 0C 55 01 ${"61 ".repeat(11)}`);
+    look("a whole row", grid(), [["0", "···U·aaaaaaaaaaa"]]);
+    enter(`D1 01 0D 55 01 ${"61 ".repeat(12)}`);
+    look("a row and a byte", grid(), [["0", "···U·aaaaaaaaaaa"], ["16", "a"]]);
+    enter(`D5 00 10 ${"61 ".repeat(16)}`);
+    look("a field of 16 bytes", fields()[3] ?? fields()[2], ["", "3", "PAYLOAD", "61 ".repeat(16).trim(), "a".repeat(16)]);
+    enter(`D00000 D5 00 11 ${"7E ".repeat(17)}`);
+    look("a field of 17 bytes in a second message", fields().at(-1), ["", "6", "PAYLOAD", `${"7E ".repeat(16)}…`, `${"~".repeat(16)} …`]);
+    enter("D102065370 D10102550061");
+    look("fields within a payload", fields().slice(3, 6), [["", "3", "TYPE", "53 70", "Sp"], ["nested", "5", "header", "D1", "·"], ["nested", "6", "TYPE_LENGTH", "01", "·"]]);
+    enter("D00000".repeat(200));
+    look("at most 500 fields", fields().length, 500);
+    enter("D1010154FF", { payloads: "opaque" });
+    look("fields of what isn't checked", fields().map((row) => row[2]), ["header", "TYPE_LENGTH", "PAYLOAD_LENGTH", "TYPE"]);
+}
+
+// The remarks on records and on fields, each with the record or the field that it follows; docs/EXPLAIN.md has them.
+function showsRemarks() {
+    const onRecords = () => [...document.querySelectorAll("#record-part .remark")].map((remark) => [remark.closest("tr").children[0].textContent, remark.textContent]);
+    const onFields = () => [...document.querySelectorAll("#field-part .remark")].map((row) => [row.previousSibling.children[1].textContent, row.textContent]);
+    const told = (hex) => { enter(hex); return [onRecords(), onFields()]; };
+    const again = "Another record has the same id.", long = "The payload length 0 fits one octet (SR): the message could be 3 bytes shorter.";
+    const known = (...wanted) => (REMARKS ? wanted : [[], []]);
+    look("remarks on two of three records", told("9D000001 61 1D000001 62 5D000001 61"), known([["1", again], ["3", again]], []));
+    look("a remark on a field of the second message", told("D00000 C00000000000"), known([], [["PAYLOAD_LENGTH", long]]));
+    const REFUSED = "9D000001 61 0D0000000000 01 61 D7", POSTER = "D102065370 D10102550061";
+    look("remarks on neither where the message is refused", told(REFUSED), [[], []]);
+    look("at most 500 fields, with remarks", [told("C00000000000".repeat(200))[1].length, document.querySelectorAll("#field-part tbody tr").length],
+        REMARKS ? [166, 666] : [0, 500]);
+    look("a hundred tables", document.querySelectorAll("#record-part table").length, 100);
+    const asked = (hex) => { window.asked = 0; enter(hex); return window.asked; };
+    const same = (count) => `9D000001 61${"1D000001 61".repeat(count - 2)}5D000001 61`;
+    look("which records the library is asked for: of at most 64, no nested ones, and none where the message is refused",
+        [same(64), same(65), POSTER, REFUSED].map(asked), REMARKS ? [64, 0, 1, 0] : [0, 0, 0, 0]);
 }
 
 function showsMessages() {
     enter("D00000 D00000 D10101540 0");
     look("three messages", textOf("verdict"), "3 messages, 3 records, 11 bytes");
-    look("their titles", [...document.querySelectorAll("h2")].map((title) => title.textContent),
+    look("their titles", [...document.querySelectorAll("#record-part h2")].map((title) => title.textContent),
         ["Message 1, at byte 0", "Message 2, at byte 3", "Message 3, at byte 6"]);
     look("the third one's bytes", spans()[7].getAttribute("aria-label"), "Byte 7: 01, record 1, TYPE_LENGTH");
     enter(TEXT);
-    look("one title", [...document.querySelectorAll("h2")].map((title) => title.textContent), ["Records"]);
+    look("one title", [...document.querySelectorAll("#record-part h2")].map((title) => title.textContent), ["Records"]);
     enter("D00000 D70000");
     look("a refused second", [textOf("verdict"), spans()[3].className, spans()[4].className, textOf("detail")], [
-        "1 message, 1 record, 3 bytes, then refused at byte 3, reason 1: Reserved tnf", "refused begin", "rest", "Byte 3: D7, record 1, refused",
+        "1 message, 1 record, 3 bytes, then refused at byte 3, reason 1, ReservedTnf: The type name format 7 is reserved.", "refused begin", "rest", "Byte 3: D7, record 1, refused",
     ]);
     const many = "D00000".repeat(1000);
     enter(`${many}D7`);
     look("what isn't shown", [...document.querySelectorAll(".gap")].map((gap) => gap.textContent), ["888 bytes not shown"]);
     look("the refused byte far down", [spans().length, document.querySelector(".refused").dataset.at], [2048 + 65, "3000"]);
+    look("the first byte before it that is shown", spans()[2048].getAttribute("aria-label"), "Byte 2936: 00, record 1, PAYLOAD_LENGTH");
     enter(many);
     look("the end that isn't shown", [[...document.querySelectorAll(".gap")].map((gap) => gap.textContent), spans().length], [["952 bytes not shown"], 2048]);
-    look("a hundred tables", [document.querySelectorAll("table").length, textOf("verdict")], [100, "1000 messages, 1000 records, 3000 bytes"]);
+    look("a hundred tables", [document.querySelectorAll("#record-part table").length, textOf("verdict")], [100, "1000 messages, 1000 records, 3000 bytes"]);
     enter(`90000010${"000010".repeat(598)}000050000 0`, { options: { ...USUAL, records: 601 } });
     look("five hundred rows", [rows(true).length, document.querySelector("#record-part p")?.textContent, textOf("verdict")],
         [500, "101 records not shown", "1 message, 601 records, 1803 bytes"]);
     enter("");
     look("no bytes", [textOf("verdict"), spans().length, textOf("detail")],
-        ["Refused at byte 0 (the end of the input), reason 24: End of input", 1, "Byte 0: the end of the input"]);
+        ["Refused at byte 0 (the end of the input), reason 24, EndOfInput: The input ends within a message.", 1, "Byte 0: the end of the input"]);
+}
+
+// How many elements show bytes, fields and records, how many rows there are of each, and what is said of the records.
+function countShown() {
+    const count = (chosen) => document.querySelectorAll(chosen).length;
+    return {
+        elements: count("#bytes *, #field-part *, #record-part *"),
+        rows: ["#bytes [role=row]", "#field-part tbody tr", "#record-part tbody tr"].map(count),
+        line: document.querySelector("#record-part p")?.textContent,
+    };
+}
+
+// What is shown after each slice of a message of 10000 records, or of the same with a byte more that is refused.
+function slicesOf(hex) {
+    enter("");
+    beginWith(hex, { options: { ...USUAL, records: 65535 } });
+    const told = [countShown()];
+    while (putOff.length > 0) { doNext(); told.push(countShown()); }
+    return told;
+}
+
+// A slice makes at most 500 elements and one row more, and a message of any length begins to be shown at once.
+const MOST_MADE = 560, FRONT = `900000${"100000".repeat(9998)}`;
+function showsSlices() {
+    const whole = slicesOf(`${FRONT}500000`), [, first] = whole, made = (told) => told.map(({ elements }, index) => elements - (told[index - 1]?.elements ?? 0));
+    look("what the slice after the verdict shows", [first.rows.every((count) => count > 0), first.line], [true, `${first.rows[2]} records so far`]);
+    look("slices of a whole message", [Math.max(...made(whole)) <= MOST_MADE, whole.length > 16], [true, true]);
+    look("all that is shown", [whole.at(-1).rows, whole.at(-1).line], [[128, 500, 500], "9500 records not shown"]);
+    const refused = slicesOf(`${FRONT}170000`);
+    look("slices of a refused one", [Math.max(...made(refused)) <= MOST_MADE, refused.length > 50], [true, true]);
+    look("what it shows", [refused.at(-1).rows[1], refused.at(-1).line, textOf("sound"), document.querySelector("#bytes .refused").dataset.at],
+        [500, "9500 records not shown", "Sound: 9999 whole records of this message, 29997 bytes.", "29997"]);
+    beginWith(`${FRONT}500000`, { options: { ...USUAL, records: 65535 } });
+    beginWith(TEXT);
+    const before = countShown();
+    while (putOff.length > 0) doNext();
+    look("other bytes stop what goes on", [countShown(), spans().length, textOf("verdict")], [before, 12, "1 message, 1 record, 12 bytes"]);
+    beginWith(`${FRONT}500000`, { options: { ...USUAL, records: 65535 } });
+    beginWith("D1 0G");
+    while (putOff.length > 0) doNext();
+    look("a wrong digit too", [countShown().elements, textOf("verdict")], [0, '"G" is no hexadecimal digit.']);
 }
 
 function takesDigits() {
@@ -168,7 +262,7 @@ function press(key) {
 
 function moves() {
     enter("90000010000010000010000010000010000010000010000010000010000010000010000010000010000050000 0");
-    const all = spans(), row = getComputedStyle(find("bytes")).gridTemplateColumns.split(" ").length;
+    const all = spans(), row = find("bytes").querySelector("[role=row]").querySelectorAll("[data-at]").length;
     look("the first byte is reached by the tab key", all.map((span) => span.tabIndex).filter((index) => index === 0).length, 1);
     all[0].focus();
     look("the detail of the first", textOf("detail"), "Byte 0: 90, record 1, header");
@@ -196,9 +290,9 @@ const SAMPLES = {
         "1 message, 2 records, 34 bytes", "Handover request 1.2, random number 4660Carrier 1: record 2, power state active", "",
         'Alternative carrier, power state active, references "0"', "",
     ],
-    "not UTF-8": ["Refused at byte 24, reason 17: Utf8"],
-    "reserved": ["Refused at byte 0, reason 1: Reserved tnf"],
-    "cut off": ["Refused at byte 9 (the end of the input), reason 24: End of input"],
+    "not UTF-8": ["Refused at byte 24, reason 17, Utf8: The text is not UTF-8."],
+    "reserved": ["Refused at byte 0, reason 1, ReservedTnf: The type name format 7 is reserved."],
+    "cut off": ["Refused at byte 9 (the end of the input), reason 24, EndOfInput: The input ends within a message."],
 };
 
 function hasSamples() {
@@ -219,14 +313,7 @@ const later = (holds) => new Promise((done) => {
 });
 
 async function takesFiles() {
-    // The browser's clock runs ahead while a file is read, so these are read at once.
-    const contents = new Map(), given = new DataTransfer();
-    File.prototype.arrayBuffer = async function () { return contents.get(this.name).buffer; };
-    const file = (...bytes) => {
-        const name = `tag${contents.size}`;
-        contents.set(name, Uint8Array.from(bytes));
-        return new File([Uint8Array.from(bytes)], name);
-    };
+    const given = new DataTransfer(), file = (...bytes) => new File([Uint8Array.from(bytes)], "tag");
     enter("");
     given.items.add(file(0xd0, 0, 0));
     find("file").files = given.files;
@@ -267,10 +354,14 @@ async function readsTags() {
     find("scan").click();
     await later(() => textOf("tag-part") !== "");
     look("a tag is waited for", textOf("tag-part"), "Hold a tag to the device.");
-    const data = new DataView(Uint8Array.of(9, 2, 0x65, 9).buffer, 1, 2), message = { records: [{ recordType: "text", data }, { recordType: "mime", mediaType: "a/b", id: "i" }] };
-    window.reader.dispatchEvent(Object.assign(new Event("reading"), { serialNumber: "04:1", message }));
+    const data = new DataView(Uint8Array.of(9, 0x48, 0x69, 9).buffer, 1, 2), records = [{ recordType: "text", data, lang: "de", encoding: "utf-8", mediaType: null, id: null }, { recordType: "mime", mediaType: "a/b", id: "i", data: null }];
+    window.reader.dispatchEvent(Object.assign(new Event("reading"), { serialNumber: "04:1", message: { records } }));
     look("what the browser reads", [...document.querySelectorAll("#tag-part li, #tag-part h2")].map((item) => item.textContent),
-        ["Tag 04:1", "text  : 02 65", "mime a/b i: "]);
+        ["Tag 04:1", "text  : 48 69", "mime a/b i: "]);
+    look("as bytes", find("hex").value, "91 01 05 54 02 64 65 48 69 5A 03 00 01 61 2F 62 69");
+    window.reader.dispatchEvent(Object.assign(new Event("reading"), { serialNumber: "04:2", message: { records: [{ recordType: "other" }] } }));
+    look("what this page has no name for", textOf("tag-part"), 'Tag 04:2What the browser read. There is no record type "other".other  : ');
+    look("bytes stay", find("hex").value.length, 50);
     window.reader.dispatchEvent(new Event("readingerror"));
     look("a tag that fails", textOf("tag-part"), "The tag can't be read.");
     window.scanned = new Promise((_, refuse) => { fail = refuse; });
@@ -285,7 +376,7 @@ async function run() {
     if (textOf("verdict") === "") return;
     look("what is shown first", [textOf("verdict"), LIMITS.map((name) => Number(find(name).value)), Number(textOf("size")) > 10000],
         [SAMPLES["two records"][0], Object.values(USUAL), true]);
-    [showsCases, showsValues, showsPayloads, showsMessages, takesDigits, moves, hasSamples].forEach((test) => test());
+    [showsCases, showsValues, showsPayloads, showsRows, showsRemarks, showsMessages, showsSlices, takesDigits, moves, hasSamples].forEach((test) => test());
     await takesFiles();
     await takesAddresses();
     await readsTags();

@@ -219,6 +219,37 @@ for (let value = 0; value < 64; value++) {
     look("statusName", ndef.statusName(value), named("ndef_status_name", value), []);
     look("fieldName", ndef.fieldName(value), named("ndef_field_name", value), []);
 }
+// A text whose language code doesn't fit, the same after a length as of a tag's block, a message, and bytes whose payloads aren't
+// checked. The library of an older release hasn't these calls, as that in dist/ may be.
+const late = [0xd1, 1, 6, 0x54, 0x3f, 0, 0, 0, 0, 0], block = [3, 3, 0xd0, 0, 0, 0xfe];
+if (process.env.NDEF_FROM !== "dist" || c.ndef_why !== undefined) {
+    look("why", ndef.why(new Uint8Array(late)), "The language code has 63 octets; 5 are left in the payload.", late);
+    look("why", ndef.why(new Uint8Array([0xd0, 0, 0])), null, [0xd0, 0, 0]);
+    look("why", ndef.why(new Uint8Array(late), { flags: Ndef.OPAQUE }), null, late);
+    look("hint", ndef.hint(new Uint8Array(block)),
+        "The bytes may begin with what surrounds a message on a tag; a message begins at byte 2.", block);
+    look("hint", ndef.hint(new Uint8Array(late)), null, late);
+}
+// What is strange in fields and in records, by docs/EXPLAIN.md; three records have the ids a, b and a.
+if (process.env.NDEF_FROM !== "dist" || c.ndef_record_remark !== undefined) {
+    look("fieldRemark", ndef.fieldRemark("action", new Uint8Array([3])), "The action 3 is reserved.", []);
+    look("fieldRemark", ndef.fieldRemark("action", new Uint8Array([2])), null, []);
+    look("fieldRemark", ndef.fieldRemark("PAYLOAD_LENGTH", new Uint8Array([0, 0, 0, 3])),
+        "The payload length 3 fits one octet (SR): the message could be 3 bytes shorter.", []);
+    const twice = new Uint8Array([0x9d, 0, 0, 1, 0x61, 0x1d, 0, 0, 1, 0x62, 0x5d, 0, 0, 1, 0x61]), again = "Another record has the same id.";
+    look("recordRemark", [0, 1, 2, 3, 1e15].map((index) => ndef.recordRemark(twice, index)), [again, null, again, null, null], twice);
+    look("recordRemark", ndef.recordRemark(twice.subarray(0, 14), 0), null, twice);
+}
+for (const wrong of [() => ndef.fieldRemark("uri", new Uint8Array(1)), () => ndef.recordRemark(new Uint8Array(1), -1)]) {
+    let refused = null;
+    try { wrong(); } catch (error) { refused = error; }
+    look("a bad argument for a remark", refused instanceof RangeError, true, []);
+}
+const older = new Ndef({ ...c, ndef_why: undefined });
+let said = "";
+try { older.why(new Uint8Array(late)); } catch (error) { said = String(error); }
+look("a call that the library lacks", [said, older.lacks.has("ndef_why"), older.lacks.has("ndef_check")],
+    ["Error: the library has no ndef_why: it is of an older version than ndef.js", true, false], late);
 c.ndef_usual_limits(base);
 look("usualLimits", ndef.usualLimits(), { payload: u32(0), records: u32(4), pieces: u32(8), flags: u32(12) }, []);
 

@@ -1,14 +1,15 @@
-// node test/web/page.mjs OUT <LINES: writes OUT, the page with a script that tests it (in_page.js) and with what it has to show: for each
-// case of the suite, given as lines on standard input, the verdict and the records of the case, and the fields of its bytes as
-// the library tells them.
-import { readFileSync, writeFileSync } from "node:fs";
+// node test/web/page.mjs <LINES: tests the page in a browser, with a script that runs in it (in_page.js) and with what it has to show: for
+// each case of the suite, given as lines on standard input, the verdict and the records of the case, and the fields of its bytes as
+// the library tells them. Prints 'N passed, M failed'.
+import { readFileSync } from "node:fs";
+import { fileURLToPath } from "node:url";
 import { Ndef } from "../../out/web/ndef.js";
+import { Browser } from "./browser.mjs";
 
 const at = (path) => new URL(path, import.meta.url);
 const ndef = await Ndef.load(readFileSync(at("../../out/web/ndef.wasm")));
 const fromHex = (text) => Uint8Array.from(Buffer.from(text.replace(/[ -]/g, ""), "hex"));
 const plural = (count, word) => `${count} ${word}${count === 1 ? "" : "s"}`;
-const inWords = (name) => name[0] + name.slice(1).replace(/[A-Z]/g, (letter) => ` ${letter.toLowerCase()}`);
 const ascii = (octet) => (octet >= 0x20 && octet <= 0x7e ? String.fromCharCode(octet) : null);
 const quoted = (octets) => [...octets].map((octet) => ascii(octet) ?? "\\x" + octet.toString(16).padStart(2, "0")).join("");
 const upper = (octets) => [...octets].map((octet) => octet.toString(16).padStart(2, "0").toUpperCase()).join(" ");
@@ -64,7 +65,7 @@ function caseOf(fields, profile, opaque) {
         };
     }
     const reason = word === "more" ? 24 : Number(number), end = Number(place) === bytes.length ? " (the end of the input)" : "";
-    const verdict = `Refused at byte ${place}${end}, reason ${reason}: ${inWords(ndef.reasonName(reason))}`;
+    const verdict = `Refused at byte ${place}${end}, reason ${reason}, ${ndef.reasonName(reason)}: ${ndef.reasonSentence(reason)}`;
     return { ...told, verdict, color: "bad", rows: null, spans: opaque ? null : spansOf(bytes, { ...options, flags }, Number(place)) };
 }
 
@@ -75,8 +76,33 @@ for (const line of readFileSync(0, "utf8").split("\n").filter(Boolean)) {
     for (const language of ["typed", "opaque"].filter((name) => fields[4].split(" ").includes(name)))
         for (const profile of fields[5] === "both" ? ["strict", "standard"] : [fields[5]]) cases.push(caseOf(fields, profile, language === "opaque"));
 }
-const page = readFileSync(at("../../out/web/index.html"), "utf8"), script = readFileSync(at("./in_page.js"), "utf8");
-const data = JSON.stringify(cases.filter(Boolean)).replaceAll("<", "\\u003c");
-const readers = `<script>window.NDEFReader = class extends EventTarget { constructor() { super(); window.reader = this; } async scan() { await window.scanned; } };</script>`;
-writeFileSync(process.argv[2], page.replace("<body>", () => `<body>${readers}`)
-    .replace("</body>", () => `<script>const CASES = ${data};\n${script}</script></body>`));
+
+// A browser that reads and writes tags; tests say how.
+const READER = `window.NDEFReader = class extends EventTarget {
+    constructor() { super(); window.reader = this; }
+    async scan() { await window.scanned; }
+    async write(message) { window.wanted = message; await window.writing; }
+};`;
+
+// Counts how often the library is asked for a remark on a record.
+const COUNTER = `const { instantiate } = WebAssembly;
+WebAssembly.instantiate = async (...given) => {
+    const { exports } = (await instantiate(...given)).instance, { ndef_record_remark: call } = exports;
+    const counted = (...words) => { window.asked++; return call(...words); };
+    return { instance: { exports: call ? { ...exports, ndef_record_remark: counted } : exports } };
+};
+window.asked = 0;`;
+
+const browser = await Browser.start();
+try {
+    for (const source of [READER, COUNTER]) await browser.send("Page.addScriptToEvaluateOnNewDocument", { source });
+    await browser.open(`file://${fileURLToPath(at("../../out/web/index.html"))}`, 'document.getElementById("verdict").textContent !== ""');
+    await browser.evaluate(`{ window.CASES = ${JSON.stringify(cases.filter(Boolean))}; window.REMARKS = ${!ndef.lacks.has("ndef_record_remark")};\n${readFileSync(at("./in_page.js"), "utf8")} }`);
+    await browser.until('document.getElementById("report")?.textContent');
+    const report = await browser.evaluate('document.getElementById("report").textContent');
+    console.log(report.replaceAll(". FAILED", ".\nFAILED").replace(/([0-9]+ passed, [0-9]+ failed)$/, "\n$1").trim());
+    process.exitCode = / passed, 0 failed$/.test(report) && browser.faults.length === 0 ? 0 : 1;
+    browser.faults.forEach((fault) => console.log(`FAILED: ${fault}`));
+} finally {
+    await browser.stop();
+}

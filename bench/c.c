@@ -1,0 +1,195 @@
+/* Times the library for C:
+ *
+ *   c FOLDER MILLISECONDS        times each call of a message for so long, and prints 'CALL NAME NANOSECONDS' of each
+ *   c FOLDER instructions        has callgrind dump what many calls take, by 'TIMES NAME'
+ *   c FOLDER once CALL NAME      makes one call, for its memory; 'nothing' makes none
+ *
+ * A time is the least of many runs, of processor time. */
+#define _POSIX_C_SOURCE 199309L
+#include "ndef.h"
+#include <stdio.h>
+#include <stdlib.h>
+#include <string.h>
+#include <time.h>
+#ifdef WITH_CALLGRIND
+#include <valgrind/callgrind.h>
+#else
+#define CALLGRIND_ZERO_STATS
+#define CALLGRIND_DUMP_STATS_AT(name) (void)(name)
+#endif
+
+typedef struct { const char *name; uint8_t *at; size_t length; } message;
+
+static const char *const names[] = {"hello", "umlauts", "uri", "poster", "records-1000", "opaque-1M", "ascii-1M", "wide-1M", "chunks-4000",
+                                    "records-100", "records-10000", "records-60000", "cut"};
+enum { NAMES = sizeof names / sizeof *names };
+static ndef_limits limits;
+static uint8_t room[1 << 20];
+
+static uint32_t check(const message *m) {
+    ndef_checked checked;
+    return ndef_check(m->at, m->length, &limits, &checked);
+}
+
+/* A check, and then each record. */
+static uint32_t walk(const message *m) {
+    ndef_checked checked;
+    ndef_record record = {0};
+    uint32_t status = ndef_check(m->at, m->length, &limits, &checked);
+    while (status == NDEF_OK && !record.last) status = ndef_record_at(m->at, m->length, record.end, &record);
+    return status;
+}
+
+/* A check of parts of 4096 bytes. */
+static uint32_t feed(const message *m) {
+    ndef_checker checker;
+    ndef_checked checked;
+    uint32_t status = ndef_begin(&limits, &checker);
+    for (size_t at = 0, part; at < m->length && status != NDEF_REFUSED; at += part) {
+        part = m->length - at < 4096 ? m->length - at : 4096;
+        status = ndef_feed(&checker, m->at + at, part, &checked);
+    }
+    return status;
+}
+
+static uint32_t copy(const message *m) {
+    memcpy(room, m->at, m->length < sizeof room ? m->length : sizeof room);
+    __asm__ volatile("" : : "r"(room) : "memory");
+    return NDEF_OK;
+}
+
+static uint32_t record_at(const message *m) { ndef_record record; return ndef_record_at(m->at, m->length, 0, &record); }
+static uint32_t payload(const message *m) { ndef_size count; return ndef_payload(m->at, m->length, 0, room, sizeof room, &count); }
+
+/* Calls of payloads. The message is a payload for them. */
+static ndef_checked why;
+static uint32_t text(const message *m) { ndef_text_parts parts; return ndef_text(m->at, m->length, &parts, &why); }
+static uint32_t text_in_utf8(const message *m) { ndef_size count; return ndef_text_in_utf8(m->at, m->length, room, sizeof room, &count, &why); }
+static uint32_t uri(const message *m) { ndef_size count; return ndef_uri(m->at, m->length, 0, room, sizeof room, &count, &why); }
+static uint32_t uri_view(const message *m) { ndef_uri_parts parts; return ndef_uri_view(m->at, m->length, 0, &parts, &why); }
+static uint32_t carrier(const message *m) { ndef_carrier_parts parts; return ndef_carrier(m->at, m->length, &parts, &why); }
+static uint32_t error(const message *m) { ndef_error_parts parts; return ndef_error(m->at, m->length, &parts, &why); }
+static uint32_t alternative(const message *m) { ndef_alternative_parts parts; return ndef_alternative(m->at, m->length, &parts, &why); }
+static uint32_t request(const message *m) { ndef_request_parts parts; return ndef_request(m->at, m->length, 0, &parts, &why); }
+static uint32_t selected(const message *m) { ndef_select_parts parts; return ndef_select(m->at, m->length, 0, &parts, &why); }
+static uint32_t poster(const message *m) { ndef_poster_parts parts; return ndef_poster(m->at, m->length, 0, &parts, &why); }
+
+typedef struct { const char *name; uint32_t (*call)(const message *); } operation;
+static const operation timed[] = {{"check", check}, {"walk", walk}, {"feed", feed}, {"memcpy", copy}};
+
+#define BYTES(text) {"", (uint8_t *)(text), sizeof(text) - 1}
+#define CARRIER "\x02\x04" "ac\x01\x01" "0\x00"
+typedef struct { const char *name; uint32_t (*call)(const message *); message of; } counted;
+static const counted counts[] = {
+    {"ndef_text of \"Hello\"", text, BYTES("\x02" "enHello")},
+    {"ndef_text_in_utf8 of it", text_in_utf8, BYTES("\x02" "enHello")},
+    {"ndef_text, refused at its last byte", text, BYTES("\x02" "enHell\xFF")},
+    {"ndef_uri of http://www.example.com", uri, BYTES("\x01" "example.com")},
+    {"ndef_uri_view of it", uri_view, BYTES("\x01" "example.com")},
+    {"ndef_carrier", carrier, BYTES("\x02\x03" "a/b" "data")},
+    {"ndef_error", error, BYTES("\x01\x10")},
+    {"ndef_alternative", alternative, BYTES("\x01\x01" "0\x00")},
+    {"ndef_request of 2 carriers", request, BYTES("\x12\x91\x02\x02" "cr\x12\x34\x11" CARRIER "\x51" CARRIER)},
+    {"ndef_select of 1 carrier", selected, BYTES("\x12\xD1" CARRIER)},
+    {"ndef_poster of 2 records", poster, BYTES("\x91\x01\x0CU\x01" "example.com\x51\x01\x08T\x02" "enHello")},
+};
+
+static double now(void) {
+    struct timespec at;
+    clock_gettime(CLOCK_PROCESS_CPUTIME_ID, &at);
+    return at.tv_sec * 1e9 + at.tv_nsec;
+}
+
+static message read_message(const char *folder, const char *name) {
+    message m = {name, NULL, 0};
+    char path[4096];
+    FILE *file;
+    snprintf(path, sizeof path, "%s/%s", folder, name);
+    file = fopen(path, "rb");
+    if (file == NULL || fseek(file, 0, SEEK_END) != 0) { perror(path); exit(1); }
+    m.length = (size_t)ftell(file);
+    m.at = malloc(m.length);
+    rewind(file);
+    if (m.at == NULL || fread(m.at, 1, m.length, file) != m.length) { perror(path); exit(1); }
+    fclose(file);
+    return m;
+}
+
+/* Ends the program where an answer isn't the one that the name of the message says. */
+static void answers(const char *what, uint32_t (*call)(const message *), const message *m, int is_refused) {
+    if ((call(m) != NDEF_OK) == is_refused) return;
+    fprintf(stderr, "%s of %s: another answer than expected\n", what, m->name);
+    exit(1);
+}
+
+/* The nanoseconds of a call: the least of batches of a millisecond or of one call. */
+static double least(uint32_t (*call)(const message *), const message *m, double milliseconds) {
+    double begun = now(), best = 1e18;
+    long batch = 1;
+    do {
+        double from = now(), took;
+        for (long i = 0; i < batch; i++) call(m);
+        took = now() - from;
+        if (took / batch < best) best = took / batch;
+        if (took < 1e6) batch *= 2;
+    } while (now() - begun < milliseconds * 1e6);
+    return best;
+}
+
+static void time_all(const char *folder, double milliseconds) {
+    for (int i = 0; i < NAMES; i++) {
+        message m = read_message(folder, names[i]);
+        int is_refused = strcmp(m.name, "cut") == 0;
+        for (size_t k = 0; k < sizeof timed / sizeof *timed; k++) {
+            if (is_refused && k != 0) continue;
+            answers(timed[k].name, timed[k].call, &m, is_refused);
+            printf("%s %s %.2f\n", timed[k].name, m.name, least(timed[k].call, &m, milliseconds));
+            fflush(stdout);
+        }
+        free(m.at);
+    }
+}
+
+static void count_calls(const char *what, uint32_t (*call)(const message *), const message *m) {
+    char told[100];
+    int times = m->length < 10000 ? 1000 : 10;
+    snprintf(told, sizeof told, "%d %s", times, what);
+    call(m);
+    CALLGRIND_ZERO_STATS;
+    for (int i = 0; i < times; i++) call(m);
+    CALLGRIND_DUMP_STATS_AT(told);
+}
+
+static void count_all(const char *folder) {
+    static const struct { const char *name; uint32_t (*call)(const message *); const char *of; } calls[] = {
+        {"ndef_check of \"Hello\"", check, "hello"}, {"ndef_check of \"Gr\xC3\xBC\xC3\x9F" "e\"", check, "umlauts"}, {"ndef_check of a URI", check, "uri"},
+        {"ndef_check of a poster", check, "poster"}, {"ndef_check of \"Hello\" without its last byte", check, "cut"},
+        {"ndef_record_at of \"Hello\"", record_at, "hello"}, {"ndef_payload of \"Hello\"", payload, "hello"},
+        {"ndef_check of 4000 chunks", check, "chunks-4000"}, {"4000 chunks in parts of 4096 bytes", feed, "chunks-4000"}};
+    for (size_t i = 0; i < sizeof calls / sizeof *calls; i++) {
+        message m = read_message(folder, calls[i].of);
+        count_calls(calls[i].name, calls[i].call, &m);
+        free(m.at);
+    }
+    for (size_t i = 0; i < sizeof counts / sizeof *counts; i++) {
+        answers(counts[i].name, counts[i].call, &counts[i].of, strstr(counts[i].name, "refused") != NULL);
+        count_calls(counts[i].name, counts[i].call, &counts[i].of);
+    }
+}
+
+static int call_once(const char *folder, const char *call, const char *name) {
+    message m = read_message(folder, name);
+    for (size_t k = 0; k < sizeof timed / sizeof *timed; k++)
+        if (strcmp(timed[k].name, call) == 0) answers(call, timed[k].call, &m, 0);
+    return 0;
+}
+
+int main(int count, char **arguments) {
+    ndef_usual_limits(&limits);
+    limits.records = limits.pieces = 65535;
+    if (count == 5 && strcmp(arguments[2], "once") == 0) return call_once(arguments[1], arguments[3], arguments[4]);
+    if (count != 3) return 2;
+    if (strcmp(arguments[2], "instructions") == 0) count_all(arguments[1]);
+    else time_all(arguments[1], atof(arguments[2]));
+    return 0;
+}

@@ -1,0 +1,41 @@
+// node face.mjs WEB FOLDER MILLISECONDS: times the module for JavaScript, which `make web` makes in the folder WEB: a message with its records,
+// and the same with the value of the first one.
+import { readFileSync } from "node:fs";
+import { pathToFileURL } from "node:url";
+
+const [, , web, folder, words] = process.argv;
+const { Ndef } = await import(pathToFileURL(`${web}/ndef.js`));
+const ndef = await Ndef.load(readFileSync(`${web}/ndef.wasm`));
+const milliseconds = Number(words);
+
+// The nanoseconds of processor time that this process took.
+function now() {
+    const { user, system } = process.cpuUsage();
+    return (user + system) * 1000;
+}
+
+// Prints the nanoseconds of a call: the least of batches of five milliseconds or of one call.
+function time(operation, name, call) {
+    const begun = now();
+    let least = Infinity, batch = 1;
+    while (now() - begun < milliseconds * 1e6) {
+        const from = now();
+        for (let i = 0; i < batch; i++) call();
+        const took = now() - from;
+        if (took >= 5e6) least = Math.min(least, took / batch);
+        else batch *= 2;
+    }
+    if (least < Infinity) console.log(`${operation} ${name} ${least.toFixed(1)}`);
+}
+
+function read(bytes) {
+    if (ndef.check(bytes).status !== Ndef.OK) throw new Error("refused");
+    return ndef.records(bytes);
+}
+
+const values = { hello: "text", uri: "uri", poster: "poster", "ascii-1M": "text", "wide-1M": "text" };
+for (const name of ["hello", "uri", "poster", "records-1000", "ascii-1M", "wide-1M"]) {
+    const bytes = new Uint8Array(readFileSync(`${folder}/${name}`));
+    time("read", name, () => read(bytes));
+    if (values[name]) time("value", name, () => ndef[values[name]](read(bytes)[0].payload));
+}

@@ -1,0 +1,276 @@
+// node test/web/package.mjs <LINES: what the package reads: records in the shape of Web NFC, values, errors, options; also over the cases
+// of the suite, given as lines on standard input. Prints 'N passed, M failed'.
+import { readFileSync } from "node:fs";
+import { NDEFMessage, NDEFRecord, Ndef, NdefError, check, decode, decodePrefix, encode, explain, fields, links, ready } from "../../out/web/index.js";
+import code from "../../out/web/ndef_wasm.mjs";
+import { bytesOf, cases, finish, hexOf, recordHex, same, test, throws } from "./tests.mjs";
+
+const calls = await Ndef.load(code), all = cases();
+const recordOf = (hex, options) => decode(bytesOf(hex), options).records[0];
+const MEMBERS = ["recordType", "mediaType", "id", "encoding", "lang", "data"];
+const membersOf = (record) => MEMBERS.map((name) => record[name]);
+const viewOf = (hex) => new DataView(bytesOf(hex).buffer);
+
+// Messages within payloads, with each part that they may have.
+const POSTER = recordHex("91", "U", "00 61") + recordHex("11", "T", "02 656E 48") + recordHex("11", "act", "01") + recordHex("11", "s", "000003E8")
+    + recordHex("11", "t", "612F62") + recordHex("52", "image/png", "0102");
+const REQUEST = "12" + recordHex("91", "cr", "0102") + recordHex("51", "ac", "03 01 30 01 01 31");
+const SELECT = "13" + recordHex("91", "ac", "01 02 FF30 00") + recordHex("51", "err", "02 00000104");
+
+// ---- records. The draft of Web NFC says what each member is.
+
+const SHAPES = [
+    ["D00000", ["empty", null, null, null, null, null]],
+    ["D9 01 08 02 54 6964 02 656E 48656C6C6F", ["text", null, "id", "utf-8", "en", viewOf("48656C6C6F")]],
+    ["D1 01 05 54 00 E282AC 61", ["text", null, null, "utf-8", "", viewOf("E282AC61")]],
+    ["D1 01 05 54 82 6465 20AC", ["text", null, null, "utf-16be", "de", viewOf("20AC")]],
+    ["D1 01 07 54 82 6465 FEFF 20AC", ["text", null, null, "utf-16be", "de", viewOf("20AC")]],
+    ["D1 01 07 54 82 6465 FFFE AC20", ["text", null, null, "utf-16be", "de", viewOf("20AC")]],
+    ["D1 01 03 55 01 612E", ["url", null, null, null, null, viewOf(hexOf(Buffer.from("http://www.a.")))]],
+    ["D1 02 06 5370 D1 01 02 55 00 61", ["smart-poster", null, null, null, null, viewOf("D101025500 61")]],
+    ["D3 03 00 613A62", ["absolute-url", null, null, null, null, viewOf("613A62")]],
+    ["DA 03 02 01 612F62 31 0102", ["mime", "a/b", "1", null, null, viewOf("0102")]],
+    ["D4 05 01 612E623A63 07", ["a.b:c", null, null, null, null, viewOf("07")]],
+    ["D5 00 01 07", ["unknown", null, null, null, null, viewOf("07")]],
+    ["D1 03 01 616374 00", [":act", null, null, null, null, viewOf("00")]],
+    ["D1 02 01 4873 12", [":Hs", null, null, null, null, viewOf("12")]],
+    ["B2 03 01 612F62 01 56 00 01 02", ["mime", "a/b", null, null, null, viewOf("0102")]],
+];
+for (const [hex, wanted] of SHAPES) await test(`the members of ${hex}`, () => same(membersOf(recordOf(hex)), wanted));
+await test("TextDecoder reads data by its encoding", () => SHAPES.map(([hex]) => recordOf(hex)).filter(({ encoding }) => encoding !== null)
+    .every((record) => new TextDecoder(record.encoding).decode(record.data) === record.text));
+await test("what isn't in Web NFC", () => {
+    const record = recordOf("DA 03 02 01 612F62 31 0102");
+    same([record.tnf, record.type, record.idBytes, record.payload, record.kind, record.value, record.text, record.uri],
+        [2, bytesOf("612F62"), bytesOf("31"), bytesOf("0102"), 0, null, null, null]);
+    same(["D101025501 61", "D10206537 0D10102550061", "D30300613A62", "D101035402656E"].map((hex) => [recordOf(hex).uri, recordOf(hex).text]),
+        [["http://www.a", null], ["a", null], ["a:b", null], [null, ""]]);
+});
+await test("a record's bytes are its own", () => {
+    const given = bytesOf("DA 03 02 01 612F62 31 0102"), record = decode(given).records[0];
+    given.fill(0);
+    record.payload.fill(0);
+    record.type.fill(0);
+    record.idBytes.fill(0);
+    record.data.setUint8(0, 9);
+    same(hexOf(record.toBytes()), "da030201612f62310102");
+});
+await test("a message has a frozen list", () => {
+    const { records } = decode(bytesOf("900000500000"));
+    same([Object.isFrozen(records), records.length, records.every((record) => record instanceof NDEFRecord)], [true, 2, true]);
+});
+await test("the value of each type", () => {
+    same(recordOf("D1 01 07 54 82 656E FEFF 20AC").value, { text: "€", language: "en", utf16: true });
+    same(recordOf("D1 01 03 55 04 612E").value, { uri: "https://a." });
+    same(recordOf(recordHex("D1", "Sp", POSTER)).value, {
+        uri: "a", titles: [{ text: "H", language: "en", utf16: false }], action: 1, size: 1000, mediaType: "a/b",
+        icons: [{ mediaType: "image/png", data: bytesOf("0102") }],
+    });
+    same(recordOf("D1 02 06 5370 D1 01 02 55 00 61").value, { uri: "a", titles: [], action: null, size: null, mediaType: null, icons: [] });
+    same(recordOf(recordHex("D1", "Hr", REQUEST)).value,
+        { major: 1, minor: 2, collision: 258, carriers: [{ power: 3, reference: "0", auxiliary: ["1"] }] });
+    same(recordOf(recordHex("D1", "Hs", SELECT)).value, {
+        major: 1, minor: 3, carriers: [{ power: 1, reference: bytesOf("FF30"), auxiliary: [] }], error: { reason: 2, data: bytesOf("00000104"), number: 260 },
+    });
+    same(recordOf("D1 02 01 4873 12").value, { major: 1, minor: 2, carriers: [], error: null });
+    same(recordOf("D1 02 06 4863 02 03 612F62 07").value, { format: 2, type: "a/b", data: bytesOf("07") });
+    same([recordOf("D00000").value, recordOf("D5000107").value, recordOf("D1010178 54").value], [null, null, null]);
+});
+await test("records within", () => {
+    const types = (hex) => recordOf(hex).toRecords()?.map((record) => [record.recordType, record.kind]) ?? null;
+    same(types(recordHex("D1", "Sp", POSTER)), [["url", 2], ["text", 1], [":act", 7], [":s", 8], [":t", 9], ["mime", 0]]);
+    same(types(recordHex("D1", "Hr", REQUEST)), [[":cr", 11], [":ac", 10]]);
+    same(types(recordHex("D1", "Hs", SELECT)), [[":ac", 10], [":err", 12]]);
+    same(types(recordHex("D1", "Hs", "12")), []);
+    for (const [header, type] of [["D4", "a.b:c"], ["D1", "x"]]) {
+        same(types(recordHex(header, type, "D00000")), [["empty", 0]]);
+        same(["D00001", "D0000000", "D70000", ""].map((payload) => types(recordHex(header, type, payload))), [null, null, null, null]);
+    }
+    for (const hex of ["D00000", "D101035402656E", "D101025500 61", "D5000107", recordHex("DA", "a/b", "D00000", "1"), "D3030061 3A62"])
+        same(throws(DOMException, () => recordOf(hex).toRecords()).name, "NotSupportedError");
+});
+await test("the values of records within", () => {
+    same(recordOf(recordHex("D1", "Hr", REQUEST)).toRecords()[1].value, { power: 3, reference: "0", auxiliary: ["1"] });
+    same(recordOf(recordHex("D1", "Hs", SELECT)).toRecords()[1].value, { reason: 2, data: bytesOf("00000104"), number: 260 });
+});
+
+// ---- what is decoded goes to Web NFC, and what Web NFC gives is encoded
+
+// A record as a browser has it: its members are those of its class, and null where there is none.
+class Theirs {
+    #record;
+    constructor(record) { this.#record = record; }
+}
+for (const name of MEMBERS) Object.defineProperty(Theirs.prototype, name, { get() { return this.record[name]; } });
+const theirs = (message) => ({ records: message.records.map((record) => Object.create(Theirs.prototype, { record: { value: record } })) });
+const meant = (message) => message.records.map((record) => [record.recordType, record.mediaType, record.id, record.text, record.uri,
+    record.text === null && record.uri === null ? record.payload : null]);
+
+await test("what the browser has is encoded", () => SHAPES.forEach(([hex]) => {
+    const message = decode(bytesOf(hex));
+    same(meant(decode(encode(theirs(message)))), meant(message));
+}));
+await test("what NDEFReader.write takes is encoded", () => SHAPES.forEach(([hex]) => {
+    const message = decode(bytesOf(hex));
+    same(meant(decode(encode(message.toInit()))), meant(message));
+}));
+await test("NDEFReader.write is given what it takes", () => {
+    const inits = (hex) => decode(bytesOf(hex)).toInit().records;
+    same(inits("D00000"), [{ recordType: "empty" }]);
+    same(inits("D9 01 05 02 54 6964 02 656E 4869"), [{ recordType: "text", id: "id", data: viewOf("4869"), encoding: "utf-8", lang: "en" }]);
+    same(inits("D1 01 03 55 01 612E"), [{ recordType: "url", data: "http://www.a." }]);
+    same(inits("D3 03 00 613A62"), [{ recordType: "absolute-url", data: "a:b" }]);
+    same(inits("DA 03 02 01 612F62 31 0102"), [{ recordType: "mime", id: "1", mediaType: "a/b", data: bytesOf("0102") }]);
+    same(inits("D4 05 01 612E623A63 07"), [{ recordType: "a.b:c", data: bytesOf("07") }]);
+    same(inits("D1 02 0D 5370 91 01 02 55 00 61 51 03 01 616374 01"),
+        [{ recordType: "smart-poster", data: { records: [{ recordType: "url", data: "a" }, { recordType: ":act", data: bytesOf("01") }] } }]);
+});
+// Whether Web NFC has a name for each type, and its names and ids are text. A mark at the front of a text is none of its characters there.
+const hasNames = (records) => records.every((record) => [...record.type, ...record.idBytes].every((byte) => byte < 0x80)
+    && (record.tnf !== 4 || record.recordType.includes(":")) && (record.recordType !== "smart-poster" || hasNames(record.toRecords())));
+let gone = 0;
+await test("the messages of the suite go to Web NFC and back", () => all.filter(({ isAccepted, options }) => isAccepted && !options.opaque).forEach(({ bytes, options }) => {
+    const { message } = decodePrefix(bytes, options);
+    if (!hasNames(message.records) || message.records.some(({ text }) => text?.startsWith("\ufeff"))) return;
+    gone++;
+    same(meant(decode(encode(message.toInit()), { ...options, standard: true })), meant(message));
+}));
+await test("most of them do", () => gone > 300);
+
+// ---- records that are made
+
+const hexOfRecord = (init) => hexOf(encode({ records: [init] }));
+await test("records are made of what Web NFC takes", () => {
+    const { buffer } = bytesOf("0007 20AC 00").slice(), units = new Uint8Array(buffer, 2, 2);
+    same(hexOfRecord({ recordType: "empty" }), "d00000");
+    same(hexOfRecord({ recordType: "text", data: "Hi" }), "d101055402656e4869");
+    same(hexOfRecord({ recordType: "text", data: "Hi", lang: "de", id: "x", encoding: "utf-8" }), "d901050154780264654869");
+    same(["utf-16", "utf-16be"].map((encoding) => hexOfRecord({ recordType: "text", data: units, encoding, lang: "de" })), Array(2).fill("d1010754826465feff20ac"));
+    same(["utf-16", "utf-16le", "utf-16be"].map((encoding) => hexOfRecord({ recordType: "text", data: bytesOf("FFFEAC20"), encoding, lang: "" })),
+        Array(3).fill("d101055480feff20ac"));
+    same(["utf-16", "utf-16le", "utf-16be"].map((encoding) => hexOfRecord({ recordType: "text", data: bytesOf("FEFF20AC"), encoding, lang: "" })),
+        Array(3).fill("d101055480feff20ac"));
+    same(hexOfRecord({ recordType: "text", data: bytesOf("AC20"), encoding: "utf-16le", lang: "" }), "d101055480feff20ac");
+    same(hexOfRecord({ recordType: "text", data: bytesOf("EFBBBF61"), lang: "" }), "d101055400efbbbf61");
+    same(hexOfRecord({ recordType: "url", data: "https://a.b" }), "d101045504612e62");
+    same(hexOfRecord({ recordType: "url", data: units.fill(0x61) }), "d1010355006161");
+    same(hexOfRecord({ recordType: "absolute-url", data: "a:b" }), "d30300613a62");
+    same(hexOfRecord({ recordType: "mime", mediaType: "a/b", data: bytesOf("0102").buffer }), "d20302612f620102");
+    same(hexOfRecord({ recordType: "mime", data: "" }), `d21800${hexOf(Buffer.from("application/octet-stream"))}`);
+    same(hexOfRecord({ recordType: "unknown", data: units }), "d500026161");
+    same(hexOfRecord({ recordType: "a.b:c", data: "x" }), "d40501612e623a6378");
+    same(hexOfRecord({ recordType: "a.b:c" }), "d40500612e623a63");
+    same(hexOfRecord({ recordType: ":act", data: bytesOf("00") }), "d1030161637400");
+    same(hexOfRecord({ recordType: "a.b:c", data: { records: [{ recordType: "empty" }] } }), "d40503612e623a63d00000");
+    same(hexOfRecord({ recordType: "smart-poster", data: { records: [{ recordType: "url", data: "a" }] } }), "d102065370d10102550061");
+    same(hexOfRecord({ recordType: "smart-poster", data: bytesOf("D10102550061").buffer }), "d102065370d10102550061");
+    same(hexOfRecord({ tnf: 1, type: bytesOf("48"), id: "i", payload: "x" }), "d9010101486978");
+    same(hexOfRecord(new NDEFRecord({ recordType: "text", data: "Hi" })), "d101055402656e4869");
+    same(hexOfRecord(new NDEFRecord(new NDEFRecord({ recordType: "text", data: "Hi" }))), "d101055402656e4869");
+    same(hexOfRecord({ recordType: "unknown", data: null }), "d50000");
+    same(hexOf(encode(new NDEFMessage({ records: [{ recordType: "empty" }, { recordType: "empty" }] }))), "900000500000");
+});
+await test("what makes no record is a TypeError", () => {
+    for (const init of [null, undefined, 3, "text", {}, { recordType: 3 }, { recordType: null }, { recordType: "other" }, { recordType: "text" }, { recordType: "url" },
+        { recordType: "mime" }, { recordType: "unknown" }, { recordType: "absolute-url" }, { recordType: "text", data: 3 }, { recordType: "mime", mediaType: 3, data: "" },
+        { recordType: "text", data: bytesOf("00"), encoding: "latin1" }, { recordType: "url", data: {} }, { recordType: "empty", data: 3 },
+        { recordType: "smart-poster", data: "a" }, { recordType: "smart-poster" }, { recordType: "a:b", data: 3 }, { tnf: "1" }, { tnf: 1, type: 3 },
+        { recordType: "text", data: bytesOf("FF") }])
+        throws(TypeError, () => new NDEFRecord(init));
+    for (const message of [null, undefined, 3, "text", [], {}, { records: [] }, { records: 3 }, { records: [null] }])
+        for (const call of [(one) => new NDEFMessage(one), encode, links]) throws(TypeError, () => call(message));
+});
+await test("what can't be written is a RangeError", () => {
+    for (const init of [{ recordType: "text", data: "a", lang: "ä" }, { recordType: "text", data: "a", lang: "a".repeat(64) }, { recordType: "url", data: bytesOf("FF") },
+        { recordType: "unknown", data: "", id: "a".repeat(256) }, { recordType: "mime", mediaType: "", data: "" }, { recordType: "empty", data: "x" }, { recordType: "empty", id: "x" },
+        { recordType: ":" }, { tnf: 6, type: "" }, { tnf: 2 ** 32 }, { tnf: -1 }, { tnf: 5, type: "x" }])
+        throws(RangeError, () => new NDEFRecord(init));
+});
+await test("bytes that are no smart poster are refused", () => {
+    const data = bytesOf("D1010354 02656E"), error = throws(NdefError, () => new NDEFRecord({ recordType: "smart-poster", data })), { place, reason } = calls.poster(data);
+    same([error.place, error.reason, error.name], [place, reason, "UriMissing"]);
+});
+
+// ---- bytes, options and errors
+
+const READERS = { check, decode, decodePrefix, fields, explain };
+await test("bytes have any shape, and nothing else is bytes", () => {
+    const bytes = bytesOf("D101085402656E48656C6C6F"), room = new ArrayBuffer(28);
+    new Uint8Array(room, 8, 12).set(bytes);
+    for (const read of Object.values(READERS)) {
+        const wanted = read(bytes);
+        for (const shape of [bytes.buffer.slice(0), new DataView(room, 8, 12), new Uint16Array(room, 8, 6), Buffer.from(bytes)]) same(read(shape), wanted);
+        for (const wrong of ["d00000", "", undefined, null, 3, [0xd0, 0, 0], {}, new Map()]) throws(TypeError, () => read(wrong));
+        for (const wrong of [null, 3, "records"]) throws(TypeError, () => read(bytes, wrong));
+        for (const name of ["payload", "records", "pieces"]) {
+            for (const value of [0, -1, 0.5, 2 ** 32, NaN]) throws(RangeError, () => read(bytes, { [name]: value }));
+            throws(TypeError, () => read(bytes, { [name]: "1" }));
+        }
+    }
+    for (const read of [fields, explain]) throws(RangeError, () => read(bytes, { opaque: true }));
+});
+await test("each option is its own", () => {
+    same(throws(NdefError, () => decode(bytesOf("900000500000"), { records: 1 })).name, "TooManyRecords");
+    same(throws(NdefError, () => decode(bytesOf("B1010154005600 0165"), { pieces: 1 })).name, "TooManyPieces");
+    same(throws(NdefError, () => decode(bytesOf("D500020102"), { payload: 1 })).name, "PayloadTooLarge");
+    same(throws(NdefError, () => decode(bytesOf("D70000"))).name, "ReservedTnf");
+    same([recordOf("D70000", { standard: true }).recordType, recordOf("D1010255FF61", { standard: true }).uri], ["unknown", "a"]);
+    same(throws(NdefError, () => decode(bytesOf("D1010154FF"))).name, "TextBit");
+});
+await test("payloads that weren't checked are refused where they are read", () => {
+    const record = recordOf("D1010154FF", { opaque: true });
+    same([record.recordType, record.payload, record.toBytes()], ["text", bytesOf("FF"), bytesOf("D1010154FF")]);
+    for (const name of ["value", "text", "data", "lang", "encoding"]) same(throws(NdefError, () => record[name]).name, "TextBit");
+    const poster = decode(bytesOf("D102015370D0"), { opaque: true });
+    same(encode(poster), bytesOf("D102015370D0"));
+    throws(NdefError, () => poster.records[0].value);
+    throws(NdefError, () => links(decode(bytesOf("D10201487200"), { opaque: true })));
+});
+await test("an error says where and why", () => {
+    const error = throws(NdefError, () => decode(bytesOf("D1010254 0261")));
+    same([error instanceof Error, error.place, error.reason, error.name, error.sentence, error.message],
+        [true, 4, 23, "DoesNotFit", calls.reasonSentence(23), `refused at byte 4: ${calls.reasonSentence(23)}`]);
+    same([NdefError.prototype.name, String(error).startsWith("DoesNotFit: refused at byte ")], ["NdefError", true]);
+});
+await test("other bytes after a message", () => {
+    const bytes = bytesOf("D0000007");
+    same(decodePrefix(bytes).length, 3);
+    const { place, reason, name, sentence } = throws(NdefError, () => decode(bytes));
+    same([place, reason, name, sentence], [3, 0, "TrailingBytes", "Other bytes follow the message."]);
+    same(check(bytes), { length: 3, records: 1 });
+});
+await test("every case of the suite is answered", () => all.forEach(({ bytes, options, isAccepted, place, reason, line }) => {
+    if (isAccepted) {
+        const { message, length } = decodePrefix(bytes, options);
+        same([length, check(bytes, options), line], [place, { length: place, records: message.records.length }, line]);
+        same(encode(message), calls.rewrite(bytes).bytes);
+        return;
+    }
+    for (const read of [check, decode, decodePrefix]) {
+        const error = throws(NdefError, () => read(bytes, options));
+        same([error.place, error.reason, error.name, error.sentence, line], [place, reason, calls.reasonName(reason), calls.reasonSentence(reason), line]);
+    }
+}));
+await test("every case of the suite is explained", () => all.filter(({ options }) => !options.opaque).forEach(({ bytes, options, isAccepted, place, reason, line }) => {
+    const told = explain(bytes, options), sum = told.fields.reduce((total, { length }) => total + length, 0);
+    same([told.length, sum, told.refusal?.reason ?? 0, line], [place, place, isAccepted ? 0 : reason, line]);
+    same(told.records.map((record) => record.payload), calls.records(bytes.subarray(0, place)).map(({ payload }) => payload));
+    if (isAccepted) same(fields(bytes, options), told.fields);
+    else same(throws(NdefError, () => fields(bytes, options)).place, place);
+}));
+await test("links of a handover", () => {
+    const select = "12" + recordHex("91", "ac", "01 01 30 00") + recordHex("11", "ac", "00 01 31 00") + recordHex("51", "ac", "02 00 00");
+    const message = decode(bytesOf(recordHex("91", "Hs", select) + recordHex("1A", "a/b", "", "0") + recordHex("5A", "a/c", "", "0")));
+    same(links(message).map(({ record, ...rest }) => [rest, record?.mediaType ?? null]), [
+        [{ power: 1, reference: "0", auxiliary: [], index: 1 }, "a/b"], [{ power: 0, reference: "1", auxiliary: [], index: null }, null],
+        [{ power: 2, reference: "", auxiliary: [], index: null }, null],
+    ]);
+    same([links(message)[0].record === message.records[1], links(decode(bytesOf("D00000")))], [true, []]);
+});
+
+await test("the library is loaded once, whenever it is needed", async () => { await ready(); await ready(); same(decode(bytesOf("D00000")).records.length, 1); });
+await test("the numbers of kinds and reasons are those of the header", () => {
+    const header = readFileSync(new URL("../../include/ndef.h", import.meta.url), "utf8");
+    same(Ndef.KIND.ERROR, Number(/NDEF_KIND_ERROR = (\d+)/.exec(header)[1]));
+});
+finish();

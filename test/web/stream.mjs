@@ -1,0 +1,105 @@
+// node test/web/stream.mjs: the stream of the package: random messages one after another, in random parts, are the messages that
+// decodePrefix reads; and what a refused byte leaves. Prints 'N passed, M failed'.
+import { NDEFDecoderStream, NdefError, decodePrefix, encode } from "../../out/web/index.js";
+import { below, randomLimits, randomMessage } from "./random.mjs";
+import { bytesOf, finish, hexOf, same, test, throws } from "./tests.mjs";
+
+// Bytes as a stream of parts of these lengths, the last one with what is left.
+function streamOf(bytes, length) {
+    let at = 0;
+    return new ReadableStream({
+        pull(controller) {
+            if (at >= bytes.length) return controller.close();
+            const end = at + length();
+            controller.enqueue(bytes.slice(at, end));
+            at = end;
+        },
+    });
+}
+
+// What a stream of messages gives, each as its bytes, and the refusal at its end.
+async function readAll(stream) {
+    const told = [], reader = stream.getReader();
+    try {
+        for (;;) {
+            const { done, value } = await reader.read();
+            if (done) return told;
+            told.push(hexOf(encode(value)));
+        }
+    } catch (error) {
+        if (!(error instanceof NdefError)) throw error;
+        return [...told, [error.place, error.reason]];
+    }
+}
+
+// The same by decodePrefix.
+function decodeAll(bytes, options) {
+    const told = [];
+    for (let at = 0; at < bytes.length;) {
+        try {
+            const { message, length } = decodePrefix(bytes.subarray(at), options);
+            told.push(hexOf(encode(message)));
+            at += length;
+        } catch (error) {
+            return [...told, [at + error.place, error.reason]];
+        }
+    }
+    return told;
+}
+
+const read = (bytes, options, length = () => bytes.length) => readAll(streamOf(bytes, length).pipeThrough(new NDEFDecoderStream(options)));
+const joined = (...parts) => Uint8Array.from(parts.flatMap((part) => [...part]));
+const EMPTY = bytesOf("D00000"), TEXT = bytesOf("D101085402656E48656C6C6F");
+
+await test("random messages in random parts", async () => {
+    let whole = 0, refused = 0;
+    for (let round = 0; round < 1500; round++) {
+        const bytes = joined(...Array.from({ length: 1 + below(5) }, randomMessage)), options = { ...randomLimits(), standard: below(2) === 1, opaque: below(4) === 0 };
+        const wanted = decodeAll(bytes, options), most = 1 + below(40);
+        same(await read(bytes, options, () => 1 + below(most)), wanted);
+        whole += wanted.length;
+        refused += Array.isArray(wanted.at(-1)) ? 1 : 0;
+    }
+    if (whole < 1500 || refused < 300) throw new Error(`${whole} whole, ${refused} refused`);
+});
+await test("each length of parts", async () => {
+    const bytes = joined(TEXT, EMPTY, EMPTY, bytesOf("B10101540056000178"), TEXT, bytesOf("D70000"));
+    for (let length = 1; length <= bytes.length; length++) same(await read(bytes, {}, () => length), decodeAll(bytes, {}));
+});
+await test("many messages in one part", async () => same((await read(joined(...Array(20000).fill(EMPTY)))).length, 20000));
+await test("no bytes are no message", async () => same([await read(new Uint8Array()), await read(joined(EMPTY))], [[], ["d00000"]]));
+await test("a message that goes on is refused at the end", async () => {
+    same(await read(joined(EMPTY, TEXT.subarray(0, 5))), ["d00000", [8, 24]]);
+    same(await read(joined(EMPTY, TEXT.subarray(0, 5)), {}, () => 1), ["d00000", [8, 24]]);
+});
+await test("nothing is read after a refused byte, and writing fails", async () => {
+    const stream = new NDEFDecoderStream(), writer = stream.writable.getWriter(), reader = stream.readable.getReader();
+    const writing = writer.write(joined(EMPTY, EMPTY, bytesOf("D70000")));
+    same([(await reader.read()).value.records.length, (await reader.read()).value.records.length], [1, 1]);
+    for (let times = 0; times < 2; times++) await reader.read().then(() => { throw new Error("read"); }, (error) => same([error.place, error.name], [6, "ReservedTnf"]));
+    await writing;
+    await writer.write(EMPTY).then(() => { throw new Error("written"); }, (error) => same([error instanceof NdefError, error.place], [true, 6]));
+});
+await test("a reader that goes away ends the writing", async () => {
+    const stream = new NDEFDecoderStream(), writer = stream.writable.getWriter();
+    await stream.readable.cancel(new Error("enough"));
+    await writer.write(EMPTY).then(() => { throw new Error("written"); }, (error) => same(error.message, "enough"));
+});
+await test("what a part is, and what options are", async () => {
+    for (const part of ["d00000", [0xd0, 0, 0], null]) {
+        const stream = new NDEFDecoderStream(), writer = stream.writable.getWriter();
+        writer.write(part).catch(() => {});
+        await stream.readable.getReader().read().then(() => { throw new Error("read"); }, (error) => same(error.constructor.name, "TypeError"));
+    }
+    throws(RangeError, () => new NDEFDecoderStream({ records: 0 }));
+    throws(TypeError, () => new NDEFDecoderStream(null));
+});
+await test("parts of any shape are copied", async () => {
+    const stream = new NDEFDecoderStream(), writer = stream.writable.getWriter(), part = TEXT.slice(0, 6), reading = readAll(stream.readable);
+    await writer.write(part.buffer);
+    part.fill(0);
+    await writer.write(new DataView(joined([9], TEXT.subarray(6)).buffer, 1));
+    await writer.close();
+    same(await reading, [hexOf(TEXT)]);
+});
+finish();

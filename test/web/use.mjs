@@ -1,0 +1,273 @@
+// node test/web/use.mjs FOLDER: uses the page in a browser as people do: keys, files, pasted dumps, the form that writes. Looks at
+// what a screen reader is given, at colours, widths and requests, and keeps pictures in FOLDER. Prints 'N passed, M failed'.
+import { execFileSync } from "node:child_process";
+import { mkdtempSync, rmSync, writeFileSync } from "node:fs";
+import { tmpdir } from "node:os";
+import { join } from "node:path";
+import { fileURLToPath } from "node:url";
+import { Browser } from "./browser.mjs";
+
+const PAGE = `file://${fileURLToPath(new URL("../../out/web/index.html", import.meta.url))}`;
+const READY = 'document.getElementById("verdict").textContent !== ""';
+const pictures = process.argv[2];
+const READER = `window.NDEFReader = class extends EventTarget {
+    async scan() {}
+    async write(message) { if (window.refused) throw new Error(window.refused); window.written = message; }
+};`;
+
+let passed = 0, failed = 0;
+function look(name, told, wanted) {
+    if (JSON.stringify(told) === JSON.stringify(wanted)) { passed++; return; }
+    failed++;
+    console.log(`FAILED: ${name}: ${JSON.stringify(told)} is not ${JSON.stringify(wanted)}`);
+}
+
+const browser = await Browser.start(), folder = mkdtempSync(join(tmpdir(), "use-"));
+const text = (id) => browser.evaluate(`document.getElementById("${id}").textContent`);
+const value = (id) => browser.evaluate(`document.getElementById("${id}").value`);
+const focused = () => browser.evaluate('document.activeElement.id || document.activeElement.getAttribute("aria-label") || document.activeElement.textContent');
+const focus = (id) => browser.evaluate(`document.getElementById("${id}").focus()`);
+const give = (id, given) => browser.evaluate(`{ const one = document.getElementById("${id}"); one.value = ${JSON.stringify(given)};
+    one.dispatchEvent(new Event("input")); }`);
+const click = (id) => browser.evaluate(`document.getElementById("${id}").click()`);
+const press = async (...keys) => { for (const key of keys) await browser.press(key); };
+const add = async (kind, fields) => {
+    await give("write-kind", kind);
+    for (const [name, given] of Object.entries(fields)) {
+        if (given === true) await browser.evaluate(`document.getElementById("field-${name}").checked = true`);
+        else await give(`field-${name}`, given);
+    }
+    await browser.evaluate('document.getElementById("write-form").requestSubmit()');
+};
+
+// ---- what is pasted, and files
+
+async function dumps() {
+    const bytes = Buffer.from("9101085402656e48656c6c6f11010c55016578616d706c652e636f6d5a090301696d6167652f706e67310078ff", "hex");
+    const hex = bytes.toString("hex").toUpperCase().match(/../g).join(" "), file = join(folder, "tag.bin");
+    writeFileSync(file, bytes);
+    const made = (program, ...words) => execFileSync(program, [...words, file], { encoding: "utf8" });
+    const layouts = {
+        "output of xxd": [made("xxd"), made("xxd", "-g1"), made("xxd", "-u", "-c8"), made("xxd").replaceAll("\n", "\r\n")],
+        "output of hexdump": [made("hexdump", "-C"), made("hexdump", "-C").split("\n").slice(0, -2).join("\n")],
+        "base64": [made("base64"), made("base64", "-w", "20"), bytes.toString("base64url") + "=".repeat(-bytes.toString("base64url").length & 3)],
+        "hexadecimal": [made("xxd", "-p"), hex, `{ ${[...bytes].map((byte) => `0x${byte.toString(16).padStart(2, "0")}`).join(", ")} };`.replace(";", ""),
+            [...bytes].map((byte) => `\\x${byte.toString(16).padStart(2, "0")}`).join("")],
+    };
+    for (const [form, pasted] of Object.entries(layouts)) {
+        for (const one of pasted) {
+            await give("hex", one);
+            const shown = await browser.evaluate('[...document.querySelectorAll("#bytes [data-at]")].map((one) => one.textContent).join(" ")');
+            look(`bytes pasted as ${JSON.stringify(one)}`, [shown, await text("form")], [hex, form === "hexadecimal" ? "" : `Read as ${form}.`]);
+        }
+    }
+    for (const wrong of ["0QEI", "D1 0G D1 0G", "QUJD*EFG"]) {
+        await give("hex", wrong);
+        look(`${wrong} isn't taken`, [/^".*" is no hexadecimal digit\.$/.test(await text("verdict")), await text("form"), await text("field-part")], [true, "", ""]);
+    }
+    return { file, hex };
+}
+
+async function files({ file, hex }) {
+    const { root } = await browser.send("DOM.getDocument"), { nodeId } = await browser.send("DOM.querySelector", { nodeId: root.nodeId, selector: "#file" });
+    await give("hex", "");
+    await browser.send("DOM.setFileInputFiles", { nodeId, files: [file] });
+    await browser.until('document.getElementById("hex").value !== ""');
+    look("a file that is chosen", await value("hex"), hex);
+    const dump = join(folder, "tag.txt"), printed = execFileSync("xxd", [file], { encoding: "utf8" });
+    writeFileSync(dump, printed);
+    const data = { items: [], files: [dump], dragOperationsMask: 1 };
+    for (const type of ["dragEnter", "dragOver", "drop"]) await browser.send("Input.dispatchDragEvent", { type, x: 20, y: 300, data });
+    await browser.until('document.getElementById("form").textContent !== ""');
+    look("a dump that is dropped", [await value("hex"), await text("form")], [printed, "Read as output of xxd."]);
+}
+
+// ---- what is written. NDEF 1.0 and the record types say what the bytes are.
+
+const KINDS = [
+    ["Text", { data: "Hi", lang: "de", id: "a" }, "D9 01 05 01 54 61 02 64 65 48 69"],
+    ["Text", { data: "€", lang: "", utf16: true }, "D1 01 05 54 80 FE FF 20 AC"],
+    ["URI", { data: "https://www.a.b/" }, "D1 01 05 55 02 61 2E 62 2F"],
+    ["Smart poster", { uri: "tel:1", titles: "en: A\nde: B", action: "save it", size: "16", mediaType: "a/b" },
+        "D1 02 2C 53 70 91 01 02 55 05 31 11 01 04 54 02 65 6E 41 11 01 04 54 02 64 65 42 11 03 01 61 63 74 01 11 01 04 73 00 00 00 10 51 01 03 74 61 2F 62"],
+    ["Handover request", { collision: "258", carriers: "active b\nunknown w x" },
+        "D1 02 1C 48 72 12 91 02 02 63 72 01 02 11 02 04 61 63 01 01 62 00 51 02 06 61 63 03 01 77 01 01 78"],
+    ["Handover select", { carriers: "Inactive b", reason: "2", number: "260" }, "D1 02 15 48 73 12 91 02 04 61 63 00 01 62 00 51 03 05 65 72 72 02 00 00 01 04"],
+    ["Handover select", { carriers: "", reason: "" }, "D1 02 01 48 73 12"],
+    ["Media type", { mediaType: "a/b", payload: "x€" }, "D2 03 04 61 2F 62 78 E2 82 AC"],
+    ["Media type", { mediaType: "a/b", payload: "00 ff", layout: "bytes (hexadecimal or base64)", id: "0" }, "DA 03 02 01 61 2F 62 30 00 FF"],
+    ["External type", { type: "a.b:c", payload: "" }, "D4 05 00 61 2E 62 3A 63"],
+    ["Absolute URI", { type: "a:b" }, "D3 03 00 61 3A 62"],
+    ["Unknown", { payload: "1" }, "D5 00 01 31"],
+    ["Another well-known type", { type: "Sig", payload: "0102", layout: "bytes (hexadecimal or base64)" }, "D1 03 02 53 69 67 01 02"],
+    ["Empty", {}, "D0 00 00"],
+];
+const FAULTS = [
+    ["Text", { data: "a", lang: "ä" }, "A text can't be written: its language is too long or not ASCII"],
+    ["Smart poster", { uri: "a", titles: "Hello" }, "A title begins with its language and a colon, as “en: Hello”: “Hello”"],
+    ["Smart poster", { uri: "a", size: "x" }, "The size is a whole number, not “x”"],
+    ["Handover select", { carriers: "on b" }, "A carrier is inactive, active, activating, unknown, and then an id: “on b”"],
+    ["Handover request", { collision: "65536", carriers: "" },
+        "A handover request can't be written: its minor version is above 15, a power state is above 3, or a reference has more than 255 bytes, or its random "
+        + "number is above 65535"],
+    ["Media type", { mediaType: "", payload: "" }, "A record can't be written: its type doesn't fit its type name format, or a part is too long"],
+    ["Unknown", { payload: "0g", layout: "bytes (hexadecimal or base64)" }, '"g" is no hexadecimal digit.'],
+    ["Text", { data: "a", lang: "en", id: "x".repeat(256) }, "A record can't be written: its type doesn't fit its type name format, or a part is too long"],
+];
+
+async function writes() {
+    for (const [kind, fields, wanted] of KINDS) {
+        await click("write-clear");
+        await add(kind, fields);
+        look(`${kind} ${JSON.stringify(fields)}`, [await value("write-hex"), await text("write-fault")], [wanted, ""]);
+        look(`the size of ${kind}`, await text("write-size"), `1 record, ${wanted.split(" ").length} bytes`);
+        look(`ids with ${kind}`, await browser.evaluate('[...document.querySelectorAll("[id]")].filter((one) => document.getElementById(one.id) !== one).length'), 0);
+        await click("write-look");
+        look(`${kind} is a message`, [await value("hex"), await browser.evaluate('document.getElementById("verdict").className')], [wanted, "good"]);
+    }
+    for (const [kind, fields, wanted] of FAULTS) {
+        await click("write-clear");
+        await add(kind, fields);
+        look(`${kind} ${JSON.stringify(fields)}`, [await text("write-fault"), await value("write-hex")], [wanted, ""]);
+    }
+}
+
+// Type 2 tags: 03, the length in one byte or in three, and the message; NXP says what an NTAG213, 215 and 216 are delivered with.
+async function fits() {
+    const fitOf = async (length) => {
+        await click("write-clear");
+        await add("Unknown", { payload: "x".repeat(length - (length > 258 ? 6 : 3)) });
+        return [await text("write-size"), ...await browser.evaluate('[...document.querySelectorAll("#write-fit li")].map((one) => `${one.className} ${one.textContent}`)')];
+    };
+    look("137 bytes", await fitOf(137), ["1 record, 137 bytes", "good NTAG213: fits, 0 bytes left", "good NTAG215: fits, 357 bytes left", "good NTAG216: fits, 733 bytes left"]);
+    look("138 bytes", (await fitOf(138))[1], "bad NTAG213: 1 byte too large");
+    look("254 bytes", (await fitOf(254)).slice(2), ["good NTAG215: fits, 240 bytes left", "good NTAG216: fits, 616 bytes left"]);
+    look("255 bytes", (await fitOf(255)).slice(2), ["good NTAG215: fits, 237 bytes left", "good NTAG216: fits, 613 bytes left"]);
+    look("492 bytes", (await fitOf(492))[2], "good NTAG215: fits, 0 bytes left");
+    look("493 bytes", (await fitOf(493))[2], "bad NTAG215: 1 byte too large");
+    look("868 bytes", (await fitOf(868))[3], "good NTAG216: fits, 0 bytes left");
+    look("870 bytes", (await fitOf(870))[3], "bad NTAG216: 2 bytes too large");
+}
+
+async function lists() {
+    const listed = () => browser.evaluate('[...document.querySelectorAll("#write-list li span")].map((one) => one.textContent)');
+    await click("write-clear");
+    look("nothing yet", [await text("write-size"), await browser.evaluate('["write-look", "write-clear", "write-tag"].every((id) => document.getElementById(id).disabled)')],
+        ["No records yet.", true]);
+    await add("Text", { data: "a", lang: "en", id: "x" });
+    await add("URI", { data: "b" });
+    await add("Empty", {});
+    look("three records", [await listed(), await text("write-size")], [["text, id “x”: a", "url: b", "empty: 0 bytes"], "3 records, 19 bytes"]);
+    const button = (label) => browser.evaluate(`document.querySelector('[aria-label="${label}"]').focus()`).then(() => press("Enter"));
+    await button("Move down record 1");
+    look("one is moved down", [await listed(), await focused()], [["url: b", "text, id “x”: a", "empty: 0 bytes"], "Move down record 2"]);
+    await button("Move up record 2");
+    look("and up", [await listed(), await focused()], [["text, id “x”: a", "url: b", "empty: 0 bytes"], "Move down record 1"]);
+    await button("Remove record 2");
+    look("one is removed", [await listed(), await focused()], [["text, id “x”: a", "empty: 0 bytes"], "Remove record 2"]);
+    await button("Remove record 2");
+    await button("Remove record 1");
+    look("all are removed", [await listed(), await focused(), await value("write-hex")], [[], "write-kind", ""]);
+}
+
+async function tags() {
+    await click("write-clear");
+    await add("URI", { data: "https://a.b", id: "i" });
+    await add("Media type", { mediaType: "a/b", payload: "x" });
+    await click("write-tag");
+    await browser.until('document.getElementById("written").textContent === "The tag is written."');
+    look("what is written to a tag", await browser.evaluate('window.written.records.map(({ data, ...rest }) => ({ ...rest, data: String(data) }))'),
+        [{ recordType: "url", id: "i", data: "https://a.b" }, { recordType: "mime", mediaType: "a/b", data: "120" }]);
+    await browser.evaluate('window.refused = "no tag"');
+    await click("write-tag");
+    await browser.until('document.getElementById("written").textContent.includes("no tag")');
+    look("a tag that can't be written", await text("written"), "The tag isn't written: no tag");
+}
+
+// ---- keys, what is read aloud, colours and widths
+
+const ORDER = ["hex", "file", "scan", "link", "text", "URI", "smart poster", "two records", "chunks", "handover", "not UTF-8", "reserved", "cut off",
+    "Profile and limits", "Byte 0: 91, record 1, header", "Fields", "write-kind", "field-data", "field-lang", "field-utf16", "field-id", "Add this record",
+    "write-hex"];
+
+async function keys() {
+    await browser.open(PAGE, READY);
+    const told = [];
+    for (let left = ORDER.length; left > 0; left--) { await press("Tab"); told.push(await focused()); }
+    look("the order of the tab key", told, ORDER);
+    await browser.evaluate('document.querySelector("#bytes [data-at]").focus()');
+    await press("ArrowRight", "ArrowDown", "End", "Home", "PageDown", "ArrowRight");
+    look("arrow keys in the bytes", await text("detail"), "Byte 1: 01, record 1, TYPE_LENGTH");
+    await focus("field-data");
+    await browser.type("Hi");
+    await focus("field-id");
+    await press("Enter");
+    look("the enter key adds a record", await value("write-hex"), "D1 01 05 54 02 65 6E 48 69");
+    await browser.evaluate('document.querySelector("summary").focus()');
+    await press("Enter");
+    look("the enter key opens the options", await browser.evaluate('document.querySelector("details").open'), true);
+}
+
+async function read() {
+    await browser.open(`${PAGE}#D70000`, READY);
+    await browser.evaluate('document.querySelectorAll("details").forEach((one) => { one.open = true; })');
+    const { nodes } = await browser.send("Accessibility.getFullAXTree"), shown = nodes.filter(({ ignored }) => !ignored);
+    const of = (role) => shown.filter((node) => node.role.value === role).map((node) => node.name?.value ?? "");
+    const roles = ["button", "textbox", "combobox", "checkbox", "spinbutton", "link", "gridcell", "rowheader", "grid", "table", "list", "region", "alert", "radio"];
+    look("controls without a name", roles.filter((role) => of(role).includes("") && role !== "alert" && role !== "list"), []);
+    look("the headings", of("heading"), ["NDEF", "Records", "Write a message"]);
+    look("the parts", of("region"), ["Input", "Answer", "Tag", "Bytes", "Records", "Write a message"]);
+    look("the bytes", of("gridcell"), ["Byte 0: D7, record 1, refused", "Byte 1: 00, not looked at", "Byte 2: 00, not looked at"]);
+    look("what is said where it changes", shown.filter((node) => node.properties?.some(({ name, value: { value } }) => name === "live" && value !== "off"))
+        .map((node) => node.role.value).sort(), ["alert", "paragraph", "region", "status", "status", "status"]);
+    look("the language and the title", await browser.evaluate('[document.documentElement.lang, document.title]'), ["en", "NDEF: read and write messages of NFC tags"]);
+}
+
+// The least contrast of text with what is behind it, as WCAG 2 defines it.
+const CONTRAST = `(() => {
+    const parse = (colour) => colour.match(/[0-9.]+/g).map(Number);
+    const light = (colour) => parse(colour).slice(0, 3).map((part) => part / 255).map((part) => (part <= 0.03928 ? part / 12.92 : ((part + 0.055) / 1.055) ** 2.4))
+        .reduce((sum, part, index) => sum + part * [0.2126, 0.7152, 0.0722][index], 0);
+    const behind = (one) => { for (; one; one = one.parentElement) { const colour = getComputedStyle(one).backgroundColor; if (parse(colour)[3] !== 0) return colour; } };
+    const faint = [];
+    for (const one of document.body.querySelectorAll("*")) {
+        const own = [...one.childNodes].some((node) => node.nodeType === 3 && node.textContent.trim()) || one.matches("textarea, input, select");
+        if (!own || one.disabled || one.matches("script, style") || !one.checkVisibility()) continue;
+        const [high, low] = [light(getComputedStyle(one).color), light(behind(one) ?? "rgb(255, 255, 255)")].sort((a, b) => b - a);
+        if ((high + 0.05) / (low + 0.05) < 4.5) faint.push(one.outerHTML.slice(0, 80));
+    }
+    return faint;
+})()`;
+
+async function looks() {
+    const bytes = "91021148721291020263721234510204616301013000110108540265 6E48656C6C6F5101075402656EC3286F6B".replaceAll(" ", "");
+    for (const [name, width, colours] of [["page", 1100, "light"], ["page-dark", 1100, "dark"], ["page-narrow", 320, "light"], ["page-narrow-dark", 320, "dark"]]) {
+        await browser.size(width, 900);
+        await browser.colours(colours);
+        await browser.open(`${PAGE}#${bytes}`, READY);
+        await browser.evaluate('document.querySelectorAll("details").forEach((one) => { one.open = true; })');
+        await add("Text", { data: "A text of some length, which a narrow page has to break: Donaudampfschifffahrtsgesellschaft", lang: "de" });
+        await add("Handover select", { carriers: "active b" });
+        look(`${name} is as wide as its window`, await browser.evaluate("document.documentElement.scrollWidth"), width);
+        look(`the text of ${name} is seen`, await browser.evaluate(CONTRAST), []);
+        look(`rows of ${name}`, await browser.evaluate('document.querySelector("#bytes [role=row]").querySelectorAll("[data-at]").length'), width < 640 ? 8 : 16);
+        look(`characters of ${name}`, (await browser.evaluate('document.querySelector("#bytes .text").textContent')).slice(0, 8), "···Hr···");
+        await browser.size(width, await browser.evaluate("document.documentElement.scrollHeight"));
+        await browser.picture(join(pictures, `${name}.png`));
+    }
+}
+
+try {
+    await browser.send("Page.addScriptToEvaluateOnNewDocument", { source: READER });
+    await browser.size(1100, 900);
+    await browser.open(PAGE, READY);
+    await files(await dumps());
+    for (const test of [writes, fits, lists, tags, keys, read, looks]) await test();
+    look("requests", [...new Set(browser.requests.map((url) => url.split("#")[0]))], [PAGE]);
+    look("faults", browser.faults, []);
+} finally {
+    await browser.stop();
+    rmSync(folder, { recursive: true });
+}
+console.log(`${passed} passed, ${failed} failed`);
+process.exit(failed || !passed ? 1 : 0);
