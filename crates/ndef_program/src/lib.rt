@@ -37,7 +37,7 @@ pub use ending::{Ending, HexFault};
 pub use ending_lines::ending_text;
 pub use hexadecimal::hexadecimal_line;
 pub use limits::{limits_given, number_given};
-pub use line::{Line, ROOM};
+pub use line::{Line, LineOf, ROOM};
 pub use options::{flag_given, hex_given, option_text};
 pub use pages::{Page, page_asked};
 pub use quoting::{push_quoted, push_quoted_bytes};
