@@ -1,15 +1,16 @@
-//! The command `ndef`: what stands on standard input is shown, checked, or written again.
+//! The command over the system: its standard streams.
 
+use crate::run;
 use ndef_message::{StdSink, StdSource};
 use ndef_program::{Status, exit_code, exit_code_after, tell_words, texts};
-use ndef_tool::run;
 use ndef_value::Bytes;
 use std::io::{BufReader, BufWriter, Write};
 use std::process::ExitCode;
 
-/// Runs the command with standard input and output, flushes standard output and gives the status. Where there is no
-/// memory for a buffer, or the flush fails, that is 3 and nothing more is printed.
-pub fn run_with(rt: &HostRuntime, words: &[Bytes]) -> ExitCode {
+/// Runs the command for the words, of which the first is its name, with standard input and output, flushes standard
+/// output and gives the status. Where there is no memory for a buffer, or the flush fails, that is 3 and nothing more is
+/// printed.
+pub fn run_on(rt: &HostRuntime, words: &[Bytes]) -> ExitCode {
     let alloc = rt.alloc();
     let Ok(reader) = BufReader::new(alloc, rt.reader()) else {
         return exit_code(Status::Fault);

@@ -1,15 +1,21 @@
-//! The command `ndef-explain`: says in which field each byte of the messages of its inputs stands.
+//! The program over the system: its files, its standard streams and its environment.
 ghost use Rattle.std.specs.Prelude.{⊤};
 
-use ndef_explain_tool::{Inputs, cause_line, read_input, run, words_fault};
+use crate::{MOST, read_input, run, words_fault};
 use ndef_message::{InputError, Sink, StdSink, StdSource};
-use ndef_program::{Status, exit_code, exit_code_after, tell_words, texts};
+use ndef_program::{Inputs, Reader, Status, exit_code, exit_code_after, open_file, tell_cause};
+use ndef_program::{tell_words, texts};
 use ndef_value::Bytes;
 use std::alloc::Global;
 use std::env::VarError;
-use std::fs::File;
-use std::io::{self, BufReader, BufWriter, ErrorKind, IsTerminal, Read, Write};
+use std::io::{BufReader, BufWriter, ErrorKind, IsTerminal, Read, Write};
 use std::process::ExitCode;
+
+/// The program, as it says why a file can't be read.
+const READER: Reader<'static> = Reader {
+    program: "ndef-explain",
+    most: MOST as u64,
+};
 
 /// All that a reader gives.
 fn read_from<R: Read + Drop>(alloc: Global, reader: R) -> Result<Vec<u8>, InputError> {
@@ -17,22 +23,6 @@ fn read_from<R: Read + Drop>(alloc: Global, reader: R) -> Result<Vec<u8>, InputE
         return Err(InputError::NoMemory);
     };
     read_input(alloc, &mut StdSource::new(reader))
-}
-
-/// Opens a file that isn't a directory.
-fn open_file(rt: &HostRuntime, name: &str) -> io::Result<File> {
-    let file = File::open(rt, name)?;
-    if file.metadata()?.is_dir() {
-        return Err(io::Error::from(ErrorKind::IsADirectory));
-    }
-    Ok(file)
-}
-
-/// Says on standard error why an input of this name can't be read.
-fn tell_cause(rt: &HostRuntime, name: &str, kind: ErrorKind) {
-    if let Ok(line) = cause_line(rt.alloc(), name, kind) {
-        let _ = rt.stderr().write_all(line.as_slice());
-    }
 }
 
 /// The files of the system, and standard input.
@@ -51,13 +41,13 @@ impl<'a> Inputs for Files<'a> {
             match open_file(self.rt, name) {
                 Ok(file) => read_from(alloc, file),
                 Err(error) => {
-                    tell_cause(self.rt, name, error.kind());
+                    tell_cause(self.rt, READER, name, error.kind());
                     return Err(InputError::ReadFault);
                 }
             }
         };
         if let Err(InputError::ReadFault) = &read {
-            tell_cause(self.rt, name, ErrorKind::Other);
+            tell_cause(self.rt, READER, name, ErrorKind::Other);
         }
         read
     }
@@ -74,13 +64,9 @@ fn takes_color(rt: &HostRuntime) -> bool {
 }
 
 /// Runs the program for the words. Where they don't parse, clap says on standard error what is wrong with them.
-fn run_words<K: Sink>(
-    rt: &HostRuntime,
-    words: &[String],
-    inputs: &mut Files<'_>,
-    sink: &mut K,
-) -> Status {
-    let status = run(rt.alloc(), words, takes_color(rt), inputs, sink);
+fn run_words<K: Sink>(rt: &HostRuntime, words: &[String], sink: &mut K) -> Status {
+    let mut inputs = Files { rt };
+    let status = run(rt.alloc(), words, takes_color(rt), &mut inputs, sink);
     if status == Status::Usage
         && let Some(error) = words_fault(rt.alloc(), words)
     {
@@ -89,17 +75,17 @@ fn run_words<K: Sink>(
     status
 }
 
-/// Runs the command with files, standard input and output, flushes standard output and gives the status. Where there is
-/// no memory for a buffer, or the flush fails, that is 3 and nothing more is printed.
-pub fn run_with(rt: &HostRuntime, words: &[Bytes]) -> ExitCode {
+/// Runs the program for the words, of which the first is its name, with files, standard input and output, flushes
+/// standard output and gives the status. Where there is no memory for a buffer, or the flush fails, that is 3 and nothing
+/// more is printed.
+pub fn run_on(rt: &HostRuntime, words: &[Bytes]) -> ExitCode {
     let alloc = rt.alloc();
     let Ok(mut writer) = BufWriter::new(alloc, rt.stdout()) else {
         return exit_code(Status::Fault);
     };
-    let mut inputs = Files { rt };
     let mut sink = StdSink::new(&mut writer);
     let status = match texts(alloc, words) {
-        Ok(words) => run_words(rt, words.as_slice(), &mut inputs, &mut sink),
+        Ok(words) => run_words(rt, words.as_slice(), &mut sink),
         Err(fault) => tell_words(alloc, fault, &mut sink),
     };
     drop(sink);
