@@ -129,7 +129,7 @@ drop_words _ = None
 -- the number of a record, and the words of the one in its place
 abbrev pub replace_words : List Text → Option (Edit (List Text))
 replace_words [] = None
-replace_words (number ∷ record) = option_map (λ n. Replaces n record) (number_in number)
+replace_words (number ∷ words) = option_map (λ n. Replaces n words) (number_in number)
 
 -- the edit for which a part asks by its first word
 abbrev pub edit_by : Option EditWord → (all rest : List Text) → Option (Edit (List Text))
@@ -175,9 +175,9 @@ IsWrongPart parts n m = (done rest : List (List Text)) × (part : List Text)
 
 -- what clap finds wrong with the record of one of the parts
 abbrev pub IsEditFault : List (List Text) → Error → Type 0
-IsEditFault parts error = (done rest : List (List Text)) × (part record : List Text)
-    × (parts ≡ done ++ part ∷ rest) × (option_and_then record_of (edit_in part) ≡ Some record)
-    × HasKind (fault_of make_app record) error
+IsEditFault parts error = (done rest : List (List Text)) × (part words : List Text)
+    × (parts ≡ done ++ part ∷ rest) × (option_and_then record_of (edit_in part) ≡ Some words)
+    × HasKind (fault_of make_app words) error
 
 -- what clap finds wrong with the record of a part, with a file that is edited or without
 abbrev pub IsWordsFault : Option (Option Text × List Text) → Error → Type 0

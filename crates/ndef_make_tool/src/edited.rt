@@ -134,15 +134,15 @@ fn make_edits<I: Inputs>(
 }
 
 /// Appends a copy of a record.
-fn push_copy(alloc: Global, records: &mut Vec<Record>, record: &Record) -> Result<(), Fault>
-    ensures { Appends (record.now ∷ []) records.old.items records.new.items result }
+fn push_copy(alloc: Global, records: &mut Vec<Record>, item: &Record) -> Result<(), Fault>
+    ensures { Appends (item.now ∷ []) records.old.items records.new.items result }
 {
     let copy = make_item(
         alloc,
-        record.tnf(),
-        record.kind(),
-        record.id(),
-        record.payload(),
+        item.tnf(),
+        item.kind(),
+        item.id(),
+        item.payload(),
     )?;
     records.push(copy)?;
     Ok(())
@@ -164,14 +164,14 @@ fn edit_of(edits: &[Edit<Record>], number: u32) -> Option<&Edit<Record>>
 fn push_kept(
     alloc: Global,
     records: &mut Vec<Record>,
-    record: &Record,
+    item: &Record,
     edit: Option<&Edit<Record>>,
 ) -> Result<(), Fault>
-    ensures { Appends (in_place (option_map (λ edit. edit.now) edit) record.now)
+    ensures { Appends (in_place (option_map (λ edit. edit.now) edit.entry) item.now)
         records.old.items records.new.items result }
 {
     match edit {
-        None => push_copy(alloc, records, record),
+        None => push_copy(alloc, records, item),
         Some(edit) => match edit.record() {
             Some(other) => push_copy(alloc, records, other),
             None => Ok(()),

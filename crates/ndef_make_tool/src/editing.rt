@@ -69,7 +69,7 @@ fn edit_named(name: &str) -> Option<EditWord>
 
 /// The words after `--drop`: the number of the record that is left out.
 fn drop_words(words: &[String]) -> Option<Edit<&[String]>>
-    ensures { option_map (edit_map (λ record. map string_bytes record.now)) result
+    ensures { option_map (edit_map (λ words. map string_bytes words.now)) result
         ≡ drop_words (map string_bytes words.now) }
 {
     match words {
@@ -80,7 +80,7 @@ fn drop_words(words: &[String]) -> Option<Edit<&[String]>>
 
 /// The words after `--replace`: the number of the record that is replaced, and the record.
 fn replace_words(words: &[String]) -> Option<Edit<&[String]>>
-    ensures { option_map (edit_map (λ record. map string_bytes record.now)) result
+    ensures { option_map (edit_map (λ words. map string_bytes words.now)) result
         ≡ replace_words (map string_bytes words.now) }
 {
     match words {
@@ -91,7 +91,7 @@ fn replace_words(words: &[String]) -> Option<Edit<&[String]>>
 
 /// The edit for which a part asks, with the words of its record.
 fn edit_in(part: &[String]) -> Option<Edit<&[String]>>
-    ensures { option_map (edit_map (λ record. map string_bytes record.now)) result
+    ensures { option_map (edit_map (λ words. map string_bytes words.now)) result
         ≡ edit_in (map string_bytes part.now) }
 {
     match part {
@@ -171,7 +171,7 @@ impl<X> Edit<X> {
 
     /// Its record.
     pub(crate) fn record(&self) -> Option<&X>
-        ensures { option_map (λ record. record.now) result ≡ record_of self.now }
+        ensures { option_map (λ content. content.now) result ≡ record_of self.now }
     {
         match self {
             Edit::Drops(_) => None,

@@ -48,7 +48,7 @@ mod running;
 pub use causes::cause_line;
 pub use fault::{Fault, Refused};
 pub use inputs::{Inputs, MOST, read_input};
-pub use laws::made_is_read;
+pub use laws::{edited_is_read, made_is_read};
 pub use making::{Shown, Written, make};
 pub use misuse::Misuse;
 pub use parts::words_fault;
