@@ -70,17 +70,19 @@ fault_at n fault = fault
 
 -- ---- what is printed
 
+-- where and why bytes are refused, after what they are
+abbrev pub refusal_line : Text → Refusal → Text
+refusal_line front r =
+    front ++ decimal r.at ++ codes ": " ++ decimal (reason_number r.reason) ++ codes " "
+    ++ reason_name r.reason ++ codes "\n"
+
 -- for a payload that isn't one of its type
 abbrev pub payload_line : Refusal → Text
-payload_line r =
-    codes "refused: payload at " ++ decimal r.at ++ codes ": " ++ decimal (reason_number r.reason)
-    ++ codes " " ++ reason_name r.reason ++ codes "\n"
+payload_line r = refusal_line (codes "refused: payload at ") r
 
 -- for a message in a file that is refused
 abbrev pub message_line : Refusal → Text
-message_line r =
-    codes "refused: message of --from at " ++ decimal r.at ++ codes ": "
-    ++ decimal (reason_number r.reason) ++ codes " " ++ reason_name r.reason ++ codes "\n"
+message_line r = refusal_line (codes "refused: message of --from at ") r
 
 -- for bytes after a message in a file
 abbrev pub bytes_line : (at : ℕ) → Text

@@ -1,7 +1,7 @@
 //! Why no message is made, and the status of a run.
-ghost use Rattle.std.specs.Prelude.{◌≡◌};
+ghost use Rattle.std.specs.Prelude.{◌≡◌, ◌≤◌, length};
 ghost use Rattle.ndef_make_tool.specs.Faults.{detail_fault, encode_fault, input_fault, line_of, name_fault};
-ghost use Rattle.ndef_make_tool.specs.Faults.{payload_line, record_fault, record_line, fault_status, text_fault};
+ghost use Rattle.ndef_make_tool.specs.Faults.{payload_line, record_fault, record_line, refusal_line, fault_status, text_fault};
 ghost use Rattle.ndef_make_tool.specs.Faults.{bytes_line, fault_at, fault_text, message_line, room_line};
 ghost use Rattle.ndef_make_tool.specs.declared.fault.Fault.TheVariants.{Memory};
 
@@ -218,12 +218,13 @@ impl Told {
     }
 }
 
-/// What is printed of a payload that is refused.
-fn payload_line(refusal: Refusal) -> Line
-    ensures { result ≡ payload_line refusal }
+/// Where and why bytes are refused, after what they are.
+fn refusal_line(front: &[u8], refusal: Refusal) -> Line
+    requires { length front.now ≤ 40 }
+    ensures { result ≡ refusal_line front.now refusal }
 {
     let mut line = Line::new();
-    line.push(b"refused: payload at ");
+    line.push(front);
     line.push_number(refusal.at);
     line.push(b": ");
     line.push_number(u64::from(refusal.reason.number()));
@@ -233,19 +234,18 @@ fn payload_line(refusal: Refusal) -> Line
     line
 }
 
+/// What is printed of a payload that is refused.
+fn payload_line(refusal: Refusal) -> Line
+    ensures { result ≡ payload_line refusal }
+{
+    refusal_line(b"refused: payload at ", refusal)
+}
+
 /// What is printed of a message in a file that is refused.
 fn message_line(refusal: Refusal) -> Line
     ensures { result ≡ message_line refusal }
 {
-    let mut line = Line::new();
-    line.push(b"refused: message of --from at ");
-    line.push_number(refusal.at);
-    line.push(b": ");
-    line.push_number(u64::from(refusal.reason.number()));
-    line.push(b" ");
-    line.push(refusal.reason.name());
-    line.push(b"\n");
-    line
+    refusal_line(b"refused: message of --from at ", refusal)
 }
 
 /// What is printed of bytes after a message in a file.

@@ -114,8 +114,9 @@ Before the first RECORD:
   --tag TAG           write it only if it fits on the tag: ntag213, ntag215, ntag216, or
                       a number of bytes; counted with 3 bytes around it, or 5 around
                       255 and more
+  --from FILE         edit the message in a file; - is standard input
 
-To edit the message in FILE (- is standard input), each EDIT is
+With --from, each EDIT is
 
   --drop N            its record N, counted from 1, is left out
   --replace N RECORD  the RECORD stands in its place
