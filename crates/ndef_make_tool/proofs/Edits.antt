@@ -1,19 +1,25 @@
 -- Edits, one after another.
-use Rattle.std.proofs.Common.{◌≡◌, ◌∙◌, ◌<◌, ◌≤◌, ◌+◌, ℕ, zero, suc, Bool, true, false, List, [], ◌∷◌, ◌++◌, append-nil, append_assoc, length, take, get_or, map, Option, None, Some, refl, sym, ap, arith, rules, subst}
-use Rattle.std.specs.Prelude.{◌||◌, ◌≢◌, count_by, nat_lt, option_and_then, option_map}
+use Rattle.std.proofs.Common.{◌≡◌, ◌∙◌, ◌<◌, ◌≤◌, ◌+◌, ℕ, zero, suc, Bool, true, false, List, [], ◌∷◌, ◌++◌, append-nil, append_assoc, length, take, get_or, map, Option, None, Some, Err, Ok, refl, sym, ap, ap₂, arith, cond, rules, subst}
+use Rattle.std.specs.Prelude.{◌||◌, count_by, nat_lt, option_and_then, option_map}
 use Rattle.std.specs.List.{find, flat_map, list_any, slice_get}
 use Rattle.std.proofs.lemmas.Bool.{lt-ltb, ltb-true}
-use Rattle.std.proofs.lemmas.List.{flat_map_more, length-take, take_all, take_more}
+use Rattle.std.proofs.lemmas.List.{flat_map_more, length-map, take_all, take_more}
 use Rattle.std.proofs.lemmas.List.Concat.{flat_map-append}
-use Rattle.std.proofs.lemmas.List.Folds.{list_any-append}
-use Rattle.std.proofs.lemmas.Option.{slice_get_past}
+use Rattle.std.proofs.lemmas.List.Folds.{find-append, list_any-append}
+use Rattle.std.proofs.lemmas.List.Sums.{sum_by-cons}
+use Rattle.std.proofs.lemmas.Option.{slice_get-map, slice_get_past, slice_get_read}
+use Rattle.std.specs.Option.{option_map_or, option_or}
 use Rattle.clap.specs.Words.{Text}
 use Rattle.ndef_make_tool.specs.Asked.{AskedPart}
-use Rattle.ndef_make_tool.specs.Editing.{edit_map, in_place, kept_from, misuse_after, misuse_at, names, number_of, one_or_none, record_of, records_in}
+use Rattle.ndef_make_tool.specs.Editing.{AreSaid, AskFor, IsWrongPart, SaysEdit, edit_map, edit_references, edit_said, in_place, kept_from, misuse_after, misuse_at, names, number_of, one_or_none, passes, record_of, records_in}
+use Rattle.ndef_make_tool.specs.Faults.{fault_at}
 use Rattle.ndef_make_tool.specs.References.{references_of}
 use Rattle.ndef_make_tool.specs.declared.editing.Edit.{Edit}
 use Rattle.ndef_make_tool.specs.declared.editing.Edit.TheVariants.{Drops, Replaces, Adds}
+use Rattle.ndef_make_tool.specs.declared.fault.Fault.{Fault}
+use Rattle.ndef_make_tool.specs.declared.fault.Fault.TheVariants.{Usage, UsageAt, Refused, Reading, TooLong, Memory}
 use Rattle.ndef_make_tool.specs.declared.misuse.Misuse.{Misuse}
+use Rattle.ndef_make_tool.proofs.Lists.{mapped_at}
 
 -- ---- one edit
 
@@ -27,61 +33,51 @@ pub numbers_same : {X Y : Type 0} (f : X → Y) (es : List (Edit X)) → map num
 numbers_same f [] = refl
 numbers_same f (e ∷ es) = ap (λ n. n ∷ map number_of (map (edit_map f) es)) (number_same f e) ∙ ap (λ ns. number_of e ∷ ns) (numbers_same f es)
 
--- so is the record of an edit
-pub record_same : {X Y : Type 0} (f : X → Y) (e : Edit X) → record_of (edit_map f e) ≡ option_map f (record_of e)
-record_same f (Drops n) = refl
-record_same f (Replaces n x) = refl
-record_same f (Adds x) = refl
-
 -- ---- the records of edits
-
--- whether the record of an edit passes the test
-abbrev pub passes : {X : Type 0} → (X → Bool) → Edit X → Bool
-passes test e = list_any test (one_or_none (record_of e))
-
-pub any_in : {X : Type 0} (test : X → Bool) (es : List (Edit X)) → list_any test (records_in es) ≡ list_any (passes test) es
-any_in test [] = refl
-any_in test (e ∷ es) = list_any-append test (one_or_none (record_of e)) (records_in es) ∙ ap (λ b. passes test e || b) (any_in test es)
 
 or_false : (b : Bool) → (b || false) ≡ b
 or_false true = refl
 or_false false = refl
 
+one_passes : {X : Type 0} (test : X → Bool) (o : Option X) → list_any test (one_or_none o) ≡ option_map_or test o false
+one_passes test None = refl
+one_passes test (Some x) = or_false (test x)
+
+pub any_in : {X : Type 0} (test : X → Bool) (es : List (Edit X)) → list_any test (records_in es) ≡ list_any (passes test) es
+any_in test [] = refl
+any_in test (e ∷ es) = list_any-append test (one_or_none (record_of e)) (records_in es) ∙ ap₂ (λ a b. a || b) (one_passes test (record_of e)) (any_in test es)
+
 -- a record that passes or doesn't
-pub passes_some : {X : Type 0} (test : X → Bool) (e : Edit X) (x : X) → record_of e ≡ Some x → passes test e ≡ test x
-passes_some test e x is = ap (λ o. list_any test (one_or_none o)) is ∙ or_false (test x)
+passes_some : {X : Type 0} (test : X → Bool) (e : Edit X) (x : X) → record_of e ≡ Some x → passes test e ≡ test x
+passes_some test e x is = ap (λ o. option_map_or test o false) is
 
 -- no record doesn't
-pub passes_none : {X : Type 0} (test : X → Bool) (e : Edit X) → record_of e ≡ None → passes test e ≡ false
-passes_none test e is = ap (λ o. list_any test (one_or_none o)) is
+passes_none : {X : Type 0} (test : X → Bool) (e : Edit X) → record_of e ≡ None → passes test e ≡ false
+passes_none test e is = ap (λ o. option_map_or test o false) is
 
 count_one : {X : Type 0} (test : X → Bool) (x : X) (xs : List X) (es : List (Edit X)) (e : Edit X) → record_of e ≡ Some x → count_by test xs ≡ count_by (passes test) es
     → count_by test (x ∷ xs) ≡ count_by (passes test) (e ∷ es)
-count_one test x xs es e is same = go (test x) (passes test e) refl refl
-  where
-    go : (a b : Bool) → test x ≡ a → passes test e ≡ b → count_by test (x ∷ xs) ≡ count_by (passes test) (e ∷ es)
-    go a b i j = rw (passes_some test e x is) (rw same refl)
+count_one test x xs es e is same =
+    sum_by-cons (λ y. cond (test y) 1 0) x xs ∙ ap₂ (λ b n. cond b 1 0 + n) (sym (passes_some test e x is)) same ∙ sym (sum_by-cons (λ d. cond (passes test d) 1 0) e es)
+
+count_none : {X : Type 0} (test : X → Bool) (xs : List X) (es : List (Edit X)) (e : Edit X) → record_of e ≡ None → count_by test xs ≡ count_by (passes test) es
+    → count_by test xs ≡ count_by (passes test) (e ∷ es)
+count_none test xs es e is same =
+    same ∙ ap (λ b. cond b 1 0 + count_by (passes test) es) (sym (passes_none test e is)) ∙ sym (sum_by-cons (λ d. cond (passes test d) 1 0) e es)
 
 pub count_in : {X : Type 0} (test : X → Bool) (es : List (Edit X)) → count_by test (records_in es) ≡ count_by (passes test) es
 count_in test [] = refl
-count_in test (Drops n ∷ es) = count_in test es
+count_in test (Drops n ∷ es) = count_none test (records_in es) es (Drops n) refl (count_in test es)
 count_in test (Replaces n x ∷ es) = count_one test x (records_in es) es (Replaces n x) refl (count_in test es)
 count_in test (Adds x ∷ es) = count_one test x (records_in es) es (Adds x) refl (count_in test es)
 
--- the references of the record of an edit
-abbrev pub edit_references : Edit AskedPart → List Text
-edit_references e = flat_map references_of (one_or_none (record_of e))
+one_refers : (o : Option AskedPart) → flat_map references_of (one_or_none o) ≡ option_map_or references_of o []
+one_refers None = refl
+one_refers (Some part) = append-nil (references_of part)
 
 pub references_in : (es : List (Edit AskedPart)) → flat_map references_of (records_in es) ≡ flat_map edit_references es
 references_in [] = refl
-references_in (e ∷ es) = flat_map-append references_of (one_or_none (record_of e)) (records_in es) ∙ ap (λ t. edit_references e ++ t) (references_in es)
-
--- those of a record
-pub references_some : (e : Edit AskedPart) (part : AskedPart) → record_of e ≡ Some part → edit_references e ≡ references_of part
-references_some e part is = ap (λ o. flat_map references_of (one_or_none o)) is ∙ append-nil (references_of part)
-
-pub references_none : (e : Edit AskedPart) → record_of e ≡ None → edit_references e ≡ []
-references_none e is = ap (λ o. flat_map references_of (one_or_none o)) is
+references_in (e ∷ es) = flat_map-append references_of (one_or_none (record_of e)) (records_in es) ∙ ap₂ (λ a b. a ++ b) (one_refers (record_of e)) (references_in es)
 
 -- ---- what stands in place of records
 
@@ -173,3 +169,60 @@ right_past count numbers n l before k = go (nat_lt k n) refl
     go false e =
         let no : k < n → ⊥ = λ m. unequal (sym (lt-ltb k n m) ∙ e) in
         ap (λ o. option_and_then (λ number. misuse_after count (take k numbers) number) o) (slice_get_past numbers k (omega (arith, l, no)))
+
+-- what is wrong with the number at a place
+pub number_at : (count : ℕ) (numbers : List (Option ℕ)) (at : ℕ) (number : Option ℕ) (others : List (Option ℕ)) (m : Option Misuse) → slice_get numbers at ≡ Some number → others ≡ take at numbers
+    → m ≡ misuse_after count others number → misuse_at count numbers at ≡ m
+number_at count numbers at number others m there front is =
+    ap (λ o. option_and_then (λ number. misuse_after count (take at numbers) number) o) there ∙ ap (λ ns. misuse_after count ns number) (sym front) ∙ sym is
+
+-- the number of an edit at a place
+pub number_there : {X : Type 0} (edits : List (Edit X)) (at : ℕ) (e : Edit X) → at < length edits → e ≡ get_or edits at e → slice_get (map number_of edits) at ≡ Some (number_of e)
+number_there edits at e l is = slice_get-map number_of edits at ∙ ap (option_map number_of) (slice_get_read edits (length edits) at e refl l is)
+
+-- ---- all edits
+
+whole : {A B : Type 0} (f : A → B) (ps : List A) (n : ℕ) → length ps ≤ n → take n (map f ps) ≡ map f ps
+whole f ps n l = take_all n (map f ps) (omega (arith, l, length-map ps f))
+
+pub any_whole : {A B : Type 0} (test : B → Bool) (f : A → B) (ps : List A) (n : ℕ) → length ps ≤ n → list_any test (take n (map f ps)) ≡ false → list_any test (map f ps) ≡ false
+any_whole test f ps n l none = ap (list_any test) (sym (whole f ps n l)) ∙ none
+
+pub count_whole : {A B : Type 0} (test : B → Bool) (f : A → B) (ps : List A) (n : ℕ) → length ps ≤ n → count_by test (take n (map f ps)) ≡ count_by test (map f ps)
+count_whole test f ps n l = ap (count_by test) (whole f ps n l)
+
+-- ---- finding
+
+-- nothing is found yet
+pub found_none : {X : Type 0} (test : X → Bool) (ps : List X) (n : ℕ) (p : X) → n < length ps → p ≡ get_or ps n p → test p ≡ false → find test (take n ps) ≡ None → find test (take (n + 1) ps) ≡ None
+found_none test ps n p l e is none =
+    ap (find test) (take_more ps n p l) ∙ ap (λ x. find test (take n ps ++ x ∷ [])) (sym e) ∙ find-append test (take n ps) (p ∷ []) ∙ ap (λ o. option_or o (find test (p ∷ []))) none
+    ∙ ap (λ b. cond b (Some p) None) is
+
+-- this one is the first
+pub found_first : {X : Type 0} (test : X → Bool) (ps : List X) (n : ℕ) (p : X) → n < length ps → p ≡ get_or ps n p → test p ≡ true → find test (take n ps) ≡ None → find test ps ≡ Some p
+found_first test ps n p l e is none =
+    let split = cut_there ps n p l e in
+    ap (find test) split.1 ∙ find-append test (take n ps) (p ∷ split.0) ∙ ap (λ o. option_or o (find test (p ∷ split.0))) none ∙ ap (λ b. cond b (Some p) (find test split.0)) is
+
+-- ---- parts
+
+-- the parts before one ask for edits
+pub asked_front : {A : Type 0} (g : A → List Text) (ps : List A) (n : ℕ) (p : A) (edits : List (Edit AskedPart)) (number : ℕ) (m : Misuse) → n < length ps → p ≡ get_or ps n p
+    → AskFor (map g (take n ps)) edits → edit_said (g p) ≡ Err m → number ≡ length edits + 1 → IsWrongPart (map g ps) number m
+asked_front g ps n p edits number m l e ask wrong is =
+    let split = mapped_at g ps n p l e in
+    let a = length-map (map g (take n ps)) edit_said in
+    let b = length-map edits (λ (edit : Edit AskedPart). Ok edit) in
+    let long : length (map g (take n ps)) ≡ length edits = sym a ∙ ap length ask ∙ b in
+    (map g (take n ps), split.0, g p, edits, split.1, ask, wrong, is ∙ ap (λ k. k + 1) (sym long))
+
+-- a fault of a part is one of all
+pub wrong_at : {A : Type 0} (g : A → List Text) (ps : List A) (n : ℕ) (p : A) (edits : List (Edit AskedPart)) (number : ℕ) (fault : Fault) → n < length ps → p ≡ get_or ps n p
+    → AskFor (map g (take n ps)) edits → SaysEdit (g p) (Err fault) → number ≡ length edits + 1 → AreSaid (map g ps) (Err (fault_at number fault))
+wrong_at g ps n p edits number (Usage m) l e ask wrong is = asked_front g ps n p edits number m l e ask wrong is
+wrong_at g ps n p edits number (UsageAt k m) l e ask wrong is = absurd wrong
+wrong_at g ps n p edits number (Refused why) l e ask wrong is = absurd wrong
+wrong_at g ps n p edits number Reading l e ask wrong is = absurd wrong
+wrong_at g ps n p edits number TooLong l e ask wrong is = absurd wrong
+wrong_at g ps n p edits number Memory l e ask wrong is = tt

@@ -1,6 +1,7 @@
 pub mod Appended
 pub mod BadPayloads
 pub mod Digits
+pub mod EditedMessages
 pub mod Edits
 pub mod Found
 pub mod Linked

@@ -9,6 +9,7 @@ use Rattle.clap.specs.declared.error.Error.{Error}
 use Rattle.ndef_program.specs.Options.{number_in}
 use Rattle.ndef_make_tool.specs.Asked.{AskedPart, IsFaultIn, asked_part, part_in, parts_of}
 use Rattle.ndef_make_tool.specs.CommandLine.{make_app}
+use Rattle.ndef_make_tool.specs.References.{references_of}
 use Rattle.ndef_make_tool.specs.declared.editing.Edit.{Edit}
 use Rattle.ndef_make_tool.specs.declared.editing.Edit.TheVariants.{Drops, Replaces, Adds}
 use Rattle.ndef_make_tool.specs.declared.editing.EditWord.{EditWord}
@@ -40,6 +41,10 @@ edit_map f (Drops n) = Drops n
 edit_map f (Replaces n x) = Replaces n (f x)
 edit_map f (Adds x) = Adds (f x)
 
+-- whether the record of an edit passes the test
+abbrev pub passes : {X : Type 0} → (X → Bool) → Edit X → Bool
+passes test edit = option_map_or test (record_of edit) false
+
 -- one record, or none
 abbrev pub one_or_none : {X : Type 0} → Option X → List X
 one_or_none None = []
@@ -48,6 +53,10 @@ one_or_none (Some x) = x ∷ []
 -- the records of edits, in order
 abbrev pub records_in : {X : Type 0} → List (Edit X) → List X
 records_in edits = flat_map (λ edit. one_or_none (record_of edit)) edits
+
+-- the references of the record of an edit
+abbrev pub edit_references : Edit AskedPart → List Text
+edit_references edit = option_map_or references_of (record_of edit) []
 
 -- ---- the records of an edited message
 
@@ -173,11 +182,15 @@ IsWrongPart parts n m = (done rest : List (List Text)) × (part : List Text)
     × (edits : List (Edit AskedPart)) × (parts ≡ done ++ part ∷ rest) × AskFor done edits
     × (edit_said part ≡ Err m) × (n ≡ length done + 1)
 
--- what clap finds wrong with the record of one of the parts
-abbrev pub IsEditFault : List (List Text) → Error → Type 0
-IsEditFault parts error = (done rest : List (List Text)) × (part words : List Text)
-    × (parts ≡ done ++ part ∷ rest) × (option_and_then record_of (edit_in part) ≡ Some words)
+-- what clap finds wrong with the record of an edit
+abbrev pub IsRecordFault : Edit (List Text) → Error → Type 0
+IsRecordFault edit error = (words : List Text) × (record_of edit ≡ Some words)
     × HasKind (fault_of make_app words) error
+
+-- the same of one of the parts
+abbrev pub IsEditFault : List (List Text) → Error → Type 0
+IsEditFault parts error = (done rest : List (List Text)) × (part : List Text) × (edit : Edit (List Text))
+    × (parts ≡ done ++ part ∷ rest) × (edit_in part ≡ Some edit) × IsRecordFault edit error
 
 -- what clap finds wrong with the record of a part, with a file that is edited or without
 abbrev pub IsWordsFault : Option (Option Text × List Text) → Error → Type 0

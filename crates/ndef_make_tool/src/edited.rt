@@ -1,13 +1,15 @@
 //! The message that is edited, and what is written of it.
 ghost use Rattle.std.specs.Prelude.{◌≡◌, ◌∷◌, ◌≤◌, [], length, map, nat_lt, option_map, string_bytes};
 ghost use Rattle.std.specs.List.{find, flat_map, list_any};
+ghost use Rattle.ndef_program.specs.Options.{flag_of};
 ghost use Rattle.ndef_make_tool.specs.Asked.{asked_part};
 ghost use Rattle.ndef_make_tool.specs.Edited.{Appends, EditsMessage, GivesRecords, IsEditedOf, IsEditedOfWords};
 ghost use Rattle.ndef_make_tool.specs.Edited.{IsMessageIn, MakesEdit, MakesEdits, ReadsMessage, WritesRecords};
 ghost use Rattle.ndef_make_tool.specs.Edited.{edit_readers, widest_limits};
-ghost use Rattle.ndef_make_tool.specs.Editing.{AreNumbers, added_by, edit_map, edited, has_number, in_place};
-ghost use Rattle.ndef_make_tool.specs.Editing.{kept_from, misuse_after, names, number_of, records_in};
-ghost use Rattle.ndef_make_tool.specs.Inputs.{readers_of};
+ghost use Rattle.ndef_make_tool.specs.Editing.{AreNumbers, added_by, edit_map, edit_references, edited};
+ghost use Rattle.ndef_make_tool.specs.Editing.{has_number, in_place, kept_from, misuse_after, names, number_of};
+ghost use Rattle.ndef_make_tool.specs.Editing.{passes, records_in};
+ghost use Rattle.ndef_make_tool.specs.Inputs.{is_reader, readers_of};
 ghost use Rattle.ndef_make_tool.specs.Making.{has_flag, shown_by};
 ghost use Rattle.ndef_make_tool.specs.References.{AreFound, references_of};
 
@@ -197,6 +199,20 @@ fn push_all_kept(
     Ok(())
 }
 
+/// Appends what an edit adds.
+fn push_own(
+    alloc: Global,
+    records: &mut Vec<Record>,
+    edit: &Edit<Record>,
+) -> Result<(), Fault>
+    ensures { Appends (added_by edit.now) records.old.items records.new.items result }
+{
+    match edit {
+        Edit::Drops(_) | Edit::Replaces(_, _) => Ok(()),
+        Edit::Adds(item) => push_copy(alloc, records, item),
+    }
+}
+
 /// Appends what edits add.
 fn push_added(
     alloc: Global,
@@ -206,9 +222,7 @@ fn push_added(
     ensures { Appends (flat_map added_by edits.now) records.old.items records.new.items result }
 {
     for edit in edits {
-        if let Edit::Adds(record) = edit {
-            push_copy(alloc, records, record)?;
-        }
+        push_own(alloc, records, edit)?;
     }
     Ok(())
 }
@@ -224,13 +238,21 @@ fn edited(alloc: Global, old: &Message, edits: &[Edit<Record>]) -> Result<Vec<Re
 }
 
 /// Whether the record of an edit has the flag.
+fn edit_has_flag(edit: &Edit<Said<'_>>, id: &str) -> bool
+    ensures { result ≡ passes (λ part. flag_of id.now part.1) (edit_map asked_part edit.now) }
+{
+    match edit.record() {
+        Some(said) => flag_given(&said.matches, id),
+        None => false,
+    }
+}
+
+/// Whether the record of one of the edits has the flag.
 fn has_flag(edits: &[Edit<Said<'_>>], id: &str) -> bool
     ensures { result ≡ has_flag id.now (records_in (map (edit_map asked_part) edits.now)) }
 {
     for edit in edits {
-        if let Some(said) = edit.record()
-            && flag_given(&said.matches, id)
-        {
+        if edit_has_flag(edit, id) {
             return true;
         }
     }
@@ -250,15 +272,23 @@ fn shown_by(terminal: bool, edits: &[Edit<Said<'_>>]) -> Shown
     Shown::Octets
 }
 
+/// Finds a record for each reference of the record of an edit.
+fn find_in_edit(alloc: Global, records: &[Record], edit: &Edit<Said<'_>>) -> Result<(), Fault>
+    ensures { AreFound records.now (edit_references (edit_map asked_part edit.now)) result }
+{
+    match edit.record() {
+        Some(said) => find_in_part(alloc, records, said),
+        None => Ok(()),
+    }
+}
+
 /// Finds a record for each reference of the records of edits, or refuses the first without one.
 fn find_all(alloc: Global, records: &[Record], edits: &[Edit<Said<'_>>]) -> Result<(), Fault>
     ensures { AreFound records.now
         (flat_map references_of (records_in (map (edit_map asked_part) edits.now))) result }
 {
     for edit in edits {
-        if let Some(said) = edit.record() {
-            find_in_part(alloc, records, said)?;
-        }
+        find_in_edit(alloc, records, edit)?;
     }
     Ok(())
 }
@@ -297,6 +327,16 @@ fn edit_message<I: Inputs>(
     write_edited(alloc, records, edits, writing)
 }
 
+/// Whether the payload of the record of an edit is standard input.
+fn is_reader_of(edit: &Edit<Said<'_>>) -> bool
+    ensures { result ≡ passes is_reader (edit_map asked_part edit.now) }
+{
+    match edit.record() {
+        Some(said) => is_reader(said),
+        None => false,
+    }
+}
+
 /// The number of records of edits whose payload is standard input.
 fn readers_of(edits: &[Edit<Said<'_>>]) -> usize
     ensures value { result ≡ readers_of (records_in (map (edit_map asked_part) edits.now)) }
@@ -304,9 +344,7 @@ fn readers_of(edits: &[Edit<Said<'_>>]) -> usize
 {
     let mut count = 0;
     for edit in edits {
-        if let Some(said) = edit.record()
-            && is_reader(said)
-        {
+        if is_reader_of(edit) {
             count += 1;
         }
     }

@@ -1,6 +1,6 @@
 //! The edits of a message for which parts ask: a record of it is left out or replaced, or one is added.
 ghost use Rattle.std.specs.Prelude.{◌≡◌, map, option_map, string_bytes, IfOk, IfSome};
-ghost use Rattle.ndef_make_tool.specs.Editing.{AreSaid, IsEditFault, SaysEdit, drop_words, edit_in, edit_map};
+ghost use Rattle.ndef_make_tool.specs.Editing.{AreSaid, IsEditFault, IsRecordFault, SaysEdit, drop_words, edit_in, edit_map};
 ghost use Rattle.ndef_make_tool.specs.Editing.{edit_named, edit_parts, names, number_of, origin_in, origin_words};
 ghost use Rattle.ndef_make_tool.specs.Editing.{record_of, replace_words};
 
@@ -181,16 +181,27 @@ impl<X> Edit<X> {
     }
 }
 
+/// What clap says is wrong with the record of an edit, if something is.
+fn record_fault(alloc: Global, edit: Edit<&[String]>) -> Option<Error>
+    ensures { IfSome result (IsRecordFault (edit_map (λ words. map string_bytes words.now) edit)) }
+{
+    match edit {
+        Edit::Drops(_) => None,
+        Edit::Replaces(_, words) => part_fault(alloc, words),
+        Edit::Adds(words) => part_fault(alloc, words),
+    }
+}
+
 /// What clap says is wrong with the record of one of these parts, if something is, and the words of none before it
 /// are wrong.
 pub(crate) fn edit_fault(alloc: Global, parts: &[&[String]]) -> Option<Error>
     ensures { IfSome result (IsEditFault (map (λ part. map string_bytes part.now) parts.now)) }
 {
     for part in parts {
-        let edit = edit_in(*part)?;
-        if let Some(record) = edit.record()
-            && let Some(error) = part_fault(alloc, *record)
-        {
+        let Some(edit) = edit_in(*part) else {
+            return None;
+        };
+        if let Some(error) = record_fault(alloc, edit) {
             return Some(error);
         }
     }

@@ -2,8 +2,7 @@ use Rattle.std.proofs.Common.{◌≡◌, false, map, take}
 use Rattle.std.specs.List.{list_any}
 use Rattle.ndef_program.specs.Options.{flag_of}
 use Rattle.ndef_make_tool.specs.Asked.{asked_part}
-use Rattle.ndef_make_tool.specs.Editing.{edit_map}
-use Rattle.ndef_make_tool.proofs.Edits.{passes}
+use Rattle.ndef_make_tool.specs.Editing.{edit_map, passes}
 use Rattle.ndef_make_tool.proofs.edited.has_flag.Given as goal
 
 abbrev pub invariant-loop-edit : goal.invariant-loop-edit

@@ -1,9 +1,8 @@
 use Rattle.std.proofs.Common.{◌≡◌, ◌≤◌, map, take}
 use Rattle.std.specs.Prelude.{count_by}
 use Rattle.ndef_make_tool.specs.Asked.{asked_part}
-use Rattle.ndef_make_tool.specs.Editing.{edit_map}
+use Rattle.ndef_make_tool.specs.Editing.{edit_map, passes}
 use Rattle.ndef_make_tool.specs.Inputs.{is_reader}
-use Rattle.ndef_make_tool.proofs.Edits.{passes}
 use Rattle.ndef_make_tool.proofs.edited.readers_of.Given as goal
 
 abbrev pub invariant-loop-edit : goal.invariant-loop-edit
