@@ -63,7 +63,8 @@ count_one test x xs es e is same =
 count_none : {X : Type 0} (test : X → Bool) (xs : List X) (es : List (Edit X)) (e : Edit X) → record_of e ≡ None → count_by test xs ≡ count_by (passes test) es
     → count_by test xs ≡ count_by (passes test) (e ∷ es)
 count_none test xs es e is same =
-    same ∙ ap (λ b. cond b 1 0 + count_by (passes test) es) (sym (passes_none test e is)) ∙ sym (sum_by-cons (λ d. cond (passes test d) 1 0) e es)
+    let zero : count_by (passes test) es ≡ 0 + count_by (passes test) es = omega arith in
+    same ∙ zero ∙ ap (λ b. cond b 1 0 + count_by (passes test) es) (sym (passes_none test e is)) ∙ sym (sum_by-cons (λ d. cond (passes test d) 1 0) e es)
 
 pub count_in : {X : Type 0} (test : X → Bool) (es : List (Edit X)) → count_by test (records_in es) ≡ count_by (passes test) es
 count_in test [] = refl

@@ -353,7 +353,8 @@ fn readers_of(edits: &[Edit<Said<'_>>]) -> usize
 
 /// Whether more than one input is standard input: the message, or the payload of a part.
 fn has_many_readers(name: &str, edits: &[Edit<Said<'_>>]) -> bool
-    ensures { result ≡ nat_lt 1 (edit_readers (record { file = name.now; edits = map (edit_map asked_part) edits.now })) }
+    ensures { result ≡ nat_lt 1
+        (edit_readers (record { file = name.now; edits = map (edit_map asked_part) edits.now })) }
 {
     let most = if name == "-" { 0 } else { 1 };
     readers_of(edits) > most

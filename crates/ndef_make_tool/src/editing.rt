@@ -183,7 +183,7 @@ impl<X> Edit<X> {
 
 /// What clap says is wrong with the record of an edit, if something is.
 fn record_fault(alloc: Global, edit: Edit<&[String]>) -> Option<Error>
-    ensures { IfSome result (IsRecordFault (edit_map (λ words. map string_bytes words.now) edit)) }
+    ensures { IfSome result (IsRecordFault (edit_map (λ words. map string_bytes words.now) edit.entry)) }
 {
     match edit {
         Edit::Drops(_) => None,
