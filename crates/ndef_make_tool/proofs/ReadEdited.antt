@@ -29,28 +29,22 @@ use Rattle.ndef_make_tool.specs.declared.fault.Fault.{Fault}
 use Rattle.ndef_make_tool.specs.declared.making.Writing.{Writing}
 use Rattle.ndef_make_tool.specs.declared.making.Written.{Written}
 use Rattle.ndef_make_tool.specs.declared.measure.Measure.{Measure}
+use Rattle.ndef_make_tool.specs.declared.misuse.Misuse.{Misuse}
 use Rattle.ndef_make_tool.proofs.ReadBack.{linked, neither, read_back, typed_if}
 
 -- ---- what holds of each record of an edit, and of each old one, holds of each that is left
 
+first_or : {X : Type 0} (P : X → Type 0) (b : Bool) (d e : Edit X) (rest : Option (Edit X)) → AllByRecursion P (one_or_none (record_of d)) → (rest ≡ Some e → AllByRecursion P (one_or_none (record_of e)))
+    → cond b (Some d) rest ≡ Some e → AllByRecursion P (one_or_none (record_of e))
+first_or {X} P true d e rest own other is = let same : d ≡ e = search rules in subst (λ (k : Edit X). AllByRecursion P (one_or_none (record_of k))) same own
+first_or P false d e rest own other is = other is
+
 found : {X : Type 0} (P : X → Type 0) (test : Edit X → Bool) (edits : List (Edit X)) (e : Edit X) → AllByRecursion P (records_in edits) → find test edits ≡ Some e
     → AllByRecursion P (one_or_none (record_of e))
 found P test [] e all is = absurd (search rules)
-found {X} P test (Drops n ∷ edits) e all is = go (test (Drops n)) is
-  where
-    go : (b : Bool) → cond b (Some (Drops n)) (find test edits) ≡ Some e → AllByRecursion P (one_or_none (record_of e))
-    go true i = let same : Drops n ≡ e = search rules in subst (λ (d : Edit X). AllByRecursion P (one_or_none (record_of d))) same tt
-    go false i = found P test edits e all i
-found {X} P test (Replaces n x ∷ edits) e all is = go (test (Replaces n x)) is
-  where
-    go : (b : Bool) → cond b (Some (Replaces n x)) (find test edits) ≡ Some e → AllByRecursion P (one_or_none (record_of e))
-    go true i = let same : Replaces n x ≡ e = search rules in subst (λ (d : Edit X). AllByRecursion P (one_or_none (record_of d))) same (all.0, tt)
-    go false i = found P test edits e all.1 i
-found {X} P test (Adds x ∷ edits) e all is = go (test (Adds x)) is
-  where
-    go : (b : Bool) → cond b (Some (Adds x)) (find test edits) ≡ Some e → AllByRecursion P (one_or_none (record_of e))
-    go true i = let same : Adds x ≡ e = search rules in subst (λ (d : Edit X). AllByRecursion P (one_or_none (record_of d))) same (all.0, tt)
-    go false i = found P test edits e all.1 i
+found P test (Drops n ∷ edits) e all is = first_or P (test (Drops n)) (Drops n) e (find test edits) tt (found P test edits e all) is
+found P test (Replaces n x ∷ edits) e all is = first_or P (test (Replaces n x)) (Replaces n x) e (find test edits) (all.0, tt) (found P test edits e all.1) is
+found P test (Adds x ∷ edits) e all is = first_or P (test (Adds x)) (Adds x) e (find test edits) (all.0, tt) (found P test edits e all.1) is
 
 placed : {X : Type 0} (P : X → Type 0) (o : Option (Edit X)) (x : X) → P x → ((e : Edit X) → o ≡ Some e → AllByRecursion P (one_or_none (record_of e))) → AllByRecursion P (in_place o x)
 placed P None x own other = (own, tt)
@@ -73,25 +67,25 @@ all_edited P old edits own all = all_append P (kept_from 1 edits old) (flat_map 
 -- ---- the records of edits
 
 typed_one : {I : Type 0} (gives : GivesInput I) (part : AskedPart) (before after : I) (i : Item) → is_unchecked part ≡ false → MakesFrom gives part before after (Ok i) → IsOfItsType i
-typed_one gives part before after i no is = typed_if part is.0 i no is.2
+typed_one gives part before after i checked is = typed_if part is.0 i checked is.2
 
-typed_as : (made as : Edit Item) → made ≡ as → AllByRecursion IsOfItsType (one_or_none (record_of as)) → AllByRecursion IsOfItsType (one_or_none (record_of made))
-typed_as made as is all = subst (λ (e : Edit Item). AllByRecursion IsOfItsType (one_or_none (record_of e))) (sym is) all
+typed_as : (made wanted : Edit Item) → made ≡ wanted → AllByRecursion IsOfItsType (one_or_none (record_of wanted)) → AllByRecursion IsOfItsType (one_or_none (record_of made))
+typed_as made wanted is all = subst (λ (e : Edit Item). AllByRecursion IsOfItsType (one_or_none (record_of e))) (sym is) all
 
 are_typed : {I : Type 0} (gives : GivesInput I) (edits : List (Edit AskedPart)) (before after : I) (items : List (Edit Item)) → AreMadeIn (MakesEdit gives) edits before after items
     → list_any is_unchecked (records_in edits) ≡ false → AllByRecursion IsOfItsType (records_in items)
-are_typed gives [] before after [] are no = tt
-are_typed gives [] before after (i ∷ items) are no = absurd are
-are_typed gives (edit ∷ edits) before after [] are no = absurd are
-are_typed gives (Drops n ∷ edits) before after (i ∷ items) are no =
+are_typed gives [] before after [] are checked = tt
+are_typed gives [] before after (i ∷ items) are checked = absurd are
+are_typed gives (edit ∷ edits) before after [] are checked = absurd are
+are_typed gives (Drops n ∷ edits) before after (i ∷ items) are checked =
     let same : i ≡ Drops n = search rules in
-    all_append IsOfItsType (one_or_none (record_of i)) (records_in items) (typed_as i (Drops n) same tt) (are_typed gives edits are.0 after items are.2 no)
-are_typed gives (Replaces n part ∷ edits) before after (i ∷ items) are no =
-    let both = neither (is_unchecked part) (list_any is_unchecked (records_in edits)) no in
+    all_append IsOfItsType (one_or_none (record_of i)) (records_in items) (typed_as i (Drops n) same tt) (are_typed gives edits are.0 after items are.2 checked)
+are_typed gives (Replaces n part ∷ edits) before after (i ∷ items) are checked =
+    let both = neither (is_unchecked part) (list_any is_unchecked (records_in edits)) checked in
     all_append IsOfItsType (one_or_none (record_of i)) (records_in items)
     (typed_as i (Replaces n are.1.0) are.1.2 (typed_one gives part before are.0 are.1.0 both.0 are.1.1, tt)) (are_typed gives edits are.0 after items are.2 both.1)
-are_typed gives (Adds part ∷ edits) before after (i ∷ items) are no =
-    let both = neither (is_unchecked part) (list_any is_unchecked (records_in edits)) no in
+are_typed gives (Adds part ∷ edits) before after (i ∷ items) are checked =
+    let both = neither (is_unchecked part) (list_any is_unchecked (records_in edits)) checked in
     all_append IsOfItsType (one_or_none (record_of i)) (records_in items)
     (typed_as i (Adds are.1.0) are.1.2 (typed_one gives part before are.0 are.1.0 both.0 are.1.1, tt)) (are_typed gives edits are.0 after items are.2 both.1)
 
@@ -105,13 +99,13 @@ written_all parts writing (i ∷ items) made is = is
 pub edited_by : {I : Type 0} (gives : GivesInput I) → StrictContentsAreRead → ShortIsCanonical → (set : Sets) (holds : Conditions) → SameSets set IsTypedPayload → RoundTrips set holds
     → (editing : Editing) (writing : Writing) (many : Bool) (before after : I) (made : Written) → IsEditedIf many gives editing writing before after (Ok made)
     → list_any is_unchecked (records_in editing.edits) ≡ false → ReadsEdited gives set holds editing before after made
-edited_by gives strict short set holds same trips editing writing true before after made is no = absurd (search rules)
-edited_by gives strict short set holds same trips editing writing false before after made (old, middle, reads, items, numbers, are, writes) no =
+edited_by gives strict short set holds same trips editing writing true before after made is checked = absurd (search rules)
+edited_by gives strict short set holds same trips editing writing false before after made (old, middle, reads, (items, numbers, are, writes)) checked =
     let parts = records_in editing.edits in
     let left = edited old items in
     let all = written_all parts writing left made writes in
     let is = linked (missing_reference parts left) writing.measure (shown_in writing parts) left made all in
-    let typed = all_edited IsOfItsType old items reads.2.members (are_typed gives editing.edits middle after items are no) in (
+    let typed = all_edited IsOfItsType old items reads.2.members (are_typed gives editing.edits middle after items are checked) in (
       old,
       items,
       middle,
@@ -121,14 +115,17 @@ edited_by gives strict short set holds same trips editing writing false before a
       read_back strict short set holds same trips left is.0 typed,
     )
 
--- the edits are those for which the words ask
-same_edits : {X E : Type 0} (xs ys : List X) → map {0} {0} {X} {Result X E} (λ x. Ok x) xs ≡ map (λ x. Ok x) ys → xs ≡ ys
+-- the edit for which words ask
+abbrev said : Edit AskedPart → Result (Edit AskedPart) Misuse
+said edit = Ok edit
+
+same_edits : (xs ys : List (Edit AskedPart)) → map said xs ≡ map said ys → xs ≡ ys
 same_edits [] [] e = refl
 same_edits [] (y ∷ ys) e = absurd (search rules)
 same_edits (x ∷ xs) [] e = absurd (search rules)
-same_edits {X} {E} (x ∷ xs) (y ∷ ys) e =
+same_edits (x ∷ xs) (y ∷ ys) e =
     let first : x ≡ y = search rules in
-    let others : map {0} {0} {X} {Result X E} (λ x. Ok x) xs ≡ map (λ x. Ok x) ys = search rules in
+    let others : map said xs ≡ map said ys = search rules in
     ap (λ z. z ∷ xs) first ∙ ap (λ zs. y ∷ zs) (same_edits xs ys others)
 
 pub edited_is_read : {I : Type 0} (gives : GivesInput I) → StrictContentsAreRead → ShortIsCanonical → (set : Sets) (holds : Conditions) → SameSets set IsTypedPayload → RoundTrips set holds → EditedIsRead gives set holds

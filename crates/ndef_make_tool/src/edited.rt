@@ -139,13 +139,7 @@ fn make_edits<I: Inputs>(
 fn push_copy(alloc: Global, records: &mut Vec<Record>, item: &Record) -> Result<(), Fault>
     ensures { Appends (item.now ∷ []) records.old.items records.new.items result }
 {
-    let copy = make_item(
-        alloc,
-        item.tnf(),
-        item.kind(),
-        item.id(),
-        item.payload(),
-    )?;
+    let copy = make_item(alloc, item.tnf(), item.kind(), item.id(), item.payload())?;
     records.push(copy)?;
     Ok(())
 }
@@ -200,11 +194,7 @@ fn push_all_kept(
 }
 
 /// Appends what an edit adds.
-fn push_own(
-    alloc: Global,
-    records: &mut Vec<Record>,
-    edit: &Edit<Record>,
-) -> Result<(), Fault>
+fn push_own(alloc: Global, records: &mut Vec<Record>, edit: &Edit<Record>) -> Result<(), Fault>
     ensures { Appends (added_by edit.now) records.old.items records.new.items result }
 {
     match edit {
@@ -214,11 +204,7 @@ fn push_own(
 }
 
 /// Appends what edits add.
-fn push_added(
-    alloc: Global,
-    records: &mut Vec<Record>,
-    edits: &[Edit<Record>],
-) -> Result<(), Fault>
+fn push_added(alloc: Global, records: &mut Vec<Record>, edits: &[Edit<Record>]) -> Result<(), Fault>
     ensures { Appends (flat_map added_by edits.now) records.old.items records.new.items result }
 {
     for edit in edits {

@@ -102,7 +102,11 @@ fn payload_of(read: Result<Vec<u8>, InputError>) -> Result<Bytes, Fault>
 }
 
 /// Reads the input of this name.
-pub(crate) fn read_named<I: Inputs>(alloc: Global, name: &str, inputs: &mut I) -> Result<Bytes, Fault>
+pub(crate) fn read_named<I: Inputs>(
+    alloc: Global,
+    name: &str,
+    inputs: &mut I,
+) -> Result<Bytes, Fault>
     ensures { ReadsNamed I.gives name.now inputs.old inputs.new result }
 {
     payload_of(inputs.read(alloc, name))

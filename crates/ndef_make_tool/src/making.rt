@@ -84,7 +84,11 @@ pub(crate) fn shown_of(measure: Measure, shown: Shown) -> Shown
 }
 
 /// The record that a part asks for, with its payload.
-pub(crate) fn read_and_make<I: Inputs>(alloc: Global, said: &Said<'_>, inputs: &mut I) -> Result<Record, Fault>
+pub(crate) fn read_and_make<I: Inputs>(
+    alloc: Global,
+    said: &Said<'_>,
+    inputs: &mut I,
+) -> Result<Record, Fault>
     ensures { MakesFrom I.gives (asked_part said.now) inputs.old inputs.new result }
 {
     let payload = read_for(alloc, said, inputs)?;

@@ -7,11 +7,13 @@ use Rattle.ndef_make_tool.proofs.edited.check_numbers.Goals as goal
 pub returns-in-Some : goal.returns-in-Some
 returns-in-Some c =
     let numbers = map number_of c.args.edits.now in
-    let at = c.loop-at.at in
-    (at, refl,
-    number_at c.args.count numbers at c.number.result _ (Some c.in-Some.misuse) (number_there c.args.edits.now at c.index-edits-at.result c.loop-at-test.true c.index-edits-at.is ∙ ap (λ n. Some n) (sym c.number.ensures))
-    (sym (take-map number_of at c.args.edits.now)) c.in-Some.ensures,
-    c.loop-at.invariant)
+    let at = c.loop-at.at in (
+      at,
+      refl,
+      number_at c.args.count numbers at c.number.result _ (Some c.in-Some.misuse) (number_there c.args.edits.now at c.index-edits-at.result c.loop-at-test.true c.index-edits-at.is ∙ ap (λ n. Some n) (sym c.number.ensures))
+          (sym (take-map number_of at c.args.edits.now)) c.in-Some.ensures,
+      c.loop-at.invariant,
+    )
 
 pub loop-at-preserved : goal.loop-at-preserved
 loop-at-preserved c =
