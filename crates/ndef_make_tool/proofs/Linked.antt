@@ -55,6 +55,9 @@ bad_carrier power (reference ∷ auxiliary) (Refused refused.NoHandover) some h 
 bad_carrier power (reference ∷ auxiliary) (Refused refused.BadError) some h = absurd h
 bad_carrier power (reference ∷ auxiliary) (Refused (refused.NoRecord name)) some h = absurd h
 bad_carrier power (reference ∷ auxiliary) (Refused refused.TooManyRecords) some h = absurd h
+bad_carrier power (reference ∷ auxiliary) (Refused (refused.BadMessage refusal)) some h = absurd h
+bad_carrier power (reference ∷ auxiliary) (Refused (refused.BytesAfter at)) some h = absurd h
+bad_carrier power (reference ∷ auxiliary) (Refused refused.NoRecords) some h = absurd h
 bad_carrier power (reference ∷ auxiliary) (Refused (refused.NoRoom size room)) some h = absurd h
 
 -- a carrier whose references are too long or too many

@@ -46,6 +46,10 @@ say_fails g ps n p (Usage misuse.Control) l e none = absurd none
 say_fails g ps n p (Usage misuse.NoLanguage) l e none = absurd none
 say_fails g ps n p (Usage misuse.TwoTitles) l e none = absurd none
 say_fails g ps n p (Usage misuse.NoCarrier) l e none = absurd none
+say_fails g ps n p (Usage misuse.From) l e none = absurd none
+say_fails g ps n p (Usage misuse.Edit) l e none = absurd none
+say_fails g ps n p (Usage misuse.NoSuchRecord) l e none = absurd none
+say_fails g ps n p (Usage misuse.Twice) l e none = absurd none
 say_fails g ps n p (Usage misuse.Tag) l e none = absurd none
 say_fails g ps n p (Refused why) l e none = absurd none
 say_fails g ps n p Reading l e none = absurd none
@@ -136,6 +140,9 @@ not_found gives parts writing before after items (Refused refused.NoHandover) ar
 not_found gives parts writing before after items (Refused refused.BadError) are h = absurd h
 not_found gives parts writing before after items (Refused refused.TooManyReferences) are h = absurd h
 not_found gives parts writing before after items (Refused refused.TooManyRecords) are h = absurd h
+not_found gives parts writing before after items (Refused (refused.BadMessage refusal)) are h = absurd h
+not_found gives parts writing before after items (Refused (refused.BytesAfter at)) are h = absurd h
+not_found gives parts writing before after items (Refused refused.NoRecords) are h = absurd h
 not_found gives parts writing before after items (Refused (refused.NoRoom size room)) are h = absurd h
 
 -- there is a record, since there is a part

@@ -78,4 +78,7 @@ made_short v (Err (Refused refused.NoHandover)) short is = absurd is
 made_short v (Err (Refused refused.BadError)) short is = absurd is
 made_short v (Err (Refused (refused.NoRecord reference))) short is = absurd is
 made_short v (Err (Refused refused.TooManyRecords)) short is = absurd is
+made_short v (Err (Refused (refused.BadMessage refusal))) short is = absurd is
+made_short v (Err (Refused (refused.BytesAfter at))) short is = absurd is
+made_short v (Err (Refused refused.NoRecords)) short is = absurd is
 made_short v (Err (Refused (refused.NoRoom size room))) short is = absurd is

@@ -16,6 +16,9 @@ pub mod Contents
 pub mod References
 pub mod Checking
 pub mod Making
+pub mod Editing
+pub mod Edited
+pub mod Outcomes
 pub mod Reading
 pub mod Pages
 pub mod Runs

@@ -68,7 +68,7 @@ fn input_of<'a>(said: &Said<'a>) -> Option<&'a str>
 }
 
 /// Whether the payload of a part is standard input.
-fn is_reader(said: &Said<'_>) -> bool
+pub(crate) fn is_reader(said: &Said<'_>) -> bool
     ensures { result ≡ is_reader (asked_part said.now) }
 {
     match input_of(said) {
@@ -102,7 +102,11 @@ fn payload_of(read: Result<Vec<u8>, InputError>) -> Result<Bytes, Fault>
 }
 
 /// Reads the input of this name.
-fn read_named<I: Inputs>(alloc: Global, name: &str, inputs: &mut I) -> Result<Bytes, Fault>
+pub(crate) fn read_named<I: Inputs>(
+    alloc: Global,
+    name: &str,
+    inputs: &mut I,
+) -> Result<Bytes, Fault>
     ensures { ReadsNamed I.gives name.now inputs.old inputs.new result }
 {
     payload_of(inputs.read(alloc, name))

@@ -4,6 +4,8 @@
 //! Where to look:
 //!
 //! - `running.rt`, `specs/Runs.antt`: one run. `making.rt`, `specs/Making.antt`: the message.
+//! - `editing.rt`, `specs/Editing.antt`: which records of a message parts leave out, replace or add. `edited.rt`,
+//!   `specs/Edited.antt`: the message that is edited. `specs/Outcomes.antt`: both ways to make a message.
 //! - `pages.rt`, `specs/Pages.antt`: what `--help` and `--version` print.
 //! - `parts.rt`, `command.rt`, `options.rt`, `specs/Asked.antt`: the words, by clap.
 //! - `records.rt`, `poster.rt`, `carrier.rt`, `handover.rt`, `specs/Records.antt`, `specs/Posters.antt`,
@@ -24,6 +26,8 @@ mod carrier;
 mod causes;
 mod command;
 mod contents;
+mod edited;
+mod editing;
 mod fault;
 mod forbidden;
 mod handover;
@@ -44,7 +48,7 @@ mod running;
 pub use causes::cause_line;
 pub use fault::{Fault, Refused};
 pub use inputs::{Inputs, MOST, read_input};
-pub use laws::made_is_read;
+pub use laws::{edited_is_read, made_is_read};
 pub use making::{Shown, Written, make};
 pub use misuse::Misuse;
 pub use parts::words_fault;

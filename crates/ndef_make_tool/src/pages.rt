@@ -62,6 +62,7 @@ const HELP: &[u8] = b"\
 ndef-make writes a message of the NFC Data Exchange Format.
 
 Usage: ndef-make [--size | --tag TAG] RECORD [--and RECORD]..
+       ndef-make [--size | --tag TAG] --from FILE [EDIT [--and EDIT]..]
 
 Each RECORD is a subcommand with its options. Separate records with --and.
 
@@ -113,6 +114,13 @@ Before the first RECORD:
   --tag TAG           write it only if it fits on the tag: ntag213, ntag215, ntag216, or
                       a number of bytes; counted with 3 bytes around it, or 5 around
                       255 and more
+  --from FILE         edit the message in a file; - is standard input
+
+With --from, each EDIT is
+
+  --drop N            its record N, counted from 1, is left out
+  --replace N RECORD  the RECORD stands in its place
+  RECORD              the RECORD comes after all its records
 
 In place of a message:
 
@@ -122,6 +130,7 @@ In place of a message:
 Examples:
 
   ndef-make text Hello --and uri http://www.example.com > tag.bin
+  ndef-make --from tag.bin --drop 1 --and uri http://www.example.org > new.bin
   ndef-make poster http://www.example.com --title en=Example --action save > tag.bin
   printf 123 | ndef-make record --hex --tnf 2 --type a/b --id x
   ndef-make handover select --carrier active=0 --and media a/b --id 0 --file data > tag.bin

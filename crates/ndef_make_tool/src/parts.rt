@@ -3,9 +3,11 @@ ghost use Rattle.std.specs.Prelude.{◌≡◌, drop, map, string_bytes, IfOk, If
 ghost use Rattle.clap.specs.Words.{HasKind, fault_of};
 ghost use Rattle.ndef_make_tool.specs.Asked.{IsFaultIn, SaidAll, SaysPart, parts_of};
 ghost use Rattle.ndef_make_tool.specs.CommandLine.{make_app};
+ghost use Rattle.ndef_make_tool.specs.Editing.{IsWordsFault, origin_in};
 ghost use Rattle.ndef_make_tool.specs.Measures.{record_words};
 
 use crate::command::make_command;
+use crate::editing::{edit_fault, edit_parts, origin_in};
 use crate::measure::measure_words;
 use crate::{Fault, Misuse};
 use clap::error::ErrorKind;
@@ -48,7 +50,7 @@ fn record_words(words: &[String]) -> &[String]
 }
 
 /// What a part says.
-fn say<'a>(alloc: Global, part: &'a [String]) -> Result<Said<'a>, Fault>
+pub(crate) fn say<'a>(alloc: Global, part: &'a [String]) -> Result<Said<'a>, Fault>
     ensures { SaysPart (map string_bytes part.now) result }
 {
     let Ok(command) = make_command(alloc) else {
@@ -78,7 +80,7 @@ pub(crate) fn say_all<'a>(alloc: Global, parts: &[&'a [String]]) -> Result<Vec<S
 }
 
 /// What clap says is wrong with a part, if something is.
-fn part_fault(alloc: Global, part: &[String]) -> Option<Error>
+pub(crate) fn part_fault(alloc: Global, part: &[String]) -> Option<Error>
     ensures { IfSome result (λ error. HasKind (fault_of make_app (map string_bytes part.now)) error) }
 {
     let Ok(command) = make_command(alloc) else {
@@ -106,12 +108,17 @@ fn fault_in(alloc: Global, parts: &[&[String]]) -> Option<Error>
 /// likely meant. Nothing where clap takes them, or where a word before them is wrong. Of the words the first is the
 /// program's name.
 pub fn words_fault(alloc: Global, words: &[String]) -> Option<Error>
-    ensures { IfSome result (IsFaultIn (parts_of (record_words (map string_bytes words.now)))) }
+    ensures { IfSome result (IsWordsFault (origin_in (record_words (map string_bytes words.now)))) }
 {
     if measure_words(words_behind(words)).is_none() {
         return None;
     }
-    match parts(alloc, record_words(words)) {
+    let origin = origin_in(record_words(words))?;
+    if origin.file.is_some() {
+        let parts = edit_parts(alloc, origin.parts).ok()?;
+        return edit_fault(alloc, parts.as_slice());
+    }
+    match parts(alloc, origin.parts) {
         Ok(parts) => fault_in(alloc, parts.as_slice()),
         Err(_) => None,
     }

@@ -71,7 +71,7 @@ fn find_in_words(alloc: Global, records: &[Record], words: &[&str]) -> Result<()
 }
 
 /// Finds a record for each reference of a part.
-fn find_in_part(alloc: Global, records: &[Record], said: &Said<'_>) -> Result<(), Fault>
+pub(crate) fn find_in_part(alloc: Global, records: &[Record], said: &Said<'_>) -> Result<(), Fault>
     ensures { AreFound records.now (references_of (asked_part said.now)) result }
 {
     match subject_named(said.name) {
