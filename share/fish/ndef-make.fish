@@ -38,6 +38,7 @@ for kind in text uri poster handover record media external app carrier
     complete -c ndef-make -n "__ndef_make_in $kind" -l id -x -d 'The id'
     complete -c ndef-make -n "__ndef_make_in $kind" -l unchecked -d 'Write any payload'
     complete -c ndef-make -n "__ndef_make_in $kind" -l and -d 'Begin another record'
+    complete -c ndef-make -n "__ndef_make_in $kind" -l help -d 'Print the page of this kind of record'
 end
 for kind in record media external carrier
     complete -c ndef-make -n "__ndef_make_in $kind" -l file -r -F -d 'The file that holds the payload'

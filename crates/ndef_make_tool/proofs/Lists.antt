@@ -2,7 +2,7 @@
 use Rattle.std.proofs.Common.{◌≡◌, ◌∙◌, ◌+◌, ◌<◌, ℕ, zero, suc, Bool, true, false, List, [], ◌∷◌, ◌++◌, length, take, get_or, map, Option, Some, None, Result, Ok, Err, refl, sym, ap, ap₂, arith, cond, rules}
 use Rattle.std.specs.Prelude.{◌||◌, count_by, option_map, IfOk, Vec}
 use Rattle.std.specs.Borrow.{Bor}
-use Rattle.std.specs.List.{list_any, slice_split, onto_first}
+use Rattle.std.specs.List.{find, list_any, slice_split, onto_first}
 use Rattle.ndef_make_tool.specs.Asked.{all_or_none}
 use Rattle.std.proofs.lemmas.List.{get_or-map, length-map, map-append, take_more}
 use Rattle.std.proofs.lemmas.List.Folds.{list_any_more}
@@ -34,6 +34,24 @@ pub cut_read : {A B E Z : Type 0} (f : A → B) (p : B → Bool) (r : Result (Ve
     → IfOk r (λ w. map (λ x. x.now) w.items ≡ slice_split (λ x. p (f x)) words) → IfOk r (λ w. map (λ x. map f x.now) w.items ≡ slice_split p (map f words))
 cut_read f p (Ok w) words e = sym (map_twice (map f) (λ x. x.now) w.items) ∙ ap (map (map f)) e ∙ map-slice_split f p words
 cut_read f p (Err e) words h = tt
+
+find-map : {A B : Type 0} (g : A → B) (test : B → Bool) (xs : List A) → option_map g (find (λ x. test (g x)) xs) ≡ find test (map g xs)
+find-map g test [] = refl
+find-map {A} {B} g test (x ∷ xs) = go (test (g x)) ∙ ap (λ (o : Option B). cond (test (g x)) (Some (g x)) o) (find-map g test xs)
+  where
+    go : (b : Bool) → option_map g (cond b (Some x) (find (λ y. test (g y)) xs)) ≡ cond b (Some (g x)) (option_map g (find (λ y. test (g y)) xs))
+    go true = refl
+    go false = refl
+
+-- the first part of a cut slice that passes, read
+pub find_read : {A B : Type 0} (f : A → B) (p : B → Bool) (test : List B → Bool) (words : List A) (r : Option (Bor (List A)))
+    → option_map (λ x. x.now) r ≡ find (λ part. test (map f part)) (slice_split (λ x. p (f x)) words)
+    → option_map (λ x. map f x.now) r ≡ find test (slice_split p (map f words))
+find_read {A} f p test words r e = fused r ∙ ap (option_map (map f)) e ∙ find-map (map f) test (slice_split (λ x. p (f x)) words) ∙ ap (find test) (map-slice_split f p words)
+  where
+    fused : (o : Option (Bor (List A))) → option_map (λ x. map f x.now) o ≡ option_map (map f) (option_map (λ x. x.now) o)
+    fused None = refl
+    fused (Some x) = refl
 
 -- a list that is cut has parts
 pub cut_has_parts : {X : Type 0} (p : X → Bool) (xs : List X) → 0 < length (slice_split p xs)

@@ -17,5 +17,6 @@ pub mod References
 pub mod Checking
 pub mod Making
 pub mod Reading
+pub mod KindPages
 pub mod Pages
 pub mod Runs

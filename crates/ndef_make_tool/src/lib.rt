@@ -4,7 +4,8 @@
 //! Where to look:
 //!
 //! - `running.rt`, `specs/Runs.antt`: one run. `making.rt`, `specs/Making.antt`: the message.
-//! - `pages.rt`, `specs/Pages.antt`: what `--help` and `--version` print.
+//! - `pages.rt`, `specs/Pages.antt`: what `--help` and `--version` print; `kind_pages.rt`, `specs/KindPages.antt`: what
+//!   `--help` prints of a kind of record.
 //! - `parts.rt`, `command.rt`, `options.rt`, `specs/Asked.antt`: the words, by clap.
 //! - `records.rt`, `poster.rt`, `carrier.rt`, `handover.rt`, `specs/Records.antt`, `specs/Posters.antt`,
 //!   `specs/Carriers.antt`, `specs/Handovers.antt`: the record of a part; `contents.rt`, `specs/Contents.antt`: the
@@ -28,6 +29,7 @@ mod fault;
 mod forbidden;
 mod handover;
 mod inputs;
+mod kind_pages;
 mod laws;
 mod making;
 mod measure;

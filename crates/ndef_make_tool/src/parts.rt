@@ -38,7 +38,7 @@ pub(crate) fn words_behind(words: &[String]) -> &[String]
 }
 
 /// The words of the records, after the program's name and the words before them; none where a tag isn't known.
-fn record_words(words: &[String]) -> &[String]
+pub(crate) fn record_words(words: &[String]) -> &[String]
     ensures { map string_bytes result.now ≡ record_words (map string_bytes words.now) }
 {
     match measure_words(words_behind(words)) {
