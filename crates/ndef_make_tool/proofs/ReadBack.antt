@@ -25,7 +25,7 @@ use Rattle.ndef_format.specs.Accepted.{IsMember}
 use Rattle.ndef_message.specs.Readings.{GivesBack, ReadsInput, RoundTrips}
 use Rattle.ndef_message.specs.Written.{ShortIsCanonical}
 use Rattle.ndef_message.specs.declared.form.Form.TheVariants.{Short}
-use Rattle.ndef_make_tool.specs.Asked.{AskedPart, parts_asked}
+use Rattle.ndef_make_tool.specs.Asked.{AskedPart, parts_asked, unsaid_record}
 use Rattle.ndef_make_tool.specs.Checking.{IsOfItsType, MakesIf, is_unchecked}
 use Rattle.ndef_make_tool.specs.Inputs.{GivesInput, readers_of}
 use Rattle.ndef_make_tool.specs.Making.{AreMade, IsMadeFor, IsMadeIf, IsMeasured, MakesBy, MakesLinked, MakesMessage, MakesWith, shown_in, written_as}
@@ -159,4 +159,4 @@ made_is_read {I} gives strict short set holds same trips words terminal before a
         let writing : Writing = record { terminal = terminal; measure = m.0 } in
         let asks : parts_asked m.1 ≡ Some parts = ap (λ o. parts_asked (option_map_or (λ x. x.1) o [])) (sym e) ∙ asked in
         made_by gives strict short set holds same trips parts writing (nat_lt 1 (readers_of parts)) before after made
-        (subst (λ (o : Option (List AskedPart)). IsMadeFor gives o writing before after (Ok made)) asks h) none
+        (subst (λ (o : Option (List AskedPart)). IsMadeFor gives (unsaid_record m.1) o writing before after (Ok made)) asks h) none

@@ -72,7 +72,10 @@ pub(crate) fn say_all<'a>(alloc: Global, parts: &[&'a [String]]) -> Result<Vec<S
 {
     let mut said = Vec::new(alloc);
     for part in parts {
-        said.push(say(alloc, *part)?)?;
+        match say(alloc, *part) {
+            Ok(one) => said.push(one)?,
+            Err(fault) => return Err(fault.at(said.len() as u64 + 1)),
+        }
     }
     Ok(said)
 }
