@@ -55,7 +55,7 @@ complete -c ndef-make -n '__ndef_make_in poster' -l icon-type -x -d 'The media t
 complete -c ndef-make -n '__ndef_make_in handover' -a 'request select' -d 'Which handover'
 complete -c ndef-make -n '__ndef_make_in handover' -l version -x -d 'The version, 1.0 to 1.15'
 complete -c ndef-make -n '__ndef_make_in handover' -l collision -x -d 'The random number of a request'
-complete -c ndef-make -n '__ndef_make_in handover' -l carrier -x -a 'inactive= active= activating= unknown=' -d 'A power state, an equals sign and ids'
+complete -c ndef-make -n '__ndef_make_in handover' -l carrier -x -a 'inactive= active= activating= unknown= power=' -d 'A power state, an equals sign and ids, or keys'
 complete -c ndef-make -n '__ndef_make_in handover' -l error -x -d 'The reason of a select, a colon and its data'
 complete -c ndef-make -n '__ndef_make_in record' -l tnf -x -a '0 1 2 3 4 5' -d 'The type name format'
 complete -c ndef-make -n '__ndef_make_in record' -l type -x -d 'The type'

@@ -106,6 +106,8 @@ handover_page =
     ++ codes "                      unknown), the id of its record and those of at most 255\n"
     ++ codes "                      auxiliary records; may be repeated; a request has one or\n"
     ++ codes "                      more, a select may have none\n"
+    ++ codes "  --carrier power=P,ref=I,aux=I,..\n"
+    ++ codes "                      the same by keys, in any order\n"
     ++ codes "  --error R:DATA      of a select: the reason of an error, 0 to 255, and its\n"
     ++ codes "                      data in hexadecimal digits; without it: none\n"
     ++ record_options

@@ -11,6 +11,7 @@ pub mod Records
 pub mod Posters
 pub mod Carriers
 pub mod MayBeWritten
+pub mod CarrierWords
 pub mod Handovers
 pub mod Contents
 pub mod References

@@ -40,7 +40,7 @@ ndef_make_help =
     ++ codes "    --collision N     of a request: its random number, 0 to 65535\n"
     ++ codes "    --carrier P=I,..  a carrier: its power (inactive, active, activating, unknown),\n"
     ++ codes "                      the id of its record and those of auxiliary records; may be\n"
-    ++ codes "                      repeated\n"
+    ++ codes "                      repeated; the same as power=P,ref=I,aux=I,..\n"
     ++ codes "    --error R:DATA    of a select: the reason of an error, 0 to 255, and its data in\n"
     ++ codes "                      hexadecimal digits\n"
     ++ codes "  record              a record of any type\n"

@@ -185,6 +185,8 @@ Usage: ndef-make handover request --collision N --carrier P=I,.. [OPTION]..
                       unknown), the id of its record and those of at most 255
                       auxiliary records; may be repeated; a request has one or
                       more, a select may have none
+  --carrier power=P,ref=I,aux=I,..
+                      the same by keys, in any order
   --error R:DATA      of a select: the reason of an error, 0 to 255, and its
                       data in hexadecimal digits; without it: none
 

@@ -10,6 +10,7 @@
 //! - `records.rt`, `poster.rt`, `carrier.rt`, `handover.rt`, `specs/Records.antt`, `specs/Posters.antt`,
 //!   `specs/Carriers.antt`, `specs/Handovers.antt`: the record of a part; `contents.rt`, `specs/Contents.antt`: the
 //!   records within a poster or a handover.
+//! - `carrier_word.rt`, `specs/CarrierWords.antt`: the word of a carrier of a handover.
 //! - `references.rt`, `specs/References.antt`: that each reference of a handover has a record.
 //! - `forbidden.rt`, `specs/MayBeWritten.antt`: what the standards forbid to write.
 //! - `specs/Checking.antt`: which payloads are written. `laws.rt`, `specs/Reading.antt`: what is read of it.
@@ -22,6 +23,7 @@
 #![tactic(auto)]
 
 mod carrier;
+mod carrier_word;
 mod causes;
 mod command;
 mod contents;

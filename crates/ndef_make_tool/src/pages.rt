@@ -152,7 +152,7 @@ Each RECORD is a subcommand with its options. Separate records with --and.
     --collision N     of a request: its random number, 0 to 65535
     --carrier P=I,..  a carrier: its power (inactive, active, activating, unknown),
                       the id of its record and those of auxiliary records; may be
-                      repeated
+                      repeated; the same as power=P,ref=I,aux=I,..
     --error R:DATA    of a select: the reason of an error, 0 to 255, and its data in
                       hexadecimal digits
   record              a record of any type
