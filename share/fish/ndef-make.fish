@@ -48,6 +48,7 @@ for kind in text uri poster handover record media external app carrier
     complete -c ndef-make -n "__ndef_make_in $kind" -l id -x -d 'The id'
     complete -c ndef-make -n "__ndef_make_in $kind" -l unchecked -d 'Write any payload'
     complete -c ndef-make -n "__ndef_make_in $kind" -l and -d 'Begin another record'
+    complete -c ndef-make -n "__ndef_make_in $kind" -l help -d 'Print the page of this kind of record'
 end
 for kind in record media external carrier
     complete -c ndef-make -n "__ndef_make_in $kind" -l file -r -F -d 'The file that holds the payload'
@@ -64,7 +65,7 @@ complete -c ndef-make -n '__ndef_make_in poster' -l icon-type -x -d 'The media t
 complete -c ndef-make -n '__ndef_make_in handover' -a 'request select' -d 'Which handover'
 complete -c ndef-make -n '__ndef_make_in handover' -l version -x -d 'The version, 1.0 to 1.15'
 complete -c ndef-make -n '__ndef_make_in handover' -l collision -x -d 'The random number of a request'
-complete -c ndef-make -n '__ndef_make_in handover' -l carrier -x -a 'inactive= active= activating= unknown=' -d 'A power state, an equals sign and ids'
+complete -c ndef-make -n '__ndef_make_in handover' -l carrier -x -a 'inactive= active= activating= unknown= power=' -d 'A power state, an equals sign and ids, or keys'
 complete -c ndef-make -n '__ndef_make_in handover' -l error -x -d 'The reason of a select, a colon and its data'
 complete -c ndef-make -n '__ndef_make_in record' -l tnf -x -a '0 1 2 3 4 5' -d 'The type name format'
 complete -c ndef-make -n '__ndef_make_in record' -l type -x -d 'The type'

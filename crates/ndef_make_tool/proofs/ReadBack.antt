@@ -25,7 +25,7 @@ use Rattle.ndef_format.specs.Accepted.{IsMember}
 use Rattle.ndef_message.specs.Readings.{GivesBack, ReadsInput, RoundTrips}
 use Rattle.ndef_message.specs.Written.{ShortIsCanonical}
 use Rattle.ndef_message.specs.declared.form.Form.TheVariants.{Short}
-use Rattle.ndef_make_tool.specs.Asked.{AskedPart, parts_asked}
+use Rattle.ndef_make_tool.specs.Asked.{AskedPart, parts_asked, unsaid_record}
 use Rattle.ndef_make_tool.specs.Checking.{IsOfItsType, MakesIf, is_unchecked}
 use Rattle.ndef_make_tool.specs.Inputs.{GivesInput, readers_of}
 use Rattle.ndef_make_tool.specs.Making.{AreMade, IsMadeFor, IsMadeIf, IsMadeOfRecords, MakesBy, MakesLinked, MakesMessage, MakesWith, shown_in, written_as}
@@ -163,4 +163,4 @@ made_is_read {I} gives strict short set holds same trips words records terminal 
         let k : IsMadeOfRecords gives records writing before after (Ok made) =
         subst (λ (o : Option (Option Text × List Text)). IsMadeFrom gives o writing before after (Ok made)) from h in
         made_by gives strict short set holds same trips parts writing (nat_lt 1 (readers_of parts)) before after made
-        (subst (λ (o : Option (List AskedPart)). IsMadeFor gives o writing before after (Ok made)) asked k) none
+        (subst (λ (o : Option (List AskedPart)). IsMadeFor gives (unsaid_record records) o writing before after (Ok made)) asked k) none

@@ -11,6 +11,7 @@ pub mod Records
 pub mod Posters
 pub mod Carriers
 pub mod MayBeWritten
+pub mod CarrierWords
 pub mod Handovers
 pub mod Contents
 pub mod References
@@ -20,5 +21,6 @@ pub mod Editing
 pub mod Edited
 pub mod Outcomes
 pub mod Reading
+pub mod KindPages
 pub mod Pages
 pub mod Runs

@@ -6,7 +6,7 @@ use Rattle.clap.specs.Words.{Row, Text, first_of}
 use Rattle.ndef_format.specs.Canonical.{AreItems, canonical}
 use Rattle.ndef_format.specs.Messages.{Item}
 use Rattle.ndef_program.specs.Outputs.{hexadecimal_line}
-use Rattle.ndef_make_tool.specs.Asked.{AskedPart, parts_asked}
+use Rattle.ndef_make_tool.specs.Asked.{AskedPart, parts_asked, unsaid_record}
 use Rattle.ndef_make_tool.specs.Carriers.{MakesCarrier, carrier_said}
 use Rattle.ndef_make_tool.specs.Checking.{MakesIf, is_unchecked}
 use Rattle.ndef_make_tool.specs.Faults.{fault_at}
@@ -18,7 +18,7 @@ use Rattle.ndef_make_tool.specs.Contents.{MakesHandoverSaid, MakesPosterRecord}
 use Rattle.ndef_make_tool.specs.References.{IsLongName, missing_reference}
 use Rattle.ndef_make_tool.specs.Records.{Answer, IsUnmade, MakesItem, MakesNamed, MakesSaid, MakesText, MakesUri, app_said, external_said, item_said, media_said, text_said, uri_said}
 use Rattle.ndef_make_tool.specs.declared.fault.Fault.{Fault}
-use Rattle.ndef_make_tool.specs.declared.fault.Fault.TheVariants.{Usage, Refused, Memory}
+use Rattle.ndef_make_tool.specs.declared.fault.Fault.TheVariants.{Usage, UsageAt, Refused, Memory}
 use Rattle.ndef_make_tool.specs.declared.fault.Refused.TheVariants.{NoRecord, NoRoom, PartTooLong, TooManyRecords}
 use Rattle.ndef_make_tool.specs.declared.making.Written.{Written}
 use Rattle.ndef_make_tool.specs.declared.making.Shown.{Shown}
@@ -190,20 +190,21 @@ abbrev pub IsMadeOf : {I : Type 0} → GivesInput I → List AskedPart → Writi
 IsMadeOf gives parts writing before after made =
     IsMadeIf (nat_lt 1 (readers_of parts)) gives parts writing before after made
 
--- the message for which words ask, where they ask for something
-abbrev pub IsMadeFor : {I : Type 0} → GivesInput I → Option (List AskedPart) → Writing
+-- the message for which words ask, where they ask for something; else those of the record of this number
+-- are wrong
+abbrev pub IsMadeFor : {I : Type 0} → GivesInput I → (unsaid : ℕ) → Option (List AskedPart) → Writing
     → (before after : I) → Result Written Fault → Type 0
-IsMadeFor gives None writing before after made =
-    (after ≡ before) × (made ≡ Err (Usage misuse.Words))
-IsMadeFor gives (Some parts) writing before after made =
+IsMadeFor gives unsaid None writing before after made =
+    (after ≡ before) × (made ≡ Err (UsageAt unsaid misuse.Words))
+IsMadeFor gives unsaid (Some parts) writing before after made =
     IsMadeOf gives parts writing before after made
 
 -- the same of the words of records. Memory may run out for the words, before an input is read
 abbrev pub IsMadeOfRecords : {I : Type 0} → GivesInput I → List Text → Writing → (before after : I)
     → Result Written Fault → Type 0
 IsMadeOfRecords gives records writing before after (Ok made) =
-    IsMadeFor gives (parts_asked records) writing before after (Ok made)
+    IsMadeFor gives (unsaid_record records) (parts_asked records) writing before after (Ok made)
 IsMadeOfRecords gives records writing before after (Err Memory) = (after ≡ before)
-    ⊎ IsMadeFor gives (parts_asked records) writing before after (Err Memory)
+    ⊎ IsMadeFor gives (unsaid_record records) (parts_asked records) writing before after (Err Memory)
 IsMadeOfRecords gives records writing before after (Err fault) =
-    IsMadeFor gives (parts_asked records) writing before after (Err fault)
+    IsMadeFor gives (unsaid_record records) (parts_asked records) writing before after (Err fault)

@@ -24,8 +24,8 @@ misuse_text misuse.Handover =
     codes "a request has a --collision and no --error, a select no --collision; "
     ++ codes "versions are 1.0 to 1.15"
 misuse_text misuse.Carrier =
-    codes "--carrier: inactive, active, activating or unknown, an equals sign and ids, "
-    ++ codes "as active=a"
+    codes "--carrier: as active=a,b or as power=active,ref=a,aux=b; "
+    ++ codes "inactive, active, activating or unknown"
 misuse_text misuse.Control = codes "URI: no character from 0 to 31; --unchecked writes it"
 misuse_text misuse.NoLanguage = codes "an empty language code; --unchecked writes it"
 misuse_text misuse.TwoTitles = codes "--title: one for each language; --unchecked writes more"

@@ -6,11 +6,13 @@
 //! - `running.rt`, `specs/Runs.antt`: one run. `making.rt`, `specs/Making.antt`: the message.
 //! - `editing.rt`, `specs/Editing.antt`: which records of a message parts leave out, replace or add. `edited.rt`,
 //!   `specs/Edited.antt`: the message that is edited. `specs/Outcomes.antt`: both ways to make a message.
-//! - `pages.rt`, `specs/Pages.antt`: what `--help` and `--version` print.
+//! - `pages.rt`, `specs/Pages.antt`: what `--help` and `--version` print; `kind_pages.rt`, `specs/KindPages.antt`: what
+//!   `--help` prints of a kind of record.
 //! - `parts.rt`, `command.rt`, `options.rt`, `specs/Asked.antt`: the words, by clap.
 //! - `records.rt`, `poster.rt`, `carrier.rt`, `handover.rt`, `specs/Records.antt`, `specs/Posters.antt`,
 //!   `specs/Carriers.antt`, `specs/Handovers.antt`: the record of a part; `contents.rt`, `specs/Contents.antt`: the
 //!   records within a poster or a handover.
+//! - `carrier_word.rt`, `specs/CarrierWords.antt`: the word of a carrier of a handover.
 //! - `references.rt`, `specs/References.antt`: that each reference of a handover has a record.
 //! - `forbidden.rt`, `specs/MayBeWritten.antt`: what the standards forbid to write.
 //! - `specs/Checking.antt`: which payloads are written. `laws.rt`, `specs/Reading.antt`: what is read of it.
@@ -23,6 +25,7 @@
 #![tactic(auto)]
 
 mod carrier;
+mod carrier_word;
 mod causes;
 mod command;
 mod contents;
@@ -32,6 +35,7 @@ mod fault;
 mod forbidden;
 mod handover;
 mod inputs;
+mod kind_pages;
 mod laws;
 mod making;
 mod measure;

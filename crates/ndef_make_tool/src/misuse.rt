@@ -35,7 +35,7 @@ pub enum Misuse {
     Icon,
     /// The kind, the version and the options of a handover don't go together (Connection Handover 1.2).
     Handover,
-    /// There is no such power state of a carrier, or it has no reference (Connection Handover 1.2).
+    /// The word of a carrier names no power state or no reference, or has another key (Connection Handover 1.2).
     Carrier,
     /// A URI has a character from 0 to 31, so that readers discard it (RTD URI 1.0, URI field).
     Control,
@@ -83,7 +83,7 @@ impl Misuse {
                 b"a request has a --collision and no --error, a select no --collision; versions are 1.0 to 1.15"
             }
             Misuse::Carrier => {
-                b"--carrier: inactive, active, activating or unknown, an equals sign and ids, as active=a"
+                b"--carrier: as active=a,b or as power=active,ref=a,aux=b; inactive, active, activating or unknown"
             }
             Misuse::Control => b"URI: no character from 0 to 31; --unchecked writes it",
             Misuse::NoLanguage => b"an empty language code; --unchecked writes it",

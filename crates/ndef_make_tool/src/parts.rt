@@ -40,7 +40,7 @@ pub(crate) fn words_behind(words: &[String]) -> &[String]
 }
 
 /// The words of the records, after the program's name and the words before them; none where a tag isn't known.
-fn record_words(words: &[String]) -> &[String]
+pub(crate) fn record_words(words: &[String]) -> &[String]
     ensures { map string_bytes result.now ≡ record_words (map string_bytes words.now) }
 {
     match measure_words(words_behind(words)) {
@@ -74,7 +74,10 @@ pub(crate) fn say_all<'a>(alloc: Global, parts: &[&'a [String]]) -> Result<Vec<S
 {
     let mut said = Vec::new(alloc);
     for part in parts {
-        said.push(say(alloc, *part)?)?;
+        match say(alloc, *part) {
+            Ok(one) => said.push(one)?,
+            Err(fault) => return Err(fault.at(said.len() as u64 + 1)),
+        }
     }
     Ok(said)
 }
