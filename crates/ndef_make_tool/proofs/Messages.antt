@@ -104,6 +104,10 @@ unsaid_fails gives writing before g words slice parts (UsageAt n misuse.TwoTitle
 unsaid_fails gives writing before g words slice parts (UsageAt n misuse.NoCarrier) same is h = absurd h
 unsaid_fails gives writing before g words slice parts (UsageAt n misuse.Collision) same is h = absurd h
 unsaid_fails gives writing before g words slice parts (UsageAt n misuse.Reason) same is h = absurd h
+unsaid_fails gives writing before g words slice parts (UsageAt n misuse.From) same is h = absurd h
+unsaid_fails gives writing before g words slice parts (UsageAt n misuse.Edit) same is h = absurd h
+unsaid_fails gives writing before g words slice parts (UsageAt n misuse.NoSuchRecord) same is h = absurd h
+unsaid_fails gives writing before g words slice parts (UsageAt n misuse.Twice) same is h = absurd h
 unsaid_fails gives writing before g words slice parts (Usage m) same is h = absurd h
 unsaid_fails gives writing before g words slice parts (Refused why) same is h = absurd h
 unsaid_fails gives writing before g words slice parts Reading same is h = absurd h
