@@ -26,9 +26,10 @@
 #
 # All of it runs on every x86-64 but libndef-v2.a, which needs x86-64-v2 and is made on x86-64 alone: with SSSE3 and
 # SSE4.1 long texts are checked faster. libndef.a holds both, and chooses where a program is loaded (packaging/both); so
-# does what is linked of it, as the Python module. The shared library is two files, of which the loader takes the one for
-# its processor (glibc-hwcaps). libsimbegyor-ndef.a is the same as libndef.a; nfc-tools has another library of the name
-# ndef.
+# does what is linked of it, as the Python module. The commands choose where they start (packaging/program); those of
+# dist/ do so where the release has the code for x86-64-v2. The shared library is two files, of which the loader takes the
+# one for its processor (glibc-hwcaps). libsimbegyor-ndef.a is the same as libndef.a; nfc-tools has another library of the
+# name ndef.
 
 PREFIX ?= /usr/local
 LIBDIR ?= $(PREFIX)/lib
@@ -77,7 +78,7 @@ made_faster := $(if $(filter x86_64 amd64,$(shell uname -m)),out/dist/libndef-v2
 header := dist/ndef.h
 description := $(wildcard dist/interface.json)
 else
-made_programs := crates/ndef/out/ndef crates/ndef_make/out/ndef_make crates/ndef_explain/out/ndef_explain
+made_programs := $(addprefix out/commands/,ndef ndef_make ndef_explain)
 made_archive := crates/ndef_c/out/libndef_c.a
 made_faster := out/x86-64-v2/libndef.a
 header := include/ndef.h
@@ -150,6 +151,13 @@ crates/ndef_make/out/ndef_make: $(every_source)
 crates/ndef_explain/out/ndef_explain: $(every_source)
 	./ndef-explain --prove </dev/null
 
+# The same with the code for two processors, over the crates that the lines above proved.
+out/commands/ndef: crates/ndef/out/ndef
+out/commands/ndef_make: crates/ndef_make/out/ndef_make
+out/commands/ndef_explain: crates/ndef_explain/out/ndef_explain
+$(made_programs): packaging/program packaging/choose_main.c packaging/has_v2.h
+	packaging/program $(@F) $@
+
 crates/ndef_c/out/libndef_c.a: crates.txt $(call sources,$(below_c))
 	cd crates/ndef_c && rt lib --cpu x86-64
 	touch $@
@@ -167,7 +175,7 @@ out/bin/ndef: $(made_programs) out/from
 	cp -P $(word 3,$(made_programs)) $(@D)/ndef-explain
 	cp $< $@
 
-out/lib/libndef.a: $(made_archive) $(made_faster) $(wildcard packaging/both packaging/choose.c) out/from
+out/lib/libndef.a: $(made_archive) $(made_faster) $(wildcard packaging/both packaging/choose.c packaging/has_v2.h) out/from
 	mkdir -p $(@D)
 	$(if $(made_faster),packaging/both $(made_archive) $(made_faster) $(header) $@,cp $< $@)
 
@@ -252,7 +260,7 @@ install: all out/man3/simbegyor-ndef.3
 	install -m 644 $(addprefix out/,$(modules)) $(module)/libndef.so $(DESTDIR)$(PYTHONDIR)/simbegyor_ndef
 	install -m 644 $(addprefix out/python/$(module_data)/,METADATA INSTALLER) $(DESTDIR)$(PYTHONDIR)/$(module_data)
 	install -m 644 LICENSE-MIT LICENSE-APACHE $(DESTDIR)$(PYTHONDIR)/$(module_data)/licenses
-	@packaging/python_told $(PYTHON) $(PYTHONDIR)
+	@$(if $(DESTDIR),,packaging/python_told $(PYTHON) $(PYTHONDIR))
 	install -m 644 $(pages) $(DESTDIR)$(PREFIX)/share/man/man1
 	install -m 644 out/man3/*.3 $(DESTDIR)$(PREFIX)/share/man/man3
 	install -m 644 $(completions) $(DESTDIR)$(PREFIX)/share/bash-completion/completions

@@ -66,13 +66,19 @@ find_compiler() {
     stop "there is no C compiler ${CC:-cc} on the path: install one, as by 'apt install gcc', or name it with CC"
 }
 
-# Sets `commands` to the source of the commands for the machine of the compiler.
+# Sets `commands` to the source of the commands for the machine of the compiler, and `faster` to that for x86-64-v2, which releases from
+# 0.3.0 on have, or to nothing.
 find_commands() {
+    faster=
     [ ! -e "$top/dist/commands.c" ] || { commands=commands.c; return; }
     machine=$($cc -dumpmachine 2>/dev/null) || machine=$(uname -m)-$(uname -s)
     case $machine in
         x86_64*-linux-gnux32) ;;
-        x86_64*-[lL]inux*) commands='commands-x86_64-linux.s'; return ;;
+        x86_64*-[lL]inux*)
+            commands='commands-x86_64-linux.s'
+            [ ! -e "$top/dist/commands-x86_64-v2-linux.s" ] || faster='commands-x86_64-v2-linux.s'
+            return
+            ;;
         aarch64*-[lL]inux*) commands='commands-aarch64-linux.s'; return ;;
     esac
     stop "dist/ has commands for x86-64 and AArch64 Linux alone, and this compiler is for $machine:" \
@@ -99,16 +105,19 @@ commands_are_made() {
         && is_newer_than "$top/out/dist/ndef" "$top/dist/SOURCE" "$top"/dist/commands* "$top/dist/runtime.c"
 }
 
-# Compiles the commands: out/dist/ndef, which looks at its name, and two links to it. The word stands before the line
-# that says so.
+# Compiles the commands: out/dist/ndef, which looks at its name, and two links to it. Where there are two sources, it runs
+# the code for its processor. The word stands before the line that says so.
 make_commands() {
     find_compiler
     check_files
     find_commands
-    check_files "$commands" runtime.c
-    say "${1-}compiling release $(of_source version) of dist/, once"
     # shellcheck disable=SC2086
-    compile "$top/out/dist/ndef" ${CFLAGS:--O2} "$top/dist/$commands" "$top/dist/runtime.c" ${LDFLAGS:-}
+    check_files "$commands" $faster runtime.c
+    say "${1-}compiling release $(of_source version) of dist/, once"
+    set -- "$top/dist/$commands" "$top/dist/runtime.c"
+    [ -z "$faster" ] || set -- "$@" "$top/dist/$faster" "$top/packaging/choose_commands.c" -Dndef_commands=chosen_commands
+    # shellcheck disable=SC2086
+    compile "$top/out/dist/ndef" ${CFLAGS:--O2} "$@" ${LDFLAGS:-}
     for link in ndef-make ndef-explain; do
         ln -s ndef "$top/out/dist/$link" 2>/dev/null || [ -e "$top/out/dist/$link" ] || exit 3
     done

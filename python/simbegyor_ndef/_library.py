@@ -1,15 +1,16 @@
 """The calls of the library, and one way to fill a room.
 
 The calls have no `argtypes`, since their conversion takes longer than most calls. So an argument is octets, a reference,
-a struct's array, a length from SIZES, or a number of 32 bits as `u32(..)` makes it.
+a struct's array, a length as `size_of` makes it, or a number of 32 bits as `u32(..)` makes it.
 """
 from __future__ import annotations
 
+import collections
 import ctypes
 import functools
 import os
 import struct
-from typing import Any, Callable, Dict, List, Optional, Tuple
+from typing import Any, Callable, Deque, Dict, List, Optional, Tuple
 
 from . import _interface as interface
 from ._interface import BAD_ARGUMENT as BAD_ARGUMENT, END as END, MORE as MORE, NO_ROOM as NO_ROOM, OK as OK, REFUSED as REFUSED
@@ -30,15 +31,15 @@ NO_FLAGS = u32(0)
 byref, _size = ctypes.byref, ctypes.c_size_t
 
 
-class _Sizes(Dict[int, Any]):
-    """Lengths and places as a call takes them, ready for its registers; the usual ones are made once."""
-
-    def __missing__(self, value: int) -> Any:
-        return _size.from_param(value)
-
-
+# Lengths and places as a call takes them, ready for its registers; the usual ones are made once. A tuple, since `[]` of a subclass of
+# dict takes five times as long.
 USUAL_SIZES = 4096
-SIZES = _Sizes({value: _size.from_param(value) for value in range(USUAL_SIZES)})
+SIZES = tuple(map(_size.from_param, range(USUAL_SIZES)))
+
+
+def size_of(value: int) -> Any:
+    """A length or a place as a call takes it."""
+    return SIZES[value] if value < USUAL_SIZES else _size.from_param(value)
 
 
 RecordParts, FieldParts = interface.Record, interface.Field
@@ -46,29 +47,41 @@ RecordParts, FieldParts = interface.Record, interface.Field
 # The fields of a RecordParts, a TextParts or a Checked, or of the octets that it lies in, all of them at once. Octets are read
 # faster than the struct itself.
 record_fields = struct.Struct('@10N2I').unpack_from
+# Of those the octets of the type, the length of the id, the octets of the first payload, the number of pieces, the type name format and
+# whether the record ends its message.
+lone_fields = struct.Struct('@16x2N8x3N8xN2I').unpack_from
 text_fields = struct.Struct('@4NI').unpack_from
 
 # A Checked and a reference to it, then octets and a reference to them, in which a RecordParts or a TextParts lies.
 Desk = Tuple[Checked, Any, bytearray, Any]
 
 # Desks that nobody works at now. Who needs one takes it out, so that no two threads share one, and puts it back.
-desks: List[Desk] = []
+desks: Deque[Desk] = collections.deque()
 _MOST_DESKS = 16
+
+
+def new_desk() -> Desk:
+    """A new desk."""
+    checked, octets = Checked(), bytearray(ctypes.sizeof(RecordParts))
+    return checked, byref(checked), octets, byref(RecordParts.from_buffer(octets))
+
+
+# These two take a desk out, where there is one, and put it back. Python calls a bound method faster than it looks one up.
+pop_desk, push_desk = desks.pop, desks.append
 
 
 def taken_desk() -> Desk:
     """A desk, taken out or new."""
     try:
-        return desks.pop()
+        return pop_desk()
     except IndexError:
-        checked, octets = Checked(), bytearray(ctypes.sizeof(RecordParts))
-        return checked, byref(checked), octets, byref(RecordParts.from_buffer(octets))
+        return new_desk()
 
 
 def put_back(desk: Desk) -> None:
     """Puts back the desk of a generator. A program may have begun many at once, and not all of their desks are kept."""
     if len(desks) < _MOST_DESKS:
-        desks.append(desk)
+        push_desk(desk)
 
 
 _path = os.path.join(os.path.dirname(os.path.abspath(__file__)), library_name())
@@ -149,7 +162,7 @@ class _Room:
 
     def __init__(self, size: int) -> None:
         self.octets: Any = (ctypes.c_char * size)()
-        self.size, self.count = SIZES[size], _size()
+        self.size, self.count = size_of(size), _size()
         self.told = byref(self.count)
 
 
@@ -231,22 +244,22 @@ def _sentence(call: Callable[..., int], *arguments: Any) -> Optional[str]:
 
 def why(octets: bytes, within: Any) -> Optional[str]:
     """What was wanted where the octets are refused within these limits; None where they aren't, or payloads aren't looked into."""
-    return _sentence(_long.why, octets, SIZES[len(octets)], within)
+    return _sentence(_long.why, octets, size_of(len(octets)), within)
 
 
 def hint(octets: bytes, within: Any) -> Optional[str]:
     """What may help there; None also where nothing is known to."""
-    return _sentence(_long.hint, octets, SIZES[len(octets)], within)
+    return _sentence(_long.hint, octets, size_of(len(octets)), within)
 
 
 def field_remark(name: int, octets: bytes) -> Optional[str]:
     """What is strange in a field with this number of a name; None where nothing is known to be."""
-    return _sentence(_long.field_remark, u32(name), octets, SIZES[len(octets)])
+    return _sentence(_long.field_remark, u32(name), octets, size_of(len(octets)))
 
 
 def record_remark(octets: bytes, index: int) -> Optional[str]:
     """What is strange in the record with this index; None where nothing is known to be, and where there is none."""
-    return _sentence(_long.record_remark, octets, SIZES[len(octets)], SIZES[index])
+    return _sentence(_long.record_remark, octets, size_of(len(octets)), size_of(index))
 
 
 def fields(octets: bytes, within: Any) -> Tuple[Checked, List[Any]]:
@@ -254,7 +267,7 @@ def fields(octets: bytes, within: Any) -> Tuple[Checked, List[Any]]:
     checked, count, room = Checked(), _size(), 128
     while True:
         array = (FieldParts * room)()
-        status = _fields(octets, SIZES[len(octets)], within, array, SIZES[room], byref(count), byref(checked))
+        status = _fields(octets, size_of(len(octets)), within, array, size_of(room), byref(count), byref(checked))
         if status != NO_ROOM:
             return checked, array[:count.value]
         room = count.value
@@ -263,7 +276,7 @@ def fields(octets: bytes, within: Any) -> Tuple[Checked, List[Any]]:
 def parts_of_references(payload: bytes, count: int) -> List[Any]:
     """Where the references of an alternative carrier lie; their number is given."""
     parts, told = (Part * count)(), _size()
-    references(payload, SIZES[len(payload)], parts, SIZES[count], byref(told))
+    references(payload, size_of(len(payload)), parts, size_of(count), byref(told))
     return list(parts)
 
 

@@ -4,9 +4,9 @@ from __future__ import annotations
 from typing import Any, Iterable, Iterator, List, Mapping, Optional, Type, Union
 
 from . import _library as library
-from ._library import OK, SIZES, USUAL_SIZES, check_short, record_at, record_fields, taken_desk
+from ._library import record_fields, taken_desk
 from .errors import DecodeError
-from .message import Known, Told, known_of, record_of
+from .message import Known, Told, known_of, lone_record, records_of
 from .record import Record
 
 Octets = Union[bytes, bytearray, memoryview]
@@ -28,16 +28,22 @@ def decode_many(messages: Iterable[Octets], known_types: Optional[Mapping[str, T
 def _answers(messages: Iterable[Octets], limits: Any, known: Known, told: Told) -> Iterator[Answer]:
     """The answers. What the calls write to is made once."""
     desk = taken_desk()
-    checked, why, room, out = desk
+    checked, _, room, _ = desk
     for octets in messages:
-        if not isinstance(octets, bytes):
+        if type(octets) is not bytes:
             octets = _bytes_of(octets)
-        count = len(octets)
-        size = SIZES[count]
-        if (check_short if count < USUAL_SIZES else library.check)(octets, size, limits, why) == OK:
-            yield _records_in(octets, size, known, told, room, out)
-        else:
-            yield library.refused_octets(checked, octets, limits) if octets else []
+        try:
+            record = lone_record(octets, desk, limits, known, told)
+            if record is not None:
+                answer: Answer = [record]
+            elif checked.reason:
+                answer = library.refused_octets(checked, octets, limits) if octets else []
+            else:
+                answer = list(records_of(octets, 0, checked.place, known, told, record_fields(room)))
+        except DecodeError as error:
+            # Of a class of one's own. Without what the one that was raised holds: its frames.
+            answer = DecodeError(error.reason, error.place, error.number)
+        yield answer
     library.put_back(desk)
 
 
@@ -46,17 +52,3 @@ def _bytes_of(octets: Octets) -> bytes:
     if not isinstance(octets, (bytes, bytearray, memoryview)):
         raise TypeError('octets are needed, not %s' % type(octets).__name__)
     return bytes(octets)
-
-
-def _records_in(octets: bytes, size: Any, known: Known, told: Told, room: bytearray, out: Any) -> Answer:
-    """The records of a message that the library has accepted; or the error where a class of one's own refuses one."""
-    at, is_last, records = 0, 0, []
-    try:
-        while not is_last and record_at(octets, size, SIZES[at], out) == OK:
-            fields = record_fields(room)
-            records.append(record_of(octets, fields, known, 0, at == 0, told))
-            at, is_last = fields[1], fields[11]
-    except DecodeError as error:
-        # Without what the one that was raised holds: its frames.
-        return DecodeError(error.reason, error.place, error.number)
-    return records

@@ -84,8 +84,8 @@ class AlternativeCarrierRecord(LocalRecord):
         for part, name in zip(parts, names):
             part.at, part.length = at, len(name)
             at += len(name)
-        return library.written(_NO_CARRIER, library.write_alternative, self._power, octets, library.SIZES[len(octets)], parts,
-                               library.SIZES[len(parts)], given=len(octets) + len(parts), raised=raised)
+        return library.written(_NO_CARRIER, library.write_alternative, self._power, octets, library.size_of(len(octets)), parts,
+                               library.size_of(len(parts)), given=len(octets) + len(parts), raised=raised)
 
     def _encode_payload(self) -> bytes:
         try:
@@ -95,7 +95,7 @@ class AlternativeCarrierRecord(LocalRecord):
 
     @classmethod
     def _decode_payload(cls, octets: bytes, errors: str) -> AlternativeCarrierRecord:
-        parts, why, size = library.AlternativeParts(), library.Checked(), library.SIZES[len(octets)]
+        parts, why, size = library.AlternativeParts(), library.Checked(), library.size_of(len(octets))
         if library.alternative(octets, size, library.byref(parts), library.byref(why)) != library.OK:
             raise library.refused(why)
         made = cls.__new__(cls)
@@ -148,9 +148,9 @@ class CollisionResolutionRecord(LocalRecord):
     def _decode_payload(cls, octets: bytes, errors: str) -> CollisionResolutionRecord:
         # The library tells the number of a request alone.
         record = Record(cls._type, '', octets)._written(library.FIRST | library.LAST, 0)
-        status, request = library.put(library.write_handover, library.REQUEST, 1, 2, record, library.SIZES[len(record)], given=len(record))
+        status, request = library.put(library.write_handover, library.REQUEST, 1, 2, record, library.size_of(len(record)), given=len(record))
         parts, why = library.RequestParts(), library.Checked()
-        if status != library.OK or library.request(request, library.SIZES[len(request)], library.NO_FLAGS, library.byref(parts),
+        if status != library.OK or library.request(request, library.size_of(len(request)), library.NO_FLAGS, library.byref(parts),
                                                    library.byref(why)) != library.OK:
             raise cls._decode_error('no such payload has {} octets', len(octets))
         made = cls.__new__(cls)
@@ -183,13 +183,13 @@ class ErrorRecord(LocalRecord):
             octets = library.written(what, library.write_error_number, reason, library.number(error_data, what))
         else:
             data = bytes(octets_of(error_data, 'the data of an error'))
-            octets = library.written(what, library.write_error, reason, data, library.SIZES[len(data)], given=len(data))
+            octets = library.written(what, library.write_error, reason, data, library.size_of(len(data)), given=len(data))
         self._take(octets)
 
     def _take(self, octets: bytes) -> None:
         """Takes what the library tells of a payload."""
         parts, why = library.ErrorParts(), library.Checked()
-        if library.error(octets, library.SIZES[len(octets)], library.byref(parts), library.byref(why)) != library.OK:
+        if library.error(octets, library.size_of(len(octets)), library.byref(parts), library.byref(why)) != library.OK:
             raise library.refused(why)
         data = octets[parts.data_at:parts.data_at + parts.data_length]
         self._error, self._octets = HandoverError(parts.reason, parts.number if parts.has_number else data), octets
@@ -238,7 +238,7 @@ def _version_of(value: Union[str, int]) -> Version:
         version = Version(int(major), int(minor))
     # A select may have no message; so the library refuses no more than the version.
     library.written(what, library.write_handover, library.SELECT, library.number(version.major, what),
-                    library.number(version.minor, what), b'', library.SIZES[0])
+                    library.number(version.minor, what), b'', library.size_of(0))
     return version
 
 
@@ -294,12 +294,12 @@ class _Handover(GlobalRecord):
     def _encode_payload(self) -> bytes:
         message = b''.join(message_encoder(self._records))
         return library.written('no handover has these parts', library.write_handover, self._number, *self._version, message,
-                               library.SIZES[len(message)], given=len(message), raised=EncodeError)
+                               library.size_of(len(message)), given=len(message), raised=EncodeError)
 
     @classmethod
     def _decode_payload(cls, octets: bytes, errors: str) -> Any:
         parts, why = cls._parts_type(), library.Checked()
-        if cls._tell(octets, library.SIZES[len(octets)], 0, library.byref(parts), library.byref(why)) != library.OK:
+        if cls._tell(octets, library.size_of(len(octets)), 0, library.byref(parts), library.byref(why)) != library.OK:
             raise library.refused(why)
         made = cls.__new__(cls)
         made._version = Version(parts.major, parts.minor)
@@ -428,13 +428,13 @@ class HandoverCarrierRecord(GlobalRecord):
     def _encode_payload(self) -> bytes:
         form, kind = self._carrier
         data = bytes(self.carrier_data)
-        return library.written('no carrier has these parts', library.write_carrier, form, kind, library.SIZES[len(kind)], data,
-                               library.SIZES[len(data)], given=len(kind) + len(data), raised=EncodeError)
+        return library.written('no carrier has these parts', library.write_carrier, form, kind, library.size_of(len(kind)), data,
+                               library.size_of(len(data)), given=len(kind) + len(data), raised=EncodeError)
 
     @classmethod
     def _decode_payload(cls, octets: bytes, errors: str) -> HandoverCarrierRecord:
         parts, why = library.CarrierParts(), library.Checked()
-        if library.carrier(octets, library.SIZES[len(octets)], library.byref(parts), library.byref(why)) != library.OK:
+        if library.carrier(octets, library.size_of(len(octets)), library.byref(parts), library.byref(why)) != library.OK:
             raise library.refused(why)
         made = cls.__new__(cls)
         at = parts.type_at

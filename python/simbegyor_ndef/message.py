@@ -5,28 +5,42 @@ import io
 from typing import Any, BinaryIO, Dict, Generator, Iterable, Iterator, Mapping, Optional, Tuple, Type, Union, overload
 
 from . import _library as library
-from ._library import OK, SIZES, USUAL_SIZES, check_short, desks, record_at, record_fields, taken_desk
+from ._library import OK, SIZES, USUAL_SIZES, Desk, check_short, lone_fields, new_desk, pop_desk, push_desk, record_at, record_fields
+from ._library import size_of, taken_desk
 from .errors import DecodeError, left_out
-from .record import Parts, Record, parts_of
+from .record import READ_LATE, Parts, Record, parts_of
 
 __all__ = ['message_decoder', 'message_encoder']
 
 # How many octets ahead are looked at first; as many are worth a look at all pieces of a long record.
 _LOOK = 64
-_new, _limits = object.__new__, library.limits
+_new = object.__new__
 # A record that ends a message. Fed to a checker, it shows whether another record may begin there.
 _ENDING = Record()._written(library.LAST, 0)
 _AT_FRONT = SIZES[0]
 Known = Mapping[Parts, Type[Record]]
 Told = Optional[Dict[Type[Record], Any]]
+# The limits of a message, the classes that are known, and what `records_of` is to be told.
+Reading = Tuple[Any, Known, Told]
+# The fields of a RecordParts.
+Fields = Tuple[int, ...]
+# How messages are read where no types are given, by the limit of a payload.
+_usual: Dict[int, Reading] = {}
+_MOST_USUAL = 64
 
 
-def known_of(known_types: Optional[Mapping[str, Type[Record]]]) -> Tuple[Any, Known, Told]:
-    """How messages are read where these types are known: the limits, the classes, and what `records_of` is to be told."""
-    if known_types is None:
-        return _limits(Record.MAX_PAYLOAD_SIZE, 0), Record._known_parts, {}
-    known = {parts_of(spelled): record_class for spelled, record_class in known_types.items()}
-    return library.limits(Record.MAX_PAYLOAD_SIZE, library.OPAQUE), known, None
+def known_of(known_types: Optional[Mapping[str, Type[Record]]]) -> Reading:
+    """How messages are read where these types are known."""
+    most = Record.MAX_PAYLOAD_SIZE
+    if known_types is not None:
+        known = {parts_of(spelled): record_class for spelled, record_class in known_types.items()}
+        return library.limits(most, library.OPAQUE), known, None
+    usual = _usual.get(most)
+    if usual is None:
+        usual = library.limits(most, 0), Record._known_parts, {}
+        if len(_usual) < _MOST_USUAL:
+            _usual[most] = usual
+    return usual
 
 
 def message_decoder(stream_or_bytes: Union[bytes, bytearray, memoryview, BinaryIO], errors: str = 'strict',
@@ -45,34 +59,69 @@ def message_decoder(stream_or_bytes: Union[bytes, bytearray, memoryview, BinaryI
         raise left_out('errors=%r' % errors) if errors in ('relax', 'ignore') else ValueError("errors is 'strict', not %r" % (errors,))
     limits, known, told = known_of(known_types)
     records: Iterable[Record]
-    if type(stream_or_bytes) is bytes:
-        records = _from_octets(stream_or_bytes, limits, known, told)
-    elif isinstance(stream_or_bytes, (bytes, bytearray, memoryview)):
-        records = _from_octets(bytes(stream_or_bytes), limits, known, told)
-    elif hasattr(stream_or_bytes, 'read') and not isinstance(stream_or_bytes, io.TextIOBase):
-        records = _from_stream(stream_or_bytes, limits, known, told)
+    given: Any = stream_or_bytes
+    octets = given if type(given) is bytes else _octets_of(given)
+    if octets is not None:
+        try:
+            desk = pop_desk()
+        except IndexError:
+            desk = new_desk()
+        record = lone_record(octets, desk, limits, known, told)
+        if record is not None:
+            push_desk(desk)
+            yield record
+            return
+        records = _from_octets(octets, desk, limits, known, told)
     else:
-        raise TypeError('octets or a stream of octets is needed, not %s' % type(stream_or_bytes).__name__)
+        records = _from_stream(given, limits, known, told)
     yield from list(records) if whole else records
 
 
-def _from_octets(octets: bytes, limits: Any, known: Known, told: Told) -> Iterable[Record]:
-    """The records of the message with which the octets begin. A message of one record, as most are, needs no generator."""
-    count, desk, error = len(octets), taken_desk(), None
-    checked, why, room, out = desk
-    size = SIZES[count]
-    if (check_short if count < USUAL_SIZES else library.check)(octets, size, limits, why) == OK:
-        record_at(octets, size, _AT_FRONT, out)
+def _octets_of(given: Any) -> Optional[bytes]:
+    """The octets, where octets are given; None where a stream of octets is."""
+    if isinstance(given, (bytes, bytearray, memoryview)):
+        return bytes(given)
+    if hasattr(given, 'read') and not isinstance(given, io.TextIOBase):
+        return None
+    raise TypeError('octets or a stream of octets is needed, not %s' % type(given).__name__)
+
+
+def lone_record(octets: bytes, desk: Desk, limits: Any, known: Known, told: Told) -> Optional[Record]:
+    """The record of a message of one record, as most are; None for others. The desk has what a check tells of the octets, and
+    where they are a message, its first record."""
+    _, why, room, out = desk
+    count = len(octets)
+    if count < USUAL_SIZES:
+        size = SIZES[count]
+        status = check_short(octets, size, limits, why)
+    else:
+        size = size_of(count)
+        status = library.check(octets, size, limits, why)
+    if status != OK:
+        return None
+    record_at(octets, size, _AT_FRONT, out)
+    type_at, type_length, id_length, at, length, pieces, tnf, is_last = lone_fields(room)
+    if is_last and pieces == 1 and not id_length and told is not None:
+        record_class = known.get((tnf, octets[type_at:type_at + type_length]))
+        if record_class in READ_LATE:
+            made = _new(record_class)
+            made._unread = octets[at:at + length]
+            return made
+    return record_of(octets, record_fields(room), known, 0, True, told) if is_last else None
+
+
+def _from_octets(octets: bytes, desk: Desk, limits: Any, known: Known, told: Told) -> Iterator[Record]:
+    """The records of the message of several with which the octets begin, or of the one that is refused: the desk has what
+    `lone_record` leaves there."""
+    checked, _, room, _ = desk
+    place, fields, error = checked.place, None, None
+    if not checked.reason:
         fields = record_fields(room)
-        if fields[11]:
-            desks.append(desk)
-            return record_of(octets, fields, known, 0, True, told),
     elif octets:
         error = library.refused_octets(checked, octets, limits)
-    place = checked.place
     # From here on another thread may work at the desk.
-    desks.append(desk)
-    return _refused(octets, place, error, known, told) if error else records_of(octets, 0, place, known, told)
+    push_desk(desk)
+    return _refused(octets, place, error, known, told) if error else records_of(octets, 0, place, known, told, fields)
 
 
 def _refused(octets: bytes, place: int, error: DecodeError, known: Known, told: Told) -> Iterator[Record]:
@@ -113,7 +162,7 @@ class _Incoming:
 
     def _feed(self, checker: library.Checker, octets: bytes) -> int:
         """Feeds a checker, and tells whether the message ends, goes on or is refused."""
-        return library.feed(library.byref(checker), octets, library.SIZES[len(octets)], library.byref(self.checked))
+        return library.feed(library.byref(checker), octets, library.size_of(len(octets)), library.byref(self.checked))
 
     def _take(self, octets: bytes) -> int:
         """Takes octets that belong to the record."""
@@ -127,14 +176,14 @@ class _Incoming:
         if status != library.MORE:
             return True
         library.copy(self.trial, self.checker)
-        told = library.feed(library.byref(self.trial), _ENDING, library.SIZES[len(_ENDING)], library.byref(self.tried))
+        told = library.feed(library.byref(self.trial), _ENDING, library.size_of(len(_ENDING)), library.byref(self.tried))
         place: int = self.tried.place
         return told == library.OK and place == self.before + len(self.taken) + len(_ENDING)
 
     def _is_whole(self) -> bool:
         """Whether a whole record is among the octets at hand, of those that are accepted."""
         accepted = self.checked.place - self.before
-        return library.record_at(library.first_of(self.taken), library.SIZES[accepted], library.SIZES[0], library.byref(self.parts)) == library.OK
+        return library.record_at(library.first_of(self.taken), library.size_of(accepted), library.size_of(0), library.byref(self.parts)) == library.OK
 
     def _look(self, seen: bytes) -> int:
         """Takes of the octets ahead those that belong to the record; none where they are refused. One octet does."""
@@ -179,30 +228,34 @@ def _from_stream(stream: BinaryIO, limits: Any, known: Known, told: Told) -> Ite
             yield record_of(octets, library.record_fields(incoming.parts), known, before, not before, told)
 
 
-def records_of(octets: bytes, start: int, end: int, known: Known, told: Told) -> Iterator[Record]:
+def records_of(octets: bytes, start: int, end: int, known: Known, told: Told, fields: Optional[Fields] = None) -> Iterator[Record]:
     """The records of a message that has been checked and that lies between two places. `told` is None where payloads weren't
-    looked into; else it has, for classes of which the library told the first record's value with the whole, what it told."""
-    desk, size, at = taken_desk(), SIZES[end], start
+    looked into; else it has, for classes of which the library told the first record's value with the whole, what it told.
+    `fields` are those of the first record, where they are at hand."""
+    desk, size, at = taken_desk(), size_of(end), start
     _, _, room, out = desk
-    while at != end and record_at(octets, size, SIZES[at], out) == OK:
-        fields = record_fields(room)
+    while at != end:
+        if fields is None:
+            if record_at(octets, size, SIZES[at] if at < USUAL_SIZES else size_of(at), out) != OK:
+                break
+            fields = record_fields(room)
         yield record_of(octets, fields, known, 0, at == start, told)
-        at = fields[1]
+        at, fields = fields[1], None
     library.put_back(desk)
 
 
-def record_of(octets: bytes, fields: Tuple[int, ...], known: Known, before: int, is_first: bool, told: Told) -> Record:
+def record_of(octets: bytes, fields: Fields, known: Known, before: int, is_first: bool, told: Told) -> Record:
     """The record with these parts, of octets that lie after this number of others in their message."""
     at, end, type_at, type_length, id_at, id_length, payload_at, part_length, length, pieces, tnf, _ = fields
     kind = tnf, octets[type_at:type_at + type_length]
     if pieces == 1:
         data = octets[payload_at:payload_at + part_length]
     else:
-        _, data = library.put(library.payload, octets, library.SIZES[end], library.SIZES[at], given=length)
+        _, data = library.put(library.payload, octets, size_of(end), size_of(at), given=length)
     record_class = known.get(kind)
     if record_class is None:
         made = Record._made(kind, data)
-    elif told is not None and record_class._looks_late:
+    elif record_class in READ_LATE and told is not None:
         made = _new(record_class)
         made._unread = data
     elif told and record_class in told:
@@ -228,7 +281,7 @@ def _place_in_pieces(octets: bytes, is_first: bool, error: DecodeError, payload_
     before = b'' if is_first else Record()._written(library.FIRST, 0)
     status = library.REFUSED
     for part in (before, octets):
-        status = library.feed(library.byref(checker), part, library.SIZES[len(part)], library.byref(checked))
+        status = library.feed(library.byref(checker), part, library.size_of(len(part)), library.byref(checked))
     if status == library.REFUSED and checked.reason == error.number:
         return int(checked.place) - len(before)
     return payload_at

@@ -4,7 +4,7 @@ from __future__ import annotations
 import functools
 import re
 import struct
-from typing import Any, Dict, Optional, Tuple, Type, Union
+from typing import Any, Dict, Optional, Set, Tuple, Type, Union
 
 from . import _library as library
 from ._structs import packed, unpacked
@@ -44,9 +44,10 @@ def _checked_parts(spelled: str) -> Parts:
 
 def _write(tnf: int, kind: bytes, name: bytes, data: bytes, what: str, raised: type, flags: int = 0) -> bytes:
     """The octets of a record."""
-    sizes, lengths = library.SIZES, (len(kind), len(name), len(data))
-    return library.written(what, library.write_record, kind, sizes[lengths[0]], name, sizes[lengths[1]], data,
-                           sizes[lengths[2]], library.writing(tnf, flags), given=sum(lengths), raised=raised)
+    lengths = len(kind), len(name), len(data)
+    kind_size, name_size, size = map(library.size_of, lengths)
+    return library.written(what, library.write_record, kind, kind_size, name, name_size, data, size, library.writing(tnf, flags),
+                           given=sum(lengths), raised=raised)
 
 
 parts_of = functools.lru_cache(_checked_parts)
@@ -108,8 +109,7 @@ class Record:
     _decode_min_payload_length: int = 0
     _decode_max_payload_length: int = 0xffffffff
     _name: bytes = b''
-    # A checked payload that wasn't looked at yet. A class that has `_read` looks at it where an attribute is first asked for.
-    _looks_late: bool = False
+    # A checked payload that wasn't looked at yet, of a class in `READ_LATE`.
     _unread: Optional[bytes] = None
     _parts: Parts
     _data: Octets
@@ -120,10 +120,6 @@ class Record:
         self._parts = parts_of(text_of('' if type is None else type, 'a record type'))
         self._data = octets_of(data, 'data')
         self._take_name(name)
-
-    def __init_subclass__(cls, **named: Any) -> None:
-        super().__init_subclass__(**named)
-        cls._looks_late = '_read' in cls.__dict__
 
     @classmethod
     def register_type(cls, record_class: Type['Record']) -> None:
@@ -270,6 +266,10 @@ class Record:
     def _encode_struct(cls, form: str, *values: Any) -> bytes:
         """The octets of the values by such a format. Where they don't fit, the record is refused with EncodeError."""
         return packed(form, *values)
+
+
+# The classes whose `_read` looks at a payload where an attribute is first asked for.
+READ_LATE: Set[Type[Record]] = set()
 
 
 class _TypedRecord(Record):

@@ -19,7 +19,7 @@ _Kind = TypeVar('_Kind', bound=Record)
 def _parts_of(octets: bytes) -> library.PosterParts:
     """What the library tells of the payload of a poster."""
     parts, why = library.PosterParts(), library.Checked()
-    if library.poster(octets, library.SIZES[len(octets)], library.NO_FLAGS, library.byref(parts), library.byref(why)) != library.OK:
+    if library.poster(octets, library.size_of(len(octets)), library.NO_FLAGS, library.byref(parts), library.byref(why)) != library.OK:
         raise library.refused(why)
     return parts
 

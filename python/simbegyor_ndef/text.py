@@ -5,18 +5,20 @@ import functools
 from typing import Optional
 
 from . import _library as library
+from ._library import OK, SIZES, USUAL_SIZES, new_desk, pop_desk, push_desk, text_fields
 from .errors import EncodeError
-from .record import GlobalRecord, Record, text_of
+from .record import READ_LATE, GlobalRecord, Record, text_of
 
 __all__ = ['TextRecord']
 
 _ENCODINGS = ('UTF-8', 'UTF-16')
+_text = library.text
 
 
 def _write(language: bytes, text: bytes, flags: int, raised: type) -> bytes:
     """The payload of a text."""
-    return library.written('no text has these parts', library.write_text, language, library.SIZES[len(language)], text,
-                           library.SIZES[len(text)], flags, given=2 * len(text), raised=raised)
+    return library.written('no text has these parts', library.write_text, language, library.size_of(len(language)), text,
+                           library.size_of(len(text)), flags, given=2 * len(text), raised=raised)
 
 
 @functools.lru_cache
@@ -50,8 +52,10 @@ class TextRecord(GlobalRecord):
     @property
     def text(self) -> str:
         """The text, a str of Unicode characters."""
-        if self._unread is not None:
-            self._look()
+        unread = self._unread
+        if unread is not None:
+            self._read(unread)
+            self._unread = None
         return self._text
 
     @text.setter
@@ -96,17 +100,22 @@ class TextRecord(GlobalRecord):
         return made
 
     def _read(self, octets: bytes) -> None:
-        desk, size = library.taken_desk(), library.SIZES[len(octets)]
+        try:
+            desk = pop_desk()
+        except IndexError:
+            desk = new_desk()
         checked, why, room, out = desk
-        if library.text(octets, size, out, why) != library.OK:
+        count = len(octets)
+        size = SIZES[count] if count < USUAL_SIZES else library.size_of(count)
+        if _text(octets, size, out, why) != OK:
             raise library.refused(checked)
-        language_at, language_length, at, length, is_utf16 = library.text_fields(room)
+        language_at, language_length, at, length, is_utf16 = text_fields(room)
         text = octets[at:at + length]
         if is_utf16:
-            _, text = library.put(library.text_in_utf8, octets, size, given=2 * len(octets), behind=(why,))
-        library.desks.append(desk)
-        self._language, self._encoding = octets[language_at:language_at + language_length].decode('ascii'), _ENCODINGS[is_utf16]
-        self._text = text.decode('utf-8')
+            _, text = library.put(library.text_in_utf8, octets, size, given=2 * count, behind=(why,))
+        push_desk(desk)
+        self._language, self._encoding = octets[language_at:language_at + language_length].decode(), _ENCODINGS[is_utf16]
+        self._text = text.decode()
 
     def __format__(self, form: str) -> str:
         if form == 'args':
@@ -117,3 +126,4 @@ class TextRecord(GlobalRecord):
 
 
 Record.register_type(TextRecord)
+READ_LATE.add(TextRecord)

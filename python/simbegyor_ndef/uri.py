@@ -7,7 +7,7 @@ from urllib.parse import quote
 
 from . import _library as library
 from .errors import EncodeError
-from .record import GlobalRecord, Record, text_of
+from .record import READ_LATE, GlobalRecord, Record, text_of
 
 __all__ = ['UriRecord']
 
@@ -41,8 +41,10 @@ class UriRecord(GlobalRecord):
     @property
     def iri(self) -> str:
         """The URI as the payload spells it, its prefix written out: a str of Unicode characters."""
-        if self._unread is not None:
-            self._look()
+        unread = self._unread
+        if unread is not None:
+            self._read(unread)
+            self._unread = None
         return self._iri
 
     @iri.setter
@@ -66,7 +68,7 @@ class UriRecord(GlobalRecord):
 
     def _encode_payload(self) -> bytes:
         octets = self.iri.encode('utf-8')
-        return library.written('no URI is spelled so', library.write_uri, octets, library.SIZES[len(octets)],
+        return library.written('no URI is spelled so', library.write_uri, octets, library.size_of(len(octets)),
                                given=len(octets), raised=EncodeError)
 
     @classmethod
@@ -77,11 +79,11 @@ class UriRecord(GlobalRecord):
 
     def _read(self, octets: bytes) -> None:
         desk, count = library.taken_desk(), len(octets)
-        status, spelled = library.put(library.uri, octets, library.SIZES[count], 0, given=count, behind=(desk[1],))
+        status, spelled = library.put(library.uri, octets, library.size_of(count), 0, given=count, behind=(desk[1],))
         if status != library.OK:
             raise library.refused(desk[0])
-        library.desks.append(desk)
-        self._iri = spelled.decode('utf-8')
+        library.push_desk(desk)
+        self._iri = spelled.decode()
 
     def __format__(self, form: str) -> str:
         if form == 'args':
@@ -92,3 +94,4 @@ class UriRecord(GlobalRecord):
 
 
 Record.register_type(UriRecord)
+READ_LATE.add(UriRecord)

@@ -2,7 +2,9 @@
 import hashlib
 import os
 import pathlib
+import platform
 import pty
+import re
 import shutil
 import signal
 import subprocess
@@ -24,7 +26,9 @@ run)
     chmod +x "out/${PWD##*/}"
     ;;
 try)
-    shift 2
+    shift
+    while [ "$1" = --data ]; do echo "given ${2%%=*}: $(cat "${2#*=}")"; shift 2; done
+    shift
     echo tried "$@"
     echo 'error: a line of its own' >&2
     [ ! -e ../../broken ] || exit 1
@@ -230,6 +234,12 @@ def unproved(copy):
             yield f"{script}: rt's own lines are shown"
 
 
+def unproved_with_files(copy):
+    (copy.folder / 'tag.bin').write_text('bytes')
+    run = copy.run('ndef-explain', '--try', 'tag.bin', 'none.bin', '../tag.bin', str(copy.folder / 'tag.bin'), '-')
+    yield from expect(run, 1, f'given tag.bin: bytes\ntried tag.bin none.bin ../tag.bin {copy.folder}/tag.bin -\n')
+
+
 def try_comes_first(copy):
     for script in SCRIPTS:
         copy.run(script, '--prove')
@@ -329,6 +339,28 @@ def not_proved(copy):
     yield from expect(copy.run('ndef-make', '--prove', 'text', 'x'), 3, '', 'error: not proved')
 
 
+def for_two_processors(copy):
+    """On x86-64 the commands are compiled of the sources for both processors, where the release has both, and run that for this one."""
+    if platform.machine() != 'x86_64':
+        return
+    compiler = os.environ.get('CC', 'cc').split()
+    texts = {'runtime.c': 'int ndef_commands(void);\nint main(void) { return ndef_commands(); }\n'}
+    for file, name, said in (('commands-x86_64-linux.s', 'ndef_commands', 'plain'), ('commands-x86_64-v2-linux.s', 'ndef_commands_v2', 'faster')):
+        text = '#include <stdio.h>\nint %s(void) { return puts("%s") < 0; }\n' % (name, said)
+        texts[file] = subprocess.run([*compiler, '-xc', '-', '-S', '-fPIE', '-o', '-'], input=text, capture_output=True, text=True, check=True).stdout
+    (copy.folder / 'dist/commands.c').unlink()
+    copy.release(texts, '9.8.9')
+    flags = re.search('(?m)^flags.*', pathlib.Path('/proc/cpuinfo').read_text())[0].split()
+    has_v2 = {'pni', 'ssse3', 'cx16', 'sse4_1', 'sse4_2', 'popcnt'} <= set(flags)
+    yield from expect(copy.run('ndef', 'show'), 0, 'faster\n' if has_v2 else 'plain\n')
+    (copy.folder / 'dist/commands-x86_64-v2-linux.s').write_text('# changed\n')
+    yield from expect(copy.run('packaging/from_dist', 'commands'), 3, '')
+    (copy.folder / 'dist/commands-x86_64-v2-linux.s').unlink()
+    copy.release({}, '9.9.0')
+    os.utime(copy.folder / 'dist/SOURCE', (time.time() + 5, time.time() + 5))
+    yield from expect(copy.run('ndef', 'show'), 0, 'plain\n')
+
+
 def interrupted(copy):
     (copy.folder / 'slow').touch()
     # A job of a shell in the background begins with interrupts ignored.
@@ -371,11 +403,13 @@ def all_tests(top):
     """The name of each test, and what is wrong."""
     tests = {'the scripts compile dist/ once, and say that they run it': from_dist,
              'the scripts compile dist/ anew where a file of it is newer or a command is missing': from_another_dist,
+             'the scripts compile the commands for two processors, where dist/ has both, and run those for this one': for_two_processors,
              'the scripts compile dist/ with the compiler that CC names, or the first that is there': with_compilers,
              'packaging/from_dist compiles the library and looks at sums': library_from_dist,
              './ndef says why it does not compile dist/, with status 3': not_from_dist,
              'the scripts say what is missing without rt': without_rt,
              '--try runs the programs unproved, with their status': unproved,
+             '--try gives the program the files that its words name': unproved_with_files,
              'the scripts run unproved where --try is the first word alone': try_comes_first,
              './ndef --try ends with 3 where the program can not run': unproved_and_broken,
              './ndef --prove proves and builds once, and says what it costs and how far it is': built_once,
