@@ -1,8 +1,6 @@
 //! The commands `ndef`, `ndef-make` and `ndef-explain` in one program, which does what its own name says.
 #![tactic(auto)]
 
-mod making;
-
 use ndef_program::{Status, exit_code, read_words};
 use std::process::ExitCode;
 
@@ -14,7 +12,7 @@ fn main(rt: HostRuntime) -> ExitCode {
     };
     let words = words.as_slice();
     match words.first() {
-        Some(name) if name.as_slice().ends_with(b"ndef-make") => making::run_with(&rt, words),
+        Some(name) if name.as_slice().ends_with(b"ndef-make") => ndef_make_tool::run_on(&rt, words),
         Some(name) if name.as_slice().ends_with(b"ndef-explain") => {
             ndef_explain_tool::run_on(&rt, words)
         }

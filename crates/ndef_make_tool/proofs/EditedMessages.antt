@@ -4,7 +4,7 @@ use Rattle.ndef_format.specs.Messages.{Item}
 use Rattle.ndef_make_tool.specs.Asked.{AskedPart}
 use Rattle.ndef_make_tool.specs.Edited.{EditsMessage, MakesEdit, WritesRecords}
 use Rattle.ndef_make_tool.specs.Editing.{AreNumbers, edit_map, edited, number_of, records_in}
-use Rattle.ndef_make_tool.specs.Inputs.{GivesInput}
+use Rattle.ndef_program.specs.Inputs.{GivesInput}
 use Rattle.ndef_make_tool.specs.Making.{AreMadeIn}
 use Rattle.ndef_make_tool.specs.declared.editing.Edit.{Edit}
 use Rattle.ndef_make_tool.specs.declared.fault.Fault.{Fault}

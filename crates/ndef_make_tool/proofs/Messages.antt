@@ -9,7 +9,8 @@ use Rattle.clap.specs.Words.{Text}
 use Rattle.ndef_format.specs.Messages.{Item}
 use Rattle.ndef_make_tool.specs.Asked.{AskedPart, SaidAll, SaysPart, all_or_none, first_missing, parts_asked, part_in, parts_of, unsaid_record}
 use Rattle.ndef_make_tool.specs.Faults.{fault_at}
-use Rattle.ndef_make_tool.specs.Inputs.{GivesInput, readers_of}
+use Rattle.ndef_program.specs.Inputs.{GivesInput}
+use Rattle.ndef_make_tool.specs.Inputs.{readers_of}
 use Rattle.ndef_make_tool.specs.Making.{AreMade, IsMadeFor, IsMadeIf, IsMadeOf, IsMadeOfRecords, IsWrittenFor, MakesFrom, MakesLinked, MakesMessage, shown_in}
 use Rattle.ndef_make_tool.specs.References.{AreFound, missing_reference, references_of}
 use Rattle.ndef_make_tool.specs.declared.fault.Fault.{Fault}

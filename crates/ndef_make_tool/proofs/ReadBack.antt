@@ -27,7 +27,8 @@ use Rattle.ndef_message.specs.Written.{ShortIsCanonical}
 use Rattle.ndef_message.specs.declared.form.Form.TheVariants.{Short}
 use Rattle.ndef_make_tool.specs.Asked.{AskedPart, parts_asked, unsaid_record}
 use Rattle.ndef_make_tool.specs.Checking.{IsOfItsType, MakesIf, is_unchecked}
-use Rattle.ndef_make_tool.specs.Inputs.{GivesInput, readers_of}
+use Rattle.ndef_program.specs.Inputs.{GivesInput}
+use Rattle.ndef_make_tool.specs.Inputs.{readers_of}
 use Rattle.ndef_make_tool.specs.Making.{AreMade, IsMadeFor, IsMadeIf, IsMadeOfRecords, MakesBy, MakesLinked, MakesMessage, MakesWith, shown_in, written_as}
 use Rattle.ndef_make_tool.specs.Editing.{origin_in}
 use Rattle.ndef_make_tool.specs.Options.{subject_named}

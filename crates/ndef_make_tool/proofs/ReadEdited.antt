@@ -17,7 +17,7 @@ use Rattle.ndef_make_tool.specs.Asked.{AskedPart}
 use Rattle.ndef_make_tool.specs.Checking.{IsOfItsType, is_unchecked}
 use Rattle.ndef_make_tool.specs.Edited.{Editing, IsEditedIf, IsEditedOf, MakesEdit, WritesRecords, edit_readers}
 use Rattle.ndef_make_tool.specs.Editing.{added_by, edited, in_place, kept_from, names, one_or_none, origin_in, record_of, records_in}
-use Rattle.ndef_make_tool.specs.Inputs.{GivesInput}
+use Rattle.ndef_program.specs.Inputs.{GivesInput}
 use Rattle.ndef_make_tool.specs.Making.{AreMadeIn, MakesAll, MakesFrom, shown_in, written_as}
 use Rattle.ndef_make_tool.specs.Measures.{measure_in}
 use Rattle.ndef_make_tool.specs.Outcomes.{IsMadeFrom, IsMeasured}

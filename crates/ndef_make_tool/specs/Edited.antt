@@ -12,7 +12,8 @@ use Rattle.ndef_format.specs.Refusals.{Refuses}
 use Rattle.ndef_message.specs.Readings.{NeedsMemory}
 use Rattle.ndef_make_tool.specs.Asked.{AskedPart}
 use Rattle.ndef_make_tool.specs.Editing.{AreNumbers, AskFor, IsWrongPart, edit_parts, edited, number_of, records_in}
-use Rattle.ndef_make_tool.specs.Inputs.{GivesInput, ReadsNamed, readers_of}
+use Rattle.ndef_program.specs.Inputs.{GivesInput}
+use Rattle.ndef_make_tool.specs.Inputs.{ReadsNamed, readers_of}
 use Rattle.ndef_make_tool.specs.Making.{AreMadeIn, FailsIn, MakesAll, MakesFrom}
 use Rattle.ndef_make_tool.specs.Records.{Answer}
 use Rattle.ndef_make_tool.specs.declared.editing.Edit.{Edit}

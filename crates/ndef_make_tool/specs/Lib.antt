@@ -4,7 +4,6 @@ pub mod Asked
 pub mod Measures
 pub mod Misuses
 pub mod Faults
-pub mod Causes
 pub mod Octets
 pub mod Inputs
 pub mod Records

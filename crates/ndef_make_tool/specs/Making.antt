@@ -10,7 +10,8 @@ use Rattle.ndef_make_tool.specs.Asked.{AskedPart, parts_asked, unsaid_record}
 use Rattle.ndef_make_tool.specs.Carriers.{MakesCarrier, carrier_said}
 use Rattle.ndef_make_tool.specs.Checking.{MakesIf, is_unchecked}
 use Rattle.ndef_make_tool.specs.Faults.{fault_at}
-use Rattle.ndef_make_tool.specs.Inputs.{GivesInput, ReadsFor, readers_of}
+use Rattle.ndef_program.specs.Inputs.{GivesInput}
+use Rattle.ndef_make_tool.specs.Inputs.{ReadsFor, readers_of}
 use Rattle.ndef_program.specs.Options.{flag_of}
 use Rattle.ndef_make_tool.specs.Measures.{misfit}
 use Rattle.ndef_make_tool.specs.Options.{id_said, subject_named}

@@ -3,7 +3,7 @@ use Rattle.std.specs.Prelude.{◌≡◌, Bool, List, drop, Option, Some, None, R
 use Rattle.clap.specs.Words.{Text}
 use Rattle.ndef_make_tool.specs.Edited.{IsEditedOfWords}
 use Rattle.ndef_make_tool.specs.Editing.{origin_in}
-use Rattle.ndef_make_tool.specs.Inputs.{GivesInput}
+use Rattle.ndef_program.specs.Inputs.{GivesInput}
 use Rattle.ndef_make_tool.specs.Making.{IsMadeOfRecords}
 use Rattle.ndef_make_tool.specs.Measures.{measure_in}
 use Rattle.ndef_make_tool.specs.declared.fault.Fault.{Fault}

@@ -17,7 +17,7 @@ use Rattle.ndef_message.specs.declared.message_reading.Read.{Read}
 use Rattle.ndef_message.specs.declared.message_reading.ReadError.{ReadError}
 use Rattle.ndef_make_tool.specs.Asked.{AskedPart, parts_asked}
 use Rattle.ndef_make_tool.specs.Checking.{is_unchecked}
-use Rattle.ndef_make_tool.specs.Inputs.{GivesInput}
+use Rattle.ndef_program.specs.Inputs.{GivesInput}
 use Rattle.ndef_make_tool.specs.Measures.{record_words}
 use Rattle.ndef_make_tool.specs.Edited.{Editing, MakesEdit, ReadsMessage}
 use Rattle.ndef_make_tool.specs.Editing.{AskFor, edit_parts, edited, origin_in, records_in}

@@ -6,7 +6,7 @@ use Rattle.ndef_message.specs.declared.sink.Sink.{Ghosts as SinkOf}
 use Rattle.ndef_program.specs.Outputs.{GoesOut}
 use Rattle.ndef_program.specs.Statuses.{status_after}
 use Rattle.ndef_make_tool.specs.Faults.{line_of, fault_status}
-use Rattle.ndef_make_tool.specs.Inputs.{GivesInput}
+use Rattle.ndef_program.specs.Inputs.{GivesInput}
 use Rattle.ndef_make_tool.specs.Outcomes.{IsMadeOfWords}
 use Rattle.ndef_make_tool.specs.Pages.{make_page_asked, ndef_make_page}
 use Rattle.ndef_make_tool.specs.declared.fault.Fault.{Fault}

@@ -14,7 +14,7 @@ ghost use Rattle.ndef_make_tool.specs.Making.{has_flag, shown_by};
 ghost use Rattle.ndef_make_tool.specs.References.{AreFound, references_of};
 
 use crate::editing::{Edit, edit_parts, say_edits};
-use crate::inputs::{Inputs, is_reader, read_named};
+use crate::inputs::{is_reader, read_named};
 use crate::making::{Shown, Writing, Written, read_and_make, shown_of, write_records};
 use crate::parts::Said;
 use crate::records::make_item;
@@ -22,7 +22,7 @@ use crate::references::find_in_part;
 use crate::{Fault, Misuse, Refused};
 use ndef_message::{ReadError, SliceSource, read_message};
 use ndef_nest::Typed;
-use ndef_program::flag_given;
+use ndef_program::{Inputs, flag_given};
 use ndef_value::{Limits, MOST_PAYLOAD, MOST_PIECES, MOST_RECORDS, Message, Record};
 use std::alloc::Global;
 

@@ -1,10 +1,10 @@
 //! What holds of the message that is made.
 ghost use Rattle.ndef_make_tool.specs.Reading.{EditedIsRead, MadeIsRead};
 
-use crate::inputs::Inputs;
 use ndef_lang::Language;
 use ndef_message::{reading_gives_back, short_is_canonical};
 use ndef_nest::{Typed, strict_contents_are_read, typed_payloads};
+use ndef_program::Inputs;
 
 /// What is written is read back: `read_message` with `Typed` gives the records for which the words ask,
 /// whatever follows them, if its limits admit them and no part asks for an unchecked record.

@@ -19,14 +19,13 @@
 //! - `inputs.rt`, `specs/Inputs.antt`: the payload of a part, from digits or an input. `octets.rt`,
 //!   `specs/Octets.antt`: what digits stand for.
 //! - `measure.rt`, `specs/Measures.antt`: what is written of a message, and whether a tag has room for it.
-//! - `causes.rt`, `specs/Causes.antt`: the line that says why a file is not read.
 //! - `misuse.rt`, `specs/Misuses.antt`: what is wrong with words.
 //! - `fault.rt`, `specs/Faults.antt`: why there is no message, the line that says so, and the status.
+//! - `system.rt`: a run over the files and the standard streams of the system.
 #![tactic(auto)]
 
 mod carrier;
 mod carrier_word;
-mod causes;
 mod command;
 mod contents;
 mod edited;
@@ -48,12 +47,13 @@ mod poster;
 mod records;
 mod references;
 mod running;
+mod system;
 
-pub use causes::cause_line;
 pub use fault::{Fault, Refused};
-pub use inputs::{Inputs, MOST, read_input};
+pub use inputs::{MOST, read_input};
 pub use laws::{edited_is_read, made_is_read};
 pub use making::{Shown, Written, make};
 pub use misuse::Misuse;
 pub use parts::words_fault;
 pub use running::run;
+pub use system::run_on;

@@ -8,14 +8,14 @@ ghost use Rattle.ndef_make_tool.specs.Making.{MakesFrom, MakesMessage, WritesMes
 
 use crate::edited::make_edited;
 use crate::editing::origin_in;
-use crate::inputs::{Inputs, read_for, readers_of};
+use crate::inputs::{read_for, readers_of};
 use crate::measure::{Measure, Measured, measure_words, misfit};
 use crate::parts::{Said, parts, say_all, words_behind};
 use crate::records::make_record;
 use crate::references::find_all;
 use crate::{Fault, Misuse, Refused};
 use ndef_message::{Form, encode, encoded_length, short_is_canonical};
-use ndef_program::{flag_given, hexadecimal_line, push_number};
+use ndef_program::{Inputs, flag_given, hexadecimal_line, push_number};
 use ndef_value::{Bytes, Message, MessageError, NoMemory, Record};
 use std::alloc::Global;
 

@@ -1,15 +1,20 @@
-//! The command `ndef-make`: writes the message for which the words ask.
-
+//! The program over the system: its files and its standard streams.
 ghost use Rattle.std.specs.Prelude.{⊤};
 
-use ndef_make_tool::{Inputs, cause_line, read_input, run, words_fault};
+use crate::{MOST, read_input, run, words_fault};
 use ndef_message::{InputError, Sink, StdSink, StdSource};
-use ndef_program::{Status, exit_code, exit_code_after, tell_words, texts};
+use ndef_program::{Inputs, Reader, Status, exit_code, exit_code_after, open_file, tell_cause};
+use ndef_program::{tell_words, texts};
 use ndef_value::Bytes;
 use std::alloc::Global;
-use std::fs::File;
-use std::io::{self, BufReader, BufWriter, ErrorKind, IsTerminal, Read, Write};
+use std::io::{BufReader, BufWriter, ErrorKind, IsTerminal, Read, Write};
 use std::process::ExitCode;
+
+/// The program, as it says why a file can't be read.
+const READER: Reader<'static> = Reader {
+    program: "ndef-make",
+    most: MOST as u64,
+};
 
 /// All that a reader gives.
 fn read_from<R: Read + Drop>(alloc: Global, reader: R) -> Result<Vec<u8>, InputError> {
@@ -19,36 +24,20 @@ fn read_from<R: Read + Drop>(alloc: Global, reader: R) -> Result<Vec<u8>, InputE
     read_input(alloc, &mut StdSource::new(reader))
 }
 
-/// Opens a file that isn't a directory.
-fn open_file(rt: &HostRuntime, name: &str) -> io::Result<File> {
-    let file = File::open(rt, name)?;
-    if file.metadata()?.is_dir() {
-        return Err(io::Error::from(ErrorKind::IsADirectory));
-    }
-    Ok(file)
-}
-
-/// Says on standard error why a file of this name can't be read.
-fn tell_cause(rt: &HostRuntime, name: &str, kind: ErrorKind) {
-    if let Ok(line) = cause_line(rt.alloc(), name, kind) {
-        let _ = rt.stderr().write_all(line.as_slice());
-    }
-}
-
 /// The bytes of a file, or why there are none, which standard error says too.
 fn read_file(rt: &HostRuntime, alloc: Global, name: &str) -> Result<Vec<u8>, InputError> {
     let file = match open_file(rt, name) {
         Ok(file) => file,
         Err(error) => {
-            tell_cause(rt, name, error.kind());
+            tell_cause(rt, READER, name, error.kind());
             return Err(InputError::ReadFault);
         }
     };
     let read = read_from(alloc, file);
     match &read {
         Ok(_) | Err(InputError::NoMemory) => {}
-        Err(InputError::ReadFault) => tell_cause(rt, name, ErrorKind::Other),
-        Err(InputError::TooLong) => tell_cause(rt, name, ErrorKind::FileTooLarge),
+        Err(InputError::ReadFault) => tell_cause(rt, READER, name, ErrorKind::Other),
+        Err(InputError::TooLong) => tell_cause(rt, READER, name, ErrorKind::FileTooLarge),
     }
     read
 }
@@ -71,7 +60,7 @@ impl<'a> Inputs for Files<'a> {
     }
 }
 
-/// Runs the command for the words. Where a word is unknown or missing, clap says so on standard error.
+/// Runs the program for the words. Where a word is unknown or missing, clap says so on standard error.
 fn run_words<K: Sink, L: Sink>(
     rt: &HostRuntime,
     words: &[String],
@@ -89,9 +78,10 @@ fn run_words<K: Sink, L: Sink>(
     status
 }
 
-/// Runs the command with files, standard input, output and error, flushes standard output and gives the status. Where
-/// there is no memory for a buffer, or the flush fails, that is 3 and nothing more is printed.
-pub fn run_with(rt: &HostRuntime, words: &[Bytes]) -> ExitCode {
+/// Runs the program for the words, of which the first is its name, with files, standard input, output and error,
+/// flushes standard output and gives the status. Where there is no memory for a buffer, or the flush fails, that is 3 and
+/// nothing more is printed.
+pub fn run_on(rt: &HostRuntime, words: &[Bytes]) -> ExitCode {
     let alloc = rt.alloc();
     let Ok(mut writer) = BufWriter::new(alloc, rt.stdout()) else {
         return exit_code(Status::Fault);
