@@ -1,5 +1,5 @@
 -- The message after the edits, or why there is none.
-use Rattle.std.proofs.Common.{◌≡◌, ◌∙◌, ℕ, List, [], ◌∷◌, length, map, Result, Ok, Err, inl, inr, refl, sym, subst}
+use Rattle.std.proofs.Common.{◌≡◌, ℕ, List, [], ◌∷◌, length, map, Result, Ok, Err, inl, inr, refl, sym, subst}
 use Rattle.ndef_format.specs.Messages.{Item}
 use Rattle.ndef_make_tool.specs.Asked.{AskedPart}
 use Rattle.ndef_make_tool.specs.Edited.{EditsMessage, MakesEdit, WritesRecords}

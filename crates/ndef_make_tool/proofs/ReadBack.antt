@@ -25,7 +25,7 @@ use Rattle.ndef_format.specs.Accepted.{IsMember}
 use Rattle.ndef_message.specs.Readings.{GivesBack, ReadsInput, RoundTrips}
 use Rattle.ndef_message.specs.Written.{ShortIsCanonical}
 use Rattle.ndef_message.specs.declared.form.Form.TheVariants.{Short}
-use Rattle.ndef_make_tool.specs.Asked.{AskedPart, parts_asked, unsaid_record}
+use Rattle.ndef_make_tool.specs.Asked.{AskedPart, unsaid_record}
 use Rattle.ndef_make_tool.specs.Checking.{IsOfItsType, MakesIf, is_unchecked}
 use Rattle.ndef_program.specs.Inputs.{GivesInput}
 use Rattle.ndef_make_tool.specs.Inputs.{readers_of}

@@ -1,5 +1,5 @@
 -- Reading a message that was edited.
-use Rattle.std.proofs.Common.{◌≡◌, ◌∙◌, ◌++◌, ◌+◌, ℕ, Bool, true, false, List, [], ◌∷◌, map, Option, None, Some, Result, Ok, Err, cond, refl, sym, ap, subst, rules}
+use Rattle.std.proofs.Common.{◌≡◌, ◌∙◌, ◌+◌, ℕ, Bool, true, false, List, [], ◌∷◌, map, Option, None, Some, Result, Ok, cond, refl, sym, ap, subst, rules}
 use Rattle.std.specs.Prelude.{drop, nat_lt}
 use Rattle.std.specs.Option.{option_map_or}
 use Rattle.std.specs.List.{AllByRecursion, find, flat_map, list_any}
@@ -25,7 +25,6 @@ use Rattle.ndef_make_tool.specs.Reading.{EditedIsRead, ReadsEdited}
 use Rattle.ndef_make_tool.specs.References.{missing_reference}
 use Rattle.ndef_make_tool.specs.declared.editing.Edit.{Edit}
 use Rattle.ndef_make_tool.specs.declared.editing.Edit.TheVariants.{Drops, Replaces, Adds}
-use Rattle.ndef_make_tool.specs.declared.fault.Fault.{Fault}
 use Rattle.ndef_make_tool.specs.declared.making.Writing.{Writing}
 use Rattle.ndef_make_tool.specs.declared.making.Written.{Written}
 use Rattle.ndef_make_tool.specs.declared.measure.Measure.{Measure}

@@ -1,5 +1,5 @@
 -- The message that is edited, and what is written of it.
-use Rattle.std.specs.Prelude.{◌≡◌, ◌<◌, ◌≤◌, ◌⊎◌, ◌+◌, ◌++◌, ◌≢◌, ℕ, Bool, true, false, List, [], ◌∷◌, length, map, nat_lt, take, Option, Some, None, Result, Ok, Err, ⊤, codes, if◌then◌else◌, Vec}
+use Rattle.std.specs.Prelude.{◌≡◌, ◌<◌, ◌⊎◌, ◌+◌, ◌++◌, ◌≢◌, ℕ, Bool, true, false, List, [], ◌∷◌, length, map, nat_lt, take, Some, Result, Ok, Err, ⊤, codes, if◌then◌else◌, Vec}
 use Rattle.std.specs.declared.alloc.Global.{Global}
 use Rattle.std.specs.Str.{bytes_eq}
 use Rattle.clap.specs.Words.{Text}

@@ -1,5 +1,5 @@
 -- Editing a message: which of its records parts leave out or replace, and which they add.
-use Rattle.std.specs.Prelude.{◌≡◌, ◌<◌, ◌+◌, ◌++◌, ◌&&◌, ◌==◌, ℕ, Bool, true, false, List, [], ◌∷◌, length, map, nat_le, take, Option, Some, None, Result, Ok, Err, ⊤, codes, if◌then◌else◌, option_and_then, option_map, string_bytes, Vec}
+use Rattle.std.specs.Prelude.{◌≡◌, ◌<◌, ◌+◌, ◌++◌, ◌&&◌, ◌==◌, ℕ, Bool, false, List, [], ◌∷◌, length, map, nat_le, take, Option, Some, None, Result, Ok, Err, ⊤, codes, if◌then◌else◌, option_and_then, option_map, string_bytes, Vec}
 use Rattle.std.specs.declared.alloc.Global.{Global}
 use Rattle.std.specs.List.{find, flat_map, list_any, slice_get}
 use Rattle.std.specs.Option.{option_map_or}

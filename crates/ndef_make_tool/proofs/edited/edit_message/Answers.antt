@@ -1,6 +1,6 @@
-use Rattle.std.proofs.Common.{◌≡◌, ◌∙◌, List, Err, Ok, Option, Result, inl, inr, length, map, refl, rules, subst, sym, ℕ}
+use Rattle.std.proofs.Common.{◌≡◌, Err, Ok, inl, inr, map, refl, rules}
 use Rattle.ndef_make_tool.specs.Asked.{asked_part}
-use Rattle.ndef_make_tool.specs.Editing.{AreNumbers, edit_map}
+use Rattle.ndef_make_tool.specs.Editing.{edit_map}
 use Rattle.ndef_make_tool.proofs.EditedMessages.{message_made, message_unmade, numbers_for}
 use Rattle.ndef_make_tool.proofs.edited.edit_message.Goals as goal
 
