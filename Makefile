@@ -260,7 +260,7 @@ install: all out/man3/simbegyor-ndef.3
 	install -m 644 $(addprefix out/,$(modules)) $(module)/libndef.so $(DESTDIR)$(PYTHONDIR)/simbegyor_ndef
 	install -m 644 $(addprefix out/python/$(module_data)/,METADATA INSTALLER) $(DESTDIR)$(PYTHONDIR)/$(module_data)
 	install -m 644 LICENSE-MIT LICENSE-APACHE $(DESTDIR)$(PYTHONDIR)/$(module_data)/licenses
-	@packaging/python_told $(PYTHON) $(PYTHONDIR)
+	@$(if $(DESTDIR),,packaging/python_told $(PYTHON) $(PYTHONDIR))
 	install -m 644 $(pages) $(DESTDIR)$(PREFIX)/share/man/man1
 	install -m 644 out/man3/*.3 $(DESTDIR)$(PREFIX)/share/man/man3
 	install -m 644 $(completions) $(DESTDIR)$(PREFIX)/share/bash-completion/completions

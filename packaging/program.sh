@@ -113,13 +113,20 @@ build() {
     say "proved and built in $(((SECONDS - begun) / 60)) minutes $(((SECONDS - begun) % 60)) seconds"
 }
 
-# Runs the program as it is, and proves nothing.
+# Runs the program as it is, and proves nothing. `rt` runs it in a folder of its own. So each word that names a file here, by a name that can
+# stand there, is given to it as that file.
 run_unproved() {
-    local log status
+    local log status word files=()
     needs_rt --try
     say "running unproved; ./$name --prove proves it first"
+    for word; do
+        case $word in
+            /* | .. | ../* | */.. | */../* | *=* | program* | stdin* | stdout* | stderr*) ;;
+            *) [ ! -f "$word" ] || files+=(--data "$word=$PWD/$word") ;;
+        esac
+    done
     log=$(mktemp)
-    (cd "$top/crates/${crates[-1]}" && rt try -- "$@") 2>"$log"
+    (cd "$top/crates/${crates[-1]}" && rt try "${files[@]}" -- "$@") 2>"$log"
     status=$?
     # `rt` says by these lines that the program ended by itself.
     grep -vE '^(checked: ended|run=ended)' "$log" >&2

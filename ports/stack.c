@@ -214,13 +214,4 @@ void answers(void) {
     print_most();
 }
 
-#if __STDC_HOSTED__
-#include <stdio.h>
-
-void put(const char *line, unsigned length) { fwrite(line, 1, length, stdout); }
-
-int main(void) {
-    answers();
-    return 0;
-}
-#endif
+#include "hosted.h"

@@ -23,6 +23,9 @@ over_dist() {
     return 1
 }
 
+# try_made NAME COMMAND..: a test of a page or a program that uses what make made in out/: `try`, or where that is of dist/ `over_dist`.
+try_made() { if [ "${NDEF_FROM:-$(cat "$top/out/from")}" = crates ]; then try "$@"; else over_dist "$@"; fi; }
+
 # The calls that a header declares, and those of include/ndef.h that the release in dist/ lacks.
 calls_in() { sed -nE 's/^(uint32_t|void) (ndef_[a-z0-9_]+).*/\2/p' "$1" | LC_ALL=C sort; }
 lacking() { comm -23 <(calls_in "$top/include/ndef.h") <(calls_in "$top/dist/ndef.h"); }

@@ -211,6 +211,10 @@ export function encode(message: NDEFMessageInit): Uint8Array;
 export function fields(bytes: Bytes, options?: Options): Field[];
 /** All that can be said of the bytes, refused or not. */
 export function explain(bytes: Bytes, options?: Options): Explained;
+/** What was wanted where the bytes are refused, or what the reason means; null where they begin with a message. Payloads are checked, whatever `opaque` says. */
+export function why(bytes: Bytes, options?: Options): string | null;
+/** What may help where the bytes are refused; null where nothing is known to. The rest is as for `why`. */
+export function hint(bytes: Bytes, options?: Options): string | null;
 /** The carriers of the first handover of a message, and their records. */
 export function links(message: NDEFMessageInit): Link[];
 

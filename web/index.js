@@ -1,6 +1,6 @@
 // NDEF messages for JavaScript, in the shape of Web NFC. The library in ndef_wasm.mjs decides about the format; README.md
 // says what each name is.
-export { check, decode, decodePrefix, explain, fields, links } from "./message.js";
+export { check, decode, decodePrefix, explain, fields, hint, links, why } from "./message.js";
 export { NDEFMessage, NDEFRecord, encode } from "./record.js";
 export { ACTION, KIND, POWER, handoverCarrier, handoverRequest, handoverSelect, smartPoster } from "./making.js";
 export { NDEFDecoderStream } from "./stream.js";

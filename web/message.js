@@ -45,6 +45,23 @@ export function explain(bytes, options) {
     return { refusal, length: place, fields: answer.fields, records: recordsOf(given.subarray(0, place), KIND.OTHER, how.flags) };
 }
 
+// The options of a check of payloads, which the calls below always make.
+function typed(options) {
+    const how = optionsOf(options);
+    return { ...how, flags: how.flags & ~Ndef.OPAQUE };
+}
+
+// What was wanted where the bytes are refused, or what the reason means where nothing more is known: a sentence of English. Null where
+// they begin with a message.
+export function why(bytes, options) {
+    return library().why(bytes, typed(options));
+}
+
+// What may help where the bytes are refused, in a sentence of English. Null where nothing is known to.
+export function hint(bytes, options) {
+    return library().hint(bytes, typed(options));
+}
+
 // A key for bytes in a map.
 const keyOf = (bytes) => bytes.join();
 

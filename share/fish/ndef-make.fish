@@ -3,12 +3,14 @@
 # Whether the cursor stands in a part with this subcommand; with '', in one that has none yet.
 function __ndef_make_in
     set -l kind ''
+    set -l before ''
     for word in (commandline -opc)[2..-1]
         if test "$word" = --and
             set kind ''
-        else if test -z "$kind"; and not contains -- $word --size --tag ntag213 ntag215 ntag216
+        else if test -z "$kind"; and not contains -- $word --size --tag ntag213 ntag215 ntag216 --from --drop --replace; and not contains -- "$before" --from --drop --replace
             set kind $word
         end
+        set before $word
     end
     test "$kind" = "$argv[1]"
 end
@@ -18,9 +20,17 @@ function __ndef_make_begins
     test (count (commandline -opc)) = 1
 end
 
+# Whether a message in a file is edited.
+function __ndef_make_edits
+    contains -- --from (commandline -opc)
+end
+
 complete -c ndef-make -f
 complete -c ndef-make -n __ndef_make_begins -l size -d 'Print the size of the message in place of it'
 complete -c ndef-make -n __ndef_make_begins -l tag -x -a 'ntag213 ntag215 ntag216' -d 'Write it only if it fits on the tag'
+complete -c ndef-make -n __ndef_make_begins -l from -r -F -d 'Edit the message in a file'
+complete -c ndef-make -n '__ndef_make_edits; and __ndef_make_in ""' -l drop -x -d 'Leave out the record of this number'
+complete -c ndef-make -n '__ndef_make_edits; and __ndef_make_in ""' -l replace -x -d 'Put a record in place of that of this number'
 complete -c ndef-make -n __ndef_make_begins -l help -d 'Print a page of help'
 complete -c ndef-make -n __ndef_make_begins -l version -d 'Print the name and the version'
 complete -c ndef-make -n '__ndef_make_in ""' -a text -d 'A text'
@@ -38,6 +48,7 @@ for kind in text uri poster handover record media external app carrier
     complete -c ndef-make -n "__ndef_make_in $kind" -l id -x -d 'The id'
     complete -c ndef-make -n "__ndef_make_in $kind" -l unchecked -d 'Write any payload'
     complete -c ndef-make -n "__ndef_make_in $kind" -l and -d 'Begin another record'
+    complete -c ndef-make -n "__ndef_make_in $kind" -l help -d 'Print the page of this kind of record'
 end
 for kind in record media external carrier
     complete -c ndef-make -n "__ndef_make_in $kind" -l file -r -F -d 'The file that holds the payload'
@@ -54,7 +65,7 @@ complete -c ndef-make -n '__ndef_make_in poster' -l icon-type -x -d 'The media t
 complete -c ndef-make -n '__ndef_make_in handover' -a 'request select' -d 'Which handover'
 complete -c ndef-make -n '__ndef_make_in handover' -l version -x -d 'The version, 1.0 to 1.15'
 complete -c ndef-make -n '__ndef_make_in handover' -l collision -x -d 'The random number of a request'
-complete -c ndef-make -n '__ndef_make_in handover' -l carrier -x -a 'inactive= active= activating= unknown=' -d 'A power state, an equals sign and ids'
+complete -c ndef-make -n '__ndef_make_in handover' -l carrier -x -a 'inactive= active= activating= unknown= power=' -d 'A power state, an equals sign and ids, or keys'
 complete -c ndef-make -n '__ndef_make_in handover' -l error -x -d 'The reason of a select, a colon and its data'
 complete -c ndef-make -n '__ndef_make_in record' -l tnf -x -a '0 1 2 3 4 5' -d 'The type name format'
 complete -c ndef-make -n '__ndef_make_in record' -l type -x -d 'The type'

@@ -485,13 +485,4 @@ void answers(void) {
     put_line(CASES + ROUNDS, calls);
 }
 
-#if __STDC_HOSTED__
-#include <stdio.h>
-
-void put(const char *line, unsigned length) { fwrite(line, 1, length, stdout); }
-
-int main(void) {
-    answers();
-    return 0;
-}
-#endif
+#include "../../ports/hosted.h"

@@ -1,6 +1,7 @@
 /* Runs the cases that are given as lines: id | name | rule | class | languages | profile | limits | bytes | answer | records.
  * Each goes through check, walk, payload and write, and in parts through feed; a line that fails is printed. */
 #include "ndef.h"
+#include "digits.h"
 
 #include <stdio.h>
 #include <stdlib.h>
@@ -40,18 +41,10 @@ static char *field(char **rest) {
     return at;
 }
 
-static ndef_size from_hex(const char *text, uint8_t *out) {
-    ndef_size count = 0;
-    unsigned octet;
-    for (; *text; text++)
-        if (*text != ' ' && sscanf(text, "%2x", &octet) == 1) out[count++] = (uint8_t)octet, text++;
-    return count;
-}
-
 /* Whether the octets are those of the digits, or none where they are `-`. */
 static int is_part(const char *digits, const uint8_t *part, ndef_size length) {
     static uint8_t told[256];
-    return (strcmp(digits, "-") ? from_hex(digits, told) : 0) == length && memcmp(told, part, length) == 0;
+    return from_hex(digits, told) == length && memcmp(told, part, length) == 0;
 }
 
 /* Whether the record, which is written behind what was, is the one that the text tells. */
@@ -64,7 +57,7 @@ static int is_record(const char *text, const ndef_record *record, const uint8_t 
     if (sscanf(text, "%u %511s %511s %4194303s", &tnf, type, id, hexadecimal) != 4 || tnf != record->tnf) return 0;
     if (!is_part(type, bytes + record->type_at, record->type_length)) return 0;
     if (!is_part(id, bytes + record->id_at, record->id_length)) return 0;
-    ndef_size length = strcmp(hexadecimal, "-") ? from_hex(hexadecimal, told) : 0;
+    ndef_size length = from_hex(hexadecimal, told);
     if (length != record->payload_length) return 0;
     if (ndef_payload(whole, record->end, record->at, payload, length ? length - 1 : 0, &count) != (length ? NDEF_NO_ROOM : NDEF_OK)) return 0;
     if (count != length || ndef_payload(whole, record->end, record->at, payload, length, &count) != NDEF_OK) return 0;
@@ -149,7 +142,7 @@ int main(void) {
         char *fields[FIELDS], *rest = copy;
         strcpy(copy, line);
         for (int i = 0; i < FIELDS; i++) fields[i] = field(&rest);
-        ndef_size length = strcmp(fields[BYTES], "-") ? from_hex(fields[BYTES], bytes) : 0;
+        ndef_size length = from_hex(fields[BYTES], bytes);
         for (int way = 0; way < 4; way++) {
             const char *profile = way & 1 ? "standard" : "strict";
             int opaque = way >> 1;

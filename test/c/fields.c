@@ -1,14 +1,8 @@
 /* Each field of each struct that a call writes, with a value that no other field has. */
 #include "ndef.h"
+#include "expect.h"
 
-#include <stdio.h>
 #include <string.h>
-
-static int failed;
-
-static void expect(int holds, const char *what) {
-    if (!holds) failed++, printf("%s\n", what);
-}
 
 static void limits(void) {
     ndef_limits told = { 7, 7, 7, 7 };

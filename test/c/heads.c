@@ -1,17 +1,11 @@
 /* The exact bytes of written records: the short form up to 255 payload bytes, the long form, pieces, and each flag
  * (NDEF 1.0, record layout and chunked payloads). */
 #include "ndef.h"
+#include "expect.h"
 
-#include <stdio.h>
 #include <string.h>
 
-static int failed;
-
 static uint8_t payload[1024], room[2048];
-
-static void expect(int holds, const char *what) {
-    if (!holds) failed++, printf("%s\n", what);
-}
 
 /* The bytes that a record should have, one part behind another. */
 typedef struct expected {

@@ -1,16 +1,10 @@
 /* The calls that fill an array, find a record, give its kind or build a message, and those of names: with an array or a room that fits and
  * with one that is too small by one. VERSION_NUMBER is the version that the header names. */
 #include "ndef.h"
+#include "expect.h"
 #include "since.h"
 
-#include <stdio.h>
 #include <string.h>
-
-static int failed;
-
-static void expect(int holds, const char *what) {
-    if (!holds) failed++, printf("%s\n", what);
-}
 
 /* ---- kinds */
 

@@ -1,15 +1,10 @@
 /* The names of the headers: the lists and the functions that return strings agree with the constants and with what the
  * library writes to rooms. */
 #include "ndef.h"
+#include "expect.h"
 
 #include <stdio.h>
 #include <string.h>
-
-static int failed;
-
-static void expect(int holds, const char *what) {
-    if (!holds) failed++, printf("%s\n", what);
-}
 
 /* The lists have the numbers of the constants. */
 #define NUMBERS(number, name, text) typedef char number_of_##name[number == NDEF_REASON_##name ? 1 : -1];

@@ -1,19 +1,9 @@
 /* URIs, texts, carriers, alternative carriers, handovers and smart posters: each payload read, and written where it can be;
  * and the links of messages. */
 #include "ndef.h"
+#include "expect.h"
 
-#include <stdio.h>
 #include <string.h>
-
-static int failed;
-
-static void expect(int holds, const char *what) {
-    if (!holds) failed++, printf("%s\n", what);
-}
-
-static int is(const uint8_t *room, ndef_size count, const char *text, ndef_size length) {
-    return count == length && memcmp(room, text, length) == 0;
-}
 
 static void uris(void) {
     uint8_t room[64], back[64];

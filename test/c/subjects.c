@@ -3,6 +3,7 @@
  *   id | name | rule | class | profile | bytes | links
  * Records are written, and the carriers of a handover are found; a line that fails is printed. */
 #include "ndef.h"
+#include "digits.h"
 
 #include <stdio.h>
 #include <stdlib.h>
@@ -23,14 +24,6 @@ static int cut(char *text, char separator, char **parts, int most) {
         *end = 0;
     }
     for (int i = count; i < most; i++) parts[i] = "";
-    return count;
-}
-
-static ndef_size from_hex(const char *text, uint8_t *out) {
-    ndef_size count = 0;
-    unsigned octet;
-    for (; *text; text++)
-        if (*text != ' ' && *text != '-' && sscanf(text, "%2x", &octet) == 1) out[count++] = (uint8_t)octet, text++;
     return count;
 }
 

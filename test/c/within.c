@@ -1,18 +1,8 @@
 /* The payloads of the records within smart posters and handovers: each written, and read where a call reads it. */
 #include "ndef.h"
+#include "expect.h"
 
-#include <stdio.h>
 #include <string.h>
-
-static int failed;
-
-static void expect(int holds, const char *what) {
-    if (!holds) failed++, printf("%s\n", what);
-}
-
-static int is(const uint8_t *room, ndef_size count, const char *text, ndef_size length) {
-    return count == length && memcmp(room, text, length) == 0;
-}
 
 /* Appends a record of a type of the NFC Forum to what the room holds, and answers how much it holds then. */
 static ndef_size record(uint8_t *room, ndef_size at, uint32_t flags, const char *type, const uint8_t *payload, ndef_size length) {

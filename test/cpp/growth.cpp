@@ -1,6 +1,7 @@
 // How the time of each walk of ndef.hpp grows with the records: prints microseconds for 100, 1000 and 10000 of them. A walk
 // that takes much more than ten times as long for ten times as many is printed again, and fails. The links of a handover
-// are left out of that: each carrier is looked for among the records.
+// are left out of that: each carrier is looked for among the records. So are fields that are asked for one by one, of 10,
+// 100 and 1000 records: ndef_next_field begins at the front each time.
 #include "ndef.hpp"
 
 #include <cstdio>
@@ -36,11 +37,11 @@ template <class Range> static void walk(const Range &range) {
     seen = count;
 }
 
-/// Prints a row: the times of a walk over what is made for each count. Stops where the growth is steep.
-template <class Make> static void row(const char *name, bool is_linear, Make walk_of) {
+/// Prints a row: the times of a walk over what is made for a count, and for ten and a hundred times as many. Stops where the growth is steep.
+template <class Make> static void row(const char *name, bool is_linear, Make walk_of, std::size_t least = 100) {
     double before = 0;
     std::printf("C++ | %s", name);
-    for (std::size_t count : {100u, 1000u, 10000u}) {
+    for (std::size_t count : {least, 10 * least, 100 * least}) {
         const double now = time_of(walk_of(count));
         std::printf(" | %.1f", now);
         if (is_linear && before && now > 35 * before + 300) {
@@ -51,6 +52,17 @@ template <class Make> static void row(const char *name, bool is_linear, Make wal
         before = now;
     }
     std::printf("\n");
+}
+
+/// All fields, asked for one by one.
+static void step(ndef::bytes octets) {
+    ndef::limits limits;
+    limits.records = 65535;
+    ndef_field field = {};
+    ndef_checked why;
+    std::size_t count = 0;
+    while (ndef_next_field(octets.data(), octets.size(), &limits, &field, &why) == NDEF_OK) count++;
+    seen = count;
 }
 
 static ndef::message texts(std::size_t count) {
@@ -98,6 +110,9 @@ int main() {
         limits.records = 65535;
         walk(ndef::fields(m.octets(), limits));
     }; });
+    row("fields by ndef_next_field, of a tenth of the records", false, [](std::size_t count) {
+        return [m = texts(count)] { step(m.octets()); };
+    }, 10);
     row("titles of a poster", true, [&](std::size_t count) { return [p = poster_with(count, title)] { walk(p.titles()); }; });
     row("a title by its language", true, [&](std::size_t count) {
         return [p = poster_with(count, title)] { seen = p.title("fr").has_value() + p.title("en").has_value(); };

@@ -26,7 +26,9 @@ run)
     chmod +x "out/${PWD##*/}"
     ;;
 try)
-    shift 2
+    shift
+    while [ "$1" = --data ]; do echo "given ${2%%=*}: $(cat "${2#*=}")"; shift 2; done
+    shift
     echo tried "$@"
     echo 'error: a line of its own' >&2
     [ ! -e ../../broken ] || exit 1
@@ -232,6 +234,12 @@ def unproved(copy):
             yield f"{script}: rt's own lines are shown"
 
 
+def unproved_with_files(copy):
+    (copy.folder / 'tag.bin').write_text('bytes')
+    run = copy.run('ndef-explain', '--try', 'tag.bin', 'none.bin', '../tag.bin', str(copy.folder / 'tag.bin'), '-')
+    yield from expect(run, 1, f'given tag.bin: bytes\ntried tag.bin none.bin ../tag.bin {copy.folder}/tag.bin -\n')
+
+
 def try_comes_first(copy):
     for script in SCRIPTS:
         copy.run(script, '--prove')
@@ -401,6 +409,7 @@ def all_tests(top):
              './ndef says why it does not compile dist/, with status 3': not_from_dist,
              'the scripts say what is missing without rt': without_rt,
              '--try runs the programs unproved, with their status': unproved,
+             '--try gives the program the files that its words name': unproved_with_files,
              'the scripts run unproved where --try is the first word alone': try_comes_first,
              './ndef --try ends with 3 where the program can not run': unproved_and_broken,
              './ndef --prove proves and builds once, and says what it costs and how far it is': built_once,

@@ -41,7 +41,7 @@ def wrong():
               'CHANGELOG.md': '\n## Unreleased\n' if version.endswith('.dev') else f'\n## {version} - ',
               'java/pom.xml': f'\n  <version>{maven}</version>\n', 'java/build.gradle.kts': f'\nversion = "{maven}"\n',
               'rust/Cargo.toml': f'\nversion = "{cargo}"\n', 'rust/sys/Cargo.toml': f'\nversion = "{cargo}"\n',
-              'rust/Cargo.lock': f'name = "simbegyor-ndef"\nversion = "{cargo}"\n',
+              **dict.fromkeys(('rust/Cargo.lock', 'test/fuzz/rust/Cargo.lock'), f'name = "simbegyor-ndef"\nversion = "{cargo}"\n'),
               'crates/ndef_make_tool/src/pages.rt': f'b"ndef-make {sources}\\n"',
               'crates/ndef_explain_tool/src/pages.rt': f'b"ndef-explain {sources}\\n"'}
     for path, text in wanted.items():

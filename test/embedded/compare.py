@@ -1,6 +1,7 @@
 #!/usr/bin/env python3
 """test/embedded/compare.py FIGURES: compares what ports/figures printed with docs/EMBEDDED.md: each number of a table to within a
 tenth or 64 bytes, and the structs exactly. Prints 'N passed, M failed'."""
+import collections
 import pathlib
 import re
 import sys
@@ -38,11 +39,12 @@ def main(figures):
     measured, told = pathlib.Path(figures).read_text(), (TOP / 'docs/EMBEDDED.md').read_text()
     is_now, was = tables(measured), tables(told)
     count('the document has the rows of both tables', is_now.keys() == was.keys(), *sorted(set(is_now) ^ set(was)), quiet=True)
+    unmeasured = collections.Counter(head for (_, _, head), now in is_now.items() if now == '-')
+    for head, calls in sorted(unmeasured.items()):
+        left_out(f'no compiler or qemu for {head}: the stack of {calls} calls')
     for key in sorted(is_now.keys() & was.keys()):
         now, then = is_now[key], was[key]
-        if now == '-':
-            left_out('no compiler or qemu for ' + ' '.join(key))
-        else:
+        if now != '-':
             count('%s: %s, and docs/EMBEDDED.md says %s' % (', '.join(key), now, then), is_near(key[0], now, then), quiet=True)
     paragraph = told[told.index('Memory of the caller'):].partition('\n\n')[0]
     lines = '\n'.join(line for line in measured.splitlines() if line.startswith('ndef_'))

@@ -6,6 +6,7 @@ import sys
 import tempfile
 import unittest
 
+import counted
 import simbegyor_ndef
 
 HERE = pathlib.Path(__file__).resolve().parent
@@ -63,7 +64,4 @@ assert sys.modules == before
 
 
 if __name__ == '__main__':
-    result = unittest.main(exit=False, verbosity=2).result
-    broken = {getattr(test, 'test_case', test).id() for test, _ in result.failures + result.errors}
-    print('%d passed, %d failed' % (result.testsRun - len(broken), len(broken)), flush=True)
-    raise SystemExit(bool(broken))
+    counted.main()

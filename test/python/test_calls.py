@@ -12,6 +12,7 @@ import re
 import struct
 import unittest
 
+import counted
 import simbegyor_ndef as ndef
 from cases import TOP, cases, field_names, reasons, sentences, values
 from simbegyor_ndef import _library as library, handover, smartposter
@@ -474,7 +475,4 @@ class Calls(unittest.TestCase):
 
 
 if __name__ == '__main__':
-    result = unittest.main(exit=False, verbosity=2).result
-    broken = {getattr(test, 'test_case', test).id() for test, _ in result.failures + result.errors}
-    print('%d passed, %d failed' % (result.testsRun - len(broken), len(broken)), flush=True)
-    raise SystemExit(bool(broken))
+    counted.main()

@@ -7,6 +7,7 @@ import sys
 import tempfile
 import unittest
 
+import counted
 import simbegyor_ndef as ndef
 from simbegyor_ndef import _library as library
 
@@ -234,7 +235,4 @@ class CommandLine(unittest.TestCase):
 
 
 if __name__ == '__main__':
-    result = unittest.main(exit=False, verbosity=2).result
-    broken = {getattr(test, 'test_case', test).id() for test, _ in result.failures + result.errors}
-    print('%d passed, %d failed' % (result.testsRun - len(broken), len(broken)), flush=True)
-    raise SystemExit(bool(broken))
+    counted.main()

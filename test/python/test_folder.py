@@ -7,6 +7,7 @@ import sys
 import tempfile
 import unittest
 
+import counted
 from cases import TOP
 
 PROGRAM = str(TOP / 'examples/python/read_folder.py')
@@ -55,7 +56,4 @@ class Folder(unittest.TestCase):
 
 
 if __name__ == '__main__':
-    result = unittest.main(exit=False, verbosity=2).result
-    broken = {getattr(test, 'test_case', test).id() for test, _ in result.failures + result.errors}
-    print('%d passed, %d failed' % (result.testsRun - len(broken), len(broken)), flush=True)
-    raise SystemExit(bool(broken))
+    counted.main()

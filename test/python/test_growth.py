@@ -5,6 +5,7 @@ import os
 import time
 import unittest
 
+import counted
 import simbegyor_ndef as ndef
 
 
@@ -102,7 +103,4 @@ class Growth(unittest.TestCase):
 
 
 if __name__ == '__main__':
-    result = unittest.main(exit=False, verbosity=2).result
-    broken = {test.id() for test, _ in result.failures + result.errors}
-    print('%d passed, %d failed' % (result.testsRun - len(broken), len(broken)), flush=True)
-    raise SystemExit(bool(broken))
+    counted.main()

@@ -2,6 +2,7 @@
 (NDEF 1.0, record layout and chunked payloads)."""
 import unittest
 
+import counted
 import simbegyor_ndef as ndef
 
 PAYLOAD = bytes(number * 7 % 256 for number in range(600))
@@ -39,7 +40,4 @@ class Heads(unittest.TestCase):
 
 
 if __name__ == '__main__':
-    result = unittest.main(exit=False, verbosity=2).result
-    broken = {test.id() for test, _ in result.failures + result.errors}
-    print('%d passed, %d failed' % (result.testsRun - len(broken), len(broken)), flush=True)
-    raise SystemExit(bool(broken))
+    counted.main()

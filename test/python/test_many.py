@@ -1,6 +1,7 @@
 """Tests of `decode_many`: it answers what `message_decoder` does, for each of many messages."""
 import unittest
 
+import counted
 import simbegyor_ndef as ndef
 from cases import cases
 from wild import Wild, corpus
@@ -96,7 +97,4 @@ class Many(unittest.TestCase):
 
 
 if __name__ == '__main__':
-    result = unittest.main(exit=False, verbosity=2).result
-    broken = {getattr(test, 'test_case', test).id() for test, _ in result.failures + result.errors}
-    print('%d passed, %d failed' % (result.testsRun - len(broken), len(broken)), flush=True)
-    raise SystemExit(bool(broken))
+    counted.main()

@@ -6,6 +6,7 @@ import threading
 import unittest
 from unittest import mock
 
+import counted
 import simbegyor_ndef as ndef
 from simbegyor_ndef import _library as library
 from simbegyor_ndef.handover import AlternativeCarrierRecord, CollisionResolutionRecord, ErrorRecord
@@ -601,7 +602,4 @@ class Streams(unittest.TestCase):
 
 
 if __name__ == '__main__':
-    result = unittest.main(exit=False, verbosity=2).result
-    broken = {getattr(test, 'test_case', test).id() for test, _ in result.failures + result.errors}
-    print('%d passed, %d failed' % (result.testsRun - len(broken), len(broken)), flush=True)
-    raise SystemExit(bool(broken))
+    counted.main()

@@ -8,6 +8,7 @@ import re
 import threading
 import unittest
 
+import counted
 import simbegyor_ndef as ndef
 from simbegyor_ndef import _library as library
 from cases import TOP, cases, field_names, items_of, octets_of, reasons, values
@@ -465,7 +466,4 @@ class Readme(unittest.TestCase):
 
 
 if __name__ == '__main__':
-    result = unittest.main(exit=False, verbosity=2).result
-    broken = {getattr(test, 'test_case', test).id() for test, _ in result.failures + result.errors}
-    print('%d passed, %d failed' % (result.testsRun - len(broken), len(broken)), flush=True)
-    raise SystemExit(bool(broken))
+    counted.main()

@@ -9,6 +9,7 @@ import sys
 import tempfile
 import unittest
 
+import counted
 import simbegyor_ndef as ndef
 from simbegyor_ndef import _platform
 from cases import TOP
@@ -106,7 +107,4 @@ class Package(unittest.TestCase):
 
 
 if __name__ == '__main__':
-    result = unittest.main(exit=False, verbosity=2).result
-    broken = {getattr(test, 'test_case', test).id() for test, _ in result.failures + result.errors}
-    print('%d passed, %d failed' % (result.testsRun - len(broken), len(broken)), flush=True)
-    raise SystemExit(bool(broken))
+    counted.main()

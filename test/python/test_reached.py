@@ -9,6 +9,7 @@ import tempfile
 import unittest
 from unittest import mock
 
+import counted
 import simbegyor_ndef as ndef
 from simbegyor_ndef import _library as library
 from simbegyor_ndef.handover import AlternativeCarrierRecord
@@ -67,7 +68,4 @@ class Reached(unittest.TestCase):
 
 
 if __name__ == '__main__':
-    result = unittest.main(exit=False, verbosity=2).result
-    broken = {test.id() for test, _ in result.failures + result.errors}
-    print('%d passed, %d failed' % (result.testsRun - len(broken), len(broken)), flush=True)
-    raise SystemExit(bool(broken))
+    counted.main()

@@ -7,6 +7,7 @@ import pickle
 import unittest
 import unittest.mock
 
+import counted
 import simbegyor_ndef as ndef
 from cases import sentences
 from simbegyor_ndef import _library as library
@@ -184,7 +185,4 @@ class WithoutRemarks(unittest.TestCase):
 
 
 if __name__ == '__main__':
-    result = unittest.main(exit=False, verbosity=2).result
-    broken = {getattr(test, 'test_case', test).id() for test, _ in result.failures + result.errors}
-    print('%d passed, %d failed' % (result.testsRun - len(broken), len(broken)), flush=True)
-    raise SystemExit(bool(broken))
+    counted.main()

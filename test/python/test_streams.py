@@ -5,6 +5,7 @@ import os
 import unittest
 from unittest import mock
 
+import counted
 import simbegyor_ndef as ndef
 from simbegyor_ndef import _library as library
 from cases import cases
@@ -114,7 +115,4 @@ class Steps(unittest.TestCase):
 
 
 if __name__ == '__main__':
-    result = unittest.main(exit=False, verbosity=2).result
-    broken = {getattr(test, 'test_case', test).id() for test, _ in result.failures + result.errors}
-    print('%d passed, %d failed' % (result.testsRun - len(broken), len(broken)), flush=True)
-    raise SystemExit(bool(broken))
+    counted.main()

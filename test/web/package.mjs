@@ -1,7 +1,7 @@
 // node test/web/package.mjs <LINES: what the package reads: records in the shape of Web NFC, values, errors, options; also over the cases
 // of the suite, given as lines on standard input. Prints 'N passed, M failed'.
 import { readFileSync } from "node:fs";
-import { NDEFMessage, NDEFRecord, Ndef, NdefError, check, decode, decodePrefix, encode, explain, fields, links, ready } from "../../out/web/index.js";
+import { NDEFMessage, NDEFRecord, Ndef, NdefError, check, decode, decodePrefix, encode, explain, fields, hint, links, ready, why } from "../../out/web/index.js";
 import code from "../../out/web/ndef_wasm.mjs";
 import { bytesOf, cases, finish, hexOf, recordHex, same, test, throws } from "./tests.mjs";
 
@@ -258,6 +258,16 @@ await test("every case of the suite is explained", () => all.filter(({ options }
     if (isAccepted) same(fields(bytes, options), told.fields);
     else same(throws(NdefError, () => fields(bytes, options)).place, place);
 }));
+// The library of release 0.2.0 has no such calls. RTD Text 1.0 and RTD URI 1.0 say what is wrong with the bytes.
+if (!calls.lacks.has("ndef_why")) await test("why bytes are refused, and what may help", () => {
+    const long = bytesOf("D1 01 06 54 3F 61 62 63 64 65"), uri = bytesOf("D1 01 06 55 68 74 74 70 3A 2F"), good = bytesOf("D00000");
+    same([why(long), hint(long)], ["The language code has 63 octets; 5 are left in the payload.", null]);
+    same(hint(uri.buffer), "68 (hexadecimal) is the letter h: was the identifier code left out?");
+    same([why(good), hint(good), why(long, { opaque: true }), why(uri, { standard: true })], [null, null, why(long), null]);
+    same([why(good, { payload: 1 }), why(bytesOf("D5000201 02"), { payload: 1 }) === null], [null, false]);
+    for (const say of [why, hint]) for (const wrong of ["d00000", null, [1]]) throws(TypeError, () => say(wrong));
+    for (const say of [why, hint]) throws(TypeError, () => say(good, 1));
+});
 await test("links of a handover", () => {
     const select = "12" + recordHex("91", "ac", "01 01 30 00") + recordHex("11", "ac", "00 01 31 00") + recordHex("51", "ac", "02 00 00");
     const message = decode(bytesOf(recordHex("91", "Hs", select) + recordHex("1A", "a/b", "", "0") + recordHex("5A", "a/c", "", "0")));

@@ -1,7 +1,7 @@
 // What tsc --strict makes of the package's declarations: each line that it has to refuse says so. It is compiled, and not run.
 import {
     ACTION, Explained, Field, KIND, Link, NDEFDecoderStream, NDEFMessage, NDEFRecord, Ndef, NdefError, Options, POWER, Value, check, decode,
-    decodePrefix, encode, explain, fields, handoverCarrier, handoverRequest, handoverSelect, links, ready, smartPoster,
+    decodePrefix, encode, explain, fields, handoverCarrier, handoverRequest, handoverSelect, hint, links, ready, smartPoster, why,
 } from "simbegyor-ndef";
 import { Ndef as Calls } from "simbegyor-ndef/calls";
 import code from "simbegyor-ndef/wasm";
@@ -24,6 +24,7 @@ if (value !== null && "collision" in value) handoverRequest(value);
 if (value !== null && "titles" in value) smartPoster(value);
 new ReadableStream<Uint8Array>().pipeThrough(new NDEFDecoderStream(options)).getReader().read().then(({ value }) => value?.records.length);
 const error = new NdefError(0, 1, "ReservedTnf", "a sentence"), place: number = error.place, sentence: string = error.sentence;
+const wanted: string | null = why(bytes, options), helps: string | null = hint(bytes.buffer);
 const isError: Error = error, kind: boolean = record.kind === KIND.TEXT, done: Promise<void> = ready();
 Calls.load(code).then((calls) => {
     const answer = calls.text(bytes), other: typeof Ndef = Calls;

@@ -1,10 +1,5 @@
 //! The commands `ndef`, `ndef-make` and `ndef-explain` in one program, which does what its own name says.
-//! `explaining.rt`: `ndef-explain`. `making.rt`: `ndef-make`. `showing.rt`: `ndef`.
 #![tactic(auto)]
-
-mod explaining;
-mod making;
-mod showing;
 
 use ndef_program::{Status, exit_code, read_words};
 use std::process::ExitCode;
@@ -17,10 +12,10 @@ fn main(rt: HostRuntime) -> ExitCode {
     };
     let words = words.as_slice();
     match words.first() {
-        Some(name) if name.as_slice().ends_with(b"ndef-make") => making::run_with(&rt, words),
+        Some(name) if name.as_slice().ends_with(b"ndef-make") => ndef_make_tool::run_on(&rt, words),
         Some(name) if name.as_slice().ends_with(b"ndef-explain") => {
-            explaining::run_with(&rt, words)
+            ndef_explain_tool::run_on(&rt, words)
         }
-        _ => showing::run_with(&rt, words),
+        _ => ndef_tool::run_on(&rt, words),
     }
 }

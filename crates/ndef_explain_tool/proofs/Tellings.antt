@@ -8,7 +8,8 @@ use Rattle.ndef_message.specs.declared.sending.WriteFault.{WriteFault}
 use Rattle.ndef_program.specs.Quoting.{Text}
 use Rattle.ndef_program.specs.declared.status.Status.{Status}
 use Rattle.ndef_program.specs.declared.status.Status.TheVariants as status
-use Rattle.ndef_explain_tool.specs.Running.{GivesInput, TellsAll, TellsAsked, TellsNext, World, course, manner_of, worse}
+use Rattle.ndef_program.specs.Inputs.{GivesInput}
+use Rattle.ndef_explain_tool.specs.Running.{TellsAll, TellsAsked, TellsNext, World, course, manner_of, worse}
 use Rattle.ndef_explain_tool.specs.declared.choice.ExplainChoice.{ExplainChoice}
 use Rattle.ndef_explain_tool.specs.declared.telling.Manner.{Manner}
 

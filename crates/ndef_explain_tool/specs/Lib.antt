@@ -1,5 +1,4 @@
 pub mod Advice
-pub mod Causes
 pub mod Cells
 pub mod Chosen
 pub mod Codes

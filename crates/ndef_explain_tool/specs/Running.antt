@@ -5,6 +5,7 @@ use Rattle.ndef_message.specs.States.{SinkState}
 use Rattle.ndef_message.specs.declared.input.InputError.{InputError}
 use Rattle.ndef_message.specs.declared.sending.WriteFault.{WriteFault}
 use Rattle.ndef_program.specs.Endings.{ending_text, status_of}
+use Rattle.ndef_program.specs.Inputs.{GivesInput}
 use Rattle.ndef_program.specs.Quoting.{Text, quoted}
 use Rattle.ndef_program.specs.Statuses.{status_after}
 use Rattle.ndef_program.specs.Outputs.{GoesOut}
@@ -110,10 +111,6 @@ pub record Course (I : Type 0) : Type 0 where
 -- from here to there, with this status
 abbrev pub course : {I : Type 0} → World I → World I → Status → Course I
 course before after status = record { before = before; after = after; status = status }
-
--- which bytes, or which fault, an input of a name gives, and what is left of the inputs
-abbrev pub GivesInput : Type 0 → Type 1
-GivesInput I = I → (name : Text) → (read : Result (List ℕ) InputError) → I → Type 0
 
 -- the greater of two statuses: a fault, a refusal, or none
 abbrev pub worse : Status → Status → Status

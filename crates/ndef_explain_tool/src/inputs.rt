@@ -40,16 +40,6 @@ pub fn read_input<S: Source>(alloc: Global, source: &mut S) -> Result<Vec<u8>, I
     read_all(alloc, source, MOST)
 }
 
-/// Gives inputs by their names.
-pub trait Inputs {
-    /// What an input of a name may give, and what is left of the inputs.
-    ghost gives: { Self → List ℕ → Result (List ℕ) ReadError → Self → Type 0 };
-
-    /// The bytes of the input of this name, at most `MOST`. Standard input has the name `-`.
-    fn read(&mut self, alloc: Global, name: &str) -> Result<Vec<u8>, InputError>
-        ensures { gives self.old name.now (bytes_of result) self.new };
-}
-
 /// The bytes that were read, or with `hex` those for which they stand as hexadecimal text.
 pub(crate) fn octets_of(
     alloc: Global,

@@ -2,7 +2,6 @@
 #![tactic(auto)]
 
 mod advice;
-mod causes;
 mod cells;
 mod choice;
 mod codes;
@@ -33,10 +32,11 @@ mod refused_record;
 mod remark_lists;
 mod running;
 mod said_refusal;
+mod system;
 mod telling;
 mod wording;
 
-pub use causes::cause_line;
 pub use choice::words_fault;
-pub use inputs::{Inputs, MOST, read_input};
+pub use inputs::{MOST, read_input};
 pub use running::run;
+pub use system::run_on;

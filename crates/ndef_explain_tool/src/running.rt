@@ -9,11 +9,10 @@ ghost use Rattle.ndef_explain_tool.specs.Running.{PrintsText, Runs, SendsOut, Te
 ghost use Rattle.ndef_explain_tool.specs.Running.{course, is_in_color, manner_of, memory_text, usage_line, world, worse};
 
 use crate::choice::{Asked, Color, ExplainChoice, ask};
-use crate::inputs::Inputs;
 use crate::pages::page_text;
 use crate::telling::{Manner, tell};
 use ndef_message::{InputError, Sink, WriteFault, send};
-use ndef_program::{Page, Status, WordsError, page_asked};
+use ndef_program::{Inputs, Page, Status, WordsError, page_asked};
 use ndef_value::NoMemory;
 use std::alloc::Global;
 

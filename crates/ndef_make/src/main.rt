@@ -1,111 +1,14 @@
 //! The program `ndef-make`: writes the message for which the words ask.
 #![tactic(auto)]
 
-ghost use Rattle.std.specs.Prelude.{⊤};
-
-use ndef_make_tool::{Inputs, cause_line, read_input, run, words_fault};
-use ndef_message::{InputError, Sink, StdSink, StdSource};
-use ndef_program::{Status, exit_code, exit_code_after, read_words, tell_words, texts};
-use std::alloc::Global;
-use std::fs::File;
-use std::io::{self, BufReader, BufWriter, ErrorKind, IsTerminal, Read, Write};
+use ndef_make_tool::run_on;
+use ndef_program::{Status, exit_code, read_words};
 use std::process::ExitCode;
 
-/// All that a reader gives.
-fn read_from<R: Read + Drop>(alloc: Global, reader: R) -> Result<Vec<u8>, InputError> {
-    let Ok(reader) = BufReader::new(alloc, reader) else {
-        return Err(InputError::NoMemory);
-    };
-    read_input(alloc, &mut StdSource::new(reader))
-}
-
-/// Opens a file that isn't a directory.
-fn open_file(rt: &HostRuntime, name: &str) -> io::Result<File> {
-    let file = File::open(rt, name)?;
-    if file.metadata()?.is_dir() {
-        return Err(io::Error::from(ErrorKind::IsADirectory));
-    }
-    Ok(file)
-}
-
-/// Says on standard error why a file of this name can't be read.
-fn tell_cause(rt: &HostRuntime, name: &str, kind: ErrorKind) {
-    if let Ok(line) = cause_line(rt.alloc(), name, kind) {
-        let _ = rt.stderr().write_all(line.as_slice());
-    }
-}
-
-/// The bytes of a file, or why there are none, which standard error says too.
-fn read_file(rt: &HostRuntime, alloc: Global, name: &str) -> Result<Vec<u8>, InputError> {
-    let file = match open_file(rt, name) {
-        Ok(file) => file,
-        Err(error) => {
-            tell_cause(rt, name, error.kind());
-            return Err(InputError::ReadFault);
-        }
-    };
-    let read = read_from(alloc, file);
-    match &read {
-        Ok(_) | Err(InputError::NoMemory) => {}
-        Err(InputError::ReadFault) => tell_cause(rt, name, ErrorKind::Other),
-        Err(InputError::TooLong) => tell_cause(rt, name, ErrorKind::FileTooLarge),
-    }
-    read
-}
-
-/// The files of the system, and standard input.
-#[derive(Drop)]
-struct Files<'a> {
-    rt: &'a HostRuntime,
-}
-
-impl<'a> Inputs for Files<'a> {
-    ghost gives = { λ _ _ _ _. ⊤ };
-
-    fn read(&mut self, alloc: Global, name: &str) -> Result<Vec<u8>, InputError> {
-        if name == "-" {
-            read_from(alloc, self.rt.reader())
-        } else {
-            read_file(self.rt, alloc, name)
-        }
-    }
-}
-
-/// Runs the program for the words. Where a word is unknown or missing, clap says so on standard error.
-fn run_words<K: Sink, L: Sink>(
-    rt: &HostRuntime,
-    words: &[String],
-    sink: &mut K,
-    lines: &mut L,
-) -> Status {
-    let terminal = rt.stdout().is_terminal();
-    let mut inputs = Files { rt };
-    let status = run(rt.alloc(), words, terminal, &mut inputs, sink, lines);
-    if status == Status::Usage
-        && let Some(error) = words_fault(rt.alloc(), words)
-    {
-        let _ = error.print(rt);
-    }
-    status
-}
-
-/// Runs the program with files, standard input, output and error, flushes standard output and ends with the
-/// status. Where there is no memory for the words or a buffer, or the flush fails, it ends with status 3
-/// and prints nothing more.
+/// Runs the program with its words. Where there is no memory for them, it ends with status 3 and prints nothing.
 fn main(rt: HostRuntime) -> ExitCode {
-    let alloc = rt.alloc();
-    let Ok(words) = read_words(alloc, &rt) else {
-        return exit_code(Status::Fault);
-    };
-    let Ok(mut writer) = BufWriter::new(alloc, rt.stdout()) else {
-        return exit_code(Status::Fault);
-    };
-    let mut sink = StdSink::new(&mut writer);
-    let mut lines = StdSink::new(rt.stderr());
-    let status = match texts(alloc, words.as_slice()) {
-        Ok(words) => run_words(&rt, words.as_slice(), &mut sink, &mut lines),
-        Err(fault) => tell_words(alloc, fault, &mut lines),
-    };
-    drop(sink);
-    exit_code_after(status, writer.flush())
+    match read_words(rt.alloc(), &rt) {
+        Ok(words) => run_on(&rt, words.as_slice()),
+        Err(_) => exit_code(Status::Fault),
+    }
 }

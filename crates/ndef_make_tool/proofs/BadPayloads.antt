@@ -110,4 +110,7 @@ unmade_if false makes (Refused refused.BadError) never h = h
 unmade_if false makes (Refused refused.TooManyReferences) never h = h
 unmade_if false makes (Refused (refused.NoRecord reference)) never h = h
 unmade_if false makes (Refused refused.TooManyRecords) never h = h
+unmade_if false makes (Refused (refused.BadMessage refusal)) never h = h
+unmade_if false makes (Refused (refused.BytesAfter at)) never h = h
+unmade_if false makes (Refused refused.NoRecords) never h = h
 unmade_if false makes (Refused (refused.NoRoom size room)) never h = h

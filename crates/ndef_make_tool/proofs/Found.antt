@@ -73,6 +73,9 @@ found_some o (Refused refused.NoHandover) h = absurd h
 found_some o (Refused refused.BadError) h = absurd h
 found_some o (Refused refused.TooManyReferences) h = absurd h
 found_some o (Refused refused.TooManyRecords) h = absurd h
+found_some o (Refused (refused.BadMessage refusal)) h = absurd h
+found_some o (Refused (refused.BytesAfter at)) h = absurd h
+found_some o (Refused refused.NoRecords) h = absurd h
 found_some o (Refused (refused.NoRoom size room)) h = absurd h
 
 -- the same of a fault of another list, where that has the same first reference that is missing

@@ -1,6 +1,8 @@
 pub mod Appended
 pub mod BadPayloads
 pub mod Digits
+pub mod EditedMessages
+pub mod Edits
 pub mod Found
 pub mod Linked
 pub mod Lists
@@ -9,6 +11,7 @@ pub mod MadeIn
 pub mod Messages
 pub mod Parsed
 pub mod ReadBack
+pub mod ReadEdited
 pub mod Short
 pub mod Values
 pub mod Words

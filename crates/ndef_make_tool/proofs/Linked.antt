@@ -1,68 +1,57 @@
 -- What the words of a handover say.
-use Rattle.std.proofs.Common.{◌≡◌, ◌∙◌, ◌<◌, ℕ, List, [], ◌∷◌, length, Option, None, Some, Ok, Err, sym, ap, ap₂, subst, arith}
+use Rattle.std.proofs.Common.{◌≡◌, ◌∙◌, ℕ, List, [], ◌∷◌, Option, None, Some, Ok, Err, sym, ap, ap₂, subst, arith}
 use Rattle.std.specs.Prelude.{option_and_then}
-use Rattle.std.specs.List.{slice_split}
 use Rattle.clap.specs.Words.{Text}
 use Rattle.ndef_types.specs.Values.{AcValue, ErrorValue}
 use Rattle.ndef_types.specs.declared.power.Power.{Power}
-use Rattle.ndef_make_tool.specs.Handovers.{ChecksReferences, FitReferences, AsksError, MakesAlternative, MakesError, ac_of, ac_said, error_of_words, error_said, power_named}
+use Rattle.ndef_make_tool.specs.CarrierWords.{link_read, link_said, references_left}
+use Rattle.ndef_make_tool.specs.Handovers.{ChecksReferences, AsksError, MakesAlternative, MakesError, ac_of, ac_said, error_of_words, error_said}
 use Rattle.ndef_make_tool.specs.Octets.{SaysOctets, octets_in}
-use Rattle.ndef_make_tool.specs.Options.{cut_at, is_colon, is_comma, is_equals, number_below}
+use Rattle.ndef_make_tool.specs.Options.{cut_at, is_colon, number_below}
 use Rattle.ndef_make_tool.specs.Records.{Answer, MakesSaid}
+use Rattle.ndef_make_tool.specs.declared.carrier_word.Linked.{Linked}
 use Rattle.ndef_make_tool.specs.declared.fault.Fault.{Fault}
 use Rattle.ndef_make_tool.specs.declared.fault.Fault.TheVariants.{Usage, UsageAt, Refused, Reading, TooLong, Memory}
 use Rattle.ndef_make_tool.specs.declared.fault.Refused.TheVariants as refused
 use Rattle.ndef_make_tool.specs.declared.misuse.Misuse.TheVariants as misuse
-use Rattle.ndef_make_tool.proofs.Lists.{cut_has_parts}
 
 -- ---- carriers
 
-some_carrier : (power : Power) (references : List Text) → 0 < length references → FitReferences references → MakesSaid misuse.Carrier MakesAlternative (ac_of power references) (Err Memory)
-some_carrier power [] some are = absurd (omega arith)
-some_carrier power (reference ∷ auxiliary) some are = (are.0, omega (arith, are.1))
+bad_carrier : (power : Power) (references : List Text) (fault : Fault) → ChecksReferences references (Err fault) → MakesSaid misuse.Carrier MakesAlternative (ac_of power references) (Err fault)
+bad_carrier power [] (Refused refused.PartTooLong) h = absurd (h tt)
+bad_carrier power [] (Refused refused.TooManyReferences) h = absurd (omega (arith, h.1))
+bad_carrier power (reference ∷ auxiliary) (Refused refused.PartTooLong) h = h
+bad_carrier power (reference ∷ auxiliary) (Refused refused.TooManyReferences) h = (h.0, omega (arith, h.1))
+bad_carrier power references (Usage m) h = absurd h
+bad_carrier power references (UsageAt n m) h = absurd h
+bad_carrier power references Reading h = absurd h
+bad_carrier power references TooLong h = absurd h
+bad_carrier power references Memory h = absurd h
+bad_carrier power references (Refused refused.LanguageTooLong) h = absurd h
+bad_carrier power references (Refused refused.LanguageNotAscii) h = absurd h
+bad_carrier power references (Refused refused.PayloadTooLong) h = absurd h
+bad_carrier power references (Refused refused.BadShape) h = absurd h
+bad_carrier power references (Refused (refused.BadPayload refusal)) h = absurd h
+bad_carrier power references (Refused refused.NoPoster) h = absurd h
+bad_carrier power references (Refused refused.NoHandover) h = absurd h
+bad_carrier power references (Refused refused.BadError) h = absurd h
+bad_carrier power references (Refused (refused.NoRecord name)) h = absurd h
+bad_carrier power references (Refused refused.TooManyRecords) h = absurd h
+bad_carrier power references (Refused (refused.BadMessage refusal)) h = absurd h
+bad_carrier power references (Refused (refused.BytesAfter at)) h = absurd h
+bad_carrier power references (Refused refused.NoRecords) h = absurd h
+bad_carrier power references (Refused (refused.NoRoom size room)) h = absurd h
 
--- the carrier that is said
-carrier_of : (word name references : Text) (power : Power) → cut_at is_equals word ≡ Some (name, references) → power_named name ≡ Some power
-    → ac_said word ≡ ac_of power (slice_split is_comma references)
-carrier_of word name references power cut named =
-    ap (option_and_then (λ cut. option_and_then (λ power. ac_of power (slice_split is_comma cut.1)) (power_named cut.0))) cut
-    ∙ ap (option_and_then (λ power. ac_of power (slice_split is_comma references))) named
-
--- memory may run out where a carrier is given whose references are neither too long nor too many
-pub carrier_unmade : (word name references : Text) (power : Power) → cut_at is_equals word ≡ Some (name, references) → power_named name ≡ Some power
-    → FitReferences (slice_split is_comma references) → MakesSaid misuse.Carrier MakesAlternative (ac_said word) (Err Memory)
-carrier_unmade word name references power cut named are =
-    subst (λ (o : Option AcValue). MakesSaid misuse.Carrier MakesAlternative o (Err Memory)) (sym (carrier_of word name references power cut named))
-    (some_carrier power (slice_split is_comma references) (cut_has_parts is_comma references) are)
-
-bad_carrier : (power : Power) (references : List Text) (fault : Fault) → 0 < length references → ChecksReferences references (Err fault)
-    → MakesSaid misuse.Carrier MakesAlternative (ac_of power references) (Err fault)
-bad_carrier power [] fault some h = absurd (omega arith)
-bad_carrier power (reference ∷ auxiliary) (Refused refused.PartTooLong) some h = h
-bad_carrier power (reference ∷ auxiliary) (Refused refused.TooManyReferences) some h = (h.0, omega (arith, h.1))
-bad_carrier power (reference ∷ auxiliary) (Usage m) some h = absurd h
-bad_carrier power (reference ∷ auxiliary) (UsageAt n m) some h = absurd h
-bad_carrier power (reference ∷ auxiliary) Reading some h = absurd h
-bad_carrier power (reference ∷ auxiliary) TooLong some h = absurd h
-bad_carrier power (reference ∷ auxiliary) Memory some h = absurd h
-bad_carrier power (reference ∷ auxiliary) (Refused refused.LanguageTooLong) some h = absurd h
-bad_carrier power (reference ∷ auxiliary) (Refused refused.LanguageNotAscii) some h = absurd h
-bad_carrier power (reference ∷ auxiliary) (Refused refused.PayloadTooLong) some h = absurd h
-bad_carrier power (reference ∷ auxiliary) (Refused refused.BadShape) some h = absurd h
-bad_carrier power (reference ∷ auxiliary) (Refused (refused.BadPayload refusal)) some h = absurd h
-bad_carrier power (reference ∷ auxiliary) (Refused refused.NoPoster) some h = absurd h
-bad_carrier power (reference ∷ auxiliary) (Refused refused.NoHandover) some h = absurd h
-bad_carrier power (reference ∷ auxiliary) (Refused refused.BadError) some h = absurd h
-bad_carrier power (reference ∷ auxiliary) (Refused (refused.NoRecord name)) some h = absurd h
-bad_carrier power (reference ∷ auxiliary) (Refused refused.TooManyRecords) some h = absurd h
-bad_carrier power (reference ∷ auxiliary) (Refused (refused.NoRoom size room)) some h = absurd h
+-- what is made of the carrier for which a word stands
+pub carrier_made : (word : Text) (linked : Linked) (answer : Answer) → Some (link_read linked) ≡ link_said word
+    → MakesSaid misuse.Carrier MakesAlternative (ac_of linked.power (references_left linked.references)) answer → MakesSaid misuse.Carrier MakesAlternative (ac_said word) answer
+carrier_made word linked answer said h =
+    subst (λ (o : Option AcValue). MakesSaid misuse.Carrier MakesAlternative o answer) (ap (option_and_then (λ link. ac_of link.0 link.1)) said) h
 
 -- a carrier whose references are too long or too many
-pub carrier_refused : (word name references : Text) (power : Power) (fault : Fault) → cut_at is_equals word ≡ Some (name, references) → power_named name ≡ Some power
-    → ChecksReferences (slice_split is_comma references) (Err fault) → MakesSaid misuse.Carrier MakesAlternative (ac_said word) (Err fault)
-carrier_refused word name references power fault cut named h =
-    subst (λ (o : Option AcValue). MakesSaid misuse.Carrier MakesAlternative o (Err fault)) (sym (carrier_of word name references power cut named))
-    (bad_carrier power (slice_split is_comma references) fault (cut_has_parts is_comma references) h)
+pub carrier_refused : (word : Text) (linked : Linked) (fault : Fault) → Some (link_read linked) ≡ link_said word → ChecksReferences (references_left linked.references) (Err fault)
+    → MakesSaid misuse.Carrier MakesAlternative (ac_said word) (Err fault)
+carrier_refused word linked fault said h = carrier_made word linked (Err fault) said (bad_carrier linked.power (references_left linked.references) fault h)
 
 -- ---- errors
 

@@ -1,8 +1,8 @@
 -- Lists, one element after another.
 use Rattle.std.proofs.Common.{◌≡◌, ◌∙◌, ◌+◌, ◌<◌, ℕ, zero, suc, Bool, true, false, List, [], ◌∷◌, ◌++◌, length, take, get_or, map, Option, Some, None, Result, Ok, Err, refl, sym, ap, ap₂, arith, cond, rules}
-use Rattle.std.specs.Prelude.{◌||◌, count_by, option_map, IfOk, Vec}
+use Rattle.std.specs.Prelude.{◌||◌, count_by, is_none, option_map, IfOk, Vec}
 use Rattle.std.specs.Borrow.{Bor}
-use Rattle.std.specs.List.{list_any, slice_split, onto_first}
+use Rattle.std.specs.List.{find, list_any, position_or_len, slice_split, onto_first}
 use Rattle.ndef_make_tool.specs.Asked.{all_or_none}
 use Rattle.std.proofs.lemmas.List.{get_or-map, length-map, map-append, take_more}
 use Rattle.std.proofs.lemmas.List.Folds.{list_any_more}
@@ -34,6 +34,24 @@ pub cut_read : {A B E Z : Type 0} (f : A → B) (p : B → Bool) (r : Result (Ve
     → IfOk r (λ w. map (λ x. x.now) w.items ≡ slice_split (λ x. p (f x)) words) → IfOk r (λ w. map (λ x. map f x.now) w.items ≡ slice_split p (map f words))
 cut_read f p (Ok w) words e = sym (map_twice (map f) (λ x. x.now) w.items) ∙ ap (map (map f)) e ∙ map-slice_split f p words
 cut_read f p (Err e) words h = tt
+
+find-map : {A B : Type 0} (g : A → B) (test : B → Bool) (xs : List A) → option_map g (find (λ x. test (g x)) xs) ≡ find test (map g xs)
+find-map g test [] = refl
+find-map {A} {B} g test (x ∷ xs) = go (test (g x)) ∙ ap (λ (o : Option B). cond (test (g x)) (Some (g x)) o) (find-map g test xs)
+  where
+    go : (b : Bool) → option_map g (cond b (Some x) (find (λ y. test (g y)) xs)) ≡ cond b (Some (g x)) (option_map g (find (λ y. test (g y)) xs))
+    go true = refl
+    go false = refl
+
+-- the first part of a cut slice that passes, read
+pub find_read : {A B : Type 0} (f : A → B) (p : B → Bool) (test : List B → Bool) (words : List A) (r : Option (Bor (List A)))
+    → option_map (λ x. x.now) r ≡ find (λ part. test (map f part)) (slice_split (λ x. p (f x)) words)
+    → option_map (λ x. map f x.now) r ≡ find test (slice_split p (map f words))
+find_read {A} f p test words r e = fused r ∙ ap (option_map (map f)) e ∙ find-map (map f) test (slice_split (λ x. p (f x)) words) ∙ ap (find test) (map-slice_split f p words)
+  where
+    fused : (o : Option (Bor (List A))) → option_map (λ x. map f x.now) o ≡ option_map (map f) (option_map (λ x. x.now) o)
+    fused None = refl
+    fused (Some x) = refl
 
 -- a list that is cut has parts
 pub cut_has_parts : {X : Type 0} (p : X → Bool) (xs : List X) → 0 < length (slice_split p xs)
@@ -141,3 +159,24 @@ all_as_long {X} (Some y ∷ os) xs e = go (all_or_none os) refl e (λ ys i. all_
     go (Some ys) i h long =
         let same : y ∷ ys ≡ xs = search rules in
         sym (ap length same) ∙ ap suc (long ys i)
+
+missing_behind : {X : Type 0} (before after : List (Option X)) (xs : List X) → all_or_none before ≡ Some xs → length xs ≡ position_or_len is_none (before ++ None ∷ after)
+missing_behind [] after xs e = all_as_long [] xs e
+missing_behind (None ∷ before) after xs e = absurd (search rules)
+missing_behind {X} (Some y ∷ before) after xs e = go (all_or_none before) refl e (λ ys i. missing_behind before after ys i)
+  where
+    go : (o : Option (List X)) → all_or_none before ≡ o → option_map (λ ys. y ∷ ys) o ≡ Some xs
+        → ((ys : List X) → all_or_none before ≡ Some ys → length ys ≡ position_or_len is_none (before ++ None ∷ after))
+        → length xs ≡ position_or_len is_none (Some y ∷ (before ++ None ∷ after))
+    go None i h place = absurd (search rules)
+    go (Some ys) i h place =
+        let same : y ∷ ys ≡ xs = search rules in
+        let more : position_or_len is_none (Some y ∷ (before ++ None ∷ after)) ≡ 1 + position_or_len is_none (before ++ None ∷ after) = refl in
+        omega (arith, more, place ys i, ap length same)
+
+-- the place of the first that is missing
+pub missing_at : {A X : Type 0} (f : A → Option X) (ps : List A) (n : ℕ) (p : A) (xs : List X) → n < length ps → p ≡ get_or ps n p → f p ≡ None
+    → all_or_none (map f (take n ps)) ≡ Some xs → position_or_len is_none (map f ps) ≡ length xs
+missing_at f ps n p xs l e is all =
+    let split = mapped_at f ps n p l e in
+    sym (missing_behind (map f (take n ps)) split.0 xs all ∙ ap (λ o. position_or_len is_none (map f (take n ps) ++ o ∷ split.0)) (sym is) ∙ ap (position_or_len is_none) (sym split.1))

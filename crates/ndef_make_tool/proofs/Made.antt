@@ -1,5 +1,5 @@
 -- The records of what is said, one after another.
-use Rattle.std.proofs.Common.{◌≡◌, ◌∙◌, ◌<◌, ◌≤◌, ◌+◌, ℕ, suc, List, [], ◌∷◌, ◌++◌, length, take, map, get_or, append_assoc, Ok, Err, refl, sym, ap, subst, inl, inr}
+use Rattle.std.proofs.Common.{◌≡◌, ◌∙◌, ◌<◌, ◌≤◌, ◌+◌, ℕ, suc, List, [], ◌∷◌, ◌++◌, length, take, map, get_or, append_assoc, Result, Ok, Err, refl, sym, ap, subst, inl, inr}
 use Rattle.std.proofs.lemmas.List.{take_all}
 use Rattle.ndef_format.specs.Messages.{Item}
 use Rattle.ndef_make_tool.specs.Records.{Answer, AreMadeBy, FailsBy, IsUnmade}
@@ -26,7 +26,7 @@ AreKept makes xs before after = (items : List Item) × AreMadeBy makes xs items 
 
 -- ---- where no record is made
 
-pub unmade : (makes : Answer → Type 0) (fault : Fault) → makes (Err fault) → IsUnmade makes fault
+pub unmade : {Y : Type 0} (makes : Result Y Fault → Type 0) (fault : Fault) → makes (Err fault) → IsUnmade makes fault
 unmade makes (Usage misuse) is = is
 unmade makes (UsageAt n misuse) is = is
 unmade makes (Refused why) is = is

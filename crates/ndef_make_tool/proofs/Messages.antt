@@ -1,5 +1,5 @@
 -- The message of all parts, or why there is none.
-use Rattle.std.proofs.Common.{◌≡◌, ◌∙◌, ◌<◌, ◌≤◌, ℕ, List, [], ◌∷◌, length, map, take, get_or, Option, None, Some, Err, refl, sym, ap, arith, false, Result, Ok, subst, inr, rules}
+use Rattle.std.proofs.Common.{◌≡◌, ◌∙◌, ◌+◌, ◌<◌, ◌≤◌, ℕ, List, [], ◌∷◌, length, map, take, get_or, Option, None, Some, Err, refl, sym, ap, arith, false, Result, Ok, subst, inl, inr, rules}
 use Rattle.std.specs.Prelude.{codes, nat_lt}
 use Rattle.std.specs.List.{flat_map}
 use Rattle.std.specs.Str.{bytes_eq}
@@ -7,8 +7,10 @@ use Rattle.std.proofs.lemmas.Bool.{false_from_ne_true, lt-ltb, ltb-true}
 use Rattle.std.proofs.lemmas.List.{length-map, take_all}
 use Rattle.clap.specs.Words.{Text}
 use Rattle.ndef_format.specs.Messages.{Item}
-use Rattle.ndef_make_tool.specs.Asked.{AskedPart, SaidAll, SaysPart, all_or_none, parts_asked, part_in, parts_of}
-use Rattle.ndef_make_tool.specs.Inputs.{GivesInput, readers_of}
+use Rattle.ndef_make_tool.specs.Asked.{AskedPart, SaidAll, SaysPart, all_or_none, first_missing, parts_asked, part_in, parts_of, unsaid_record}
+use Rattle.ndef_make_tool.specs.Faults.{fault_at}
+use Rattle.ndef_program.specs.Inputs.{GivesInput}
+use Rattle.ndef_make_tool.specs.Inputs.{readers_of}
 use Rattle.ndef_make_tool.specs.Making.{AreMade, IsMadeFor, IsMadeIf, IsMadeOf, IsMadeOfRecords, IsWrittenFor, MakesFrom, MakesLinked, MakesMessage, shown_in}
 use Rattle.ndef_make_tool.specs.References.{AreFound, missing_reference, references_of}
 use Rattle.ndef_make_tool.specs.declared.fault.Fault.{Fault}
@@ -19,38 +21,45 @@ use Rattle.ndef_make_tool.specs.declared.making.Writing.{Writing}
 use Rattle.ndef_make_tool.specs.declared.making.Written.{Written}
 use Rattle.ndef_make_tool.specs.declared.measure.Measure.{Measure}
 use Rattle.ndef_make_tool.specs.declared.misuse.Misuse.TheVariants as misuse
-use Rattle.ndef_make_tool.proofs.Lists.{all_as_long, cut_has_parts, map_twice, none_at}
+use Rattle.ndef_make_tool.proofs.Lists.{all_as_long, cut_has_parts, map_twice, missing_at, none_at}
 use Rattle.ndef_make_tool.proofs.MadeIn.{in_as_many}
 
--- where a part says nothing, all do
-pub say_fails : {A : Type 0} (g : A → List Text) (ps : List A) (n : ℕ) (p : A) (fault : Fault) → n < length ps → p ≡ get_or ps n p → SaysPart (g p) (Err fault)
-    → SaidAll (map g ps) (Err fault)
-say_fails g ps n p (UsageAt k m) l e none = absurd none
-say_fails g ps n p (Usage misuse.Words) l e none = ap all_or_none (map_twice part_in g ps) ∙ none_at (λ q. part_in (g q)) ps n p l e none
-say_fails g ps n p (Usage misuse.TwoReaders) l e none = absurd none
-say_fails g ps n p (Usage misuse.TwoPayloads) l e none = absurd none
-say_fails g ps n p (Usage misuse.Digits) l e none = absurd none
-say_fails g ps n p (Usage misuse.Tnf) l e none = absurd none
-say_fails g ps n p (Usage misuse.MediaType) l e none = absurd none
-say_fails g ps n p (Usage misuse.ExternalType) l e none = absurd none
-say_fails g ps n p (Usage misuse.Format) l e none = absurd none
-say_fails g ps n p (Usage misuse.Title) l e none = absurd none
-say_fails g ps n p (Usage misuse.Action) l e none = absurd none
-say_fails g ps n p (Usage misuse.Size) l e none = absurd none
-say_fails g ps n p (Usage misuse.Icon) l e none = absurd none
-say_fails g ps n p (Usage misuse.Handover) l e none = absurd none
-say_fails g ps n p (Usage misuse.Carrier) l e none = absurd none
-say_fails g ps n p (Usage misuse.Collision) l e none = absurd none
-say_fails g ps n p (Usage misuse.Reason) l e none = absurd none
-say_fails g ps n p (Usage misuse.Control) l e none = absurd none
-say_fails g ps n p (Usage misuse.NoLanguage) l e none = absurd none
-say_fails g ps n p (Usage misuse.TwoTitles) l e none = absurd none
-say_fails g ps n p (Usage misuse.NoCarrier) l e none = absurd none
-say_fails g ps n p (Usage misuse.Tag) l e none = absurd none
-say_fails g ps n p (Refused why) l e none = absurd none
-say_fails g ps n p Reading l e none = absurd none
-say_fails g ps n p TooLong l e none = absurd none
-say_fails g ps n p Memory l e none = tt
+-- where a part says nothing and those before it do, all say nothing, by the number of that part
+pub say_fails : {A : Type 0} (g : A → List Text) (ps : List A) (n : ℕ) (p : A) (xs : List AskedPart) (fault : Fault) → n < length ps → p ≡ get_or ps n p
+    → all_or_none (map (λ q. part_in (g q)) (take n ps)) ≡ Some xs → SaysPart (g p) (Err fault) → SaidAll (map g ps) (Err (fault_at (length xs + 1) fault))
+say_fails g ps n p xs (UsageAt k m) l e all none = absurd none
+say_fails g ps n p xs (Usage misuse.Words) l e all none = (
+  ap all_or_none (map_twice part_in g ps) ∙ none_at (λ q. part_in (g q)) ps n p l e none,
+  ap (λ k. k + 1) (sym (missing_at (λ q. part_in (g q)) ps n p xs l e none all)) ∙ ap first_missing (sym (map_twice part_in g ps)),
+)
+say_fails g ps n p xs (Usage misuse.TwoReaders) l e all none = absurd none
+say_fails g ps n p xs (Usage misuse.TwoPayloads) l e all none = absurd none
+say_fails g ps n p xs (Usage misuse.Digits) l e all none = absurd none
+say_fails g ps n p xs (Usage misuse.Tnf) l e all none = absurd none
+say_fails g ps n p xs (Usage misuse.MediaType) l e all none = absurd none
+say_fails g ps n p xs (Usage misuse.ExternalType) l e all none = absurd none
+say_fails g ps n p xs (Usage misuse.Format) l e all none = absurd none
+say_fails g ps n p xs (Usage misuse.Title) l e all none = absurd none
+say_fails g ps n p xs (Usage misuse.Action) l e all none = absurd none
+say_fails g ps n p xs (Usage misuse.Size) l e all none = absurd none
+say_fails g ps n p xs (Usage misuse.Icon) l e all none = absurd none
+say_fails g ps n p xs (Usage misuse.Handover) l e all none = absurd none
+say_fails g ps n p xs (Usage misuse.Carrier) l e all none = absurd none
+say_fails g ps n p xs (Usage misuse.Collision) l e all none = absurd none
+say_fails g ps n p xs (Usage misuse.Reason) l e all none = absurd none
+say_fails g ps n p xs (Usage misuse.Control) l e all none = absurd none
+say_fails g ps n p xs (Usage misuse.NoLanguage) l e all none = absurd none
+say_fails g ps n p xs (Usage misuse.TwoTitles) l e all none = absurd none
+say_fails g ps n p xs (Usage misuse.NoCarrier) l e all none = absurd none
+say_fails g ps n p xs (Usage misuse.From) l e all none = absurd none
+say_fails g ps n p xs (Usage misuse.Edit) l e all none = absurd none
+say_fails g ps n p xs (Usage misuse.NoSuchRecord) l e all none = absurd none
+say_fails g ps n p xs (Usage misuse.Twice) l e all none = absurd none
+say_fails g ps n p xs (Usage misuse.Tag) l e all none = absurd none
+say_fails g ps n p xs (Refused why) l e all none = absurd none
+say_fails g ps n p xs Reading l e all none = absurd none
+say_fails g ps n p xs TooLong l e all none = absurd none
+say_fails g ps n p xs Memory l e all none = tt
 
 -- where all parts say something
 pub said_whole : {A : Type 0} (g : A → List Text) (ps : List A) (n : ℕ) (o : Option (List AskedPart)) → length ps ≤ n
@@ -63,25 +72,66 @@ pub asked : {A : Type 0} (g : A → List Text) (words : List Text) (slice parts 
 asked g words slice parts o same is said =
     ap (λ ps. all_or_none (map part_in ps)) (sym is) ∙ ap (λ ps. all_or_none (map part_in (map g ps))) (sym same) ∙ said
 
+-- the number of the part that says nothing
+unsaid : {A : Type 0} (g : A → List Text) (words : List Text) (slice parts : List A) (n : ℕ) → slice ≡ parts → map g parts ≡ parts_of words
+    → n ≡ first_missing (map part_in (map g slice)) → n ≡ unsaid_record words
+unsaid g words slice parts n same is e = e ∙ ap (λ ps. first_missing (map part_in (map g ps))) same ∙ ap (λ ps. first_missing (map part_in ps)) is
+
 -- ---- what is made
+
+-- the words of no message: those of the first record that say nothing are wrong
+pub unsaid_fails : {I A : Type 0} (gives : GivesInput I) (writing : Writing) (before : I) (g : A → List Text) (words : List Text) (slice parts : List A) (fault : Fault) → slice ≡ parts
+    → map g parts ≡ parts_of words → SaidAll (map g slice) (Err fault) → IsMadeOfRecords gives words writing before before (Err fault)
+unsaid_fails gives writing before g words slice parts (UsageAt n misuse.Words) same is h =
+    subst (λ (o : Option (List AskedPart)). IsMadeFor gives (unsaid_record words) o writing before before (Err (UsageAt n misuse.Words))) (sym (asked g words slice parts None same is h.0))
+    (refl, ap (λ k. Err (UsageAt k misuse.Words)) (unsaid g words slice parts n same is h.1))
+unsaid_fails gives writing before g words slice parts (UsageAt n misuse.Tag) same is h = absurd h
+unsaid_fails gives writing before g words slice parts (UsageAt n misuse.TwoReaders) same is h = absurd h
+unsaid_fails gives writing before g words slice parts (UsageAt n misuse.TwoPayloads) same is h = absurd h
+unsaid_fails gives writing before g words slice parts (UsageAt n misuse.Digits) same is h = absurd h
+unsaid_fails gives writing before g words slice parts (UsageAt n misuse.Tnf) same is h = absurd h
+unsaid_fails gives writing before g words slice parts (UsageAt n misuse.MediaType) same is h = absurd h
+unsaid_fails gives writing before g words slice parts (UsageAt n misuse.ExternalType) same is h = absurd h
+unsaid_fails gives writing before g words slice parts (UsageAt n misuse.Format) same is h = absurd h
+unsaid_fails gives writing before g words slice parts (UsageAt n misuse.Title) same is h = absurd h
+unsaid_fails gives writing before g words slice parts (UsageAt n misuse.Action) same is h = absurd h
+unsaid_fails gives writing before g words slice parts (UsageAt n misuse.Size) same is h = absurd h
+unsaid_fails gives writing before g words slice parts (UsageAt n misuse.Icon) same is h = absurd h
+unsaid_fails gives writing before g words slice parts (UsageAt n misuse.Handover) same is h = absurd h
+unsaid_fails gives writing before g words slice parts (UsageAt n misuse.Carrier) same is h = absurd h
+unsaid_fails gives writing before g words slice parts (UsageAt n misuse.Control) same is h = absurd h
+unsaid_fails gives writing before g words slice parts (UsageAt n misuse.NoLanguage) same is h = absurd h
+unsaid_fails gives writing before g words slice parts (UsageAt n misuse.TwoTitles) same is h = absurd h
+unsaid_fails gives writing before g words slice parts (UsageAt n misuse.NoCarrier) same is h = absurd h
+unsaid_fails gives writing before g words slice parts (UsageAt n misuse.Collision) same is h = absurd h
+unsaid_fails gives writing before g words slice parts (UsageAt n misuse.Reason) same is h = absurd h
+unsaid_fails gives writing before g words slice parts (UsageAt n misuse.From) same is h = absurd h
+unsaid_fails gives writing before g words slice parts (UsageAt n misuse.Edit) same is h = absurd h
+unsaid_fails gives writing before g words slice parts (UsageAt n misuse.NoSuchRecord) same is h = absurd h
+unsaid_fails gives writing before g words slice parts (UsageAt n misuse.Twice) same is h = absurd h
+unsaid_fails gives writing before g words slice parts (Usage m) same is h = absurd h
+unsaid_fails gives writing before g words slice parts (Refused why) same is h = absurd h
+unsaid_fails gives writing before g words slice parts Reading same is h = absurd h
+unsaid_fails gives writing before g words slice parts TooLong same is h = absurd h
+unsaid_fails gives writing before g words slice parts Memory same is h = inl refl
 
 -- where the words ask for parts
 pub written : {I : Type 0} (gives : GivesInput I) (words : List Text) (writing : Writing) (parts : List AskedPart) (before after : I) (made : Result Written Fault)
     → parts_asked words ≡ Some parts → IsMadeOf gives parts writing before after made → IsMadeOfRecords gives words writing before after made
 written gives words writing parts before after (Ok made) e is =
-    subst (λ (o : Option (List AskedPart)). IsMadeFor gives o writing before after (Ok made)) (sym e) is
+    subst (λ (o : Option (List AskedPart)). IsMadeFor gives (unsaid_record words) o writing before after (Ok made)) (sym e) is
 written gives words writing parts before after (Err (Usage m)) e is =
-    subst (λ (o : Option (List AskedPart)). IsMadeFor gives o writing before after (Err (Usage m))) (sym e) is
+    subst (λ (o : Option (List AskedPart)). IsMadeFor gives (unsaid_record words) o writing before after (Err (Usage m))) (sym e) is
 written gives words writing parts before after (Err (UsageAt n m)) e is =
-    subst (λ (o : Option (List AskedPart)). IsMadeFor gives o writing before after (Err (UsageAt n m))) (sym e) is
+    subst (λ (o : Option (List AskedPart)). IsMadeFor gives (unsaid_record words) o writing before after (Err (UsageAt n m))) (sym e) is
 written gives words writing parts before after (Err (Refused why)) e is =
-    subst (λ (o : Option (List AskedPart)). IsMadeFor gives o writing before after (Err (Refused why))) (sym e) is
+    subst (λ (o : Option (List AskedPart)). IsMadeFor gives (unsaid_record words) o writing before after (Err (Refused why))) (sym e) is
 written gives words writing parts before after (Err Reading) e is =
-    subst (λ (o : Option (List AskedPart)). IsMadeFor gives o writing before after (Err Reading)) (sym e) is
+    subst (λ (o : Option (List AskedPart)). IsMadeFor gives (unsaid_record words) o writing before after (Err Reading)) (sym e) is
 written gives words writing parts before after (Err TooLong) e is =
-    subst (λ (o : Option (List AskedPart)). IsMadeFor gives o writing before after (Err TooLong)) (sym e) is
+    subst (λ (o : Option (List AskedPart)). IsMadeFor gives (unsaid_record words) o writing before after (Err TooLong)) (sym e) is
 written gives words writing parts before after (Err Memory) e is =
-    inr (subst (λ (o : Option (List AskedPart)). IsMadeFor gives o writing before after (Err Memory)) (sym e) is)
+    inr (subst (λ (o : Option (List AskedPart)). IsMadeFor gives (unsaid_record words) o writing before after (Err Memory)) (sym e) is)
 
 -- where at most one part takes standard input
 pub made_of : {I : Type 0} (gives : GivesInput I) (parts : List AskedPart) (writing : Writing) (before after : I) (made : Result Written Fault) → readers_of parts ≤ 1
@@ -136,6 +186,9 @@ not_found gives parts writing before after items (Refused refused.NoHandover) ar
 not_found gives parts writing before after items (Refused refused.BadError) are h = absurd h
 not_found gives parts writing before after items (Refused refused.TooManyReferences) are h = absurd h
 not_found gives parts writing before after items (Refused refused.TooManyRecords) are h = absurd h
+not_found gives parts writing before after items (Refused (refused.BadMessage refusal)) are h = absurd h
+not_found gives parts writing before after items (Refused (refused.BytesAfter at)) are h = absurd h
+not_found gives parts writing before after items (Refused refused.NoRecords) are h = absurd h
 not_found gives parts writing before after items (Refused (refused.NoRoom size room)) are h = absurd h
 
 -- there is a record, since there is a part

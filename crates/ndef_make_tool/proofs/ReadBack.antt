@@ -25,11 +25,14 @@ use Rattle.ndef_format.specs.Accepted.{IsMember}
 use Rattle.ndef_message.specs.Readings.{GivesBack, ReadsInput, RoundTrips}
 use Rattle.ndef_message.specs.Written.{ShortIsCanonical}
 use Rattle.ndef_message.specs.declared.form.Form.TheVariants.{Short}
-use Rattle.ndef_make_tool.specs.Asked.{AskedPart, parts_asked}
+use Rattle.ndef_make_tool.specs.Asked.{AskedPart, unsaid_record}
 use Rattle.ndef_make_tool.specs.Checking.{IsOfItsType, MakesIf, is_unchecked}
-use Rattle.ndef_make_tool.specs.Inputs.{GivesInput, readers_of}
-use Rattle.ndef_make_tool.specs.Making.{AreMade, IsMadeFor, IsMadeIf, IsMeasured, MakesBy, MakesLinked, MakesMessage, MakesWith, shown_in, written_as}
+use Rattle.ndef_program.specs.Inputs.{GivesInput}
+use Rattle.ndef_make_tool.specs.Inputs.{readers_of}
+use Rattle.ndef_make_tool.specs.Making.{AreMade, IsMadeFor, IsMadeIf, IsMadeOfRecords, MakesBy, MakesLinked, MakesMessage, MakesWith, shown_in, written_as}
+use Rattle.ndef_make_tool.specs.Editing.{origin_in}
 use Rattle.ndef_make_tool.specs.Options.{subject_named}
+use Rattle.ndef_make_tool.specs.Outcomes.{IsMadeFrom, IsMeasured}
 use Rattle.ndef_make_tool.specs.Reading.{HoldsFew, IsReadBack, MadeIsRead, ReadsBack, message_octets}
 use Rattle.ndef_make_tool.specs.References.{missing_reference}
 use Rattle.ndef_make_tool.specs.Records.{Answer}
@@ -94,7 +97,7 @@ typed_for strict records profile _ s h few = h
 
 -- ---- what was made
 
-neither : (a b : Bool) → (a || b) ≡ false → (a ≡ false) × (b ≡ false)
+pub neither : (a b : Bool) → (a || b) ≡ false → (a ≡ false) × (b ≡ false)
 neither false b e = (refl, e)
 neither true b e = absurd (search rules)
 
@@ -103,7 +106,7 @@ checked_if true makes i e is = absurd (search rules)
 checked_if false makes i e is = is.1
 
 -- a record that is checked is one of its type
-typed_if : (part : AskedPart) (payload : Result (List ℕ) Fault) (i : Item) → is_unchecked part ≡ false → MakesWith part payload (Ok i) → IsOfItsType i
+pub typed_if : (part : AskedPart) (payload : Result (List ℕ) Fault) (i : Item) → is_unchecked part ≡ false → MakesWith part payload (Ok i) → IsOfItsType i
 typed_if part (Ok payload) i e is = checked_if (is_unchecked part) (MakesBy (subject_named part.0) part.1 payload) i e is
 typed_if part (Err fault) i e is = absurd (search rules)
 
@@ -124,7 +127,7 @@ are_members strict set same limits (i ∷ items) typed few = (
   are_members strict set same limits items typed.1 few.1,
 )
 
-read_back : StrictContentsAreRead → ShortIsCanonical → (set : Sets) (holds : Conditions) → SameSets set IsTypedPayload → RoundTrips set holds
+pub read_back : StrictContentsAreRead → ShortIsCanonical → (set : Sets) (holds : Conditions) → SameSets set IsTypedPayload → RoundTrips set holds
     → (items : List Item) → AreItems items → AllByRecursion IsOfItsType items → IsReadBack set holds items
 read_back strict short set holds same trips items are typed limits rest after result admits reads =
     let e = short items in
@@ -133,7 +136,7 @@ read_back strict short set holds same trips items are typed limits rest after re
     subst (λ bytes. GivesBack items bytes rest after result) e back
 
 -- a message that is made has its records
-linked : (o : Option (List ℕ)) (measure : Measure) (shown : Shown) (items : List Item) (made : Written) → MakesLinked o measure shown items (Ok made)
+pub linked : (o : Option (List ℕ)) (measure : Measure) (shown : Shown) (items : List Item) (made : Written) → MakesLinked o measure shown items (Ok made)
     → MakesMessage measure shown items (Ok made)
 linked None measure shown items made is = is
 linked (Some reference) measure shown items made is = absurd is
@@ -151,12 +154,14 @@ made_by gives strict short set holds same trips parts writing false before after
     )
 
 pub made_is_read : {I : Type 0} (gives : GivesInput I) → StrictContentsAreRead → ShortIsCanonical → (set : Sets) (holds : Conditions) → SameSets set IsTypedPayload → RoundTrips set holds → MadeIsRead gives set holds
-made_is_read {I} gives strict short set holds same trips words terminal before after made parts is asked none = measured (measure_in (drop 1 words)) refl is
+made_is_read {I} gives strict short set holds same trips words records terminal before after made parts is plain asked none = measured (measure_in (drop 1 words)) refl is
   where
     measured : (o : Option (Measure × List Text)) → measure_in (drop 1 words) ≡ o → IsMeasured gives o terminal before after (Ok made) → ReadsBack gives set holds parts before after made
     measured None e h = absurd (search rules)
     measured (Some m) e h =
         let writing : Writing = record { terminal = terminal; measure = m.0 } in
-        let asks : parts_asked m.1 ≡ Some parts = ap (λ o. parts_asked (option_map_or (λ x. x.1) o [])) (sym e) ∙ asked in
+        let from : origin_in m.1 ≡ Some (None, records) = ap (λ o. origin_in (option_map_or (λ x. x.1) o [])) (sym e) ∙ plain in
+        let k : IsMadeOfRecords gives records writing before after (Ok made) =
+        subst (λ (o : Option (Option Text × List Text)). IsMadeFrom gives o writing before after (Ok made)) from h in
         made_by gives strict short set holds same trips parts writing (nat_lt 1 (readers_of parts)) before after made
-        (subst (λ (o : Option (List AskedPart)). IsMadeFor gives o writing before after (Ok made)) asks h) none
+        (subst (λ (o : Option (List AskedPart)). IsMadeFor gives (unsaid_record records) o writing before after (Ok made)) asked k) none

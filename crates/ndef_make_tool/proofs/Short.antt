@@ -1,5 +1,5 @@
 -- References that aren't too long.
-use Rattle.std.proofs.Common.{◌≡◌, ◌<◌, ◌+◌, ◌∙◌, ℕ, Bool, List, [], ◌∷◌, ◌++◌, length, take, get_or, map, refl, sym, ap, subst, arith, rules, true, false, Err, Ok}
+use Rattle.std.proofs.Common.{◌≡◌, ◌<◌, ◌∙◌, ℕ, Bool, List, [], ◌∷◌, ◌++◌, length, refl, sym, ap, arith, rules, true, false, Err, Ok}
 use Rattle.std.specs.Prelude.{◌&&◌, IsErrOf, Result, nat_lt}
 use Rattle.ndef_value.specs.declared.name.NameError.{NameError}
 use Rattle.ndef_value.specs.declared.name.NameError.TheVariants as names
@@ -11,34 +11,21 @@ use Rattle.ndef_make_tool.specs.declared.fault.Fault.TheVariants.{Usage, UsageAt
 use Rattle.ndef_make_tool.specs.declared.fault.Refused.TheVariants as refused
 use Rattle.ndef_types.specs.Values.{AcValue}
 use Rattle.clap.specs.Words.{Text}
-use Rattle.ndef_make_tool.proofs.Lists.{mapped_at, mapped_more}
-
-short_behind : (xs : List Text) (x : Text) → AreShort xs → length x < 256 → AreShort (xs ++ x ∷ [])
-short_behind [] x are is = (is, tt)
-short_behind (y ∷ xs) x are is = (are.0, short_behind xs x are.1 is)
-
-short_within : (xs : List Text) (x : Text) (rest : List Text) → AreShort (xs ++ x ∷ rest) → length x < 256
-short_within [] x rest are = are.0
-short_within (y ∷ xs) x rest are = short_within xs x rest are.1
-
--- one more that is short
-pub short_more : {A : Type 0} (f : A → Text) (ps : List A) (n : ℕ) (p : A) → n < length ps → p ≡ get_or ps n p → AreShort (map f (take n ps)) → length (f p) < 256
-    → AreShort (map f (take (n + 1) ps))
-short_more f ps n p l e are is = subst AreShort (sym (mapped_more f ps n p l e)) (short_behind (map f (take n ps)) (f p) are is)
 
 -- one of them
-pub short_at : {A : Type 0} (f : A → Text) (ps : List A) (n : ℕ) (p : A) → n < length ps → p ≡ get_or ps n p → AreShort (map f ps) → length (f p) < 256
-short_at f ps n p l e are = let split = mapped_at f ps n p l e in short_within (map f (take n ps)) (f p) split.0 (subst AreShort split.1 are)
+pub short_within : (xs : List Text) (x : Text) (rest : List Text) → AreShort (xs ++ x ∷ rest) → length x < 256
+short_within [] x rest are = are.0
+short_within (y ∷ xs) x rest are = short_within xs x rest are.1
 
 -- the result for a name that isn't made
 abbrev pub unmade : NameError → Result (List ℕ) NameError
 unmade error = Err error
 
 -- the name of a short reference that isn't made
-pub names_fail : {A : Type 0} (f : A → Text) (ps : List A) (error : NameError) (reference : Text) → length reference < 256 → (IsErrOf (unmade error) names.TooLong → 255 < length reference)
-    → AreNames (map f ps) (Err (name_fault error))
-names_fail f ps names.TooLong reference short long = absurd (omega (arith, short, long refl))
-names_fail f ps names.NoMemory reference short long = tt
+pub names_fail : (references : List Text) (error : NameError) (reference : Text) → length reference < 256 → (IsErrOf (unmade error) names.TooLong → 255 < length reference)
+    → AreNames references (Err (name_fault error))
+names_fail references names.TooLong reference short long = absurd (omega (arith, short, long refl))
+names_fail references names.NoMemory reference short long = tt
 
 -- ---- the test
 
@@ -78,4 +65,7 @@ made_short v (Err (Refused refused.NoHandover)) short is = absurd is
 made_short v (Err (Refused refused.BadError)) short is = absurd is
 made_short v (Err (Refused (refused.NoRecord reference))) short is = absurd is
 made_short v (Err (Refused refused.TooManyRecords)) short is = absurd is
+made_short v (Err (Refused (refused.BadMessage refusal))) short is = absurd is
+made_short v (Err (Refused (refused.BytesAfter at))) short is = absurd is
+made_short v (Err (Refused refused.NoRecords)) short is = absurd is
 made_short v (Err (Refused (refused.NoRoom size room))) short is = absurd is

@@ -1,14 +1,14 @@
 -- What the words ask for: the parts that `--and` separates, each a subcommand with its options.
-use Rattle.std.specs.Prelude.{◌≡◌, List, [], ◌∷◌, ◌++◌, map, Option, Some, None, Result, Ok, Err, ⊤, option_and_then, option_map, codes, Vec}
+use Rattle.std.specs.Prelude.{◌≡◌, ◌+◌, ℕ, List, [], ◌∷◌, ◌++◌, is_none, map, Option, Some, None, Result, Ok, Err, ⊤, option_and_then, option_map, codes, Vec}
 use Rattle.std.specs.declared.alloc.Global.{Global}
-use Rattle.std.specs.List.{slice_split}
+use Rattle.std.specs.List.{position_or_len, slice_split}
 use Rattle.std.specs.Str.{bytes_eq}
 use Rattle.clap.specs.declared.error.Error.{Error}
 use Rattle.clap.specs.Words.{App, HasKind, Row, Text, fault_of, found_of, rows_of, subcommand_of}
 use Rattle.ndef_program.specs.Options.{unless_fault}
 use Rattle.ndef_make_tool.specs.CommandLine.{make_app}
 use Rattle.ndef_make_tool.specs.declared.fault.Fault.{Fault}
-use Rattle.ndef_make_tool.specs.declared.fault.Fault.TheVariants.{Usage, Memory}
+use Rattle.ndef_make_tool.specs.declared.fault.Fault.TheVariants.{Usage, UsageAt, Memory}
 use Rattle.ndef_make_tool.specs.declared.misuse.Misuse.TheVariants as misuse
 use Rattle.ndef_make_tool.specs.declared.parts.Said.{Said}
 
@@ -37,6 +37,14 @@ all_or_none (o ∷ os) = option_and_then (λ x. option_map (λ xs. x ∷ xs) (al
 abbrev pub parts_asked : List Text → Option (List AskedPart)
 parts_asked words = all_or_none (map part_in (parts_of words))
 
+-- the number of the first value that is missing, counted from 1
+abbrev pub first_missing : {X : Type 0} → List (Option X) → ℕ
+first_missing os = position_or_len is_none os + 1
+
+-- the number of the first record whose words say nothing
+abbrev pub unsaid_record : List Text → ℕ
+unsaid_record words = first_missing (map part_in (parts_of words))
+
 -- what clap finds wrong with one of the parts
 abbrev pub IsFaultIn : List (List Text) → Error → Type 0
 IsFaultIn parts error = (done rest : List (List Text)) × (part : List Text)
@@ -55,9 +63,10 @@ SaysPart words (Err (Usage misuse.Words)) = part_in words ≡ None
 SaysPart words (Err Memory) = ⊤
 SaysPart words (Err _) = ⊥
 
--- what all parts say; exactly where one says nothing, its words are wrong
+-- what all parts say; exactly where one says nothing, the words of the first such record are wrong
 abbrev pub SaidAll : List (List Text) → Result (Vec Said Global) Fault → Type 0
 SaidAll parts (Ok said) = all_or_none (map part_in parts) ≡ Some (map asked_part said.items)
-SaidAll parts (Err (Usage misuse.Words)) = all_or_none (map part_in parts) ≡ None
+SaidAll parts (Err (UsageAt n misuse.Words)) =
+    (all_or_none (map part_in parts) ≡ None) × (n ≡ first_missing (map part_in parts))
 SaidAll parts (Err Memory) = ⊤
 SaidAll parts (Err _) = ⊥

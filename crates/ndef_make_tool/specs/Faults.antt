@@ -70,11 +70,23 @@ fault_at n fault = fault
 
 -- ---- what is printed
 
+-- where and why bytes are refused, after what they are
+abbrev pub refusal_line : Text → Refusal → Text
+refusal_line front r =
+    front ++ decimal r.at ++ codes ": " ++ decimal (reason_number r.reason) ++ codes " "
+    ++ reason_name r.reason ++ codes "\n"
+
 -- for a payload that isn't one of its type
 abbrev pub payload_line : Refusal → Text
-payload_line r =
-    codes "refused: payload at " ++ decimal r.at ++ codes ": " ++ decimal (reason_number r.reason)
-    ++ codes " " ++ reason_name r.reason ++ codes "\n"
+payload_line r = refusal_line (codes "refused: payload at ") r
+
+-- for a message in a file that is refused
+abbrev pub message_line : Refusal → Text
+message_line r = refusal_line (codes "refused: message of --from at ") r
+
+-- for bytes after a message in a file
+abbrev pub bytes_line : (at : ℕ) → Text
+bytes_line at = codes "refused: bytes after the message of --from at " ++ decimal at ++ codes "\n"
 
 -- Connection Handover 1.2, Carrier Data Reference: for a reference without a record
 abbrev pub record_line : Text → Text
@@ -107,8 +119,11 @@ line_of (Refused refused.TooManyReferences) = codes "refused: more than 255 auxi
 line_of (Refused (refused.NoRecord reference)) = record_line reference
 line_of (Refused (refused.NoRoom size room)) = room_line size room
 line_of (Refused refused.TooManyRecords) = codes "refused: more than 65535 records\n"
+line_of (Refused (refused.BadMessage refusal)) = message_line refusal
+line_of (Refused (refused.BytesAfter at)) = bytes_line at
+line_of (Refused refused.NoRecords) = codes "refused: no record of the message is left\n"
 line_of Reading = codes "fault: reading\n"
-line_of TooLong = codes "fault: more than 1048576 bytes of payload\n"
+line_of TooLong = codes "fault: more than 1048576 bytes of input\n"
 line_of Memory = codes "fault: memory\n"
 
 -- what is written

@@ -2,7 +2,7 @@
 use Rattle.std.specs.Prelude.{◌≡◌, ◌<◌, ◌≤◌, ◌+◌, ◌^◌, ◌⊎◌, ◌&&◌, not, ℕ, Bool, List, [], ◌∷◌, length, nat_lt, Option, Some, None, IfSome, Result, Ok, Err, ⊤, codes, if◌then◌else◌, option_and_then, option_map, Vec}
 use Rattle.std.specs.declared.alloc.Global.{Global}
 use Rattle.std.specs.Int.{w16, to_be_bytes}
-use Rattle.std.specs.List.{AllByRecursion, list_all, slice_split}
+use Rattle.std.specs.List.{AllByRecursion, list_all}
 use Rattle.std.specs.Str.{bytes_eq}
 use Rattle.clap.specs.Words.{Row, Text, first_of}
 use Rattle.ndef_format.specs.Canonical.{canonical}
@@ -15,9 +15,9 @@ use Rattle.ndef_types.specs.Contents.{IsFirstWrong}
 use Rattle.ndef_types.specs.Handovers.{WritesRequest, WritesSelect, canonical_or_none}
 use Rattle.ndef_types.specs.Values.{AcValue, ErrorValue, WritesAc, WritesError, ac_payload, error_payload}
 use Rattle.ndef_types.specs.declared.power.Power.{Power}
-use Rattle.ndef_types.specs.declared.power.Power.TheVariants as power
+use Rattle.ndef_make_tool.specs.CarrierWords.{link_said}
 use Rattle.ndef_make_tool.specs.Octets.{octets_in}
-use Rattle.ndef_make_tool.specs.Options.{cut_at, is_colon, is_comma, is_equals, is_said, number_below, word_or}
+use Rattle.ndef_make_tool.specs.Options.{cut_at, is_colon, is_said, number_below, word_or}
 use Rattle.ndef_make_tool.specs.Records.{Answer, MakesSaid, typed_record}
 use Rattle.ndef_make_tool.specs.declared.fault.Fault.{Fault}
 use Rattle.ndef_make_tool.specs.declared.fault.Fault.TheVariants.{Refused, Memory}
@@ -29,13 +29,6 @@ use Rattle.ndef_make_tool.specs.declared.misuse.Misuse.TheVariants as misuse
 
 -- ---- carriers
 
--- Connection Handover 1.2, Alternative Carrier record, carrier power state: the state of this name
-abbrev pub power_named : Text → Option Power
-power_named name = if bytes_eq name (codes "inactive") then Some power.Inactive
-    else (if bytes_eq name (codes "active") then Some power.Active
-    else (if bytes_eq name (codes "activating") then Some power.Activating
-    else (if bytes_eq name (codes "unknown") then Some power.Unknown else None)))
-
 -- Connection Handover 1.2, Alternative Carrier record: a carrier reference and the auxiliary
 -- references after it
 abbrev pub ac_of : Power → List Text → Option AcValue
@@ -43,12 +36,9 @@ ac_of power [] = None
 ac_of power (reference ∷ auxiliary) =
     Some (record { power = power; reference = reference; auxiliary = auxiliary; rest = [] })
 
--- Connection Handover 1.2, Alternative Carrier record: a power state, an equals sign, and
--- references between commas
+-- Connection Handover 1.2, Alternative Carrier record: the carrier for which a word stands
 abbrev pub ac_said : Text → Option AcValue
-ac_said word =
-    option_and_then (λ cut. option_and_then (λ power. ac_of power (slice_split is_comma cut.1))
-    (power_named cut.0)) (cut_at is_equals word)
+ac_said word = option_and_then (λ link. ac_of link.0 link.1) (link_said word)
 
 -- Connection Handover 1.2, Carrier Data Reference: each has at most 255 octets
 abbrev pub AreShort : List Text → Type 0

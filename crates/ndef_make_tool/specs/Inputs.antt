@@ -6,6 +6,7 @@ use Rattle.clap.specs.Words.{Row, Text, first_of}
 use Rattle.ndef_message.specs.Inputs.{IsWholeInput}
 use Rattle.ndef_message.specs.States.{SourceState}
 use Rattle.ndef_message.specs.declared.input.InputError.{InputError}
+use Rattle.ndef_program.specs.Inputs.{GivesInput}
 use Rattle.ndef_make_tool.specs.Asked.{AskedPart}
 use Rattle.ndef_make_tool.specs.Faults.{input_fault}
 use Rattle.ndef_make_tool.specs.Octets.{SaysOctets}
@@ -17,10 +18,6 @@ use Rattle.ndef_make_tool.specs.declared.options.Subject.{Subject}
 use Rattle.ndef_make_tool.specs.declared.options.Subject.TheVariants as subject
 
 -- ---- one input
-
--- which bytes, or which fault, an input of a name gives, and what is left of the inputs
-abbrev pub GivesInput : Type 0 → Type 1
-GivesInput I = I → (name : Text) → (read : Result (List ℕ) InputError) → I → Type 0
 
 -- the whole input, where it has at most 1048576 bytes; of a longer one that many are taken, and no
 -- more where something failed

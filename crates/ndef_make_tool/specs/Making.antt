@@ -1,24 +1,25 @@
 -- The message that the words ask for, and what is written of it.
-use Rattle.std.specs.Prelude.{◌≡◌, ◌<◌, ◌≤◌, ◌⊎◌, ◌&&◌, ◌++◌, ◌+◌, ℕ, nat_lt, Bool, true, false, not, if◌then◌else◌, List, [], ◌∷◌, length, decimal, drop, Option, Some, None, Result, Ok, Err, codes, Vec}
+use Rattle.std.specs.Prelude.{◌≡◌, ◌<◌, ◌≤◌, ◌⊎◌, ◌&&◌, ◌++◌, ◌+◌, ℕ, nat_lt, Bool, true, false, not, if◌then◌else◌, List, [], ◌∷◌, length, decimal, Option, Some, None, Result, Ok, Err, codes, Vec}
 use Rattle.std.specs.declared.alloc.Global.{Global}
 use Rattle.std.specs.List.{list_any}
 use Rattle.clap.specs.Words.{Row, Text, first_of}
 use Rattle.ndef_format.specs.Canonical.{AreItems, canonical}
 use Rattle.ndef_format.specs.Messages.{Item}
 use Rattle.ndef_program.specs.Outputs.{hexadecimal_line}
-use Rattle.ndef_make_tool.specs.Asked.{AskedPart, parts_asked}
+use Rattle.ndef_make_tool.specs.Asked.{AskedPart, parts_asked, unsaid_record}
 use Rattle.ndef_make_tool.specs.Carriers.{MakesCarrier, carrier_said}
 use Rattle.ndef_make_tool.specs.Checking.{MakesIf, is_unchecked}
 use Rattle.ndef_make_tool.specs.Faults.{fault_at}
-use Rattle.ndef_make_tool.specs.Inputs.{GivesInput, ReadsFor, readers_of}
+use Rattle.ndef_program.specs.Inputs.{GivesInput}
+use Rattle.ndef_make_tool.specs.Inputs.{ReadsFor, readers_of}
 use Rattle.ndef_program.specs.Options.{flag_of}
-use Rattle.ndef_make_tool.specs.Measures.{measure_in, misfit}
+use Rattle.ndef_make_tool.specs.Measures.{misfit}
 use Rattle.ndef_make_tool.specs.Options.{id_said, subject_named}
 use Rattle.ndef_make_tool.specs.Contents.{MakesHandoverSaid, MakesPosterRecord}
 use Rattle.ndef_make_tool.specs.References.{IsLongName, missing_reference}
 use Rattle.ndef_make_tool.specs.Records.{Answer, IsUnmade, MakesItem, MakesNamed, MakesSaid, MakesText, MakesUri, app_said, external_said, item_said, media_said, text_said, uri_said}
 use Rattle.ndef_make_tool.specs.declared.fault.Fault.{Fault}
-use Rattle.ndef_make_tool.specs.declared.fault.Fault.TheVariants.{Usage, Refused, Memory}
+use Rattle.ndef_make_tool.specs.declared.fault.Fault.TheVariants.{Usage, UsageAt, Refused, Memory}
 use Rattle.ndef_make_tool.specs.declared.fault.Refused.TheVariants.{NoRecord, NoRoom, PartTooLong, TooManyRecords}
 use Rattle.ndef_make_tool.specs.declared.making.Written.{Written}
 use Rattle.ndef_make_tool.specs.declared.making.Shown.{Shown}
@@ -69,21 +70,21 @@ abbrev pub MakesFrom : {I : Type 0} → GivesInput I → AskedPart → (before a
 MakesFrom gives part before after answer = (payload : Result (List ℕ) Fault)
     × ReadsFor gives part before after payload × MakesWith part payload answer
 
--- the records of what is said, in order, and what is left of the inputs
-abbrev pub AreMadeIn : {I X : Type 0} → (X → I → I → Answer → Type 0) → List X → (before after : I)
-    → List Item → Type 0
+-- what is made of what is said, in order, and what is left of the inputs
+abbrev pub AreMadeIn : {I X Y : Type 0} → (X → I → I → Result Y Fault → Type 0) → List X
+    → (before after : I) → List Y → Type 0
 AreMadeIn makes [] before after [] = after ≡ before
-AreMadeIn {I} makes (x ∷ xs) before after (i ∷ items) =
-    (middle : I) × makes x before middle (Ok i) × AreMadeIn makes xs middle after items
+AreMadeIn {I} makes (x ∷ xs) before after (y ∷ ys) =
+    (middle : I) × makes x before middle (Ok y) × AreMadeIn makes xs middle after ys
 AreMadeIn makes _ before after _ = ⊥
 
--- the first of which no record is made, its number, and why; memory runs out only for one that isn't
+-- the first of which nothing is made, its number, and why; memory runs out only for one that isn't
 -- refused
-abbrev pub FailsIn : {I X : Type 0} → (X → I → I → Answer → Type 0) → List X → (before after : I)
-    → Fault → Type 0
-FailsIn {I} {X} makes xs before after fault =
-    (done : List X) × (items : List Item) × (middle : I) × (x : X) × (rest : List X)
-    × (xs ≡ done ++ x ∷ rest) × AreMadeIn makes done before middle items × (why : Fault)
+abbrev pub FailsIn : {I X Y : Type 0} → (X → I → I → Result Y Fault → Type 0) → List X
+    → (before after : I) → Fault → Type 0
+FailsIn {I} {X} {Y} makes xs before after fault =
+    (done : List X) × (made : List Y) × (middle : I) × (x : X) × (rest : List X)
+    × (xs ≡ done ++ x ∷ rest) × AreMadeIn makes done before middle made × (why : Fault)
     × IsUnmade (makes x middle after) why × (fault ≡ fault_at (length done + 1) why)
 
 -- the records of the parts, in order, each with its payload
@@ -190,34 +191,21 @@ abbrev pub IsMadeOf : {I : Type 0} → GivesInput I → List AskedPart → Writi
 IsMadeOf gives parts writing before after made =
     IsMadeIf (nat_lt 1 (readers_of parts)) gives parts writing before after made
 
--- the message for which words ask, where they ask for something
-abbrev pub IsMadeFor : {I : Type 0} → GivesInput I → Option (List AskedPart) → Writing
+-- the message for which words ask, where they ask for something; else those of the record of this number
+-- are wrong
+abbrev pub IsMadeFor : {I : Type 0} → GivesInput I → (unsaid : ℕ) → Option (List AskedPart) → Writing
     → (before after : I) → Result Written Fault → Type 0
-IsMadeFor gives None writing before after made =
-    (after ≡ before) × (made ≡ Err (Usage misuse.Words))
-IsMadeFor gives (Some parts) writing before after made =
+IsMadeFor gives unsaid None writing before after made =
+    (after ≡ before) × (made ≡ Err (UsageAt unsaid misuse.Words))
+IsMadeFor gives unsaid (Some parts) writing before after made =
     IsMadeOf gives parts writing before after made
 
 -- the same of the words of records. Memory may run out for the words, before an input is read
 abbrev pub IsMadeOfRecords : {I : Type 0} → GivesInput I → List Text → Writing → (before after : I)
     → Result Written Fault → Type 0
 IsMadeOfRecords gives records writing before after (Ok made) =
-    IsMadeFor gives (parts_asked records) writing before after (Ok made)
+    IsMadeFor gives (unsaid_record records) (parts_asked records) writing before after (Ok made)
 IsMadeOfRecords gives records writing before after (Err Memory) = (after ≡ before)
-    ⊎ IsMadeFor gives (parts_asked records) writing before after (Err Memory)
+    ⊎ IsMadeFor gives (unsaid_record records) (parts_asked records) writing before after (Err Memory)
 IsMadeOfRecords gives records writing before after (Err fault) =
-    IsMadeFor gives (parts_asked records) writing before after (Err fault)
-
--- what is written, by the words before the records, where these are words for that
-abbrev pub IsMeasured : {I : Type 0} → GivesInput I → Option (Measure × List Text) → (terminal : Bool)
-    → (before after : I) → Result Written Fault → Type 0
-IsMeasured gives None terminal before after made =
-    (after ≡ before) × (made ≡ Err (Usage misuse.Tag))
-IsMeasured gives (Some (measure, records)) terminal before after made =
-    IsMadeOfRecords gives records (record { terminal = terminal; measure = measure }) before after made
-
--- the result of the words and the inputs: what is written of the message, or why there is none
-abbrev pub IsMadeOfWords : {I : Type 0} → GivesInput I → List Text → (terminal : Bool)
-    → (before after : I) → Result Written Fault → Type 0
-IsMadeOfWords gives words terminal before after made =
-    IsMeasured gives (measure_in (drop 1 words)) terminal before after made
+    IsMadeFor gives (unsaid_record records) (parts_asked records) writing before after (Err fault)

@@ -17,9 +17,13 @@ use Rattle.ndef_message.specs.declared.message_reading.Read.{Read}
 use Rattle.ndef_message.specs.declared.message_reading.ReadError.{ReadError}
 use Rattle.ndef_make_tool.specs.Asked.{AskedPart, parts_asked}
 use Rattle.ndef_make_tool.specs.Checking.{is_unchecked}
-use Rattle.ndef_make_tool.specs.Inputs.{GivesInput}
+use Rattle.ndef_program.specs.Inputs.{GivesInput}
 use Rattle.ndef_make_tool.specs.Measures.{record_words}
-use Rattle.ndef_make_tool.specs.Making.{AreMade, IsMadeOfWords, written_as}
+use Rattle.ndef_make_tool.specs.Edited.{Editing, MakesEdit, ReadsMessage}
+use Rattle.ndef_make_tool.specs.Editing.{AskFor, edit_parts, edited, origin_in, records_in}
+use Rattle.ndef_make_tool.specs.Making.{AreMade, AreMadeIn, written_as}
+use Rattle.ndef_make_tool.specs.Outcomes.{IsMadeOfWords}
+use Rattle.ndef_make_tool.specs.declared.editing.Edit.{Edit}
 use Rattle.ndef_make_tool.specs.declared.making.Written.{Written}
 
 -- RTD Smart Poster 1.0, Connection Handover 1.2: the octets of the message in a payload, after a
@@ -59,7 +63,31 @@ ReadsBack gives set holds parts before after made = (items : List Item)
 -- be written unchecked.
 abbrev pub MadeIsRead : {I : Type 0} → GivesInput I → Sets → Conditions → Type 0
 MadeIsRead {I} gives set holds =
-    (words : List Text) (terminal : Bool) (before after : I) (made : Written) (parts : List AskedPart)
+    (words records : List Text) (terminal : Bool) (before after : I) (made : Written)
+    (parts : List AskedPart)
     → IsMadeOfWords gives words terminal before after (Ok made)
-    → parts_asked (record_words words) ≡ Some parts → list_any is_unchecked parts ≡ false
-    → ReadsBack gives set holds parts before after made
+    → origin_in (record_words words) ≡ Some (None, records) → parts_asked records ≡ Some parts
+    → list_any is_unchecked parts ≡ false → ReadsBack gives set holds parts before after made
+
+-- the text is that of the records of the message in the file but for what the edits say, and then of
+-- what they add, and all these are read
+abbrev pub ReadsEdited : {I : Type 0} → GivesInput I → Sets → Conditions → Editing
+    → (before after : I) → Written → Type 0
+ReadsEdited {I} gives set holds editing before after made =
+    (old : List Item) × (items : List (Edit Item)) × (middle : I)
+    × ReadsMessage gives editing.file before middle (Ok old)
+    × AreMadeIn (MakesEdit gives) editing.edits middle after items
+    × (made.text ≡ written_as made.shown (canonical (edited old items)))
+    × IsReadBack set holds (edited old items)
+
+-- What is made of a message in a file is read back as its records but for what the words say, and
+-- then what they add, unless a record is to be written unchecked.
+abbrev pub EditedIsRead : {I : Type 0} → GivesInput I → Sets → Conditions → Type 0
+EditedIsRead {I} gives set holds =
+    (words parts : List Text) (terminal : Bool) (before after : I) (made : Written)
+    (editing : Editing)
+    → IsMadeOfWords gives words terminal before after (Ok made)
+    → origin_in (record_words words) ≡ Some (Some editing.file, parts)
+    → AskFor (edit_parts parts) editing.edits
+    → list_any is_unchecked (records_in editing.edits) ≡ false
+    → ReadsEdited gives set holds editing before after made

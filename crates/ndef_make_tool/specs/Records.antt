@@ -145,9 +145,9 @@ AreMadeBy makes [] [] = ⊤
 AreMadeBy makes (x ∷ xs) (i ∷ items) = makes x (Ok i) × AreMadeBy makes xs items
 AreMadeBy makes _ _ = ⊥
 
--- no record is made, or memory to keep it runs out
-abbrev pub IsUnmade : (Answer → Type 0) → Fault → Type 0
-IsUnmade makes Memory = makes (Err Memory) ⊎ ((i : Item) × makes (Ok i))
+-- nothing is made, or memory to keep it runs out
+abbrev pub IsUnmade : {Y : Type 0} → (Result Y Fault → Type 0) → Fault → Type 0
+IsUnmade {Y} makes Memory = makes (Err Memory) ⊎ ((y : Y) × makes (Ok y))
 IsUnmade makes fault = makes (Err fault)
 
 -- the first of which no record is made, and why; memory runs out only for one that isn't refused

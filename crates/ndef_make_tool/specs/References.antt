@@ -1,22 +1,22 @@
 -- The references of a handover to the records of its message (NFC Forum, Connection Handover 1.2).
 use Rattle.std.specs.Prelude.{◌≡◌, ◌<◌, ◌≤◌, ◌&&◌, not, Bool, List, [], length, Option, Some, None, Result, Ok, Err, codes}
-use Rattle.std.specs.List.{find, flat_map, list_any, slice_split}
+use Rattle.std.specs.List.{find, flat_map, list_any}
 use Rattle.std.specs.Option.{option_map_or}
 use Rattle.std.specs.Str.{bytes_eq}
 use Rattle.clap.specs.Words.{Row, Text}
 use Rattle.ndef_format.specs.Messages.{Item}
 use Rattle.ndef_make_tool.specs.Asked.{AskedPart}
-use Rattle.ndef_make_tool.specs.Options.{cut_at, is_comma, is_equals, subject_named, option_words}
+use Rattle.ndef_make_tool.specs.CarrierWords.{link_said}
+use Rattle.ndef_make_tool.specs.Options.{subject_named, option_words}
 use Rattle.ndef_make_tool.specs.declared.fault.Fault.{Fault}
 use Rattle.ndef_make_tool.specs.declared.fault.Fault.TheVariants.{Refused, Memory}
 use Rattle.ndef_make_tool.specs.declared.fault.Refused.TheVariants.{NoRecord, PartTooLong}
 use Rattle.ndef_make_tool.specs.declared.options.Subject.{Subject}
 use Rattle.ndef_make_tool.specs.declared.options.Subject.TheVariants as subject
 
--- Connection Handover 1.2, Alternative Carrier record: the references in the word of a carrier,
--- between commas after its equals sign
+-- Connection Handover 1.2, Alternative Carrier record: the references in the word of a carrier
 abbrev pub references_in : Text → List Text
-references_in word = option_map_or (λ cut. slice_split is_comma cut.1) (cut_at is_equals word) []
+references_in word = option_map_or (λ link. link.1) (link_said word) []
 
 -- Connection Handover 1.2, Alternative Carrier record: the references of the carriers of a
 -- handover; others have none

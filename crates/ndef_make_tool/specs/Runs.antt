@@ -6,11 +6,11 @@ use Rattle.ndef_message.specs.declared.sink.Sink.{Ghosts as SinkOf}
 use Rattle.ndef_program.specs.Outputs.{GoesOut}
 use Rattle.ndef_program.specs.Statuses.{status_after}
 use Rattle.ndef_make_tool.specs.Faults.{line_of, fault_status}
-use Rattle.ndef_make_tool.specs.Inputs.{GivesInput}
-use Rattle.ndef_make_tool.specs.Making.{IsMadeOfWords}
+use Rattle.ndef_program.specs.Inputs.{GivesInput}
+use Rattle.ndef_make_tool.specs.Outcomes.{IsMadeOfWords}
 use Rattle.ndef_make_tool.specs.Pages.{make_page_asked, ndef_make_page}
 use Rattle.ndef_make_tool.specs.declared.fault.Fault.{Fault}
-use Rattle.ndef_program.specs.declared.pages.Page.{Page}
+use Rattle.ndef_make_tool.specs.declared.pages.AskedPage.{AskedPage}
 use Rattle.ndef_program.specs.declared.status.Status.{Status}
 use Rattle.ndef_program.specs.declared.status.Status.TheVariants as status
 use Rattle.ndef_make_tool.specs.declared.making.Written.{Written}
@@ -72,7 +72,7 @@ RunsForRecords gives words terminal before after result = (made : Result Written
     × TellsOutcome made before after result
 
 -- a page goes out, and the inputs are left; or what the words ask for
-abbrev pub RunsPageOrRecords : {I : Type 0} → GivesInput I → Option Page → List Text
+abbrev pub RunsPageOrRecords : {I : Type 0} → GivesInput I → Option AskedPage → List Text
     → (terminal : Bool) → (before after : ThreeStreams I) → Status → Type 0
 RunsPageOrRecords gives (Some page) words terminal before after result =
     (after.inputs ≡ before.inputs)

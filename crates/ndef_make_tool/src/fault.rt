@@ -1,8 +1,8 @@
 //! Why no message is made, and the status of a run.
-ghost use Rattle.std.specs.Prelude.{◌≡◌};
+ghost use Rattle.std.specs.Prelude.{◌≡◌, ◌≤◌, length};
 ghost use Rattle.ndef_make_tool.specs.Faults.{detail_fault, encode_fault, input_fault, line_of, name_fault};
-ghost use Rattle.ndef_make_tool.specs.Faults.{payload_line, record_fault, record_line, fault_status, text_fault};
-ghost use Rattle.ndef_make_tool.specs.Faults.{fault_at, fault_text, room_line};
+ghost use Rattle.ndef_make_tool.specs.Faults.{payload_line, record_fault, record_line, refusal_line, fault_status, text_fault};
+ghost use Rattle.ndef_make_tool.specs.Faults.{bytes_line, fault_at, fault_text, message_line, room_line};
 ghost use Rattle.ndef_make_tool.specs.declared.fault.Fault.TheVariants.{Memory};
 
 use crate::measure::free_for;
@@ -57,6 +57,15 @@ pub enum Refused {
     /// More than 65535 records.
     #[error("more than 65535 records")]
     TooManyRecords,
+    /// The message that is edited: where and why a strict reader refuses it.
+    #[error("the message that is edited is {0}")]
+    BadMessage(Refusal),
+    /// Bytes after the message that is edited begin at this place.
+    #[error("bytes after the message that is edited, at {0}")]
+    BytesAfter(u64),
+    /// No record is left.
+    #[error("no record is left")]
+    NoRecords,
 }
 
 /// Why no message is made.
@@ -209,17 +218,43 @@ impl Told {
     }
 }
 
-/// What is printed of a payload that is refused.
-fn payload_line(refusal: Refusal) -> Line
-    ensures { result ≡ payload_line refusal }
+/// Where and why bytes are refused, after what they are.
+fn refusal_line(front: &[u8], refusal: Refusal) -> Line
+    requires { length front.now ≤ 40 }
+    ensures { result ≡ refusal_line front.now refusal }
 {
     let mut line = Line::new();
-    line.push(b"refused: payload at ");
+    line.push(front);
     line.push_number(refusal.at);
     line.push(b": ");
     line.push_number(u64::from(refusal.reason.number()));
     line.push(b" ");
     line.push(refusal.reason.name());
+    line.push(b"\n");
+    line
+}
+
+/// What is printed of a payload that is refused.
+fn payload_line(refusal: Refusal) -> Line
+    ensures { result ≡ payload_line refusal }
+{
+    refusal_line(b"refused: payload at ", refusal)
+}
+
+/// What is printed of a message in a file that is refused.
+fn message_line(refusal: Refusal) -> Line
+    ensures { result ≡ message_line refusal }
+{
+    refusal_line(b"refused: message of --from at ", refusal)
+}
+
+/// What is printed of bytes after a message in a file.
+fn bytes_line(at: u64) -> Line
+    ensures { result ≡ bytes_line at }
+{
+    let mut line = Line::new();
+    line.push(b"refused: bytes after the message of --from at ");
+    line.push_number(at);
     line.push(b"\n");
     line
 }
@@ -279,6 +314,9 @@ fn refused_line(refused: &Refused) -> Told
         Refused::PartTooLong => Told::Text(b"refused: a type or an id of more than 255 bytes\n"),
         Refused::NoPoster => Told::Text(b"refused: records that are no smart poster\n"),
         Refused::TooManyRecords => Told::Text(b"refused: more than 65535 records\n"),
+        Refused::BadMessage(refusal) => Told::Line(message_line(*refusal)),
+        Refused::BytesAfter(at) => Told::Line(bytes_line(*at)),
+        Refused::NoRecords => Told::Text(b"refused: no record of the message is left\n"),
     }
 }
 
@@ -291,7 +329,7 @@ pub(crate) fn line_of(fault: &Fault) -> Told
         Fault::UsageAt(number, misuse) => Told::Line(usage_at(*number, *misuse)),
         Fault::Refused(refused) => refused_line(refused),
         Fault::Reading => Told::Text(b"fault: reading\n"),
-        Fault::TooLong => Told::Text(b"fault: more than 1048576 bytes of payload\n"),
+        Fault::TooLong => Told::Text(b"fault: more than 1048576 bytes of input\n"),
         Fault::Memory => Told::Text(b"fault: memory\n"),
     }
 }

@@ -1,29 +1,28 @@
 //! The record of a handover request or select.
-ghost use Rattle.std.specs.Prelude.{◌≡◌, ◌<◌, [], length, map, IfOk, IfSome};
-ghost use Rattle.std.specs.List.{slice_split};
+ghost use Rattle.std.specs.Prelude.{◌≡◌, ◌<◌, ◌+◌, [], length, nat_lt, IfSome};
 ghost use Rattle.clap.specs.Words.{found_of, rows_of};
+ghost use Rattle.ndef_make_tool.specs.CarrierWords.{references_left};
 ghost use Rattle.ndef_make_tool.specs.Contents.{MakesAllowed, MakesContent, MakesHandoverSaid, handover_bar, handover_contents};
 ghost use Rattle.ndef_make_tool.specs.Handovers.{ChecksReferences, AreNames, FitReferences, AreShort, AsksError};
 ghost use Rattle.ndef_make_tool.specs.Handovers.{IsSelected, MakesAcRecord, MakesAlternative, MakesError, MakesHandoverOf};
 ghost use Rattle.ndef_make_tool.specs.Handovers.{MakesRequestRecord, MakesSelectRecord, ac_of, ac_said, are_short};
-ghost use Rattle.ndef_make_tool.specs.Handovers.{collision_said, goes_with, handover_said, minor_named, power_named};
-ghost use Rattle.ndef_make_tool.specs.Handovers.{side_named};
+ghost use Rattle.ndef_make_tool.specs.Handovers.{collision_said, goes_with, handover_said, minor_named, side_named};
 ghost use Rattle.ndef_make_tool.specs.declared.misuse.Misuse.TheVariants as misuse;
-ghost use Rattle.ndef_make_tool.specs.Options.{is_comma};
 ghost use Rattle.ndef_make_tool.specs.Records.{AreAnsweredBy, MakesSaid, MakesItem};
 
+use crate::carrier_word::{Linked, References, link_said};
 use crate::contents::{Property, make_contents, words_for};
 use crate::forbidden::{bar_unless, request_bar};
 use crate::octets::octets_in;
-use crate::options::{cut_at_colon, cut_at_equals, is_said, number_below, word_or};
+use crate::options::{cut_at_colon, is_said, number_below, word_or};
 use crate::records::{make_known, well_known};
 use crate::{Fault, Misuse, Refused};
 use clap::ArgMatches;
 use ndef_lang::Kind;
-use ndef_program::{cut_at, flag_given, option_text};
+use ndef_program::{flag_given, option_text};
 use ndef_types::{Ac, HandoverError, Power, Request, Select};
 use ndef_value::{Bytes, Message, MessageError, Name, Record};
-use std::alloc::{AllocError, Global};
+use std::alloc::Global;
 
 /// Which handover a record is (Connection Handover 1.2).
 #[derive(Clone, Copy, Debug, PartialEq, Eq)]
@@ -41,75 +40,59 @@ pub(crate) struct Handover {
     minor: u8,
 }
 
-/// The power state of this name.
-fn power_named(name: &str) -> Option<Power>
-    ensures { result ≡ power_named name.now }
+/// Whether each reference has at most 255 bytes.
+fn are_short(references: References<'_>) -> bool
+    ensures { result ≡ are_short (references_left references.entry) }
 {
-    match name {
-        "inactive" => Some(Power::Inactive),
-        "active" => Some(Power::Active),
-        "activating" => Some(Power::Activating),
-        "unknown" => Some(Power::Unknown),
-        _ => None,
+    let mut rest = references;
+    while let Some((reference, more)) = rest.next() {
+        if reference.len() > 255 {
+            return false;
+        }
+        rest = more;
     }
+    true
 }
 
-/// The references of a word, which commas separate.
-fn references_of(alloc: Global, text: &str) -> Result<Vec<&[u8]>, AllocError>
-    ensures { IfOk result (λ references.
-        map (λ reference. reference.now) references.items ≡ slice_split is_comma text.now) }
+/// Whether there are at most 256 references.
+fn are_few(references: References<'_>) -> bool
+    ensures { result ≡ nat_lt (length (references_left references.entry)) 257 }
 {
-    text.as_bytes().split(|byte| *byte == b',').collect(alloc)
-}
-
-/// Whether each reference has at most 255 bytes; commas separate them.
-fn are_short(text: &[u8]) -> bool
-    ensures { result ≡ are_short (slice_split is_comma text.now) }
-{
-    let (mut reference, mut rest) = cut_at(text, b',');
-    while reference.len() < 256 {
-        let Some(more) = rest else {
-            return true;
-        };
-        (reference, rest) = cut_at(more, b',');
+    let mut rest = references;
+    let mut room = 256u16;
+    while let Some((_, more)) = rest.next() {
+        if room == 0 {
+            return false;
+        }
+        room -= 1;
+        rest = more;
     }
-    false
-}
-
-/// How many references there are; commas separate them.
-fn count_of(text: &[u8]) -> usize
-    ensures { result ≡ length (slice_split is_comma text.now) }
-{
-    let (_, mut rest) = cut_at(text, b',');
-    let mut count = 1;
-    while let Some(more) = rest {
-        count += 1;
-        (_, rest) = cut_at(more, b',');
-    }
-    count
+    true
 }
 
 /// Checks the references of a carrier: none is too long, and at most 255 are auxiliary.
-fn check_references(text: &[u8]) -> Result<(), Fault>
-    ensures { ChecksReferences (slice_split is_comma text.now) result }
+fn check_references(references: References<'_>) -> Result<(), Fault>
+    ensures { ChecksReferences (references_left references.entry) result }
 {
-    if !are_short(text) {
+    if !are_short(references) {
         return Err(Fault::Refused(Refused::PartTooLong));
     }
-    if count_of(text) > 256 {
+    if !are_few(references) {
         return Err(Fault::Refused(Refused::TooManyReferences));
     }
     Ok(())
 }
 
 /// The names of references.
-fn make_names(alloc: Global, references: &[&[u8]]) -> Result<Vec<Name>, Fault>
-    requires { AreShort (map (λ reference. reference.now) references.now) }
-    ensures { AreNames (map (λ reference. reference.now) references.now) result }
+fn make_names(alloc: Global, references: References<'_>) -> Result<Vec<Name>, Fault>
+    requires { AreShort (references_left references) }
+    ensures { AreNames (references_left references.entry) result }
 {
     let mut names = Vec::new(alloc);
-    for reference in references {
+    let mut rest = references;
+    while let Some((reference, more)) = rest.next() {
         names.push(Name::from_slice(alloc, reference)?)?;
+        rest = more;
     }
     Ok(names)
 }
@@ -134,34 +117,28 @@ fn make_ac(
 }
 
 /// The record of an alternative carrier with these references, of which the first is the carrier's.
-fn make_linked(alloc: Global, power: Power, references: &[&[u8]]) -> Result<Record, Fault>
-    requires { FitReferences (map (λ reference. reference.now) references.now) }
+fn make_linked(alloc: Global, linked: Linked<'_>) -> Result<Record, Fault>
+    requires { FitReferences (references_left linked.references) }
     ensures { MakesSaid misuse.Carrier MakesAlternative
-        (ac_of power (map (λ reference. reference.now) references.now)) result }
+        (ac_of linked.entry.power (references_left linked.entry.references)) result }
 {
-    match references {
-        [reference, auxiliary @ ..] => {
-            let reference = Name::from_slice(alloc, reference)?;
-            let auxiliary = make_names(alloc, auxiliary)?;
-            make_ac(alloc, power, reference, auxiliary)
-        }
-        [] => Err(Fault::Usage(Misuse::Carrier)),
-    }
+    let Some((reference, auxiliary)) = linked.references.next() else {
+        return Err(Fault::Usage(Misuse::Carrier));
+    };
+    let reference = Name::from_slice(alloc, reference)?;
+    let auxiliary = make_names(alloc, auxiliary)?;
+    make_ac(alloc, linked.power, reference, auxiliary)
 }
 
 /// The record of the alternative carrier of a word.
 pub(crate) fn make_alternative(alloc: Global, word: &str) -> Result<Record, Fault>
     ensures { MakesSaid misuse.Carrier MakesAlternative (ac_said word.now) result }
 {
-    let Some((name, references)) = cut_at_equals(word) else {
+    let Some(linked) = link_said(word) else {
         return Err(Fault::Usage(Misuse::Carrier));
     };
-    let Some(power) = power_named(name) else {
-        return Err(Fault::Usage(Misuse::Carrier));
-    };
-    check_references(references.as_bytes())?;
-    let references = references_of(alloc, references)?;
-    make_linked(alloc, power, references.as_slice())
+    check_references(linked.references)?;
+    make_linked(alloc, linked)
 }
 
 /// The record of an error with this reason and this data.

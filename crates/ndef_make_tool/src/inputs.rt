@@ -1,8 +1,7 @@
 //! The payloads of parts: hexadecimal digits, or what inputs of a name hold.
-ghost use Rattle.std.specs.Prelude.{◌≡◌, ℕ, List, Result, map, option_map};
+ghost use Rattle.std.specs.Prelude.{◌≡◌, map, option_map};
 ghost use Rattle.clap.specs.Words.{found_of, rows_of};
 ghost use Rattle.ndef_message.specs.Inputs.{bytes_of};
-ghost use Rattle.ndef_message.specs.declared.input.InputError.{InputError as ReadError};
 ghost use Rattle.ndef_message.specs.States.{source_state};
 ghost use Rattle.ndef_make_tool.specs.Asked.{asked_part};
 ghost use Rattle.ndef_make_tool.specs.Inputs.{IsInput, ReadsFor, ReadsNamed, input_of, is_reader, payload_input};
@@ -14,7 +13,7 @@ use crate::parts::Said;
 use crate::{Fault, Misuse};
 use clap::ArgMatches;
 use ndef_message::{InputError, Source, read_all};
-use ndef_program::option_text;
+use ndef_program::{Inputs, option_text};
 use ndef_value::Bytes;
 use std::alloc::Global;
 
@@ -26,16 +25,6 @@ pub fn read_input<S: Source>(alloc: Global, source: &mut S) -> Result<Vec<u8>, I
     ensures { IsInput (source_state S.Source source.old) (source_state S.Source source.new) (bytes_of result) }
 {
     read_all(alloc, source, MOST)
-}
-
-/// Gives inputs by their names.
-pub trait Inputs {
-    /// What an input of a name may give, and what is left of the inputs.
-    ghost gives: { Self → List ℕ → Result (List ℕ) ReadError → Self → Type 0 };
-
-    /// The bytes of the input of this name. Standard input has the name `-`.
-    fn read(&mut self, alloc: Global, name: &str) -> Result<Vec<u8>, InputError>
-        ensures { gives self.old name.now (bytes_of result) self.new };
 }
 
 /// The name of the input whose bytes are the payload, by the options that say it: standard input, unless there are
@@ -68,7 +57,7 @@ fn input_of<'a>(said: &Said<'a>) -> Option<&'a str>
 }
 
 /// Whether the payload of a part is standard input.
-fn is_reader(said: &Said<'_>) -> bool
+pub(crate) fn is_reader(said: &Said<'_>) -> bool
     ensures { result ≡ is_reader (asked_part said.now) }
 {
     match input_of(said) {
@@ -102,7 +91,11 @@ fn payload_of(read: Result<Vec<u8>, InputError>) -> Result<Bytes, Fault>
 }
 
 /// Reads the input of this name.
-fn read_named<I: Inputs>(alloc: Global, name: &str, inputs: &mut I) -> Result<Bytes, Fault>
+pub(crate) fn read_named<I: Inputs>(
+    alloc: Global,
+    name: &str,
+    inputs: &mut I,
+) -> Result<Bytes, Fault>
     ensures { ReadsNamed I.gives name.now inputs.old inputs.new result }
 {
     payload_of(inputs.read(alloc, name))

@@ -1,17 +1,21 @@
 //! The message that the words ask for.
 ghost use Rattle.std.specs.Prelude.{◌≡◌, ◌≢◌, [], map, string_bytes, IfOk};
 ghost use Rattle.ndef_make_tool.specs.Asked.{asked_part};
-ghost use Rattle.ndef_make_tool.specs.Making.{AreAnswered, IsMadeOf, IsMadeOfRecords, IsMadeOfWords};
+ghost use Rattle.ndef_make_tool.specs.Editing.{origin_in};
+ghost use Rattle.ndef_make_tool.specs.Making.{AreAnswered, IsMadeOf, IsMadeOfRecords};
+ghost use Rattle.ndef_make_tool.specs.Outcomes.{IsMadeFrom, IsMadeOfWords};
 ghost use Rattle.ndef_make_tool.specs.Making.{MakesFrom, MakesMessage, WritesMessage, has_flag, shown_by, shown_of, written_as};
 
-use crate::inputs::{Inputs, read_for, readers_of};
+use crate::edited::make_edited;
+use crate::editing::origin_in;
+use crate::inputs::{read_for, readers_of};
 use crate::measure::{Measure, Measured, measure_words, misfit};
 use crate::parts::{Said, parts, say_all, words_behind};
 use crate::records::make_record;
 use crate::references::find_all;
 use crate::{Fault, Misuse, Refused};
 use ndef_message::{Form, encode, encoded_length, short_is_canonical};
-use ndef_program::{flag_given, hexadecimal_line, push_number};
+use ndef_program::{Inputs, flag_given, hexadecimal_line, push_number};
 use ndef_value::{Bytes, Message, MessageError, NoMemory, Record};
 use std::alloc::Global;
 
@@ -70,7 +74,7 @@ fn shown_by(terminal: bool, said: &[Said<'_>]) -> Shown
 }
 
 /// How what is asked for of a message is written, where its bytes are written so.
-fn shown_of(measure: Measure, shown: Shown) -> Shown
+pub(crate) fn shown_of(measure: Measure, shown: Shown) -> Shown
     ensures { result ≡ shown_of measure shown }
 {
     match measure {
@@ -80,7 +84,11 @@ fn shown_of(measure: Measure, shown: Shown) -> Shown
 }
 
 /// The record that a part asks for, with its payload.
-fn read_and_make<I: Inputs>(alloc: Global, said: &Said<'_>, inputs: &mut I) -> Result<Record, Fault>
+pub(crate) fn read_and_make<I: Inputs>(
+    alloc: Global,
+    said: &Said<'_>,
+    inputs: &mut I,
+) -> Result<Record, Fault>
     ensures { MakesFrom I.gives (asked_part said.now) inputs.old inputs.new result }
 {
     let payload = read_for(alloc, said, inputs)?;
@@ -146,7 +154,7 @@ fn write_message(
 }
 
 /// What is written of the records.
-fn write_records(
+pub(crate) fn write_records(
     alloc: Global,
     measure: Measure,
     shown: Shown,
@@ -200,10 +208,34 @@ fn make_measured<I: Inputs>(
     make_parts(alloc, said.as_slice(), writing, inputs)
 }
 
+/// What is written of the message in a file, where one is named, or of the records of the words.
+fn make_from<I: Inputs>(
+    alloc: Global,
+    measured: Measured<'_>,
+    terminal: bool,
+    inputs: &mut I,
+) -> Result<Written, Fault>
+    ensures { IsMadeFrom I.gives (origin_in (map string_bytes measured.entry.records.now))
+        (record { terminal = terminal; measure = measured.entry.measure }) inputs.old inputs.new result }
+{
+    let Some(origin) = origin_in(measured.records) else {
+        return Err(Fault::Usage(Misuse::From));
+    };
+    let Some(name) = origin.file else {
+        return make_measured(alloc, measured, terminal, inputs);
+    };
+    let writing = Writing {
+        terminal,
+        measure: measured.measure,
+    };
+    make_edited(alloc, name, origin.parts, writing, inputs)
+}
+
 /// What is written of the message for which the words ask, of which the first is the program's name.
 ///
-/// Of the inputs those are read that parts name, one after another. At most one part takes standard input. To a
-/// terminal digits are written, unless a part has the flag `raw`.
+/// Of the inputs the file of the message that is edited is read, where `--from` names one, and then those that parts
+/// name, one after another. At most one of them is standard input. To a terminal digits are written, unless a part has
+/// the flag `raw`.
 pub fn make<I: Inputs>(
     alloc: Global,
     words: &[String],
@@ -215,5 +247,5 @@ pub fn make<I: Inputs>(
     let Some(measured) = measure_words(words_behind(words)) else {
         return Err(Fault::Usage(Misuse::Tag));
     };
-    make_measured(alloc, measured, terminal, inputs)
+    make_from(alloc, measured, terminal, inputs)
 }

@@ -11,7 +11,7 @@ pub enum Misuse {
     Words,
     /// There is no such tag.
     Tag,
-    /// The payload of two records is standard input.
+    /// Two payloads, or one and the message that is edited, are standard input.
     TwoReaders,
     /// A payload is said twice.
     TwoPayloads,
@@ -35,7 +35,7 @@ pub enum Misuse {
     Icon,
     /// The kind, the version and the options of a handover don't go together (Connection Handover 1.2).
     Handover,
-    /// There is no such power state of a carrier, or it has no reference (Connection Handover 1.2).
+    /// The word of a carrier names no power state or no reference, or has another key (Connection Handover 1.2).
     Carrier,
     /// A URI has a character from 0 to 31, so that readers discard it (RTD URI 1.0, URI field).
     Control,
@@ -49,6 +49,14 @@ pub enum Misuse {
     Collision,
     /// There is no such reason of an error, or its data aren't in hexadecimal digits (Connection Handover 1.2).
     Reason,
+    /// The file of the message that is edited has no name.
+    From,
+    /// An edit has no number, or words after it that are none.
+    Edit,
+    /// The message that is edited has no record of the number of an edit.
+    NoSuchRecord,
+    /// Two edits have the same number.
+    Twice,
 }
 
 impl Misuse {
@@ -60,7 +68,7 @@ impl Misuse {
         match self {
             Misuse::Words => b"words that do not parse",
             Misuse::Tag => b"--tag: ntag213, ntag215, ntag216 or a number of bytes",
-            Misuse::TwoReaders => b"standard input is the payload of one record at most",
+            Misuse::TwoReaders => b"standard input is one payload, or the message of --from",
             Misuse::TwoPayloads => b"--payload and --file: a record has one payload",
             Misuse::Digits => b"--payload: an even number of hexadecimal digits",
             Misuse::Tnf => b"--tnf: a number from 0 to 5",
@@ -75,7 +83,7 @@ impl Misuse {
                 b"a request has a --collision and no --error, a select no --collision; versions are 1.0 to 1.15"
             }
             Misuse::Carrier => {
-                b"--carrier: inactive, active, activating or unknown, an equals sign and ids, as active=a"
+                b"--carrier: as active=a,b or as power=active,ref=a,aux=b; inactive, active, activating or unknown"
             }
             Misuse::Control => b"URI: no character from 0 to 31; --unchecked writes it",
             Misuse::NoLanguage => b"an empty language code; --unchecked writes it",
@@ -85,6 +93,12 @@ impl Misuse {
             Misuse::Reason => {
                 b"--error: a number from 0 to 255, a colon and hexadecimal digits, as 1:05"
             }
+            Misuse::From => b"--from: the name of a file; - is standard input",
+            Misuse::Edit => {
+                b"--drop N, or --replace N and a record: N is the number of a record of --from"
+            }
+            Misuse::NoSuchRecord => b"the message of --from has no record of this number",
+            Misuse::Twice => b"a record of --from is dropped or replaced once at most",
         }
     }
 }

@@ -1,9 +1,24 @@
 //! The pages about the program itself.
-ghost use Rattle.std.specs.Prelude.{◌≡◌, map, string_bytes};
-ghost use Rattle.ndef_make_tool.specs.Pages.{asks_help, help_word, make_page_asked, ndef_make_help, ndef_make_page};
+ghost use Rattle.std.specs.Prelude.{◌≡◌, map, option_map, string_bytes};
+ghost use Rattle.ndef_make_tool.specs.Asked.{parts_of};
+ghost use Rattle.ndef_make_tool.specs.Pages.{asks_help, has_help, help_part, help_word, make_page_asked, ndef_make_help};
+ghost use Rattle.ndef_make_tool.specs.Pages.{ndef_make_page, page_named, page_of, program_page};
 
-use crate::parts::words_behind;
+use crate::kind_pages::kind_page;
+use crate::options::{Subject, subject_named};
+use crate::parts::{record_words, words_behind};
 use ndef_program::{Page, page_asked};
+
+/// A page for which words may ask.
+#[derive(Clone, Copy, Debug, PartialEq, Eq)]
+pub(crate) enum AskedPage {
+    /// What the program does, its words, and examples.
+    Help,
+    /// Its name and version.
+    Version,
+    /// The words of a kind of record.
+    Kind(Subject),
+}
 
 /// The page of help.
 fn ndef_make_help() -> &'static [u8]
@@ -13,12 +28,13 @@ fn ndef_make_help() -> &'static [u8]
 }
 
 /// The text of a page.
-pub(crate) fn ndef_make_page(page: Page) -> &'static [u8]
+pub(crate) fn ndef_make_page(page: AskedPage) -> &'static [u8]
     ensures { result.now ≡ ndef_make_page page }
 {
     match page {
-        Page::Help => ndef_make_help(),
-        Page::Version => b"ndef-make 0.3.0.dev\n",
+        AskedPage::Help => ndef_make_help(),
+        AskedPage::Version => b"ndef-make 0.3.0.dev\n",
+        AskedPage::Kind(kind) => kind_page(kind),
     }
 }
 
@@ -47,14 +63,68 @@ fn asks_help(words: &[String]) -> bool
     false
 }
 
+/// Whether a part has the word for help.
+fn has_help(part: &[String]) -> bool
+    ensures { result ≡ has_help (map string_bytes part.now) }
+{
+    for word in part {
+        if word.as_str() == "--help" {
+            return true;
+        }
+    }
+    false
+}
+
+/// The first part with the word for help.
+fn help_part(words: &[String]) -> Option<&[String]>
+    ensures { option_map (λ part. map string_bytes part.now) result ≡ help_part (map string_bytes words.now) }
+{
+    words
+        .split(|word| word.as_str() == "--and")
+        .find(|part| has_help(part))
+}
+
+/// The page of the kind of record that a word names, or that of all.
+fn page_named(name: &str) -> AskedPage
+    ensures { result ≡ page_named name.now }
+{
+    match subject_named(name) {
+        Some(kind) => AskedPage::Kind(kind),
+        None => AskedPage::Help,
+    }
+}
+
+/// The page for which the words of a part ask.
+fn page_of(part: &[String]) -> AskedPage
+    ensures { result ≡ page_of (map string_bytes part.now) }
+{
+    match part {
+        [name, ..] => page_named(name.as_str()),
+        [] => AskedPage::Help,
+    }
+}
+
+/// A page about the program, as a page of this one.
+fn program_page(page: Page) -> AskedPage
+    ensures { result ≡ program_page page }
+{
+    match page {
+        Page::Help => AskedPage::Help,
+        Page::Version => AskedPage::Version,
+    }
+}
+
 /// The page for which the words ask, of which the first is the program's name.
-pub(crate) fn make_page_asked(words: &[String]) -> Option<Page>
+pub(crate) fn make_page_asked(words: &[String]) -> Option<AskedPage>
     ensures { result ≡ make_page_asked (map string_bytes words.now) }
 {
-    if asks_help(words_behind(words)) {
-        return Some(Page::Help);
+    if !asks_help(words_behind(words)) {
+        return Some(program_page(page_asked(words)?));
     }
-    page_asked(words)
+    match help_part(record_words(words)) {
+        Some(part) => Some(page_of(part)),
+        None => Some(AskedPage::Help),
+    }
 }
 
 /// What the program does, its words, and examples.
@@ -62,6 +132,7 @@ const HELP: &[u8] = b"\
 ndef-make writes a message of the NFC Data Exchange Format.
 
 Usage: ndef-make [--size | --tag TAG] RECORD [--and RECORD]..
+       ndef-make [--size | --tag TAG] --from FILE [EDIT [--and EDIT]..]
 
 Each RECORD is a subcommand with its options. Separate records with --and.
 
@@ -82,7 +153,7 @@ Each RECORD is a subcommand with its options. Separate records with --and.
     --collision N     of a request: its random number, 0 to 65535
     --carrier P=I,..  a carrier: its power (inactive, active, activating, unknown),
                       the id of its record and those of auxiliary records; may be
-                      repeated
+                      repeated; the same as power=P,ref=I,aux=I,..
     --error R:DATA    of a select: the reason of an error, 0 to 255, and its data in
                       hexadecimal digits
   record              a record of any type
@@ -113,15 +184,24 @@ Before the first RECORD:
   --tag TAG           write it only if it fits on the tag: ntag213, ntag215, ntag216, or
                       a number of bytes; counted with 3 bytes around it, or 5 around
                       255 and more
+  --from FILE         edit the message in a file; - is standard input
+
+With --from, each EDIT is
+
+  --drop N            its record N, counted from 1, is left out
+  --replace N RECORD  the RECORD stands in its place
+  RECORD              the RECORD comes after all its records
 
 In place of a message:
 
-  --help              print this page; it may stand anywhere before the word --
+  --help              print this page; after the name of a RECORD, the page of
+                      that; it may stand anywhere before the word --
   --version           print the name and the version, where it stands alone
 
 Examples:
 
   ndef-make text Hello --and uri http://www.example.com > tag.bin
+  ndef-make --from tag.bin --drop 1 --and uri http://www.example.org > new.bin
   ndef-make poster http://www.example.com --title en=Example --action save > tag.bin
   printf 123 | ndef-make record --hex --tnf 2 --type a/b --id x
   ndef-make handover select --carrier active=0 --and media a/b --id 0 --file data > tag.bin

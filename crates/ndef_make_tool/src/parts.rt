@@ -3,9 +3,11 @@ ghost use Rattle.std.specs.Prelude.{◌≡◌, drop, map, string_bytes, IfOk, If
 ghost use Rattle.clap.specs.Words.{HasKind, fault_of};
 ghost use Rattle.ndef_make_tool.specs.Asked.{IsFaultIn, SaidAll, SaysPart, parts_of};
 ghost use Rattle.ndef_make_tool.specs.CommandLine.{make_app};
+ghost use Rattle.ndef_make_tool.specs.Editing.{IsWordsFault, origin_in};
 ghost use Rattle.ndef_make_tool.specs.Measures.{record_words};
 
 use crate::command::make_command;
+use crate::editing::{edit_fault, edit_parts, origin_in};
 use crate::measure::measure_words;
 use crate::{Fault, Misuse};
 use clap::error::ErrorKind;
@@ -38,7 +40,7 @@ pub(crate) fn words_behind(words: &[String]) -> &[String]
 }
 
 /// The words of the records, after the program's name and the words before them; none where a tag isn't known.
-fn record_words(words: &[String]) -> &[String]
+pub(crate) fn record_words(words: &[String]) -> &[String]
     ensures { map string_bytes result.now ≡ record_words (map string_bytes words.now) }
 {
     match measure_words(words_behind(words)) {
@@ -48,7 +50,7 @@ fn record_words(words: &[String]) -> &[String]
 }
 
 /// What a part says.
-fn say<'a>(alloc: Global, part: &'a [String]) -> Result<Said<'a>, Fault>
+pub(crate) fn say<'a>(alloc: Global, part: &'a [String]) -> Result<Said<'a>, Fault>
     ensures { SaysPart (map string_bytes part.now) result }
 {
     let Ok(command) = make_command(alloc) else {
@@ -72,13 +74,16 @@ pub(crate) fn say_all<'a>(alloc: Global, parts: &[&'a [String]]) -> Result<Vec<S
 {
     let mut said = Vec::new(alloc);
     for part in parts {
-        said.push(say(alloc, *part)?)?;
+        match say(alloc, *part) {
+            Ok(one) => said.push(one)?,
+            Err(fault) => return Err(fault.at(said.len() as u64 + 1)),
+        }
     }
     Ok(said)
 }
 
 /// What clap says is wrong with a part, if something is.
-fn part_fault(alloc: Global, part: &[String]) -> Option<Error>
+pub(crate) fn part_fault(alloc: Global, part: &[String]) -> Option<Error>
     ensures { IfSome result (λ error. HasKind (fault_of make_app (map string_bytes part.now)) error) }
 {
     let Ok(command) = make_command(alloc) else {
@@ -106,12 +111,17 @@ fn fault_in(alloc: Global, parts: &[&[String]]) -> Option<Error>
 /// likely meant. Nothing where clap takes them, or where a word before them is wrong. Of the words the first is the
 /// program's name.
 pub fn words_fault(alloc: Global, words: &[String]) -> Option<Error>
-    ensures { IfSome result (IsFaultIn (parts_of (record_words (map string_bytes words.now)))) }
+    ensures { IfSome result (IsWordsFault (origin_in (record_words (map string_bytes words.now)))) }
 {
     if measure_words(words_behind(words)).is_none() {
         return None;
     }
-    match parts(alloc, record_words(words)) {
+    let origin = origin_in(record_words(words))?;
+    if origin.file.is_some() {
+        let parts = edit_parts(alloc, origin.parts).ok()?;
+        return edit_fault(alloc, parts.as_slice());
+    }
+    match parts(alloc, origin.parts) {
         Ok(parts) => fault_in(alloc, parts.as_slice()),
         Err(_) => None,
     }

@@ -1,14 +1,14 @@
 //! The references of handovers to the records of the message.
 ghost use Rattle.std.specs.Prelude.{◌≡◌, ◌∷◌, [], map};
-ghost use Rattle.std.specs.List.{flat_map, slice_split};
-ghost use Rattle.ndef_make_tool.specs.Options.{is_comma};
+ghost use Rattle.std.specs.List.{flat_map};
 ghost use Rattle.ndef_make_tool.specs.Asked.{asked_part};
+ghost use Rattle.ndef_make_tool.specs.CarrierWords.{references_left};
 ghost use Rattle.ndef_make_tool.specs.References.{AreFound, is_id, references_in, references_of};
 
-use crate::options::{Subject, cut_at_equals, subject_named};
+use crate::carrier_word::{References, link_said};
+use crate::options::{Subject, subject_named};
 use crate::parts::Said;
 use crate::{Fault, Refused};
-use ndef_program::cut_at;
 use ndef_value::{Name, Record};
 use std::alloc::Global;
 
@@ -38,24 +38,24 @@ fn find(alloc: Global, records: &[Record], reference: &[u8]) -> Result<(), Fault
     Err(Fault::Refused(Refused::NoRecord(reference)))
 }
 
-/// Finds a record for each of these references, which commas separate.
-fn find_each(alloc: Global, records: &[Record], references: &[u8]) -> Result<(), Fault>
-    ensures { AreFound records.now (slice_split is_comma references.now) result }
+/// Finds a record for each of these references.
+fn find_each(alloc: Global, records: &[Record], references: References<'_>) -> Result<(), Fault>
+    ensures { AreFound records.now (references_left references.entry) result }
 {
-    let (mut reference, mut rest) = cut_at(references, b',');
-    while let Some(more) = rest {
+    let mut rest = references;
+    while let Some((reference, more)) = rest.next() {
         find(alloc, records, reference)?;
-        (reference, rest) = cut_at(more, b',');
+        rest = more;
     }
-    find(alloc, records, reference)
+    Ok(())
 }
 
 /// Finds a record for each reference in the word of a carrier.
 fn find_in_word(alloc: Global, records: &[Record], word: &str) -> Result<(), Fault>
     ensures { AreFound records.now (references_in word.now) result }
 {
-    match cut_at_equals(word) {
-        Some((_, references)) => find_each(alloc, records, references.as_bytes()),
+    match link_said(word) {
+        Some(linked) => find_each(alloc, records, linked.references),
         None => Ok(()),
     }
 }
@@ -71,7 +71,7 @@ fn find_in_words(alloc: Global, records: &[Record], words: &[&str]) -> Result<()
 }
 
 /// Finds a record for each reference of a part.
-fn find_in_part(alloc: Global, records: &[Record], said: &Said<'_>) -> Result<(), Fault>
+pub(crate) fn find_in_part(alloc: Global, records: &[Record], said: &Said<'_>) -> Result<(), Fault>
     ensures { AreFound records.now (references_of (asked_part said.now)) result }
 {
     match subject_named(said.name) {

@@ -4,11 +4,10 @@ ghost use Rattle.ndef_message.specs.States.{sink_state};
 ghost use Rattle.ndef_make_tool.specs.Runs.{Notes, PrintsAll, RunsForRecords, RunsNdefMake, three_streams};
 
 use crate::fault::{fault_status, line_of};
-use crate::inputs::Inputs;
 use crate::making::{Shown, make};
 use crate::pages::{make_page_asked, ndef_make_page};
 use ndef_message::{Sink, send};
-use ndef_program::Status;
+use ndef_program::{Inputs, Status};
 use std::alloc::Global;
 
 /// Writes a text.

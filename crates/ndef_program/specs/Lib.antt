@@ -1,6 +1,8 @@
+pub mod Causes
 pub mod CommandLine
 pub mod CutLaws
 pub mod Endings
+pub mod Inputs
 pub mod LimitOptions
 pub mod OptionLaws
 pub mod Options

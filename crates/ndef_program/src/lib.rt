@@ -11,15 +11,18 @@
 //! - `reading_options.rt`, `limits.rt`, `specs/LimitOptions.antt`: the options of a command that reads messages.
 //! - `words_error.rt`: why words ask for nothing.
 //! - `ending.rt`, `ending_lines.rt`, `specs/Endings.antt`: how a run ends, and the line of an ending.
+//! - `inputs.rt`, `specs/Inputs.antt`: inputs by their names. `causes.rt`, `specs/Causes.antt`: why a file can't be read.
 //! - `decimals.rt`: numbers in lines. `specs/Outputs.antt`: what goes out to a sink.
 #![tactic(auto)]
 
+mod causes;
 mod command;
 mod cutting;
 mod decimals;
 mod ending;
 mod ending_lines;
 mod hexadecimal;
+mod inputs;
 mod limits;
 mod line;
 mod options;
@@ -30,14 +33,16 @@ mod status;
 mod words;
 mod words_error;
 
+pub use causes::{Reader, cause_line, open_file, tell_cause};
 pub use command::{flag, hex_command, over, with, word_option};
 pub use cutting::cut_at;
 pub use decimals::{push_counted, push_number};
 pub use ending::{Ending, HexFault};
 pub use ending_lines::ending_text;
 pub use hexadecimal::hexadecimal_line;
+pub use inputs::Inputs;
 pub use limits::{limits_given, number_given};
-pub use line::{Line, ROOM};
+pub use line::{Line, LineOf, ROOM};
 pub use options::{flag_given, hex_given, option_text};
 pub use pages::{Page, page_asked};
 pub use quoting::{push_quoted, push_quoted_bytes};

@@ -1,5 +1,6 @@
 //! Bytes between quotation marks.
 ghost use Rattle.std.specs.Prelude.{◌≡◌, ◌++◌, ◌∷◌, [], OnOk};
+ghost use Rattle.std.specs.List.{prefix_len};
 ghost use Rattle.hex.specs.Hex.{encode_lower};
 ghost use Rattle.ndef_program.specs.Quoting.{is_plain_octet, quoted, quoted_byte, quoted_bytes};
 
@@ -35,14 +36,29 @@ fn push_byte(line: &mut Bytes, byte: u8) -> Result<(), NoMemory>
     line.extend(&digits_of(byte))
 }
 
+/// The number of bytes at the front that stand between quotation marks as they are.
+fn plain_front(bytes: &[u8]) -> usize
+    ensures { result ≡ prefix_len is_plain_octet bytes.now }
+{
+    bytes.iter().take_while(|byte| is_plain(**byte)).count()
+}
+
 /// Appends the bytes as they stand between quotation marks.
 pub fn push_quoted_bytes(line: &mut Bytes, bytes: &[u8]) -> Result<(), NoMemory>
     ensures { OnOk result (line.new ≡ line.old ++ quoted_bytes bytes.now) }
 {
-    for byte in bytes {
-        push_byte(line, *byte)?;
+    let mut rest = bytes;
+    loop {
+        let (plain, other) = rest.split_at(plain_front(rest));
+        line.extend(plain)?;
+        match other {
+            [byte, after @ ..] => {
+                push_byte(line, *byte)?;
+                rest = after;
+            }
+            [] => return Ok(()),
+        }
     }
-    Ok(())
 }
 
 /// Appends the bytes between quotation marks.

@@ -1,8 +1,8 @@
 -- What the words ask for.
-use Rattle.std.specs.Prelude.{◌≡◌, ◌&&◌, ◌≤◌, ℕ, List, Option, Some, None, Result, Ok, Err, codes, if◌then◌else◌, ⊤, option_and_then, option_map, nat_lt, nat_le}
+use Rattle.std.specs.Prelude.{◌≡◌, ◌≤◌, ℕ, List, Option, Some, None, Result, Ok, Err, codes, if◌then◌else◌, ⊤, option_and_then, option_map}
 use Rattle.std.specs.Option.{option_map_or, ForSome}
 use Rattle.std.specs.Str.{bytes_eq}
-use Rattle.clap.specs.Words.{App, Row, Text, first_of, one_of, fault_of, subcommand_of}
+use Rattle.clap.specs.Words.{App, Row, Text, first_of, fault_of, subcommand_of}
 use Rattle.ndef_message.specs.declared.form.Form.{Form}
 use Rattle.ndef_message.specs.declared.form.Form.TheVariants.{Short, Long}
 use Rattle.ndef_program.specs.LimitOptions.{chosen_limits, given_number}

@@ -1,6 +1,6 @@
 -- The command line: which subcommands and options there are, in clap's words.
-use Rattle.std.specs.Prelude.{ℕ, Some, codes, pos, true}
-use Rattle.clap.specs.Words.{App, Rule, Text, new_app, new_rule, with_rule, with_subcommand}
+use Rattle.std.specs.Prelude.{codes, true}
+use Rattle.clap.specs.Words.{App, new_app, with_rule, with_subcommand}
 use Rattle.ndef_program.specs.CommandLine.{number_rule, reading_app, word_rule}
 
 -- the options of reading, and how messages are written

@@ -3,16 +3,13 @@ use Rattle.std.specs.Prelude.{◌≡◌, ◌<◌, ◌⊎◌, ◌==◌, ◌||◌,
 use Rattle.std.specs.List.{filter}
 use Rattle.hex.specs.Hex.{decode_of}
 use Rattle.hex.specs.declared.error.FromHexError.{FromHexError}
-use Rattle.hex.specs.declared.error.FromHexError.TheVariants.{InvalidHexCharacter}
 use Rattle.ndef_message.specs.Inputs.{IsWholeInput}
 use Rattle.ndef_message.specs.Sources.{SourceState}
 use Rattle.ndef_message.specs.declared.input.InputError.{InputError}
 use Rattle.ndef_message.specs.declared.input.InputError.TheVariants as errors
 use Rattle.ndef_program.specs.Endings.{fault_of, input_ending}
 use Rattle.ndef_program.specs.declared.ending.Ending.{Ending}
-use Rattle.ndef_program.specs.declared.ending.Ending.TheVariants.{Hex, Reading, Memory, TooLong}
-use Rattle.ndef_program.specs.declared.ending.HexFault.{HexFault}
-use Rattle.ndef_program.specs.declared.ending.HexFault.TheVariants.{Odd, BadDigit}
+use Rattle.ndef_program.specs.declared.ending.Ending.TheVariants.{Hex, Memory}
 
 -- ASCII space, tab, CR and LF
 abbrev pub is_space : ℕ → Bool

@@ -1,6 +1,6 @@
 -- What the command prints of a subcommand, the messages that were read and the ending: one text, as
 -- a law of src/laws.rt says.
-use Rattle.std.specs.Prelude.{◌≡◌, Bool, true, false, ◌+◌, ◌<◌, ◌^◌, ℕ, List, [], ◌∷◌, ◌++◌, length, codes, decimal, ⊤}
+use Rattle.std.specs.Prelude.{◌≡◌, Bool, true, false, ◌+◌, ℕ, List, [], ◌∷◌, ◌++◌, length, codes, decimal}
 use Rattle.std.specs.List.{AllByRecursion}
 use Rattle.ndef_program.specs.Outputs.{hexadecimal_line}
 use Rattle.ndef_message.specs.declared.message_reading.Read.{Read}

@@ -8,17 +8,17 @@ ghost use Rattle.ndef_tool.specs.Chosen.{HasSizeIfAny};
 ghost use Rattle.ndef_tool.specs.Blocks.{block_text};
 
 use crate::linking::push_link_lines;
-use crate::printing::message_line;
+use crate::printing::{MessageLine, message_line};
 use crate::showing::push_records;
 use ndef_message::{Checked, Form, Read, encode, encode_chunked};
-use ndef_program::{Line, hexadecimal_line};
+use ndef_program::hexadecimal_line;
 use ndef_value::{Bytes, Message, NoMemory, Profile};
 use std::alloc::Global;
 
 /// The bytes that are printed of a message.
 #[derive(Drop)]
 pub enum Block {
-    Line(Line),
+    Line(MessageLine),
     Bytes(Bytes),
 }
 
@@ -68,6 +68,9 @@ pub fn check_block(number: u64, at: u64, checked: Checked) -> Block
     Block::Line(message_line(number, at, records, checked.taken))
 }
 
+/// The bytes for which memory is taken at once for what `show` prints of a message; more where it is longer.
+const USUAL: usize = 256;
+
 /// What `show` prints of it: its line, the lines of the records and those of the links.
 pub fn show_block(
     alloc: Global,
@@ -80,7 +83,7 @@ pub fn show_block(
     ensures { IfOk result (λ block. IsShown profile number at read.now (block_text block)) }
 {
     let records = read.message.len() as u64;
-    let mut lines = Bytes::new(alloc);
+    let mut lines = Bytes::from(Vec::with_capacity(alloc, USUAL)?);
     lines.extend(message_line(number, at, records, read.taken).as_slice())?;
     push_records(alloc, &mut lines, profile, &read.message)?;
     push_link_lines(alloc, &mut lines, profile, &read.message)?;

@@ -10,6 +10,7 @@
 //! - `showing.rt`: the lines of records. `value_lines.rt`, `poster_lines.rt`, `handover_lines.rt`: of
 //!   their payloads.
 //! - `linking.rt`: the lines of links. `quoting.rt`: parts of lines.
+//! - `system.rt`: a run over the standard streams of the system.
 #![tactic(auto)]
 
 mod block;
@@ -27,9 +28,11 @@ mod reading;
 mod running;
 mod session;
 mod showing;
+mod system;
 mod value_lines;
 
 pub use choice::{Action, Choice, choose};
 pub use hexadecimal::read_hexadecimal;
 pub use running::run;
 pub use session::{Session, handle};
+pub use system::run_on;

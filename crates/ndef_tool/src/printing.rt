@@ -4,13 +4,16 @@ ghost use Rattle.ndef_program.specs.Endings.{FitsPlace};
 ghost use Rattle.ndef_tool.specs.Output.{ending_line, message_line};
 
 use crate::choice::Action;
-use ndef_program::{Ending, Line, ending_text};
+use ndef_program::{Ending, Line, LineOf, ending_text};
+
+/// The line of a message, which has at most 112 bytes.
+pub type MessageLine = LineOf<112>;
 
 /// The line of a message, with its number from 1 and its place in the input.
-pub fn message_line(number: u64, at: u64, records: u64, bytes: u64) -> Line
+pub fn message_line(number: u64, at: u64, records: u64, bytes: u64) -> MessageLine
     ensures { result ≡ message_line number at records bytes }
 {
-    let mut line = Line::new();
+    let mut line = MessageLine::new();
     line.push(b"message ");
     line.push_number(number);
     line.push(b" at ");

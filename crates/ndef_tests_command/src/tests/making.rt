@@ -3,8 +3,9 @@ ghost use Rattle.std.specs.Prelude.{⊤};
 
 use super::command::{ran, texts_of, words};
 use ndef_cases::lines::octets_of;
-use ndef_make_tool::{Inputs, read_input, run};
+use ndef_make_tool::{read_input, run};
 use ndef_message::{InputError, SliceSource, StdSink};
+use ndef_program::Inputs;
 use std::alloc::Global;
 use std::test::Fail;
 

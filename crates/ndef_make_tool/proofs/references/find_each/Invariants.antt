@@ -1,13 +1,11 @@
-use Rattle.std.proofs.Common.{◌≡◌, ◌∷◌, [], ◌+◌, length}
-use Rattle.std.specs.List.{find, slice_split}
-use Rattle.std.specs.Option.{option_map_or}
-use Rattle.ndef_make_tool.specs.Options.{is_comma}
+use Rattle.std.proofs.Common.{◌≡◌, length}
+use Rattle.std.specs.List.{find}
+use Rattle.ndef_make_tool.specs.CarrierWords.{references_left}
 use Rattle.ndef_make_tool.specs.References.{is_missing}
 use Rattle.ndef_make_tool.proofs.references.find_each.Given as goal
 
-abbrev pub invariant-loop-rest : goal.invariant-loop-rest
-invariant-loop-rest l = find (is_missing l.records) (l.reference ∷ option_map_or (λ more. slice_split is_comma more.now) l.rest [])
-    ≡ find (is_missing l.records) (slice_split is_comma l.references)
+abbrev pub invariant-loop-reference : goal.invariant-loop-reference
+invariant-loop-reference l = find (is_missing l.records) (references_left l.rest) ≡ find (is_missing l.records) (references_left l.references)
 
-abbrev pub decreases-loop-rest : goal.decreases-loop-rest
-decreases-loop-rest l = option_map_or (λ more. length more.now + 1) l.rest 0
+abbrev pub decreases-loop-reference : goal.decreases-loop-reference
+decreases-loop-reference l = length (references_left l.rest)

@@ -1,0 +1,16 @@
+use Rattle.std.proofs.Common.{◌≡◌, ◌∙◌, ◌+◌, ap, length, map, string_bytes, subst, sym, rules, Err}
+use Rattle.std.proofs.lemmas.List.{length-map}
+use Rattle.ndef_make_tool.specs.Asked.{asked_part}
+use Rattle.ndef_make_tool.specs.Editing.{AreSaid, edit_map}
+use Rattle.ndef_make_tool.specs.Faults.{fault_at}
+use Rattle.ndef_make_tool.proofs.Edits.{wrong_at}
+use Rattle.ndef_make_tool.proofs.editing.say_edits.Goals as goal
+
+pub returns-in-Err : goal.returns-in-Err
+returns-in-Err c =
+    let fault = c.in-Err.fault in
+    let edits = c.loop-part.edits.items in
+    let e : fault_at (length edits + 1) fault ≡ c.at.result = ap (λ n. fault_at n fault) (sym (search rules)) ∙ sym c.at.ensures in
+    subst (λ told. AreSaid (map (λ part. map string_bytes part.now) c.args.parts.now) (Err told)) e
+    (wrong_at (λ part. map string_bytes part.now) c.args.parts.now c.loop-part.part-index c.part-item.result (map (edit_map asked_part) edits) (length edits + 1) fault c.loop-part-test.true c.part-item.is
+    c.loop-part.invariant c.in-Err.ensures (ap (λ k. k + 1) (sym (length-map edits (edit_map asked_part)))))

@@ -1,0 +1,171 @@
+-- The message that is edited, and what is written of it.
+use Rattle.std.specs.Prelude.{◌≡◌, ◌<◌, ◌⊎◌, ◌+◌, ◌++◌, ◌≢◌, ℕ, Bool, true, false, List, [], ◌∷◌, length, map, nat_lt, take, Some, Result, Ok, Err, ⊤, codes, if◌then◌else◌, Vec}
+use Rattle.std.specs.declared.alloc.Global.{Global}
+use Rattle.std.specs.Str.{bytes_eq}
+use Rattle.clap.specs.Words.{Text}
+use Rattle.ndef_format.specs.Accepted.{Accepted}
+use Rattle.ndef_format.specs.Limits.{LimitValues, strict_limits}
+use Rattle.ndef_format.specs.Messages.{Item}
+use Rattle.ndef_format.specs.NestedReasons.{TypedReason}
+use Rattle.ndef_format.specs.Payloads.{IsTypedPayload}
+use Rattle.ndef_format.specs.Refusals.{Refuses}
+use Rattle.ndef_message.specs.Readings.{NeedsMemory}
+use Rattle.ndef_make_tool.specs.Asked.{AskedPart}
+use Rattle.ndef_make_tool.specs.Editing.{AreNumbers, AskFor, IsWrongPart, edit_parts, edited, number_of, records_in}
+use Rattle.ndef_program.specs.Inputs.{GivesInput}
+use Rattle.ndef_make_tool.specs.Inputs.{ReadsNamed, readers_of}
+use Rattle.ndef_make_tool.specs.Making.{AreMadeIn, FailsIn, MakesAll, MakesFrom}
+use Rattle.ndef_make_tool.specs.Records.{Answer}
+use Rattle.ndef_make_tool.specs.declared.editing.Edit.{Edit}
+use Rattle.ndef_make_tool.specs.declared.editing.Edit.TheVariants.{Drops, Replaces, Adds}
+use Rattle.ndef_make_tool.specs.declared.fault.Fault.{Fault}
+use Rattle.ndef_make_tool.specs.declared.fault.Fault.TheVariants.{Usage, UsageAt, Refused, Memory}
+use Rattle.ndef_make_tool.specs.declared.fault.Refused.TheVariants.{BadMessage, BytesAfter, NoRecords}
+use Rattle.ndef_make_tool.specs.declared.making.Writing.{Writing}
+use Rattle.ndef_make_tool.specs.declared.making.Written.{Written}
+use Rattle.ndef_make_tool.specs.declared.misuse.Misuse.TheVariants as misuse
+
+-- ---- the message that is edited
+
+-- limits as large as they go, of a strict reader
+abbrev pub widest_limits : LimitValues
+widest_limits = strict_limits 4294967295 65535 65535
+
+-- NDEF 1.0, messages: the bytes are a message of these records, for a strict reader
+abbrev pub IsMessageOf : List Item → List ℕ → Type 0
+IsMessageOf items bytes = Accepted IsTypedPayload widest_limits items bytes
+
+-- NDEF 1.0, messages: the records of the one message that the bytes are; or where and why a strict
+-- reader refuses them, or where the bytes after a message begin
+abbrev pub IsMessageIn : List ℕ → Result (List Item) Fault → Type 0
+IsMessageIn bytes (Ok items) = IsMessageOf items bytes
+IsMessageIn bytes (Err (Refused (BadMessage refusal))) =
+    Refuses IsTypedPayload TypedReason widest_limits bytes refusal
+IsMessageIn bytes (Err (Refused (BytesAfter at))) =
+    (items : List Item) × IsMessageOf items (take at bytes) × (at < length bytes)
+IsMessageIn bytes (Err Memory) =
+    (seen : List ℕ) × NeedsMemory IsTypedPayload widest_limits (Some bytes) seen
+IsMessageIn bytes (Err _) = ⊥
+
+-- the records of the message in the file, or why there are none
+abbrev pub ReadsMessage : {I : Type 0} → GivesInput I → (name : Text) → (before after : I)
+    → Result (List Item) Fault → Type 0
+ReadsMessage gives name before after (Ok items) =
+    (file : List ℕ) × ReadsNamed gives name before after (Ok file) × IsMessageIn file (Ok items)
+ReadsMessage gives name before after (Err fault) = ReadsNamed gives name before after (Err fault)
+    ⊎ ((file : List ℕ) × ReadsNamed gives name before after (Ok file) × IsMessageIn file (Err fault))
+
+-- ---- the records of edits
+
+-- the edit with the record that is made
+abbrev pub IsEditWith : (Item → Edit Item) → (makes : Answer → Type 0) → Result (Edit Item) Fault
+    → Type 0
+IsEditWith edit makes (Ok made) = (i : Item) × makes (Ok i) × (made ≡ edit i)
+IsEditWith edit makes (Err fault) = makes (Err fault)
+
+-- the edit with the record of its part
+abbrev pub MakesEdit : {I : Type 0} → GivesInput I → Edit AskedPart → (before after : I)
+    → Result (Edit Item) Fault → Type 0
+MakesEdit gives (Drops n) before after answer = (after ≡ before) × (answer ≡ Ok (Drops n))
+MakesEdit gives (Replaces n part) before after answer =
+    IsEditWith (λ i. Replaces n i) (MakesFrom gives part before after) answer
+MakesEdit gives (Adds part) before after answer =
+    IsEditWith (λ i. Adds i) (MakesFrom gives part before after) answer
+
+-- the edits with their records, or the first of which no record is made, and why
+abbrev pub MakesEdits : {I : Type 0} → GivesInput I → List (Edit AskedPart) → (before after : I)
+    → Result (Vec (Edit Item) Global) Fault → Type 0
+MakesEdits gives edits before after (Ok made) = AreMadeIn (MakesEdit gives) edits before after made.items
+MakesEdits gives edits before after (Err fault) = FailsIn (MakesEdit gives) edits before after fault
+
+-- ---- what is written
+
+-- what is written of some records; memory to keep them may run out
+abbrev pub WritesSome : List AskedPart → Writing → List Item → Result Written Fault → Type 0
+WritesSome parts writing items (Ok made) = MakesAll parts writing items (Ok made)
+WritesSome parts writing items (Err fault) =
+    (fault ≡ Memory) ⊎ MakesAll parts writing items (Err fault)
+
+-- NDEF 1.0, messages: what is written of the records, of which there has to be one
+abbrev pub WritesRecords : List AskedPart → Writing → List Item → Result Written Fault → Type 0
+WritesRecords parts writing [] answer = answer ≡ Err (Refused NoRecords)
+WritesRecords parts writing (i ∷ items) answer = WritesSome parts writing (i ∷ items) answer
+
+-- what is written of a message of these records after the edits, or why nothing is
+abbrev pub EditsMessage : {I : Type 0} → GivesInput I → List (Edit AskedPart) → Writing
+    → (old : List Item) → (before after : I) → Result Written Fault → Type 0
+EditsMessage gives edits writing old before after (Ok made) = (items : List (Edit Item))
+    × AreNumbers (length old) (map number_of edits) (Ok tt)
+    × AreMadeIn (MakesEdit gives) edits before after items
+    × WritesRecords (records_in edits) writing (edited old items) (Ok made)
+EditsMessage gives edits writing old before after (Err fault) =
+    ((after ≡ before) × AreNumbers (length old) (map number_of edits) (Err fault))
+    ⊎ (AreNumbers (length old) (map number_of edits) (Ok tt)
+    × (FailsIn (MakesEdit gives) edits before after fault
+    ⊎ ((items : List (Edit Item)) × AreMadeIn (MakesEdit gives) edits before after items
+    × WritesRecords (records_in edits) writing (edited old items) (Err fault))))
+
+-- ---- step by step
+
+-- these stand after the others; or memory to keep one ran out
+abbrev pub Appends : List Item → (before after : List Item) → Result Unit Fault → Type 0
+Appends items before after (Ok done) = after ≡ before ++ items
+Appends items before after (Err fault) = (fault ≡ Memory) × (items ≢ [])
+
+-- these are the records; or memory to keep one ran out
+abbrev pub GivesRecords : List Item → Result (Vec Item Global) Fault → Type 0
+GivesRecords items (Ok records) = records.items ≡ items
+GivesRecords items (Err fault) = (fault ≡ Memory) × (items ≢ [])
+
+-- ---- the file and the words
+
+-- the name of the file of the message, and what is asked of it
+pub record Editing : Type 0 where
+  pub file : Text
+  pub edits : List (Edit AskedPart)
+
+-- what is written of the message in the file after the edits, or why nothing is
+abbrev pub IsEdited : {I : Type 0} → GivesInput I → Editing → Writing → (before after : I)
+    → Result Written Fault → Type 0
+IsEdited {I} gives editing writing before after (Ok made) = (old : List Item) × (middle : I)
+    × ReadsMessage gives editing.file before middle (Ok old)
+    × EditsMessage gives editing.edits writing old middle after (Ok made)
+IsEdited {I} gives editing writing before after (Err fault) =
+    ReadsMessage gives editing.file before after (Err fault)
+    ⊎ ((old : List Item) × (middle : I) × ReadsMessage gives editing.file before middle (Ok old)
+    × EditsMessage gives editing.edits writing old middle after (Err fault))
+
+-- the number of inputs that are standard input: the message, and the payloads of parts
+abbrev pub edit_readers : Editing → ℕ
+edit_readers editing = (if bytes_eq editing.file (codes "-") then 1 else 0)
+    + readers_of (records_in editing.edits)
+
+-- the same, where not more than one is
+abbrev pub IsEditedIf : {I : Type 0} → (many : Bool) → GivesInput I → Editing → Writing
+    → (before after : I) → Result Written Fault → Type 0
+IsEditedIf true gives editing writing before after made =
+    (after ≡ before) × (made ≡ Err (Usage misuse.TwoReaders))
+IsEditedIf false gives editing writing before after made = IsEdited gives editing writing before after made
+
+-- the same of a message and its edits
+abbrev pub IsEditedOf : {I : Type 0} → GivesInput I → Editing → Writing → (before after : I)
+    → Result Written Fault → Type 0
+IsEditedOf gives editing writing before after made =
+    IsEditedIf (nat_lt 1 (edit_readers editing)) gives editing writing before after made
+
+-- the first part whose words are wrong is at fault, or memory
+abbrev pub IsWrongIn : List (List Text) → Fault → Type 0
+IsWrongIn parts (UsageAt n m) = IsWrongPart parts n m
+IsWrongIn parts Memory = ⊤
+IsWrongIn parts _ = ⊥
+
+-- the same of the words of the parts. Memory may run out for the words, before an input is read
+abbrev pub IsEditedOfWords : {I : Type 0} → GivesInput I → (name : Text) → List Text → Writing
+    → (before after : I) → Result Written Fault → Type 0
+IsEditedOfWords gives name words writing before after (Ok made) = (edits : List (Edit AskedPart))
+    × AskFor (edit_parts words) edits
+    × IsEditedOf gives (record { file = name; edits = edits }) writing before after (Ok made)
+IsEditedOfWords gives name words writing before after (Err fault) =
+    ((after ≡ before) × IsWrongIn (edit_parts words) fault)
+    ⊎ ((edits : List (Edit AskedPart)) × AskFor (edit_parts words) edits
+    × IsEditedOf gives (record { file = name; edits = edits }) writing before after (Err fault))

@@ -1,0 +1,381 @@
+//! The message that is edited, and what is written of it.
+ghost use Rattle.std.specs.Prelude.{◌≡◌, ◌∷◌, ◌≤◌, [], length, map, nat_lt, option_map, string_bytes};
+ghost use Rattle.std.specs.List.{find, flat_map, list_any};
+ghost use Rattle.ndef_program.specs.Options.{flag_of};
+ghost use Rattle.ndef_make_tool.specs.Asked.{asked_part};
+ghost use Rattle.ndef_make_tool.specs.Edited.{Appends, EditsMessage, GivesRecords, IsEditedOf, IsEditedOfWords};
+ghost use Rattle.ndef_make_tool.specs.Edited.{IsMessageIn, MakesEdit, MakesEdits, ReadsMessage, WritesRecords};
+ghost use Rattle.ndef_make_tool.specs.Edited.{edit_readers, widest_limits};
+ghost use Rattle.ndef_make_tool.specs.Editing.{AreNumbers, added_by, edit_map, edit_references, edited};
+ghost use Rattle.ndef_make_tool.specs.Editing.{has_number, in_place, kept_from, misuse_after, names, number_of};
+ghost use Rattle.ndef_make_tool.specs.Editing.{passes, records_in};
+ghost use Rattle.ndef_make_tool.specs.Inputs.{is_reader, readers_of};
+ghost use Rattle.ndef_make_tool.specs.Making.{has_flag, shown_by};
+ghost use Rattle.ndef_make_tool.specs.References.{AreFound, references_of};
+
+use crate::editing::{Edit, edit_parts, say_edits};
+use crate::inputs::{is_reader, read_named};
+use crate::making::{Shown, Writing, Written, read_and_make, shown_of, write_records};
+use crate::parts::Said;
+use crate::records::make_item;
+use crate::references::find_in_part;
+use crate::{Fault, Misuse, Refused};
+use ndef_message::{ReadError, SliceSource, read_message};
+use ndef_nest::Typed;
+use ndef_program::{Inputs, flag_given};
+use ndef_value::{Limits, MOST_PAYLOAD, MOST_PIECES, MOST_RECORDS, Message, Record};
+use std::alloc::Global;
+
+/// Limits as large as they go, of a strict reader.
+fn widest_limits() -> Limits
+    ensures { result ≡ widest_limits }
+{
+    match Limits::new(MOST_PAYLOAD, MOST_RECORDS, MOST_PIECES) {
+        Ok(limits) => limits,
+        Err(_) => unreachable!(),
+    }
+}
+
+/// The one message that the bytes are.
+fn message_in(alloc: Global, bytes: &[u8]) -> Result<Message, Fault>
+    ensures { IsMessageIn bytes.now result }
+{
+    let mut source = SliceSource::whole(bytes);
+    match read_message::<Typed, _>(alloc, &mut source, widest_limits()) {
+        Ok(read) => {
+            if read.taken < bytes.len() as u64 {
+                return Err(Fault::Refused(Refused::BytesAfter(read.taken)));
+            }
+            Ok(read.message)
+        }
+        Err(ReadError::Refused(refusal)) => Err(Fault::Refused(Refused::BadMessage(refusal))),
+        Err(ReadError::NoMemory) => Err(Fault::Memory),
+        Err(ReadError::ReadFault) => unreachable!(),
+    }
+}
+
+/// The message in the file of this name.
+fn read_original<I: Inputs>(alloc: Global, name: &str, inputs: &mut I) -> Result<Message, Fault>
+    ensures { ReadsMessage I.gives name.now inputs.old inputs.new result }
+{
+    let bytes = read_named(alloc, name, inputs)?;
+    message_in(alloc, bytes.as_slice())
+}
+
+/// Whether an edit has this number.
+fn is_named(edits: &[Edit<Said<'_>>], number: u32) -> bool
+    ensures { result ≡ list_any (has_number number) (map number_of edits.now) }
+{
+    for edit in edits {
+        if edit.names(number) {
+            return true;
+        }
+    }
+    false
+}
+
+/// What is wrong with the number of an edit, after other edits, in a message of that many records.
+fn misuse_after(count: usize, others: &[Edit<Said<'_>>], number: Option<u32>) -> Option<Misuse>
+    ensures { result ≡ misuse_after count (map number_of others.now) number }
+{
+    let number = number?;
+    if number < 1 || number as usize > count {
+        return Some(Misuse::NoSuchRecord);
+    }
+    if is_named(others, number) {
+        return Some(Misuse::Twice);
+    }
+    None
+}
+
+/// Checks that each number of an edit is that of a record, and of another one than those before it.
+fn check_numbers(count: usize, edits: &[Edit<Said<'_>>]) -> Result<(), Fault>
+    ensures { AreNumbers count (map number_of edits.now) result }
+{
+    for at in 0..edits.len() {
+        if let Some(misuse) = misuse_after(count, &edits[..at], edits[at].number()) {
+            return Err(Fault::UsageAt(at as u64 + 1, misuse));
+        }
+    }
+    Ok(())
+}
+
+/// The edit with the record of its part.
+fn make_edit<I: Inputs>(
+    alloc: Global,
+    edit: &Edit<Said<'_>>,
+    inputs: &mut I,
+) -> Result<Edit<Record>, Fault>
+    ensures { MakesEdit I.gives (edit_map asked_part edit.now) inputs.old inputs.new result }
+{
+    match edit {
+        Edit::Drops(number) => Ok(Edit::Drops(*number)),
+        Edit::Replaces(number, said) => {
+            Ok(Edit::Replaces(*number, read_and_make(alloc, said, inputs)?))
+        }
+        Edit::Adds(said) => Ok(Edit::Adds(read_and_make(alloc, said, inputs)?)),
+    }
+}
+
+/// The edits with the records of their parts.
+fn make_edits<I: Inputs>(
+    alloc: Global,
+    edits: &[Edit<Said<'_>>],
+    inputs: &mut I,
+) -> Result<Vec<Edit<Record>>, Fault>
+    ensures { MakesEdits I.gives (map (edit_map asked_part) edits.now) inputs.old inputs.new result }
+{
+    let mut made = Vec::new(alloc);
+    for edit in edits {
+        match make_edit(alloc, edit, inputs) {
+            Ok(edit) => made.push(edit)?,
+            Err(fault) => return Err(fault.at(made.len() as u64 + 1)),
+        }
+    }
+    Ok(made)
+}
+
+/// Appends a copy of a record.
+fn push_copy(alloc: Global, records: &mut Vec<Record>, item: &Record) -> Result<(), Fault>
+    ensures { Appends (item.now ∷ []) records.old.items records.new.items result }
+{
+    let copy = make_item(alloc, item.tnf(), item.kind(), item.id(), item.payload())?;
+    records.push(copy)?;
+    Ok(())
+}
+
+/// The first edit with this number.
+fn edit_of(edits: &[Edit<Record>], number: u32) -> Option<&Edit<Record>>
+    ensures { option_map (λ edit. edit.now) result ≡ find (names number) edits.now }
+{
+    for edit in edits {
+        if edit.names(number) {
+            return Some(edit);
+        }
+    }
+    None
+}
+
+/// Appends what stands in place of a record with this number.
+fn push_kept(
+    alloc: Global,
+    records: &mut Vec<Record>,
+    item: &Record,
+    edit: Option<&Edit<Record>>,
+) -> Result<(), Fault>
+    ensures { Appends (in_place (option_map (λ edit. edit.now) edit.entry) item.now)
+        records.old.items records.new.items result }
+{
+    match edit {
+        None => push_copy(alloc, records, item),
+        Some(edit) => match edit.record() {
+            Some(other) => push_copy(alloc, records, other),
+            None => Ok(()),
+        },
+    }
+}
+
+/// Appends what stands in place of each of the records.
+fn push_all_kept(
+    alloc: Global,
+    records: &mut Vec<Record>,
+    old: &[Record],
+    edits: &[Edit<Record>],
+) -> Result<(), Fault>
+    requires { length old.now ≤ 65535 }
+    ensures { Appends (kept_from 1 edits.now old.now) records.old.items records.new.items result }
+{
+    let mut number = 1;
+    for record in old {
+        push_kept(alloc, records, record, edit_of(edits, number))?;
+        number += 1;
+    }
+    Ok(())
+}
+
+/// Appends what an edit adds.
+fn push_own(alloc: Global, records: &mut Vec<Record>, edit: &Edit<Record>) -> Result<(), Fault>
+    ensures { Appends (added_by edit.now) records.old.items records.new.items result }
+{
+    match edit {
+        Edit::Drops(_) | Edit::Replaces(_, _) => Ok(()),
+        Edit::Adds(item) => push_copy(alloc, records, item),
+    }
+}
+
+/// Appends what edits add.
+fn push_added(alloc: Global, records: &mut Vec<Record>, edits: &[Edit<Record>]) -> Result<(), Fault>
+    ensures { Appends (flat_map added_by edits.now) records.old.items records.new.items result }
+{
+    for edit in edits {
+        push_own(alloc, records, edit)?;
+    }
+    Ok(())
+}
+
+/// The records of an edited message.
+fn edited(alloc: Global, old: &Message, edits: &[Edit<Record>]) -> Result<Vec<Record>, Fault>
+    ensures { GivesRecords (edited old.now edits.now) result }
+{
+    let mut records = Vec::new(alloc);
+    push_all_kept(alloc, &mut records, old.records(), edits)?;
+    push_added(alloc, &mut records, edits)?;
+    Ok(records)
+}
+
+/// Whether the record of an edit has the flag.
+fn edit_has_flag(edit: &Edit<Said<'_>>, id: &str) -> bool
+    ensures { result ≡ passes (λ part. flag_of id.now part.1) (edit_map asked_part edit.now) }
+{
+    match edit.record() {
+        Some(said) => flag_given(&said.matches, id),
+        None => false,
+    }
+}
+
+/// Whether the record of one of the edits has the flag.
+fn has_flag(edits: &[Edit<Said<'_>>], id: &str) -> bool
+    ensures { result ≡ has_flag id.now (records_in (map (edit_map asked_part) edits.now)) }
+{
+    for edit in edits {
+        if edit_has_flag(edit, id) {
+            return true;
+        }
+    }
+    false
+}
+
+/// How the bytes are written, to a terminal or not.
+fn shown_by(terminal: bool, edits: &[Edit<Said<'_>>]) -> Shown
+    ensures { result ≡ shown_by terminal (records_in (map (edit_map asked_part) edits.now)) }
+{
+    if has_flag(edits, "hex") {
+        return Shown::Digits;
+    }
+    if terminal && !has_flag(edits, "raw") {
+        return Shown::DigitsForTerminal;
+    }
+    Shown::Octets
+}
+
+/// Finds a record for each reference of the record of an edit.
+fn find_in_edit(alloc: Global, records: &[Record], edit: &Edit<Said<'_>>) -> Result<(), Fault>
+    ensures { AreFound records.now (edit_references (edit_map asked_part edit.now)) result }
+{
+    match edit.record() {
+        Some(said) => find_in_part(alloc, records, said),
+        None => Ok(()),
+    }
+}
+
+/// Finds a record for each reference of the records of edits, or refuses the first without one.
+fn find_all(alloc: Global, records: &[Record], edits: &[Edit<Said<'_>>]) -> Result<(), Fault>
+    ensures { AreFound records.now
+        (flat_map references_of (records_in (map (edit_map asked_part) edits.now))) result }
+{
+    for edit in edits {
+        find_in_edit(alloc, records, edit)?;
+    }
+    Ok(())
+}
+
+/// What is written of these records, if there are any.
+fn write_edited(
+    alloc: Global,
+    records: Vec<Record>,
+    edits: &[Edit<Said<'_>>],
+    writing: Writing,
+) -> Result<Written, Fault>
+    ensures { WritesRecords (records_in (map (edit_map asked_part) edits.now)) writing records.items result }
+{
+    if records.is_empty() {
+        return Err(Fault::Refused(Refused::NoRecords));
+    }
+    find_all(alloc, records.as_slice(), edits)?;
+    let shown = shown_of(writing.measure, shown_by(writing.terminal, edits));
+    write_records(alloc, writing.measure, shown, records)
+}
+
+/// What is written of a message after the edits.
+fn edit_message<I: Inputs>(
+    alloc: Global,
+    old: &Message,
+    edits: &[Edit<Said<'_>>],
+    writing: Writing,
+    inputs: &mut I,
+) -> Result<Written, Fault>
+    ensures { EditsMessage I.gives (map (edit_map asked_part) edits.now) writing old.now
+        inputs.old inputs.new result }
+{
+    check_numbers(old.len(), edits)?;
+    let made = make_edits(alloc, edits, inputs)?;
+    let records = edited(alloc, old, made.as_slice())?;
+    write_edited(alloc, records, edits, writing)
+}
+
+/// Whether the payload of the record of an edit is standard input.
+fn is_reader_of(edit: &Edit<Said<'_>>) -> bool
+    ensures { result ≡ passes is_reader (edit_map asked_part edit.now) }
+{
+    match edit.record() {
+        Some(said) => is_reader(said),
+        None => false,
+    }
+}
+
+/// The number of records of edits whose payload is standard input.
+fn readers_of(edits: &[Edit<Said<'_>>]) -> usize
+    ensures value { result ≡ readers_of (records_in (map (edit_map asked_part) edits.now)) }
+    ensures bound { result ≤ length edits.now }
+{
+    let mut count = 0;
+    for edit in edits {
+        if is_reader_of(edit) {
+            count += 1;
+        }
+    }
+    count
+}
+
+/// Whether more than one input is standard input: the message, or the payload of a part.
+fn has_many_readers(name: &str, edits: &[Edit<Said<'_>>]) -> bool
+    ensures { result ≡ nat_lt 1
+        (edit_readers (record { file = name.now; edits = map (edit_map asked_part) edits.now })) }
+{
+    let most = if name == "-" { 0 } else { 1 };
+    readers_of(edits) > most
+}
+
+/// What is written of the message in the file of this name after the edits.
+fn edit_file<I: Inputs>(
+    alloc: Global,
+    name: &str,
+    edits: &[Edit<Said<'_>>],
+    writing: Writing,
+    inputs: &mut I,
+) -> Result<Written, Fault>
+    ensures { IsEditedOf I.gives (record { file = name.now; edits = map (edit_map asked_part) edits.now })
+        writing inputs.old inputs.new result }
+{
+    if has_many_readers(name, edits) {
+        return Err(Fault::Usage(Misuse::TwoReaders));
+    }
+    let old = read_original(alloc, name, inputs)?;
+    edit_message(alloc, &old, edits, writing, inputs)
+}
+
+/// What is written of the message in the file of this name after the edits for which the words ask.
+pub(crate) fn make_edited<I: Inputs>(
+    alloc: Global,
+    name: &str,
+    words: &[String],
+    writing: Writing,
+    inputs: &mut I,
+) -> Result<Written, Fault>
+    ensures { IsEditedOfWords I.gives name.now (map string_bytes words.now) writing
+        inputs.old inputs.new result }
+{
+    let parts = edit_parts(alloc, words)?;
+    let edits = say_edits(alloc, parts.as_slice())?;
+    edit_file(alloc, name, edits.as_slice(), writing, inputs)
+}

@@ -1,0 +1,337 @@
+//! The pages about the kinds of records.
+ghost use Rattle.std.specs.Prelude.{◌≡◌};
+ghost use Rattle.ndef_make_tool.specs.KindPages.{app_page, carrier_page, external_page, handover_page, kind_page};
+ghost use Rattle.ndef_make_tool.specs.KindPages.{media_page, poster_page, record_page, text_page, uri_page};
+
+use crate::options::Subject;
+
+/// The page of a text.
+fn text_page() -> &'static [u8]
+    ensures { result.now ≡ text_page }
+{
+    TEXT
+}
+
+/// The page of a URI.
+fn uri_page() -> &'static [u8]
+    ensures { result.now ≡ uri_page }
+{
+    URI
+}
+
+/// The page of a smart poster.
+fn poster_page() -> &'static [u8]
+    ensures { result.now ≡ poster_page }
+{
+    POSTER
+}
+
+/// The page of a handover.
+fn handover_page() -> &'static [u8]
+    ensures { result.now ≡ handover_page }
+{
+    HANDOVER
+}
+
+/// The page of a record of given parts.
+fn record_page() -> &'static [u8]
+    ensures { result.now ≡ record_page }
+{
+    RECORD
+}
+
+/// The page of a record of a media type.
+fn media_page() -> &'static [u8]
+    ensures { result.now ≡ media_page }
+{
+    MEDIA
+}
+
+/// The page of a record of an external type.
+fn external_page() -> &'static [u8]
+    ensures { result.now ≡ external_page }
+{
+    EXTERNAL
+}
+
+/// The page of an application record.
+fn app_page() -> &'static [u8]
+    ensures { result.now ≡ app_page }
+{
+    APP
+}
+
+/// The page of a handover carrier.
+fn carrier_page() -> &'static [u8]
+    ensures { result.now ≡ carrier_page }
+{
+    CARRIER
+}
+
+/// The page of a kind of record: its words, their ranges, and what holds without them.
+pub(crate) fn kind_page(kind: Subject) -> &'static [u8]
+    ensures { result.now ≡ kind_page kind }
+{
+    match kind {
+        Subject::Text => text_page(),
+        Subject::Uri => uri_page(),
+        Subject::Poster => poster_page(),
+        Subject::Handover => handover_page(),
+        Subject::Record => record_page(),
+        Subject::Media => media_page(),
+        Subject::External => external_page(),
+        Subject::App => app_page(),
+        Subject::Carrier => carrier_page(),
+    }
+}
+
+/// What is printed of a text.
+const TEXT: &[u8] = b"\
+A text record (RTD Text 1.0).
+
+Usage: ndef-make text [OPTION].. TEXT
+
+  TEXT                the text
+  --language L        the code of its language, 1 to 63 bytes of ASCII; without
+                      it: en
+  --utf16             encode it in UTF-16; without it: UTF-8
+
+Options of every RECORD:
+
+  --id I              the id of the record, at most 255 bytes; without it: none
+  --unchecked         write what readers refuse or a standard forbids, too
+  --hex               write hexadecimal digits and a newline; without --hex and
+                      --raw: to a terminal only
+  --raw               write bytes; without it: to all but a terminal
+
+Example:
+
+  ndef-make text --language de Hallo > tag.bin
+
+Other RECORDs, and the words around them: ndef-make --help
+";
+
+/// What is printed of a URI.
+const URI: &[u8] = b"\
+A URI record, abbreviated by the longest prefix that begins it (RTD URI 1.0).
+
+Usage: ndef-make uri [OPTION].. URI
+
+  URI                 the URI, without characters from 0 to 31
+
+Options of every RECORD:
+
+  --id I              the id of the record, at most 255 bytes; without it: none
+  --unchecked         write what readers refuse or a standard forbids, too
+  --hex               write hexadecimal digits and a newline; without --hex and
+                      --raw: to a terminal only
+  --raw               write bytes; without it: to all but a terminal
+
+Example:
+
+  ndef-make uri http://www.example.com > tag.bin
+
+Other RECORDs, and the words around them: ndef-make --help
+";
+
+/// What is printed of a smart poster.
+const POSTER: &[u8] = b"\
+A smart poster of a URI (RTD Smart Poster 1.0).
+
+Usage: ndef-make poster [OPTION].. URI
+
+  URI                 the URI, without characters from 0 to 31
+  --title L=TEXT      a title in the language with the code L, 1 to 63 bytes of
+                      ASCII; may be repeated in other languages; without it:
+                      none
+  --action A          what to do with the URI: do, save or open; without it:
+                      none is said
+  --size N            the size in bytes of what the URI leads to, 0 to
+                      4294967295; without it: none is said
+  --media TYPE        the media type of what the URI leads to; without it: none
+                      is said
+  --icon FILE         the file of an icon, at most 1048576 bytes, or - for
+                      standard input; without it: none
+  --icon-type TYPE    the media type of the icon, at most 255 bytes, which has
+                      to be given with --icon
+
+Options of every RECORD:
+
+  --id I              the id of the record, at most 255 bytes; without it: none
+  --unchecked         write what readers refuse or a standard forbids, too
+  --hex               write hexadecimal digits and a newline; without --hex and
+                      --raw: to a terminal only
+  --raw               write bytes; without it: to all but a terminal
+
+Example:
+
+  ndef-make poster http://www.example.com --title en=Example > tag.bin
+
+Other RECORDs, and the words around them: ndef-make --help
+";
+
+/// What is printed of a handover.
+const HANDOVER: &[u8] = b"\
+A handover request or select (Connection Handover 1.2). The record of each of
+its carriers is a RECORD of its own, with the id to which the carrier refers.
+
+Usage: ndef-make handover request --collision N --carrier P=I,.. [OPTION]..
+       ndef-make handover select [OPTION]..
+
+  --version 1.M       the version, 1.0 to 1.15; without it: 1.2
+  --collision N       of a request, which needs it: its random number, 0 to
+                      65535
+  --carrier P=I,..    a carrier: its power (inactive, active, activating,
+                      unknown), the id of its record and those of at most 255
+                      auxiliary records; may be repeated; a request has one or
+                      more, a select may have none
+  --carrier power=P,ref=I,aux=I,..
+                      the same by keys, in any order
+  --error R:DATA      of a select: the reason of an error, 0 to 255, and its
+                      data in hexadecimal digits; without it: none
+
+Options of every RECORD:
+
+  --id I              the id of the record, at most 255 bytes; without it: none
+  --unchecked         write what readers refuse or a standard forbids, too
+  --hex               write hexadecimal digits and a newline; without --hex and
+                      --raw: to a terminal only
+  --raw               write bytes; without it: to all but a terminal
+
+Example:
+
+  ndef-make handover select --carrier active=0 --and app a --id 0 > tag.bin
+
+Other RECORDs, and the words around them: ndef-make --help
+";
+
+/// What is printed of a record of given parts.
+const RECORD: &[u8] = b"\
+A record of any type (NDEF 1.0).
+
+Usage: ndef-make record --tnf N [OPTION]..
+
+  --tnf N             the type name format: 0 empty, 1 of the NFC Forum, 2 of a
+                      media type, 3 a URI, 4 external, 5 unknown
+  --type T            the type, at most 255 bytes; without it: none
+  --file FILE         the file that holds the payload, at most 1048576 bytes;
+                      without it, or for -: standard input
+  --payload DIGITS    the payload in hexadecimal digits, in place of a file
+
+Options of every RECORD:
+
+  --id I              the id of the record, at most 255 bytes; without it: none
+  --unchecked         write what readers refuse or a standard forbids, too
+  --hex               write hexadecimal digits and a newline; without --hex and
+                      --raw: to a terminal only
+  --raw               write bytes; without it: to all but a terminal
+
+Example:
+
+  printf 123 | ndef-make record --tnf 2 --type a/b --id x > tag.bin
+
+Other RECORDs, and the words around them: ndef-make --help
+";
+
+/// What is printed of a record of a media type.
+const MEDIA: &[u8] = b"\
+A record of a media type (NDEF 1.0, TNF 2).
+
+Usage: ndef-make media [OPTION].. TYPE
+
+  TYPE                the media type, which has a slash, at most 255 bytes
+  --file FILE         the file that holds the payload, at most 1048576 bytes;
+                      without it, or for -: standard input
+  --payload DIGITS    the payload in hexadecimal digits, in place of a file
+
+Options of every RECORD:
+
+  --id I              the id of the record, at most 255 bytes; without it: none
+  --unchecked         write what readers refuse or a standard forbids, too
+  --hex               write hexadecimal digits and a newline; without --hex and
+                      --raw: to a terminal only
+  --raw               write bytes; without it: to all but a terminal
+
+Example:
+
+  printf 123 | ndef-make media text/plain > tag.bin
+
+Other RECORDs, and the words around them: ndef-make --help
+";
+
+/// What is printed of a record of an external type.
+const EXTERNAL: &[u8] = b"\
+A record of an external type (NDEF 1.0, TNF 4).
+
+Usage: ndef-make external [OPTION].. DOMAIN:NAME
+
+  DOMAIN:NAME         the type: a domain, a colon and a name, at most 255 bytes
+  --file FILE         the file that holds the payload, at most 1048576 bytes;
+                      without it, or for -: standard input
+  --payload DIGITS    the payload in hexadecimal digits, in place of a file
+
+Options of every RECORD:
+
+  --id I              the id of the record, at most 255 bytes; without it: none
+  --unchecked         write what readers refuse or a standard forbids, too
+  --hex               write hexadecimal digits and a newline; without --hex and
+                      --raw: to a terminal only
+  --raw               write bytes; without it: to all but a terminal
+
+Example:
+
+  ndef-make external example.com:a --payload 313233 > tag.bin
+
+Other RECORDs, and the words around them: ndef-make --help
+";
+
+/// What is printed of an application record.
+const APP: &[u8] = b"\
+An Android application record: the external type android.com:pkg, whose payload
+is the name of a package.
+
+Usage: ndef-make app [OPTION].. PACKAGE
+
+  PACKAGE             the name of the package
+
+Options of every RECORD:
+
+  --id I              the id of the record, at most 255 bytes; without it: none
+  --unchecked         write what readers refuse or a standard forbids, too
+  --hex               write hexadecimal digits and a newline; without --hex and
+                      --raw: to a terminal only
+  --raw               write bytes; without it: to all but a terminal
+
+Example:
+
+  ndef-make uri http://www.example.com --and app com.example > tag.bin
+
+Other RECORDs, and the words around them: ndef-make --help
+";
+
+/// What is printed of a handover carrier.
+const CARRIER: &[u8] = b"\
+A handover carrier (Connection Handover 1.2). Its data is its payload.
+
+Usage: ndef-make carrier --format N --type T [OPTION]..
+
+  --format N          the carrier type format, 0 to 7
+  --type T            the carrier type, at most 255 bytes
+  --file FILE         the file that holds the payload, at most 1048576 bytes;
+                      without it, or for -: standard input
+  --payload DIGITS    the payload in hexadecimal digits, in place of a file
+
+Options of every RECORD:
+
+  --id I              the id of the record, at most 255 bytes; without it: none
+  --unchecked         write what readers refuse or a standard forbids, too
+  --hex               write hexadecimal digits and a newline; without --hex and
+                      --raw: to a terminal only
+  --raw               write bytes; without it: to all but a terminal
+
+Example:
+
+  ndef-make carrier --format 2 --type a/b --payload 3132 > tag.bin
+
+Other RECORDs, and the words around them: ndef-make --help
+";
