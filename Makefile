@@ -26,7 +26,7 @@
 #
 # All of it runs on every x86-64 but libndef-v2.a, which needs x86-64-v2 and is made on x86-64 alone: with SSSE3 and
 # SSE4.1 long texts are checked faster. libndef.a holds both, and chooses where a program is loaded (packaging/both); so
-# does what is linked of it, as the Python module. The commands choose where they start (packaging/program); those of
+# does what is linked of it, as the Python module. The commands choose where they start (packaging/command); those of
 # dist/ do so where the release has the code for x86-64-v2. The shared library is two files, of which the loader takes the
 # one for its processor (glibc-hwcaps). libsimbegyor-ndef.a is the same as libndef.a; nfc-tools has another library of the
 # name ndef.
@@ -155,8 +155,8 @@ crates/ndef_explain/out/ndef_explain: $(every_source)
 out/commands/ndef: crates/ndef/out/ndef
 out/commands/ndef_make: crates/ndef_make/out/ndef_make
 out/commands/ndef_explain: crates/ndef_explain/out/ndef_explain
-$(made_programs): packaging/program packaging/choose_main.c packaging/has_v2.h
-	packaging/program $(@F) $@
+$(made_programs): packaging/command packaging/choose_main.c packaging/has_v2.h
+	packaging/command $(@F) $@
 
 crates/ndef_c/out/libndef_c.a: crates.txt $(call sources,$(below_c))
 	cd crates/ndef_c && rt lib --cpu x86-64

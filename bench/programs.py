@@ -168,8 +168,9 @@ class Bench:
         return [node, HERE / 'page.mjs', TOP / 'out/web', self.messages]
 
     def commands(self):
-        if self.made_of() == 'crates' and run([TOP / 'packaging/made_of']).strip() != 'crates':
-            raise Missing('the commands are not proved here')
+        made = ['out/commands/' + crate for crate in ('ndef', 'ndef_make', 'ndef_explain')]
+        if self.made_of() == 'crates' and subprocess.run(['make', '-q', '-C', TOP, 'NDEF_FROM=crates', *made], capture_output=True).returncode:
+            raise Missing('the commands are not proved and built here')
         self.make('programs')
         return [TOP / 'out/bin/ndef']
 

@@ -1,4 +1,4 @@
-/* What packaging/program links with the code of a program for any x86-64 and that for x86-64-v2, so that one program holds both: the
+/* What packaging/command links with the code of a program for any x86-64 and that for x86-64-v2, so that one program holds both: the
    function `main`, which runs the code for its processor. The words of the command line are read elsewhere. */
 #include "has_v2.h"
 

@@ -113,6 +113,9 @@ check_short = _short.check
 begin = _short.begin
 feed = _long.feed
 record_at = _short.record_at
+# The same of a record that is known to be there: Python makes no number of the answer.
+record_there: Any = _loaded(ctypes.PyDLL).record_at
+record_there.restype = None
 payload = _long.payload
 write_record = _short.write_record
 uri = _short.uri

@@ -6,7 +6,7 @@ from typing import Any, BinaryIO, Dict, Generator, Iterable, Iterator, Mapping, 
 
 from . import _library as library
 from ._library import OK, SIZES, USUAL_SIZES, Desk, check_short, lone_fields, new_desk, pop_desk, push_desk, record_at, record_fields
-from ._library import size_of, taken_desk
+from ._library import record_there, size_of, taken_desk
 from .errors import DecodeError, left_out
 from .record import READ_LATE, Parts, Record, parts_of
 
@@ -99,7 +99,7 @@ def lone_record(octets: bytes, desk: Desk, limits: Any, known: Known, told: Told
         status = library.check(octets, size, limits, why)
     if status != OK:
         return None
-    record_at(octets, size, _AT_FRONT, out)
+    record_there(octets, size, _AT_FRONT, out)
     type_at, type_length, id_length, at, length, pieces, tnf, is_last = lone_fields(room)
     if is_last and pieces == 1 and not id_length and told is not None:
         record_class = known.get((tnf, octets[type_at:type_at + type_length]))

@@ -343,6 +343,16 @@ class Texts(unittest.TestCase):
         for most in (0, 2 ** 32):
             self.assertRaisesRegex(ValueError, 'MAX_PAYLOAD_SIZE is 1 to 4294967295, not %d' % most, library.limits, most, 0)
 
+    def test_of_each_limit(self):
+        """A payload is read within the limit of the moment, also where a program has had many of them."""
+        given = octets(ndef.TextRecord('Hello'))
+        for most in (*range(8, 108), 8, 7):
+            with mock.patch.object(ndef.Record, 'MAX_PAYLOAD_SIZE', most):
+                if most < 8:
+                    self.assertRaisesRegex(ndef.DecodeError, 'PayloadTooLarge', decoded, given)
+                else:
+                    self.assertEqual(decoded(given)[0].text, 'Hello')
+
 
 class Large(unittest.TestCase):
     """Payloads of a megabyte, which is the most that is taken."""
