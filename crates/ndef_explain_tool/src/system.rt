@@ -76,8 +76,8 @@ fn run_words<K: Sink>(rt: &HostRuntime, words: &[String], sink: &mut K) -> Statu
 }
 
 /// Runs the program for the words, of which the first is its name, with files, standard input and output, flushes
-/// standard output and gives the status. Where there is no memory for a buffer, or the flush fails, that is 3 and nothing
-/// more is printed.
+/// standard output and gives the status. Where there is no memory for a buffer, or the flush fails, that is 3 and
+/// nothing more is printed.
 pub fn run_on(rt: &HostRuntime, words: &[Bytes]) -> ExitCode {
     let alloc = rt.alloc();
     let Ok(mut writer) = BufWriter::new(alloc, rt.stdout()) else {

@@ -80,8 +80,8 @@ fn run_words<K: Sink, L: Sink>(
 }
 
 /// Runs the program for the words, of which the first is its name, with files, standard input, output and error,
-/// flushes standard output and gives the status. Where there is no memory for a buffer, or the flush fails, that is 3 and
-/// nothing more is printed.
+/// flushes standard output and gives the status. Where there is no memory for a buffer, or the flush fails, that is 3
+/// and nothing more is printed.
 pub fn run_on(rt: &HostRuntime, words: &[Bytes]) -> ExitCode {
     let alloc = rt.alloc();
     let Ok(mut writer) = BufWriter::new(alloc, rt.stdout()) else {

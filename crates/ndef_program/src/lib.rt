@@ -11,7 +11,7 @@
 //! - `reading_options.rt`, `limits.rt`, `specs/LimitOptions.antt`: the options of a command that reads messages.
 //! - `words_error.rt`: why words ask for nothing.
 //! - `ending.rt`, `ending_lines.rt`, `specs/Endings.antt`: how a run ends, and the line of an ending.
-//! - `inputs.rt`, `specs/Inputs.antt`: inputs by their names. `causes.rt`, `specs/Causes.antt`: why a file can't be read.
+//! - `inputs.rt`, `specs/Inputs.antt`: inputs by their names. `causes.rt`, `specs/Causes.antt`: why a file is not read.
 //! - `decimals.rt`: numbers in lines. `specs/Outputs.antt`: what goes out to a sink.
 #![tactic(auto)]
 

@@ -8,8 +8,8 @@ use std::io::{BufReader, BufWriter, Write};
 use std::process::ExitCode;
 
 /// Runs the command for the words, of which the first is its name, with standard input and output, flushes standard
-/// output and gives the status. Where there is no memory for a buffer, or the flush fails, that is 3 and nothing more is
-/// printed.
+/// output and gives the status. Where there is no memory for a buffer, or the flush fails, that is 3 and nothing more
+/// is printed.
 pub fn run_on(rt: &HostRuntime, words: &[Bytes]) -> ExitCode {
     let alloc = rt.alloc();
     let Ok(reader) = BufReader::new(alloc, rt.reader()) else {
