@@ -45,8 +45,8 @@ fn message(alloc: Global) -> Result<Vec<u8>, Fail> {
 
 /// Whether the message is written, and nothing told; none where memory was wanting, which is told, and nothing is
 /// written.
-fn is_made(alloc: Global, words: &[String], input: &[u8], wanted: &[u8]) -> Option<bool> {
-    let mut inputs = StandardInput { bytes: input };
+fn is_made(alloc: Global, words: &[String], wanted: &[u8]) -> Option<bool> {
+    let mut inputs = StandardInput { bytes: b"" };
     let mut room = [0; 256];
     let mut told = [0; 256];
     let mut sink = FailingSink::new(&mut room, 256, None);
@@ -65,12 +65,11 @@ fn is_made(alloc: Global, words: &[String], input: &[u8], wanted: &[u8]) -> Opti
 fn refusals(
     alloc: Global,
     words: &[String],
-    input: &[u8],
     wanted: &[u8],
     spare: &mut Vec<Vec<u8>>,
 ) -> Option<usize> {
     for refused in 0..=spare.len() {
-        match is_made(alloc, words, input, wanted) {
+        match is_made(alloc, words, wanted) {
             Some(true) => return Some(refused),
             Some(false) => return None,
             None => {
@@ -81,54 +80,16 @@ fn refusals(
     None
 }
 
-/// The words that edit the message on standard input: a record less, one in place of another, and one more.
-const EDITS: [&str; 13] = [
-    "ndef-make",
-    "--from",
-    "-",
-    "--drop",
-    "1",
-    "--and",
-    "--replace",
-    "2",
-    "uri",
-    "tel:1",
-    "--and",
-    "uri",
-    "tel:1",
-];
-
-/// How many blocks were let go until the words wrote the message of these records.
-fn refused_for(alloc: Global, texts: &[&str], input: &[u8]) -> Result<Option<usize>, Fail> {
-    let words = words(alloc, texts)?;
+#[test]
+fn makes_all_or_nothing(rt: HostRuntime) -> Result<(), Fail> {
+    let alloc = rt.alloc();
+    let words = words(alloc, texts(alloc)?.as_slice())?;
     let wanted = message(alloc)?;
     let mut spare = spare_blocks(alloc)?;
     let mut held = Vec::with_capacity(alloc, 65536)?;
     let used_up = use_up(alloc, &mut held);
-    let refused = refusals(
-        alloc,
-        words.as_slice(),
-        input,
-        wanted.as_slice(),
-        &mut spare,
-    );
+    let refused = refusals(alloc, words.as_slice(), wanted.as_slice(), &mut spare);
     drop(held);
-    Ok(if used_up { refused } else { None })
-}
-
-#[test]
-fn makes_all_or_nothing(rt: HostRuntime) -> Result<(), Fail> {
-    let alloc = rt.alloc();
-    let refused = refused_for(alloc, texts(alloc)?.as_slice(), b"")?;
-    assert!(rt; matches!(refused, Some(1..)), "{refused:?}");
-    Ok(())
-}
-
-#[test]
-fn edits_all_or_nothing(rt: HostRuntime) -> Result<(), Fail> {
-    let alloc = rt.alloc();
-    let input = message(alloc)?;
-    let refused = refused_for(alloc, &EDITS, input.as_slice())?;
-    assert!(rt; matches!(refused, Some(1..)), "{refused:?}");
+    assert!(rt; used_up && matches!(refused, Some(1..)), "{refused:?}");
     Ok(())
 }
