@@ -3,8 +3,9 @@ ghost use Rattle.std.specs.Prelude.{⊤};
 
 use crate::{MOST, read_input, run, words_fault};
 use ndef_message::{InputError, Sink, StdSink, StdSource};
-use ndef_program::{Inputs, Reader, Status, exit_code, exit_code_after, open_file, tell_cause};
-use ndef_program::{tell_words, texts};
+use ndef_program::{
+    Inputs, Reader, Status, exit_code, exit_code_after, open_file, tell_cause, tell_words, texts,
+};
 use ndef_value::Bytes;
 use std::alloc::Global;
 use std::env::VarError;
