@@ -1,8 +1,8 @@
 //! The command `ndef`: what stands on standard input is shown, checked, or written again.
 #![tactic(auto)]
 
-use ndef_tool::run_on;
 use ndef_program::{Status, exit_code, read_words};
+use ndef_tool::run_on;
 use std::process::ExitCode;
 
 /// Runs the command with its words. Where there is no memory for them, it ends with status 3 and prints nothing.
