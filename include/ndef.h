@@ -56,7 +56,7 @@ extern "C" {
 /* What most calls return. */
 enum ndef_status {
     NDEF_OK = 0,
-    NDEF_REFUSED = 1,      /* the bytes are no message, or no such payload; the call tells the place and the reason */
+    NDEF_REFUSED = 1,      /* the bytes are no message, or no such payload; the call gives the place and the reason */
     NDEF_NO_ROOM = 2,      /* the room is too small; *count has the size that is needed, and the room is unchanged */
     NDEF_BAD_ARGUMENT = 3, /* an argument is wrong; the comment at each call lists what it refuses */
     NDEF_END = 4,          /* there are no more records, references, links or fields */
@@ -177,9 +177,9 @@ typedef struct ndef_record {
     uint32_t last;                  /* 1 for the last record of the message, else 0 */
 } ndef_record;
 
-/* Tells the record that begins at a place. The first record of a message begins at 0, the next at the `end` of the
+/* Gives the record that begins at a place. The first record of a message begins at 0, the next at the `end` of the
  * one before, up to the record whose `last` is 1. If ndef_check took the message, this reaches every record of it.
- * In other bytes the call tells whether a whole record begins at the place: an unchunked record, or an initial
+ * In other bytes the call says whether a whole record begins at the place: an unchunked record, or an initial
  * chunk with all chunks that follow.
  * NDEF_OK: `out` has the record. NDEF_END: `at` is `length`. NDEF_BAD_ARGUMENT: no record begins at any other `at`. */
 uint32_t ndef_record_at(const uint8_t *bytes, ndef_size length, ndef_size at, ndef_record *out);
@@ -223,7 +223,7 @@ typedef struct ndef_writing {
 } ndef_writing;
 enum { NDEF_WRITE_FIRST = 1, NDEF_WRITE_LAST = 2, NDEF_WRITE_LONG = 4 };
 
-/* Writes a record to the room. With an id of length 0 the record gets no id. Records written one behind the other,
+/* Writes a record to the room. With an id of length 0 the record gets no id. Records written one after the other,
  * the first with NDEF_WRITE_FIRST and the last with NDEF_WRITE_LAST, are a message.
  * NDEF_OK, NDEF_NO_ROOM.
  * NDEF_BAD_ARGUMENT: tnf is above 5; an unknown flag is set; the type or the id has more than 255 bytes; the
@@ -238,7 +238,7 @@ uint32_t ndef_write_record(const uint8_t *type, ndef_size type_length, const uin
  *
  * A call that reads a payload is given the whole payload of a record, its chunks joined: its bytes in the message
  * if the record has one chunk, or else what ndef_payload wrote. With NDEF_OK it leaves `why` unchanged. With
- * NDEF_REFUSED the bytes are no payload of that type: why->place and why->reason tell where in the payload and why,
+ * NDEF_REFUSED the bytes are no payload of that type: why->place and why->reason say where in the payload and why,
  * why->records is 0, and nothing else is written. */
 
 /* Writes the URI of a URI record (`U`) to the room, in UTF-8, with its prefix spelled out. Flags: with
@@ -259,7 +259,7 @@ typedef struct ndef_text_parts {
     uint32_t utf16; /* 0: UTF-8. 1: UTF-16, as the byte order mark says; big-endian if there is none */
 } ndef_text_parts;
 
-/* Tells where the parts of the text lie in the payload of a Text record (`T`): language_at is 1.
+/* Says where the parts of the text lie in the payload of a Text record (`T`): language_at is 1.
  * NDEF_OK, NDEF_REFUSED. */
 uint32_t ndef_text(const uint8_t *payload, ndef_size length, ndef_text_parts *out, ndef_checked *why);
 
@@ -285,7 +285,7 @@ typedef struct ndef_carrier_parts {
     uint32_t format;                /* the carrier type format, 0 to 7: what kind of name the carrier type is */
 } ndef_carrier_parts;
 
-/* Tells where the parts of the carrier lie in the payload of a Handover Carrier record (`Hc`). Reserved bits are
+/* Says where the parts of the carrier lie in the payload of a Handover Carrier record (`Hc`). Reserved bits are
  * ignored.
  * NDEF_OK, NDEF_REFUSED. */
 uint32_t ndef_carrier(const uint8_t *payload, ndef_size length, ndef_carrier_parts *out, ndef_checked *why);
@@ -303,7 +303,7 @@ typedef struct ndef_alternative_parts {
     uint32_t references; /* the number of references, 1 to 256: the carrier data reference and the auxiliary ones */
 } ndef_alternative_parts;
 
-/* Tells the power state and the number of references in the payload of an Alternative Carrier record (`ac`).
+/* Gives the power state and the number of references in the payload of an Alternative Carrier record (`ac`).
  * Reserved bits are ignored. Such records stand in the message within a handover request or select.
  * NDEF_OK, NDEF_REFUSED. */
 uint32_t ndef_alternative(const uint8_t *payload, ndef_size length, ndef_alternative_parts *out, ndef_checked *why);
@@ -313,7 +313,7 @@ typedef struct ndef_part {
     ndef_size at, length;
 } ndef_part;
 
-/* Tells where a reference lies in the payload of an Alternative Carrier record (`ac`). Index 0 is the carrier data
+/* Says where a reference lies in the payload of an Alternative Carrier record (`ac`). Index 0 is the carrier data
  * reference, which is the id of the record that describes the carrier; the auxiliary references begin at index 1.
  * NDEF_OK. NDEF_END: there are no more references. NDEF_BAD_ARGUMENT: it is no such payload. */
 uint32_t ndef_reference(const uint8_t *payload, ndef_size length, ndef_size index, ndef_part *out);
@@ -328,12 +328,12 @@ uint32_t ndef_write_alternative(uint32_t power, const uint8_t *bytes, ndef_size 
 
 /* A handover request. */
 typedef struct ndef_request_parts {
-    ndef_size carriers;    /* the number of its alternative carriers; ndef_link_at tells each */
+    ndef_size carriers;    /* the number of its alternative carriers; ndef_link_at gives each */
     uint32_t major, minor; /* its version: major is 1, minor 0 to 15 */
     uint32_t collision;    /* the random number of its Collision Resolution record, the first of its records */
 } ndef_request_parts;
 
-/* Tells the version, the random number and the number of alternative carriers in the payload of a Handover Request
+/* Gives the version, the random number and the number of alternative carriers in the payload of a Handover Request
  * record (`Hr`). The payload is a version byte and then a message; pass what follows the version byte to
  * ndef_record_at to reach its records. Flags: NDEF_STANDARD reads the reserved type name format 7 and URI codes above
  * 0x23 as the standards say; without it they are refused.
@@ -343,13 +343,13 @@ uint32_t ndef_request(const uint8_t *payload, ndef_size length, uint32_t flags, 
 
 /* A handover select. */
 typedef struct ndef_select_parts {
-    ndef_size carriers;                 /* the number of its alternative carriers; ndef_link_at tells each */
+    ndef_size carriers;                 /* the number of its alternative carriers; ndef_link_at gives each */
     ndef_size detail_at, detail_length; /* where the data of its first error lie, in the payload; 0 and 0 without one */
     uint32_t major, minor;              /* its version: major is 1, minor 0 to 15 */
     uint32_t has_error, error;          /* 1 and the reason of its error (the standard defines 1 to 3), or 0 and 0 */
 } ndef_select_parts;
 
-/* Tells the version, the first error and the number of alternative carriers in the payload of a Handover Select
+/* Gives the version, the first error and the number of alternative carriers in the payload of a Handover Select
  * record (`Hs`). The payload is a version byte, alone or followed by a message; pass what follows the version byte
  * to ndef_record_at to reach its records. Flags: as ndef_request.
  * NDEF_OK, NDEF_REFUSED. NDEF_BAD_ARGUMENT: an unknown flag is set. */
@@ -363,7 +363,7 @@ typedef struct ndef_link {
     uint32_t has_record;                  /* 1; or 0 if it refers to no record, and then index and place are 0 */
 } ndef_link;
 
-/* Tells one link: the alternative carrier with an index, from 0, and the first record of the message whose id
+/* Gives one link: the alternative carrier with an index, from 0, and the first record of the message whose id
  * equals the carrier data reference. There is no such record if the reference is empty or no record has that id.
  * The bytes begin with the message, and other bytes may follow it. The payload is that of its Handover Request or
  * Handover Select record, its chunks joined, as ndef_payload writes it. Each call reads the whole payload and the
@@ -381,7 +381,7 @@ typedef struct ndef_poster_parts {
     uint32_t has_size, size;      /* 1 and the size in bytes of what the URI leads to, or 0 and 0 */
 } ndef_poster_parts;
 
-/* Tells the URI, the first action and the first size in the payload of a Smart Poster record (`Sp`). The payload is
+/* Gives the URI, the first action and the first size in the payload of a Smart Poster record (`Sp`). The payload is
  * a message; pass it to ndef_record_at to reach its records. Flags: as ndef_request.
  * NDEF_OK, NDEF_REFUSED. NDEF_BAD_ARGUMENT: an unknown flag is set. */
 uint32_t ndef_poster(const uint8_t *payload, ndef_size length, uint32_t flags, ndef_poster_parts *out,
@@ -407,10 +407,10 @@ uint32_t ndef_write_collision(uint32_t number, uint8_t *room, ndef_size size, nd
 typedef struct ndef_error_parts {
     ndef_size data_at, data_length; /* where its data lie in the payload; data_at is 1, also if they are empty */
     uint32_t reason;                /* 0 to 255; the standard defines 1 to 3 */
-    uint32_t has_number, number;    /* with the reasons 1 to 3, 1 and the number that the data tell; else 0 and 0 */
+    uint32_t has_number, number;    /* with the reasons 1 to 3, 1 and the number that the data hold; else 0 and 0 */
 } ndef_error_parts;
 
-/* Tells the reason, the data and the number of the error in the payload of an Error record (`err`) of a handover
+/* Gives the reason, the data and the number of the error in the payload of an Error record (`err`) of a handover
  * select.
  * NDEF_OK, NDEF_REFUSED. */
 uint32_t ndef_error(const uint8_t *payload, ndef_size length, ndef_error_parts *out, ndef_checked *why);
@@ -442,21 +442,21 @@ enum ndef_handover { NDEF_REQUEST = 0, NDEF_SELECT = 1 };
  *
  * These calls fill an array of the caller, `size` elements long, from its front. They put the number of elements they
  * wrote into *count. Where the array is too small, the answer is NDEF_NO_ROOM, *count has the size that is needed, and
- * the array is unchanged: so an array of 0 elements asks for the size. Elements behind *count are unchanged. */
+ * the array is unchanged: so an array of 0 elements asks for the size. Elements after *count are unchanged. */
 
-/* Tells where the payload of each chunk lies, of the record that begins at a place. The parts are in the order of the
+/* Says where the payload of each chunk lies, of the record that begins at a place. The parts are in the order of the
  * chunks, so their bytes, joined, are what ndef_payload writes; a record that is not chunked has one.
  * NDEF_OK, NDEF_NO_ROOM. NDEF_BAD_ARGUMENT: no record begins at the place, or the place is `length`. */
 uint32_t ndef_pieces(const uint8_t *bytes, ndef_size length, ndef_size at, ndef_part *parts, ndef_size size,
                      ndef_size *count);
 
-/* Tells where each reference lies in the payload of an Alternative Carrier record (`ac`): for each index what
- * ndef_reference tells, the carrier data reference first. ndef_write_alternative takes such parts.
+/* Says where each reference lies in the payload of an Alternative Carrier record (`ac`): for each index what
+ * ndef_reference gives, the carrier data reference first. ndef_write_alternative takes such parts.
  * NDEF_OK, NDEF_NO_ROOM. NDEF_BAD_ARGUMENT: it is no such payload. */
 uint32_t ndef_references(const uint8_t *payload, ndef_size length, ndef_part *parts, ndef_size size,
                          ndef_size *count);
 
-/* Tells the links of a message: for each index what ndef_link_at tells of the same message and payload. The payload is
+/* Gives the links of a message: for each index what ndef_link_at gives for the same message and payload. The payload is
  * read once. Each alternative carrier is compared with the records up to its own, so the time grows with carriers times
  * records: for bytes of a stranger, have ndef_check take the message with limits first.
  * NDEF_OK, NDEF_NO_ROOM. NDEF_BAD_ARGUMENT: as ndef_link_at answers it. */
@@ -465,16 +465,16 @@ uint32_t ndef_links(const uint8_t *bytes, ndef_size length, const uint8_t *paylo
 
 /* ---- find records */
 
-/* Tells the first record of a type, from the record that begins at a place on, up to the last of its message. The type
+/* Gives the first record of a type, from the record that begins at a place on, up to the last of its message. The type
  * name format is an ndef_tnf; types are equal where their bytes are. To find the next one, ask again with its `end`,
  * unless it was the last: what follows the last is another message.
- * NDEF_OK: `out` is what ndef_record_at tells of that record. NDEF_END: none of these records has the type, or the
+ * NDEF_OK: `out` is what ndef_record_at gives for that record. NDEF_END: none of these records has the type, or the
  *   place is `length`. NDEF_BAD_ARGUMENT: no record begins at the place; or, before a record that has the type or is
  *   the last, no whole record begins where the one before it ends. */
 uint32_t ndef_find_type(const uint8_t *bytes, ndef_size length, ndef_size at, uint32_t tnf, const uint8_t *type,
                         ndef_size type_length, ndef_record *out);
 
-/* Tells the first record with an id, in the same way. No record has the empty id.
+/* Gives the first record with an id, in the same way. No record has the empty id.
  * NDEF_OK, NDEF_END, NDEF_BAD_ARGUMENT: as ndef_find_type. */
 uint32_t ndef_find_id(const uint8_t *bytes, ndef_size length, ndef_size at, const uint8_t *id, ndef_size id_length,
                       ndef_record *out);
@@ -485,7 +485,7 @@ uint32_t ndef_find_id(const uint8_t *bytes, ndef_size length, ndef_size at, cons
  * standards define. The fields follow one another without a gap from the first byte to the last. A message within a
  * payload has fields of its own, with depth 1. The payload of a chunk is one field.
  *
- * The calls with a `why` write to it what ndef_check tells of the bytes: where why->reason is 0, the fields are those
+ * The calls with a `why` write to it what ndef_check says of the bytes: where why->reason is 0, the fields are those
  * of the message with which the bytes begin, why->place bytes; otherwise those of the bytes before the refused one, at
  * why->place, and the last of them ends there, so that bytes of it may be missing. They look into payloads:
  * NDEF_BAD_ARGUMENT also answers the flag NDEF_OPAQUE. */
@@ -498,7 +498,7 @@ typedef struct ndef_field {
 } ndef_field;
 
 /* Fills the array with the fields, in order. It has `size` elements; *count is the number of the fields.
- * NDEF_OK: they are those of the message. NDEF_REFUSED: they are those before the refused byte. Elements behind *count
+ * NDEF_OK: they are those of the message. NDEF_REFUSED: they are those before the refused byte. Elements after *count
  *   are unchanged.
  * NDEF_NO_ROOM: the array is too small, whether the bytes are refused or not: *count has the size that is needed, *why
  *   says the rest, and the array is unchanged.
@@ -506,17 +506,17 @@ typedef struct ndef_field {
 uint32_t ndef_fields(const uint8_t *bytes, ndef_size length, const ndef_limits *limits, ndef_field *fields,
                      ndef_size size, ndef_size *count, ndef_checked *why);
 
-/* Tells the field in which the byte at a place stands. Each call looks at the message from its start.
+/* Gives the field in which the byte at a place stands. Each call looks at the message from its start.
  * NDEF_OK: `out` is that field.
- * NDEF_END: the place is behind the message. NDEF_REFUSED: the bytes are refused, and the place is that of the refused
- *   byte or behind it. After either, `out` is unchanged.
+ * NDEF_END: the place is after the message. NDEF_REFUSED: the bytes are refused, and the place is that of the refused
+ *   byte or after it. After either, `out` is unchanged.
  * NDEF_BAD_ARGUMENT: as ndef_fields answers it. */
 uint32_t ndef_field_at(const uint8_t *bytes, ndef_size length, const ndef_limits *limits, ndef_size place,
                        ndef_field *out, ndef_checked *why);
 
-/* Steps to the next field: replaces the field by the one that holds the byte behind it. Before the first one the field
+/* Steps to the next field: replaces the field by the one that holds the byte after it. Before the first one the field
  * has `at` and `length` 0. Each call looks at the message from its start, so all fields of a message take time that
- * grows with the square of its length; ndef_fields tells them all in one walk.
+ * grows with the square of its length; ndef_fields gives them all in one walk.
  * NDEF_OK: there is one. NDEF_END: it was the last of the message. NDEF_REFUSED: it was the last before the refused
  *   byte. After either, the field is unchanged.
  * NDEF_BAD_ARGUMENT: as ndef_fields answers it. */
@@ -562,13 +562,13 @@ uint32_t ndef_status_name(uint32_t status, uint8_t *room, ndef_size size, ndef_s
 
 /* ---- URIs where they lie */
 
-/* A URI: the prefix of a code, and behind it the rest, which lies in the payload. */
+/* A URI: the prefix of a code, and after it the rest, which lies in the payload. */
 typedef struct ndef_uri_parts {
     ndef_size rest_at, rest_length; /* the rest, in UTF-8 */
     uint32_t code;                  /* 0 to 255; ndef_uri_prefix writes its prefix */
 } ndef_uri_parts;
 
-/* Tells the code and where the rest lies in the payload of a URI record (`U`). The URI that ndef_uri writes is the
+/* Gives the code and where the rest lies in the payload of a URI record (`U`). The URI that ndef_uri writes is the
  * prefix of the code and then the rest. Flags: as ndef_uri.
  * NDEF_OK, NDEF_REFUSED. NDEF_BAD_ARGUMENT: an unknown flag is set. */
 uint32_t ndef_uri_view(const uint8_t *payload, ndef_size length, uint32_t flags, ndef_uri_parts *out,
@@ -588,11 +588,11 @@ typedef struct ndef_built {
     uint32_t records; /* the number of its records */
 } ndef_built;
 
-/* Appends a record to the message that the room begins with, and tells in `built` what is known of the message then.
- * The room holds a whole message behind each call: the record that was the last says so no longer. The record is
+/* Appends a record to the message that the room begins with, and writes to `built` what is known of the message then.
+ * The room holds a whole message after each call: the record that was the last says so no longer. The record is
  * written as ndef_write_record writes it; the only flag is NDEF_WRITE_LONG, since the call knows which record is
  * first and which is last. `built` and the room are as the call before left them; for the first record all of `built`
- * is 0. *count has the length of the message with the record. Bytes of the room behind it are unchanged.
+ * is 0. *count has the length of the message with the record. Bytes of the room after it are unchanged.
  * NDEF_OK. NDEF_NO_ROOM: the room and `built` are unchanged.
  * NDEF_BAD_ARGUMENT: another flag is set; what ndef_write_record answers so; or `built` does not fit the room: its
  *   length is above `size`; the last bytes of the message, from last_at on, are not the chunk that ends a message; it
@@ -623,19 +623,19 @@ uint32_t ndef_append_uri(ndef_built *built, const uint8_t *id, ndef_size id_leng
  * The payload is that of a Smart Poster record (`Sp`), its chunks joined. Reserved values are treated as the standard
  * says. Places count from the front of this payload. */
 
-/* Tells the titles of a smart poster, one text in each of several languages: where the parts of each lie, in the order
+/* Gives the titles of a smart poster, one text in each of several languages: where the parts of each lie, in the order
  * of their records. It fills the array as the calls above do.
- * NDEF_OK, NDEF_NO_ROOM. NDEF_BAD_ARGUMENT: it is no such payload; ndef_poster with NDEF_STANDARD tells where and
+ * NDEF_OK, NDEF_NO_ROOM. NDEF_BAD_ARGUMENT: it is no such payload; ndef_poster with NDEF_STANDARD says where and
  *   why. */
 uint32_t ndef_poster_titles(const uint8_t *payload, ndef_size length, ndef_text_parts *titles, ndef_size size,
                             ndef_size *count);
 
-/* Tells the first title in a language, such as "en". Upper and lower case are the same in the language code.
+/* Gives the first title in a language, such as "en". Upper and lower case are the same in the language code.
  * NDEF_OK. NDEF_END: the poster has no title in the language. NDEF_BAD_ARGUMENT: it is no such payload. */
 uint32_t ndef_title(const uint8_t *payload, ndef_size length, const uint8_t *language, ndef_size language_length,
                     ndef_text_parts *out);
 
-/* Tells where the media type (`t`) of what the URI leads to lies, such as "text/html", in UTF-8; of several the first.
+/* Says where the media type (`t`) of what the URI leads to lies, such as "text/html", in UTF-8; of several the first.
  * NDEF_OK. NDEF_END: the poster has none. NDEF_BAD_ARGUMENT: it is no such payload. */
 uint32_t ndef_poster_media_type(const uint8_t *payload, ndef_size length, ndef_part *out);
 
@@ -645,7 +645,7 @@ typedef struct ndef_icon {
     ndef_part data;       /* the bytes of the image */
 } ndef_icon;
 
-/* Tells the icons of a smart poster: where the media type and the bytes of each lie, in the order of their records. It
+/* Gives the icons of a smart poster: where the media type and the bytes of each lie, in the order of their records. It
  * fills the array as the calls above do. Each record of a media type (NDEF_TNF_MEDIA) counts as an icon. The standard
  * asks for types that begin with "image/" or "video/", and the call does not look at that: look at the type before you
  * use the data.
@@ -706,7 +706,7 @@ uint32_t ndef_write_poster(const uint8_t *bytes, ndef_size length, const ndef_po
 
 /* ---- handovers written in one call */
 
-/* An alternative carrier of a handover that is written. Its references are some of an array of parts, one behind
+/* An alternative carrier of a handover that is written. Its references are some of an array of parts, one after
  * another: the carrier data reference, which is the id of the record that describes the carrier, and then the auxiliary
  * references. */
 typedef struct ndef_alternative_writing {

@@ -30,7 +30,7 @@ enum ndef_field_names {
     NDEF_FIELD_MARK = 10,                /* of a text in UTF-16 */
     NDEF_FIELD_TEXT = 11,
     NDEF_FIELD_URI_CODE = 12,            /* of a URI */
-    NDEF_FIELD_URI_REST = 13,            /* behind the prefix for which the code stands */
+    NDEF_FIELD_URI_REST = 13,            /* after the prefix for which the code stands */
     NDEF_FIELD_ACTION = 14,              /* of a smart poster */
     NDEF_FIELD_SIZE = 15,                /* of a smart poster */
     NDEF_FIELD_MEDIA_TYPE = 16,          /* of a smart poster */
@@ -42,7 +42,7 @@ enum ndef_field_names {
     NDEF_FIELD_AUXILIARY_COUNT = 22,
     NDEF_FIELD_AUXILIARY_LENGTH = 23,
     NDEF_FIELD_AUXILIARY = 24,
-    NDEF_FIELD_AFTER_AUXILIARY = 25,     /* the bytes behind the references */
+    NDEF_FIELD_AFTER_AUXILIARY = 25,     /* the bytes after the references */
     NDEF_FIELD_ERROR_REASON = 26,        /* of a handover's error */
     NDEF_FIELD_ERROR_DATA = 27,
     NDEF_FIELD_CARRIER_FORMAT = 28,      /* of a handover carrier, as the next three */
@@ -136,7 +136,7 @@ NDEF_INLINE const char *ndef_field_text(uint32_t name) {
 }
 
 /* The version of this header as text: NDEF_VERSION_STRING is "0.3.0.dev". ndef_version_string returns it, and ndef_version
- * tells the version of the library, which is another where the program runs with another shared library. */
+ * gives the version of the library, which is another where the program runs with another shared library. */
 #define NDEF_DIGITS(number) #number
 #define NDEF_VERSION_TEXT(major, minor, patch) NDEF_DIGITS(major) "." NDEF_DIGITS(minor) "." NDEF_DIGITS(patch)
 #define NDEF_VERSION_STRING NDEF_VERSION_TEXT(NDEF_VERSION_MAJOR, NDEF_VERSION_MINOR, NDEF_VERSION_PATCH)
