@@ -32,7 +32,7 @@ pub(super) fn texts_of<'a>(
     Ok(texts)
 }
 
-/// The most bytes of an input of which each read and each write fails in turn.
+/// The length of the longest input for which each read and each write fails in turn.
 const MOST_IN_TURN: usize = 64;
 
 // What is written, and the status, for bytes that come in two pieces. Where they are few, each read and
@@ -75,8 +75,8 @@ fn are_digits(alloc: Global, lines: Vec<u8>, out: &[u8]) -> Result<bool, Fail> {
     Ok(digits.as_slice() == hex::encode(alloc, out)?.as_bytes())
 }
 
-// The same, where the bytes come as hexadecimal text gives the same lines, or the digits of what is
-// written.
+// What `ran` gives, if the same bytes as hexadecimal text give the same status and the same lines, or with `encode`
+// the digits of what is written.
 pub(super) fn ran_alike(
     alloc: Global,
     texts: &[&str],
@@ -107,7 +107,7 @@ fn checks_with_each_cut(rt: HostRuntime) -> Result<(), Fail> {
     Ok(())
 }
 
-// So many of the least message, and what `check` prints of them.
+// `count` copies of the shortest message, and what `check` prints for them.
 fn least_messages(alloc: Global, count: u16) -> Result<(Vec<u8>, String), Fail> {
     let mut bytes = Vec::new(alloc);
     let mut text = String::new(alloc);
@@ -127,7 +127,7 @@ fn followed(alloc: Global, text: &str, line: &str) -> Result<String, Fail> {
     Ok(all)
 }
 
-/// What is written, and the status, where a slow reader fails behind the bytes.
+/// The status, and what is written, where a slow reader gives the bytes and then fails.
 fn ran_slowly(
     alloc: Global,
     texts: &[&str],
@@ -142,14 +142,14 @@ fn ran_slowly(
     run_from(alloc, texts, &mut source)
 }
 
-/// Whether a run on a reader that fails behind so many messages tells them and the fault.
+/// Whether `check`, on a reader that gives the bytes and then fails, prints the text and then the line of the fault.
 fn tells_the_fault_behind(alloc: Global, bytes: &[u8], text: &str) -> Result<bool, Fail> {
     let (status, out) = ran_slowly(alloc, &["ndef", "check"], bytes, 7)?;
     let faulty = followed(alloc, text, "fault: reading\n")?;
     Ok(status == 3 && out.as_slice() == faulty.as_bytes())
 }
 
-/// Whether runs with one message more than one run handles end with status 3 behind so many of them.
+/// Whether runs on these messages and one more, which is one more than a run handles, end with status 3 after these.
 fn ends_behind(alloc: Global, bytes: &[u8], text: &str) -> Result<bool, Fail> {
     let mut more = Vec::new(alloc);
     more.extend_from_slice(bytes)?;
@@ -176,7 +176,7 @@ fn handles_10000_messages(rt: HostRuntime) -> Result<(), Fail> {
     Ok(())
 }
 
-/// Words that don't parse, behind the program's name.
+/// Words that don't parse; each line follows the program's name.
 const NO_WORDS: &str = "
 decode
 --help
@@ -202,7 +202,7 @@ fn is_unparsed(alloc: Global, texts: &[&str]) -> Result<bool, Fail> {
     Ok(status == 2 && out.as_slice() == USAGE.as_bytes())
 }
 
-/// The same of the words of a line.
+/// The same for the words of a line.
 fn is_line_unparsed(alloc: Global, line: &str) -> Result<bool, Fail> {
     is_unparsed(alloc, texts_of(alloc, "ndef", line)?.as_slice())
 }
@@ -325,7 +325,7 @@ fn large_message(alloc: Global) -> Result<Vec<u8>, Fail> {
     Ok(bytes)
 }
 
-// Whether this is written of what a standard reader gives.
+// Whether a run that reads the bytes through a `StdSource` writes the wanted ones.
 fn passes(alloc: Global, action: &str, bytes: &[u8], wanted: &[u8]) -> Result<bool, Fail> {
     let texts = ["ndef", action, "--payload", "2000000"];
     let mut source = StdSource::new(bytes);
@@ -359,7 +359,7 @@ fn tells_a_reading_fault(rt: HostRuntime) -> Result<(), Fail> {
     Ok(())
 }
 
-/// What goes out, and the status, where the writer takes so many bytes and then fails for good.
+/// The status, and what goes out, where the writer takes `room` bytes and then fails for good.
 fn ran_into(alloc: Global, action: &str, bytes: &[u8], room: usize) -> Result<(u8, Vec<u8>), Fail> {
     let words = words(alloc, &["ndef", action])?;
     let mut source = SliceSource::new(bytes, &[]);

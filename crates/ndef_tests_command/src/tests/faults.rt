@@ -35,7 +35,7 @@ fn tells_faults_behind_a_message(rt: HostRuntime) -> Result<(), Fail> {
     Ok(())
 }
 
-/// A text record, and behind it a message of two records.
+/// A message of one text record, and after it a message of two records.
 const BOTH: [u8; 20] = [
     0xD1, 0x01, 0x08, 0x54, 0x02, 0x65, 0x6E, 0x48, 0x65, 0x6C, 0x6C, 0x6F, 0x91, 0x01, 0x00, 0x41,
     0x51, 0x01, 0x00, 0x42,
@@ -115,8 +115,8 @@ fn reads_text_whole_before_a_message(rt: HostRuntime) -> Result<(), Fail> {
     Ok(())
 }
 
-/// Whether a run whose input fails at this place ends as the whole run, or with status 3 and a front
-/// of what it writes, the line of the fault behind it.
+/// Whether a run whose input fails at this place ends as the whole run does, or ends with status 3 and has written a
+/// front of what the whole run writes, with or without the line of the fault after it.
 fn reads_in_part(
     alloc: Global,
     texts: &[&str],
@@ -132,8 +132,8 @@ fn reads_in_part(
     Ok((status, out.as_slice()) == whole || status == 3 && whole.1.starts_with(front))
 }
 
-/// Whether a run whose sink stops at this place ends with status 3 and has written just so much of the
-/// output.
+/// Whether a run whose sink stops at this place ends with status 3 and has written exactly the output up to this
+/// place.
 fn writes_in_part(
     alloc: Global,
     texts: &[&str],

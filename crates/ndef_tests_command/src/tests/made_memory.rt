@@ -12,10 +12,10 @@ use std::test::Fail;
 /// How many records are asked for.
 const RECORDS: u8 = 20;
 
-/// What is behind the first octet of a URI record `tel:1`.
+/// What follows the first octet of a URI record `tel:1`.
 const URI: [u8; 5] = [0x01, 0x02, 0x55, 0x05, 0x31];
 
-/// The words for so many URIs.
+/// The words that ask for `RECORDS` URI records.
 fn texts(alloc: Global) -> Result<Vec<&'static str>, Fail> {
     let mut texts = Vec::new(alloc);
     texts.push("ndef-make")?;
@@ -43,8 +43,8 @@ fn message(alloc: Global) -> Result<Vec<u8>, Fail> {
     Ok(bytes)
 }
 
-/// Whether the message is written, and nothing told; none where memory was wanting, which is told, and nothing is
-/// written.
+/// Whether the message is written, and nothing reported; `None` where memory ran out, which is reported, and nothing
+/// is written.
 fn is_made(alloc: Global, words: &[String], wanted: &[u8]) -> Option<bool> {
     let mut inputs = StandardInput { bytes: b"" };
     let mut room = [0; 256];
@@ -61,7 +61,7 @@ fn is_made(alloc: Global, words: &[String], wanted: &[u8]) -> Option<bool> {
     }
 }
 
-/// How many blocks were let go until the message was written; none where a run ended otherwise.
+/// How many blocks were freed until the message was written; `None` where a run ended otherwise.
 fn refusals(
     alloc: Global,
     words: &[String],

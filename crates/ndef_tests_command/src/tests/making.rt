@@ -27,7 +27,7 @@ impl<'a> Inputs for StandardInput<'a> {
     }
 }
 
-/// What came of a run: its status, what was written, and what was told.
+/// The outcome of a run: its status, what was written, and what was reported.
 #[derive(Drop)]
 struct Outcome {
     status: u8,
@@ -60,7 +60,7 @@ fn run_on(alloc: Global, texts: &[&str], terminal: bool, input: &[u8]) -> Result
     })
 }
 
-/// The same of the words of a line.
+/// The same for the words of a line.
 fn run_line(alloc: Global, line: &str, input: &[u8]) -> Result<Outcome, Fail> {
     run_on(
         alloc,
@@ -70,7 +70,7 @@ fn run_line(alloc: Global, line: &str, input: &[u8]) -> Result<Outcome, Fail> {
     )
 }
 
-/// Whether a run ends with the status, has written nothing and has told the text.
+/// Whether a run ends with the status, has written nothing and has reported the text.
 fn tells(alloc: Global, line: &str, input: &[u8], status: u8, text: &str) -> Result<bool, Fail> {
     let none = run_line(alloc, line, input)?;
     let same = none.lines.as_slice() == text.as_bytes();
@@ -219,7 +219,7 @@ const WRITTEN: [(&str, &[u8], &str, &str); 23] = [
     ),
 ];
 
-/// Whether a run writes these bytes and tells nothing.
+/// Whether a run writes these bytes and reports nothing.
 fn writes(alloc: Global, line: &str, input: &[u8], bytes: &[u8]) -> Result<bool, Fail> {
     let plain = run_line(alloc, line, input)?;
     Ok(plain.status == 0 && plain.bytes.as_slice() == bytes && plain.lines.is_empty())
@@ -256,11 +256,11 @@ fn makes_hexadecimal_text(rt: HostRuntime) -> Result<(), Fail> {
     Ok(())
 }
 
-/// What is told where digits are written because they go to a terminal.
+/// What is reported where digits are written because they go to a terminal.
 const NOTE: &str =
     "standard output is a terminal: writing hexadecimal digits; --raw writes the bytes\n";
 
-/// Words, and what they write to a terminal and tell.
+/// Words, what a run with them writes to a terminal, and what it reports.
 const ON_A_TERMINAL: [(&str, &[u8], &str); 4] = [
     ("uri a", b"d10102550061\n", NOTE),
     ("uri a --hex", b"d10102550061\n", ""),
@@ -362,7 +362,7 @@ fn tells_usage(rt: HostRuntime) -> Result<(), Fail> {
     Ok(())
 }
 
-/// Words that ask for what can't be said, and the line that is told.
+/// Words that ask for what can't be made, the input, and the line that is reported.
 const REFUSED: [(&str, &[u8], &str); 20] = [
     (
         "text --language \u{e9} a",

@@ -11,14 +11,14 @@ use std::test::Fail;
 /// The bytes of a payload that is larger than what the words take.
 const LARGE: usize = 100000;
 
-/// What came of the runs for which memory was wanting, and of the one for which it wasn't.
+/// The outcome of the runs that lacked memory, and of the last one, which had enough.
 #[derive(Clone, Copy, Debug, Drop, PartialEq, Eq)]
 struct Seen {
-    /// Nothing was written by some.
+    /// Some runs wrote nothing.
     nothing: bool,
-    /// Whole blocks and the line of the fault were written by some.
+    /// Some runs wrote whole blocks and the line of the fault.
     fault: bool,
-    /// All was written by the last.
+    /// The last run wrote everything.
     whole: bool,
 }
 
@@ -43,13 +43,13 @@ fn is_all(written: &[u8], wanted: &Wanted<'_>) -> bool {
     written == wanted.all
 }
 
-/// How one run ends where memory may be wanting.
+/// How one run ends where memory may run out.
 enum Ended {
     /// With status 0, all written or not.
     Clean(bool),
-    /// For want of memory, with nothing written.
+    /// With a lack of memory, and nothing written.
     Nothing,
-    /// For want of memory, with whole blocks and the line of the fault.
+    /// With a lack of memory, and whole blocks and the line of the fault written.
     Fault,
     /// Otherwise.
     Otherwise,
@@ -75,7 +75,7 @@ fn run_once(
     }
 }
 
-/// Runs the command again and again, letting a block go each time, until memory isn't wanting.
+/// Runs the command again and again, and frees a block each time, until there is enough memory.
 fn runs_at_last(
     alloc: Global,
     words: &[String],
@@ -104,7 +104,7 @@ fn runs_at_last(
     None
 }
 
-/// Blocks that are let go one by one, the small ones first.
+/// Blocks that are freed one by one, the small ones first.
 pub(super) fn spare_blocks(alloc: Global) -> Result<Vec<Vec<u8>>, Fail> {
     let mut spare: Vec<Vec<u8>> = Vec::with_capacity(alloc, 2048)?;
     for _ in 0..16u8 {
@@ -144,7 +144,7 @@ fn seen_of(
     }
 }
 
-/// A text record, and behind it a message with a large payload.
+/// A message of one text record, and after it a message with a large payload.
 fn two_messages(alloc: Global) -> Result<Vec<u8>, Fail> {
     let payload = vec![in alloc; 0x5Au8; LARGE]?;
     let mut bytes = Vec::new(alloc);
@@ -190,7 +190,7 @@ fn encodes_whole_blocks(rt: HostRuntime) -> Result<(), Fail> {
     Ok(())
 }
 
-/// Whether an input is refused as soon as there is memory for the words, and never ends for want of memory after them.
+/// Whether an input is refused as soon as there is memory for the words: no run that has read them lacks memory.
 fn refuses_at_last(
     alloc: Global,
     words: &[String],
@@ -213,7 +213,7 @@ fn refuses_at_last(
     false
 }
 
-/// Whether `show` refuses an input so, once memory is used up.
+/// Whether `show` refuses an input with this line, once memory is used up.
 fn refuses_without_memory(alloc: Global, bytes: &[u8], line: &[u8]) -> Result<bool, Fail> {
     let words = words(alloc, &["ndef", "show"])?;
     let mut spare = spare_blocks(alloc)?;

@@ -25,7 +25,7 @@ fn ending_of(alloc: Global, bytes: &[u8], out: &mut Vec<u8>) -> Ending {
     handle(alloc, &choice, &mut source, &mut sink).ending
 }
 
-// Lets blocks go until the message is shown; until then memory is wanting, and nothing is written.
+// Frees blocks until the message is shown; until then there is not enough memory, and nothing is written.
 fn shows_at_last(alloc: Global, bytes: &[u8], out: &mut Vec<u8>, spare: &mut Vec<Vec<u8>>) -> bool {
     for _ in 0..13u8 {
         match ending_of(alloc, bytes, out) {

@@ -19,7 +19,7 @@ D0 00 00 07 | Done { taken: 3 } | Ok(()) | 1 | 3
 07 | Done { taken: 0 } | Ok(()) | 1 | 3
 ";
 
-/// Whether a line tells what a checker shows that has taken one part more.
+/// Whether a checker that has taken the part in a line shows what the line gives.
 fn is_shown(alloc: Global, checker: &mut Checker<Opaque>, line: &str) -> Result<bool, Fail> {
     let (octets, told) = field(line);
     let fed = checker.feed(octets_of(alloc, octets)?.as_slice());

@@ -66,7 +66,7 @@ fn writes_so(
     }
 }
 
-/// Whether a line tells what is written for its message.
+/// Whether what is written for the message in a line is what the line gives.
 fn is_written(alloc: Global, line: &str) -> Result<bool, Fail> {
     let [bytes, form, size, wanted, ..] = fields(line);
     let message = read(alloc, octets_of(alloc, bytes)?.as_slice())?;
@@ -98,8 +98,8 @@ fn hello(alloc: Global) -> Result<Message, Fail> {
     Ok(Message::new(records)?)
 }
 
-/// What is written of a message, and what went out, where the writer takes so many bytes and then fails
-/// for good.
+/// What writing a message answers, and what went out, where the writer takes `room` bytes and then fails for
+/// good.
 fn written_into(
     alloc: Global,
     message: &Message,
@@ -119,7 +119,8 @@ fn written_into(
     Ok((written, out))
 }
 
-/// Whether of the text record just so many bytes go out where the writer has room for them.
+/// Whether exactly the first `room` bytes of the text record go out, and are counted, where the writer has room for
+/// no more.
 fn goes_out(alloc: Global, room: usize) -> Result<bool, Fail> {
     let (answer, out) = written_into(alloc, &hello(alloc)?, room)?;
     let written = room as u64;
@@ -139,7 +140,7 @@ fn counts_what_went_out(rt: HostRuntime) -> Result<(), Fail> {
     Ok(())
 }
 
-// What is offered and not taken at all counts as a fault, for good.
+// A writer that takes none of the bytes it is offered counts as failed, for good.
 #[test]
 fn tells_a_writer_that_takes_nothing(rt: HostRuntime) -> Result<(), Fail> {
     let hello = hello(rt.alloc())?;

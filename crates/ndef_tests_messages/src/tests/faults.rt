@@ -32,7 +32,7 @@ fn reading_fails_at_each_place(rt: HostRuntime) {
     assert!(rt; read_up_to(alloc, 24) == Ok(24));
 }
 
-/// Whether a front, and behind it a pattern for ever, is refused so, read and checked.
+/// Whether reading and checking a front, and after it a pattern that repeats for ever, both give this answer.
 fn is_refused(
     alloc: Global,
     front: &[u8],
@@ -113,7 +113,7 @@ fn reads_4096_pieces(rt: HostRuntime) -> Result<(), Fail> {
     Ok(())
 }
 
-/// What is written of the text record into so much room, three bytes at a time.
+/// The answer where the text record is written into this room, three bytes at a time.
 fn written_into(
     alloc: Global,
     room: &mut [u8],

@@ -6,7 +6,7 @@ use ndef_value::Limits;
 use std::alloc::Global;
 use std::test::Fail;
 
-/// Whether a decoder takes 16 bytes of a payload of 4294967295, one by one, and holds them; none where it finds
+/// Whether a decoder takes 16 bytes of a payload of 4294967295, one by one, and holds them; `None` where it finds
 /// no memory for them.
 fn takes_each(alloc: Global) -> Option<bool> {
     let limits = Limits::new(4294967295, 1, 1).ok()?;
@@ -27,7 +27,7 @@ fn takes_each(alloc: Global) -> Option<bool> {
     Some(decoder.held() == 16)
 }
 
-/// Blocks of at most 64 bytes that are let go one by one.
+/// Blocks of at most 64 bytes that are freed one by one.
 fn small_blocks(alloc: Global) -> Result<Vec<Vec<u8>>, Fail> {
     let mut spare: Vec<Vec<u8>> = Vec::with_capacity(alloc, 12)?;
     for size in [64, 64, 64, 64, 32, 32, 32, 32, 24, 24, 24, 24] {
@@ -36,7 +36,7 @@ fn small_blocks(alloc: Global) -> Result<Vec<Vec<u8>>, Fail> {
     Ok(spare)
 }
 
-/// Lets small blocks go until the bytes are taken.
+/// Frees small blocks until the bytes are taken.
 fn takes_at_last(alloc: Global, spare: &mut Vec<Vec<u8>>) -> bool {
     for _ in 0..13u8 {
         if let Some(taken) = takes_each(alloc) {

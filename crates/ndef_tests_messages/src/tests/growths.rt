@@ -65,7 +65,7 @@ fn row_of(alloc: Global, bytes: &[u8]) -> Result<Row<'_>, Fail> {
     })
 }
 
-/// Whether the decoder takes the message, in parts of at most so many bytes.
+/// Whether the decoder takes the message, in parts of at most `most` bytes.
 fn is_fed(alloc: Global, bytes: &[u8], most: usize) -> Result<bool, NoMemory> {
     let mut decoder = Decoder::<Opaque>::new(alloc, usual());
     let mut rest = bytes;
@@ -114,7 +114,7 @@ fn is_pushed(alloc: Global) -> Result<bool, NoMemory> {
     }
 }
 
-/// Whether the call answers what it should, if it wasn't memory that was wanting.
+/// Whether the call answers what it should; an error where there was no memory.
 fn answers(alloc: Global, call: Call, row: &Row<'_>) -> Result<bool, NoMemory> {
     match call {
         Call::Encode => {
@@ -142,8 +142,8 @@ fn answers(alloc: Global, call: Call, row: &Row<'_>) -> Result<bool, NoMemory> {
     }
 }
 
-/// How often memory was wanting before the call answered, one more block being let go each time; none
-/// where it answered otherwise, or never.
+/// How often the call found no memory before it answered, where one more block is freed each time; `None` where it
+/// answered otherwise, or never.
 fn refusals(alloc: Global, call: Call, row: &Row<'_>, spare: &mut Vec<Vec<u8>>) -> Option<u8> {
     for refused in 0..13u8 {
         match answers(alloc, call, row) {

@@ -8,8 +8,8 @@ use std::fmt::Debug;
 
 /// Fronts of heads: `PLACE | PROFILE | LAST | ROOM | OCTETS | ANSWER | LEAST MOST`. The place is `first`,
 /// the first piece of a message, `later`, one that begins another record, or `inside`, one within a
-/// record; the last that there may be is no piece, the `piece` or the `record`. The answer is that to the
-/// last octet, and behind it stand the least and the greatest number of payload bytes then.
+/// record. LAST is `piece` or `record` where this is the last one that the limits allow, else empty. The answer is that
+/// to the last octet, and after it come the least and the greatest number of payload bytes that are possible then.
 const HEADS: &str = "
 first | strict | | 1000 | | More | 0 1000
 first | strict | | 1000 | D0 | More | 0 0
@@ -69,8 +69,8 @@ fn reader_of(line: &str) -> Option<HeadReader> {
     Some(HeadReader::new(spot))
 }
 
-/// The answer to the last octet, where the reader goes on behind each other, and answers the same from
-/// then on.
+/// The answer to the last octet, if each octet before it is answered with `More`. Once the answer is another one, it
+/// must be the same for one more octet.
 fn last_answer(reader: &mut HeadReader, octets: &[u8]) -> Option<Step> {
     let mut answer = Step::More;
     for octet in octets {
@@ -85,12 +85,12 @@ fn last_answer(reader: &mut HeadReader, octets: &[u8]) -> Option<Step> {
     Some(answer)
 }
 
-/// Whether a value is printed so.
+/// Whether a value is printed as this text.
 fn is_printed<T: Debug>(alloc: Global, value: &T, text: &str) -> Option<bool> {
     Some(format!(in alloc; "{value:?}").ok()?.as_str() == text)
 }
 
-/// Whether a line tells the answer and the lengths behind its octets.
+/// Whether the answer and the lengths after the octets in a line are those that the line gives.
 fn is_answered(alloc: Global, line: &str) -> Option<bool> {
     let [_, _, _, _, octets, told, lengths, ..] = fields(line);
     let mut reader = reader_of(line)?;
@@ -103,7 +103,7 @@ fn is_answered(alloc: Global, line: &str) -> Option<bool> {
     )
 }
 
-/// Whether a line tells the bounds behind its octets.
+/// Whether the bounds after the octets in a line are those that the line gives.
 fn is_bounded(alloc: Global, line: &str) -> Option<bool> {
     let [_, _, _, _, octets, told, ..] = fields(line);
     let mut reader = reader_of(line)?;

@@ -17,7 +17,7 @@ fn message_of(alloc: Global, payload: &[u8]) -> Result<Message, Fail> {
     Ok(Message::new(records)?)
 }
 
-/// Whether the payload is written behind the head, by `encode` and in one piece, and is read again.
+/// Whether the payload is written after the head, by `encode` and in one piece, and is read again.
 fn is_written(alloc: Global, payload: &[u8], form: Form, head: &[u8]) -> Result<bool, Fail> {
     let message = message_of(alloc, payload)?;
     let mut wanted = Vec::new(alloc);

@@ -36,7 +36,7 @@ fn refuses_bytes(alloc: Global, bytes: &mut Bytes) -> bool {
         && bytes.as_slice() == b"kept".as_slice()
 }
 
-/// Whether as many growths of 200 bytes succeed as blocks of 200 bytes are let go.
+/// Whether as many growths of 200 bytes succeed as blocks of 200 bytes are freed.
 fn makes_at_last(alloc: Global, spare: &mut Vec<Vec<u8>>) -> bool {
     let part: &[u8] = &LETTERS;
     for _ in 0..3u8 {
@@ -85,7 +85,7 @@ fn is_read(alloc: Global, bytes: &[u8]) -> Result<bool, ReadError> {
     Ok(read.taken == bytes.len() as u64)
 }
 
-// Lets blocks go until the message is read; until then each answer is that there is no memory.
+// Frees blocks until the message is read; until then each answer is that there is no memory.
 fn reads_at_last(alloc: Global, bytes: &[u8], spare: &mut Vec<Vec<u8>>) -> bool {
     for _ in 0..13u8 {
         match is_read(alloc, bytes) {
@@ -104,7 +104,7 @@ fn is_copied(alloc: Global, view: &View<'_>) -> Result<bool, NoMemory> {
     Ok(message.len() == 1)
 }
 
-// Lets blocks go until the message is copied; until then each answer is that there is no memory.
+// Frees blocks until the message is copied; until then each answer is that there is no memory.
 fn copies_at_last(alloc: Global, view: &View<'_>, spare: &mut Vec<Vec<u8>>) -> bool {
     for _ in 0..13u8 {
         match is_copied(alloc, view) {
@@ -184,7 +184,7 @@ fn is_refused(alloc: Global, bytes: &[u8], at: u64, reason: Reason) -> bool {
     read.err() == Some(ReadError::Refused(Refusal { at, reason }))
 }
 
-// A refusal comes before want of memory: at the first byte, at a length, and at the last byte of a message.
+// A refusal comes before a lack of memory: at the first byte, at a length, and at the last byte of a message.
 fn tells_refusals(alloc: Global) -> bool {
     is_refused(alloc, &[0xF5], 0, Reason::ChunkAtEnd)
         && is_refused(alloc, &[0xD1, 0x00], 1, Reason::TypeEmpty)

@@ -132,7 +132,7 @@ fn answer_in(text: &str) -> Option<Answer> {
     }
 }
 
-/// What a line tells, and what is answered.
+/// The answer that a line gives, and the two that `both` gives.
 fn answers(alloc: Global, line: &str) -> Option<(Answer, [Answer; 2])> {
     let [kind, records, profile, length, octets, told, ..] = fields(line);
     let records = u32::from(records.parse::<u16>().ok()?).max(1);

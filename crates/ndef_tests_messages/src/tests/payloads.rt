@@ -89,7 +89,7 @@ fn refusal_in(
     }
 }
 
-/// The refusal that a line tells, if it tells one.
+/// The refusal that a line gives, if it gives one.
 fn told_refusal(answer: &str) -> Option<Option<Refusal>> {
     match answer {
         "whole" => Some(None),
@@ -97,7 +97,7 @@ fn told_refusal(answer: &str) -> Option<Option<Refusal>> {
     }
 }
 
-/// Whether a line tells what is answered.
+/// Whether the payload in a line is answered as the line says.
 fn is_answered(alloc: Global, line: &str) -> Option<bool> {
     let [language, name, profile, octets, answer, ..] = fields(line);
     let kind = Kind::of(Tnf::WellKnown, name.as_bytes());
@@ -135,7 +135,7 @@ const NAMES: &str = "
 1 | | Other
 ";
 
-/// Whether a line tells the kind of a type.
+/// Whether the kind of the type in a line is the one that the line gives.
 fn is_named(alloc: Global, line: &str) -> Result<bool, Fail> {
     let [number, name, told, ..] = fields(line);
     let tnf = Tnf::try_from(number.parse::<u8>()?)?;

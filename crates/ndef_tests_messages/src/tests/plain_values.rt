@@ -103,7 +103,7 @@ fn two_records(alloc: Global) -> Result<Message, Fail> {
     Ok(Message::new(records)?)
 }
 
-/// Whether records are got by their indices.
+/// Whether `get` gives the records by their indices.
 fn are_got(message: &Message) -> bool {
     for (index, payload) in [b"one", b"two"].iter().enumerate() {
         match message.get(index) {
@@ -114,7 +114,7 @@ fn are_got(message: &Message) -> bool {
     message.get(2).is_none()
 }
 
-/// Whether records are gone over.
+/// Whether iterating over the message gives the records.
 fn are_gone_over(message: &Message) -> bool {
     for (record, payload) in message.into_iter().zip([b"one", b"two"].iter()) {
         if record.payload() != payload.as_slice() {
@@ -134,7 +134,7 @@ fn makes_messages(rt: HostRuntime) -> Result<(), Fail> {
     Ok(())
 }
 
-/// Whether messages, and the records that they hold, are told apart.
+/// Whether messages, and the records that they hold, are equal only where they should be.
 fn messages_are_compared(alloc: Global) -> Result<bool, Fail> {
     let one = message(alloc, b"one")?;
     let same = message(alloc, b"one")?;
@@ -191,12 +191,12 @@ const FORMATS: &str = "
 6 Unchanged
 ";
 
-/// Whether a value is printed so.
+/// Whether a value is printed as this text.
 fn is_printed<T: Display>(alloc: Global, value: &T, text: &str) -> Result<bool, Fail> {
     Ok(format!(in alloc; "{value}")?.as_str() == text)
 }
 
-/// Whether the type name format of this number is told so by a line.
+/// Whether the type name format with this number is printed as a line gives it.
 fn is_format(alloc: Global, number: u8, line: &str) -> Result<bool, Fail> {
     let tnf = Tnf::try_from(number)?;
     Ok(tnf.code() == number && is_printed(alloc, &tnf, line)?)
@@ -243,7 +243,7 @@ const REASONS: &str = "
 23 | 25 CollisionMissing
 ";
 
-/// Whether the reason of this number is told so by a line, in all its texts.
+/// Whether the reason with this number has the rank, the name and the printed text that a line gives.
 fn is_told(alloc: Global, number: u64, line: &str) -> Result<bool, Fail> {
     let reason = reason(number).ok_or("no such reason")?;
     let (rank, text) = field(line);

@@ -47,7 +47,7 @@ fn record_told(alloc: Global, record: &Record) -> Result<String, Fail> {
     Ok(format!(in alloc; "{tnf} {kind} {payload}")?)
 }
 
-/// What is told of an event.
+/// An event as text.
 fn event_told(alloc: Global, event: &Event) -> Result<String, Fail> {
     match event {
         Event::More => Ok(String::from_str(alloc, "more")?),
@@ -62,18 +62,18 @@ fn event_told(alloc: Global, event: &Event) -> Result<String, Fail> {
     }
 }
 
-/// What is told of a decoder's answer: how many octets it takes, and the event.
+/// A decoder's answer as text: how many octets it takes, and the event.
 fn answer_told(alloc: Global, answer: &(usize, Event)) -> Result<String, Fail> {
     let (count, event) = (answer.0, event_told(alloc, &answer.1)?);
     Ok(format!(in alloc; "{count} {event}")?)
 }
 
-/// What a decoder tells that is fed one part more.
+/// A decoder's answer to one more part, as text.
 fn fed(alloc: Global, decoder: &mut Decoder<Opaque>, part: &[u8]) -> Result<String, Fail> {
     answer_told(alloc, &decoder.feed(part))
 }
 
-/// Whether a line tells what a decoder shows that is fed one part more.
+/// Whether a decoder that is fed the part in a line shows what the line gives.
 fn is_shown(alloc: Global, decoder: &mut Decoder<Opaque>, line: &str) -> Result<bool, Fail> {
     let (octets, told) = field(line);
     let fed = fed(alloc, decoder, octets_of(alloc, octets)?.as_slice())?;

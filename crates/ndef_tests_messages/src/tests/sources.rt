@@ -7,7 +7,7 @@ use std::test::Fail;
 
 const BYTES: [u8; 12] = *b"twelve bytes";
 
-// What a source gives up to its end, in parts as it shows them, but taken by at most `most` bytes.
+// The lengths of the parts that a source gives up to its end, where at most `most` bytes are taken of each it shows.
 fn parts<S: Source>(alloc: Global, source: &mut S, most: usize) -> Result<Vec<usize>, Fail> {
     let mut parts = Vec::new(alloc);
     for _ in 0..100u8 {
@@ -98,7 +98,7 @@ fn gives_the_reader_back_behind_what_was_taken(rt: HostRuntime) -> Result<(), Fa
     Ok(())
 }
 
-// The first take behind a fill consumes at once, so that nothing more is asked of the reader.
+// The first take after a fill consumes at once, so that nothing more is asked of the reader.
 #[test]
 fn consumes_at_once_what_is_taken(rt: HostRuntime) -> Result<(), Fail> {
     let mut source = StdSource::new(OnceReader {
@@ -113,8 +113,8 @@ fn consumes_at_once_what_is_taken(rt: HostRuntime) -> Result<(), Fail> {
     Ok(())
 }
 
-/// Takes all bytes of a source, four at a time: of a `StdSource` the first take consumes at once, and what the others
-/// take waits.
+/// Takes all bytes of a source, four at a time: the first take of a `StdSource` consumes at once, and what the others
+/// take is consumed later.
 fn take_in_three<S: Source>(source: &mut S) -> Result<(), Fail> {
     if source.fill()?.len() != 12 {
         return Err("another number is shown".into());

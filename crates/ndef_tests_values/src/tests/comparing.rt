@@ -1,4 +1,4 @@
-//! Values that are compared and hashed, and lists of them that are gone over.
+//! Values that are compared and hashed, and iteration over lists of them.
 use ndef_cases::comparing::are_told_apart;
 use ndef_cases::samples::{HELLO, SELECT, read};
 use ndef_types::{Encoding, Links, SmartPoster, Text, Texts, Uri, carriers};
@@ -35,7 +35,7 @@ fn texts_and_uris_are_compared(rt: HostRuntime) -> Result<(), Fail> {
     Ok(())
 }
 
-/// Whether the texts are gone over.
+/// Whether iterating gives these texts.
 fn are_texts(titles: &Texts, words: &[&str]) -> bool {
     for (title, words) in titles.into_iter().zip(words.iter()) {
         if title.text() != *words {
@@ -45,7 +45,7 @@ fn are_texts(titles: &Texts, words: &[&str]) -> bool {
     !titles.is_empty() && titles.iter().count() == words.len()
 }
 
-/// Whether one link is gone over, of the record at this index.
+/// Whether iterating gives one link, to the record at this index.
 fn is_link(links: &Links, index: usize) -> bool {
     for link in links {
         if link.index != Some(index) {

@@ -1,4 +1,4 @@
-//! A handover that is none is refused where no memory is left: it is judged before anything is copied.
+//! A wrong handover is refused even where no memory is left: it is checked before anything is copied.
 use ndef_cases::memory::use_up;
 use ndef_lang::Opaque;
 use ndef_message::view;

@@ -38,7 +38,7 @@ fn have_indices(links: &Links, indices: &str) -> Result<bool, Fail> {
     Ok(words.next().is_none())
 }
 
-/// Whether a line tells the links of its message.
+/// Whether the message in a line has the links, or gets the refusal, that the line gives.
 fn is_linked(alloc: Global, line: &str) -> Result<bool, Fail> {
     let [profile, bytes, answer, ..] = fields(line);
     let profile = profile_of(profile).ok_or("no such profile")?;

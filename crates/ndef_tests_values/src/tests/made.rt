@@ -45,7 +45,7 @@ fn handed_back(alloc: Global, kind: &str, bytes: &[u8]) -> Result<Option<(usize,
     Ok(back)
 }
 
-/// Whether a line tells what comes back.
+/// Whether the index that a line gives comes back, and all records of its message.
 fn comes_back(alloc: Global, line: &str) -> Result<bool, Fail> {
     let [kind, bytes, index, ..] = fields(line);
     let index = index.parse::<usize>()?;
@@ -74,7 +74,7 @@ fn select(alloc: Global, message: Message) -> Result<Bytes, Fail> {
     Ok(Select::new(0, Some(message))?.encode(alloc)?)
 }
 
-/// Whether a line tells what is written for the value that is made of its message.
+/// Whether what is written for the value made of the message in a line is what the line gives.
 fn is_made(alloc: Global, line: &str) -> Result<bool, Fail> {
     let [kind, bytes, payload, ..] = fields(line);
     let message = read(alloc, octets_of(alloc, bytes)?.as_slice())?;

@@ -4,7 +4,7 @@ use ndef_value::{Reason, Refusal};
 use std::alloc::Global;
 use std::test::Fail;
 
-/// These octets, with the first record, and then empty records of an unknown type up to so many in all.
+/// These octets, with the first record, and then empty records of an unknown type, so that there are `count` in all.
 fn with_records(alloc: Global, first: &[u8], count: u32) -> Result<Vec<u8>, Fail> {
     let mut bytes = Vec::new(alloc);
     bytes.extend_from_slice(first)?;

@@ -88,7 +88,7 @@ fn viewed_links(alloc: Global) -> Result<Links, LinkError> {
     }
 }
 
-/// Whether the links are those of the message, if it wasn't memory that was wanting.
+/// Whether the links are those of the message; an error where there was no memory.
 fn is_linked(links: Result<Links, LinkError>) -> Result<bool, NoMemory> {
     match links {
         Ok(links) => Ok(links.len() == 1),
@@ -97,7 +97,7 @@ fn is_linked(links: Result<Links, LinkError>) -> Result<bool, NoMemory> {
     }
 }
 
-/// Whether the call answers what it should, if it wasn't memory that was wanting.
+/// Whether the call answers what it should; an error where there was no memory.
 fn answers(alloc: Global, call: Call, values: &Values) -> Result<bool, NoMemory> {
     match call {
         Call::DecodePoster => decodes(SmartPoster::decode(alloc, POSTER)),
@@ -116,7 +116,7 @@ fn answers(alloc: Global, call: Call, values: &Values) -> Result<bool, NoMemory>
     }
 }
 
-/// Lets blocks go until the call answers; until then each answer is that there is no memory.
+/// Frees blocks until the call answers; until then each answer is that there is no memory.
 fn answers_at_last(alloc: Global, call: Call, values: &Values, spare: &mut Vec<Vec<u8>>) -> bool {
     for _ in 0..13u8 {
         match answers(alloc, call, values) {
@@ -159,7 +159,7 @@ fn refused_call(alloc: Global, call: Call, values: &Values) -> Result<[bool; 3],
     Ok([used_up, refused, right])
 }
 
-/// The first call but the last that isn't refused and then answered, if there is one, and what was seen of it.
+/// The first call, except for the last, that isn't refused and then answered, if there is one, and what was seen of it.
 fn unrefused_call(alloc: Global, values: &Values) -> Result<Option<(Call, [bool; 3])>, Fail> {
     for call in &CALLS[..12] {
         let seen = refused_call(alloc, *call, values)?;
@@ -179,7 +179,7 @@ fn refuses_each_growth_of_a_nested_value(rt: HostRuntime) -> Result<(), Fail> {
     Ok(())
 }
 
-/// Behind `carriers` the call would find the blocks that this one let go, which are just what it wants.
+/// Right after `carriers` this call would find the blocks that `carriers` has freed, which are just what it needs.
 #[test]
 fn refuses_each_growth_of_links_of_a_view(rt: HostRuntime) -> Result<(), Fail> {
     let values = made_values(rt.alloc())?;

@@ -75,7 +75,7 @@ fn made_values(alloc: Global) -> Result<Values, DecodeError> {
     })
 }
 
-/// Whether a value was decoded, if it wasn't memory that was wanting.
+/// Whether a value was decoded; an error where there was no memory.
 pub(super) fn decodes<T: Drop>(decoded: Result<T, DecodeError>) -> Result<bool, NoMemory> {
     match decoded {
         Ok(_) => Ok(true),
@@ -84,7 +84,7 @@ pub(super) fn decodes<T: Drop>(decoded: Result<T, DecodeError>) -> Result<bool, 
     }
 }
 
-/// Whether the payload was written, if it wasn't memory that was wanting.
+/// Whether the payload was written; an error where there was no memory.
 pub(super) fn encodes(
     encoded: Result<Bytes, EncodeError>,
     payload: &[u8],
@@ -112,7 +112,7 @@ fn new_error(alloc: Global) -> Result<bool, NoMemory> {
     }
 }
 
-/// Whether the call answers what it should, if it wasn't memory that was wanting.
+/// Whether the call answers what it should; an error where there was no memory.
 fn answers(alloc: Global, call: Call, values: &Values) -> Result<bool, NoMemory> {
     match call {
         Call::NewText => new_text(alloc),
@@ -131,7 +131,7 @@ fn answers(alloc: Global, call: Call, values: &Values) -> Result<bool, NoMemory>
     }
 }
 
-/// Lets blocks go until the call answers; until then each answer is that there is no memory.
+/// Frees blocks until the call answers; until then each answer is that there is no memory.
 fn answers_at_last(alloc: Global, call: Call, values: &Values, spare: &mut Vec<Vec<u8>>) -> bool {
     for _ in 0..13u8 {
         match answers(alloc, call, values) {

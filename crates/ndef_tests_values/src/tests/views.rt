@@ -11,8 +11,8 @@ use ndef_value::Limits;
 use std::alloc::Global;
 use std::test::Fail;
 
-/// Messages, some with more behind them: `PROFILE | BYTES | TAKEN RECORDS COUNT PROFILE | RECORDS | CUTS`.
-/// The records are told as in a case. The cuts tell of each record the length of its payload, the payload
+/// Messages, some with more bytes after them: `PROFILE | BYTES | TAKEN RECORDS COUNT PROFILE | RECORDS | CUTS`.
+/// The records are written as in a case. The cuts give for each record the length of its payload, the payload
 /// where there is one piece, else `none`, and the payloads of the pieces.
 const VIEWS: &str = "
 strict | B5 00 01 41 36 00 01 42 56 00 01 43 | 12 1 1 Strict | 5 - - 414243 | 3 none 41 42 43
@@ -37,7 +37,7 @@ fn viewed(bytes: &[u8], limits: Limits) -> Result<View<'_>, Fail> {
     }
 }
 
-/// What a view tells of itself.
+/// The numbers and the profile of a view, as text.
 fn view_told(alloc: Global, view: &View<'_>) -> Result<String, Fail> {
     let (taken, records) = (view.taken(), view.records());
     let count = view.items().count();
@@ -55,7 +55,7 @@ fn push_octets(alloc: Global, text: &mut String, octets: Option<&[u8]>) -> Resul
     Ok(text.push_str(digits.as_str())?)
 }
 
-/// How a payload is cut.
+/// How a payload is cut, as text.
 fn cuts_of(alloc: Global, item: &Item<'_>) -> Result<String, Fail> {
     let length = item.length();
     let mut cuts = format!(in alloc; "{length}")?;
@@ -66,7 +66,7 @@ fn cuts_of(alloc: Global, item: &Item<'_>) -> Result<String, Fail> {
     Ok(cuts)
 }
 
-/// Whether the payloads are cut so.
+/// Whether the payloads are cut as this text says.
 fn are_cut(alloc: Global, view: &View<'_>, cuts: &str) -> Result<bool, Fail> {
     let mut cuts = cuts.split(',');
     for item in view.items() {
@@ -78,14 +78,14 @@ fn are_cut(alloc: Global, view: &View<'_>, cuts: &str) -> Result<bool, Fail> {
     Ok(cuts.next().is_none())
 }
 
-/// Whether the records are those that the text tells, in the view and in the message that it gives.
+/// Whether the records are those that the text gives, in the view and in the message that is made of it.
 fn has_records(alloc: Global, view: &View<'_>, records: &str) -> Result<bool, Fail> {
     let message = view.to_message(alloc)?;
     let shown = are_shown(alloc, records, view) == Some(true);
     Ok(shown && are_told(alloc, records, &message) == Some(true))
 }
 
-/// Whether a line tells what is viewed.
+/// Whether the view of the bytes in a line is what the line gives.
 fn is_viewed(alloc: Global, line: &str) -> Result<bool, Fail> {
     let [profile, bytes, told, records, cuts, ..] = fields(line);
     let profile = profile_of(profile).ok_or("no such profile")?;
@@ -106,7 +106,7 @@ fn messages_are_viewed(rt: HostRuntime) -> Result<(), Fail> {
     Ok(())
 }
 
-/// Whether a line tells what is answered.
+/// Whether the bytes in a line are answered as the line says.
 fn is_refused(alloc: Global, line: &str) -> Option<bool> {
     views_are_exact::<Typed>();
     let [bytes, answer, ..] = fields(line);
