@@ -16,7 +16,7 @@ VALUES = {'hello': lambda record: record.text, 'uri': lambda record: record.iri,
 
 
 def least(call, milliseconds):
-    """The nanoseconds of a call that does something so many times as it is told: the least of batches of five milliseconds."""
+    """The least nanoseconds of one repetition, where call(n) repeats something n times, in batches of about five milliseconds."""
     begun, best, batch = time.process_time_ns(), float('inf'), 1
     while time.process_time_ns() - begun < milliseconds * 1e6:
         before = time.process_time_ns()

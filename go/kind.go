@@ -62,7 +62,7 @@ func (options Options) Value(record *Record) (Value, error) {
 	}
 }
 
-// valued is the value as a Value, or nil beside an error.
+// valued is the value as a Value, or nil with an error.
 func valued[T Value](value T, err error) (Value, error) {
 	if err != nil {
 		return nil, err

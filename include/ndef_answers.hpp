@@ -26,7 +26,7 @@ using status = ::ndef_status;
 using reason = ::ndef_reason;
 using tnf = ::ndef_tnf;
 
-/// The name of a status, as ndef_status_name writes it; "" for a number that is none.
+/// The name of a status, as ndef_status_name writes it; "" for any other number.
 constexpr std::string_view to_string(status value) noexcept {
 #define NDEF_STATUS_TEXT(number, name, text) case NDEF_##name: return text;
     switch (value) { NDEF_STATUSES(NDEF_STATUS_TEXT) }
@@ -34,7 +34,7 @@ constexpr std::string_view to_string(status value) noexcept {
     return "";
 }
 
-/// The name of a reason, as ndef_reason_name writes it; "" for a number that is none.
+/// The name of a reason, as ndef_reason_name writes it; "" for any other number.
 constexpr std::string_view to_string(reason value) noexcept {
 #define NDEF_REASON_TEXT(number, name, text) case NDEF_REASON_##name: return text;
     switch (value) { NDEF_REASONS(NDEF_REASON_TEXT) }
@@ -42,7 +42,7 @@ constexpr std::string_view to_string(reason value) noexcept {
     return "";
 }
 
-/// What a reason means, in a sentence of English, as ndef_reason_sentence writes it; "" for a number that is none.
+/// What a reason means, in a sentence of English, as ndef_reason_sentence writes it; "" for any other number.
 constexpr std::string_view sentence(reason value) noexcept {
 #define NDEF_SENTENCE_TEXT(number, name, text) case NDEF_REASON_##name: return text;
     switch (value) { NDEF_SENTENCES(NDEF_SENTENCE_TEXT) }
@@ -137,7 +137,7 @@ public:
     /// The bytes from a place on; none if the place is beyond the end.
     constexpr bytes from(ndef_size at) const noexcept { return part(at, length); }
 
-    /// So many bytes from a place on, or as many of them as there are.
+    /// `count` bytes from a place on, or as many of them as there are.
     constexpr bytes part(ndef_size at, ndef_size count) const noexcept {
         if (at > length) return {};
         const std::size_t place = static_cast<std::size_t>(at), rest = length - place;
@@ -159,7 +159,7 @@ private:
 /// front of the room, so what it returned stays as it is. A call that fails takes nothing.
 class room {
 public:
-    /// A room of no bytes. A call that writes to it tells what it needs.
+    /// A room of no bytes. A call that writes to it gives the size that it needs.
     constexpr room() noexcept = default;
     constexpr room(std::uint8_t *data, std::size_t size) noexcept : first(data), length(size) {}
     template <class Container, class = std::enable_if_t<std::is_same_v<std::uint8_t *, decltype(detail::octets(

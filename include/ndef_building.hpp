@@ -1,4 +1,4 @@
-/// ndef_building.hpp: smart posters, handovers and messages that are put together part by part in memory of their own,
+/// ndef_building.hpp: smart posters, handovers and messages that are put together part by part in memory that they own,
 /// filters of records, and what prints answers. Include ndef.hpp.
 #ifndef NDEF_BUILDING_HPP
 #define NDEF_BUILDING_HPP
@@ -32,7 +32,7 @@ private:
     std::vector<std::uint8_t> held;
 };
 
-/// What a call writes to a room, in memory of its own: write(room) is called with a room of the size that it needs.
+/// What a call writes to a room, in new memory: write(room) is called with a room of the size that it needs.
 template <class Write> result<std::vector<std::uint8_t>> in_memory(Write write) {
     room none;
     const result<bytes> asked = write(none);
@@ -54,7 +54,7 @@ class poster_builder {
 public:
     explicit poster_builder(std::string_view uri) { how.uri = shelf.put(uri); }
 
-    /// Adds a title. Give each title a language of its own.
+    /// Adds a title. Give each title a different language.
     poster_builder &title(std::string_view language, std::string_view text, encoding in = encoding::utf8) {
         titles.push_back({shelf.put(language), shelf.put(text), in == encoding::utf16 ? 1u : 0u});
         return *this;

@@ -14,7 +14,7 @@ namespace ndef {
 /// The name of a field: NDEF_FIELD_HEADER, ...
 using field_name = ::ndef_field_names;
 
-/// The name as text, as ndef_field_name writes it; "" for a number that is none.
+/// The name as text, as ndef_field_name writes it; "" for any other number.
 constexpr std::string_view to_string(field_name value) noexcept {
 #define NDEF_FIELD_TEXT(number, name, text) case NDEF_FIELD_##name: return text;
     switch (value) { NDEF_FIELDS(NDEF_FIELD_TEXT) }
@@ -41,7 +41,7 @@ inline std::optional<std::string> field_remark(const field &of) {
 
 #endif
 
-/// The fields of the message with which some bytes begin, in order, as one call of ndef_fields tells them; of bytes that
+/// The fields of the message with which some bytes begin, in order, as one call of ndef_fields gives them; of bytes that
 /// are refused, those before the refused one. Payloads are looked into: with NDEF_OPAQUE there are no fields.
 class fields {
     /// The fields that lie in an array.
@@ -65,7 +65,7 @@ public:
     using iterator = detail::iterator_of<told_fields, field>;
     fields() noexcept = default;
 
-    /// The fields, in memory of their own.
+    /// The fields, in memory that they own.
     explicit fields(bytes of, const ndef_limits &within = limits()) {
         ndef_size count = 0;
         if (tell(nullptr, 0, of, within, &count) != NDEF_NO_ROOM) return;
@@ -84,7 +84,7 @@ public:
         return found;
     }
 
-    /// Iterators hold as long as these fields and the array are there.
+    /// Iterators are valid as long as these fields and the array exist.
     iterator begin() const noexcept { return iterator(range()); }
     iterator end() const noexcept { return {}; }
     std::size_t size() const noexcept { return told.count; }
@@ -112,7 +112,7 @@ private:
         return answer;
     }
 
-    /// The fields where they lie now: those in memory of their own move with it.
+    /// The fields where they lie now: those in memory that it owns move with it.
     told_fields range() const noexcept {
         told_fields all = told;
         if (!all.first) all.first = own.data();

@@ -10,7 +10,8 @@ namespace ndef {
 // ---- messages
 
 /// What becomes of the type name format 7 and of URI codes above 0x23, which are reserved: they are refused, though the
-/// standards bid a reader accept them, or read as the standards say (NDEF_STANDARD). docs/FORMAT.md has each difference.
+/// standards ask a reader to accept them, or read as the standards say (NDEF_STANDARD). docs/FORMAT.md has each
+/// difference.
 enum class profile : std::uint32_t { strict = 0, standard = NDEF_STANDARD };
 
 /// How large a message may be and how it is checked, as ndef_limits says; it begins with ndef_usual_limits.
@@ -26,7 +27,7 @@ class record {
 public:
     record() noexcept = default;
 
-    /// The record that begins at a place of some bytes, as ndef_record_at tells it.
+    /// The record that begins at a place of some bytes, as ndef_record_at gives it.
     static result<record> at(bytes message, ndef_size place) noexcept {
         return told_by(ndef_record_at, message, place);
     }
@@ -39,7 +40,7 @@ public:
     bool is(ndef::tnf wanted, std::string_view name) const noexcept { return format() == wanted && type() == name; }
     bool is(std::string_view name) const noexcept { return is(NDEF_TNF_WELL_KNOWN, name); }
 
-    /// What the payload is, as ndef_kind tells it. For a record of the message within a payload, say of which kind that is.
+    /// What the payload is, as ndef_kind gives it. For a record of the message within a payload, say of which kind that is.
     ndef::kind kind(ndef::kind within = NDEF_KIND_OTHER) const noexcept {
         return static_cast<ndef::kind>(ndef_kind(whole.data(), whole.size(), &told, within));
     }
@@ -82,7 +83,7 @@ public:
 
 private:
     friend class message;
-    /// The record that a call of ndef.h tells: call(message, length, words.., record).
+    /// The record that a call of ndef.h gives: call(message, length, words.., record).
     template <class Call, class... Words>
     static result<record> told_by(Call call, bytes message, Words... words) noexcept {
         record found;

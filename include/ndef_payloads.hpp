@@ -242,7 +242,7 @@ public:
     std::uint32_t error_reason() const noexcept { return told.reason; }
     bytes data() const noexcept { return part(told.data_at, told.data_length); }
 
-    /// With the reasons 1 to 3, the number that the data tell.
+    /// With the reasons 1 to 3, the number that the data hold.
     std::optional<std::uint32_t> number() const noexcept {
         return told.has_number ? std::optional(told.number) : std::nullopt;
     }
@@ -255,7 +255,7 @@ struct link {
     std::size_t record_index = 0; ///< the index of that record in the message, from 0
 };
 
-/// The links of a handover, in order, as one call of ndef_links tells them.
+/// The links of a handover, in order, as one call of ndef_links gives them.
 class links {
     /// The links that lie in an array.
     struct told_links {
@@ -279,7 +279,7 @@ public:
     using iterator = detail::iterator_of<told_links, link>;
     links() noexcept = default;
 
-    /// The links of a message by the payload of its handover, in memory of their own. None where it is no handover.
+    /// The links of a message by the payload of its handover, in memory that they own. None where it is no handover.
     links(const message &of, bytes handover)
         : told{of.octets(), handover, nullptr, 0},
           own(detail::all_of<ndef_link>(ndef_links, told.whole.data(), ndef_size{told.whole.size()}, handover.data(),
@@ -299,7 +299,7 @@ public:
         return found;
     }
 
-    /// Iterators hold as long as these links and the array are there.
+    /// Iterators are valid as long as these links and the array exist.
     iterator begin() const noexcept {
         told_links range = told;
         if (!range.first) range.first = own.data();
@@ -320,7 +320,7 @@ public:
     std::uint32_t minor_version() const noexcept { return this->told.minor; }
 
     /// The number of alternative carriers; and each of them, with its record in the message whose handover this is, in
-    /// memory of their own or in an array of the caller.
+    /// memory that they own or in an array of the caller.
     std::size_t carrier_count() const noexcept { return static_cast<std::size_t>(this->told.carriers); }
     ndef::links links(const message &of) const { return {of, this->whole}; }
     result<ndef::links> links(ndef_link *array, std::size_t size, const message &of) const {

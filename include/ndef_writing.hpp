@@ -11,7 +11,7 @@ namespace ndef {
 
 // ---- writing
 //
-// Each function writes to the front of a room and returns what it wrote. NDEF_NO_ROOM tells the size that is needed.
+// Each function writes to the front of a room and returns what it wrote. NDEF_NO_ROOM gives the size that is needed.
 
 /// How a text is encoded: in UTF-8, or in UTF-16, big-endian with a byte order mark.
 enum class encoding : std::uint32_t { utf8 = 0, utf16 = NDEF_AS_UTF16 };
@@ -129,7 +129,7 @@ inline new_record external(std::string_view type, bytes payload, std::string_vie
 }
 
 /// A message of records, one or more, as ndef_write_record writes each. NDEF_BAD_ARGUMENT if there is no record, or one
-/// of them can't be written. NDEF_NO_ROOM tells the size of the whole message; the room holds a part of it then.
+/// of them can't be written. NDEF_NO_ROOM gives the size of the whole message; the room holds a part of it then.
 template <class Records> result<message> write_message(room &to, const Records &records) noexcept {
     room rest = to;
     ndef_size whole = 0;

@@ -56,7 +56,7 @@ NAME = 'simbegyor_ndef-' + version()
 
 
 def moment() -> int:
-    """The time that files in archives get, in seconds since 1970; a zip file can't tell one before 1980."""
+    """The time that files in archives get, in seconds since 1970; a zip file can't hold one before 1980."""
     return max(int(os.environ.get('SOURCE_DATE_EPOCH', 0)), 315532800)
 
 

@@ -37,7 +37,7 @@ export class Fields {
     // Whether some of the bytes from one place up to another are in the range.
     touches(from, to) { return from < this.range[1] && to > this.range[0]; }
 
-    // Gives the bytes from one place up to another more to be known.
+    // Adds `more` to what is known of each byte from one place up to another.
     paint(from, to, more) {
         const [first, end] = this.range;
         for (let at = Math.max(from, first); at < Math.min(to, end); at++) this.#known.set(at, { ...this.#known.get(at), ...more });

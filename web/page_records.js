@@ -57,7 +57,7 @@ export function* paintMessages(ndef, messages, options, fields, refused) {
     fields.refuse(refused);
 }
 
-// What a record of a refused message is worth: the check has gone as far as the refused byte.
+// How far a record of a refused message can be trusted: the check has gone as far as the refused byte.
 function stateOf({ at, end }, place) {
     if (end <= place) return "sound";
     return at <= place ? "refused here" : "after the refused byte, not checked";
@@ -107,7 +107,7 @@ function emptyTable(title, columns) {
 }
 
 // Work that lists the records of a message below a title, with a line that says how many are there so far. Of a refused message
-// each row says what its record is worth; nested ones are worth what their own is.
+// each row says how far its record can be trusted; a nested one has the state of the record that holds it.
 function* listRecords(ndef, message, title, options) {
     const { answer } = message, isWhole = answer.status === Ndef.OK, line = element("p");
     const table = emptyTable(title, isWhole ? COLUMNS : [...COLUMNS, STATE]), body = table.querySelector("tbody");

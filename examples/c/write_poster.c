@@ -6,7 +6,7 @@
 
 static uint8_t words_of[16384], poster[16384], tag[16640];
 
-/* Puts a word behind those that are there, and tells where it lies. */
+/* Adds a word after those that are there, and returns where it lies. */
 static ndef_part put(ndef_size *length, const char *word) {
     const ndef_part part = { *length, strlen(word) };
     memcpy(words_of + part.at, word, part.length);

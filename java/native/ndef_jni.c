@@ -45,7 +45,7 @@ typedef struct span {
     int is_copied; /* whether the bytes are copied instead, so that the array isn't held */
 } span;
 
-/* Some bytes of an array. Where the array hasn't them, it raises an exception and answers 0. */
+/* Some bytes of an array. Where the array doesn't have them, it raises an exception and answers 0. */
 static int find_part(JNIEnv *env, span *to, jbyteArray array, jint at, jint length) {
     jsize all = array != NULL ? (*env)->GetArrayLength(env, array) : 0;
     if (at < 0 || length < 0 || at > all || length > all - at) {
@@ -90,7 +90,7 @@ static int hold(JNIEnv *env, span *spans, int count) {
 
 /* ---- numbers */
 
-/* Tells the place, the reason and the number of records to an array of Java. */
+/* Writes the place, the reason and the number of records to an array of Java. */
 static void give_checked(JNIEnv *env, jlongArray to, const ndef_checked *checked) {
     const jlong told[] = { (jlong)checked->place, (jlong)checked->reason, (jlong)checked->records };
     (*env)->SetLongArrayRegion(env, to, 0, 3, told);

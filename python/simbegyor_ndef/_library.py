@@ -266,7 +266,7 @@ def record_remark(octets: bytes, index: int) -> Optional[str]:
 
 
 def fields(octets: bytes, within: Any) -> Tuple[Checked, List[Any]]:
-    """What a check within these limits tells of the octets, and the fields of the message, or those before the refused octet."""
+    """What a check within these limits gives for the octets, and the fields of the message, or those before the refused octet."""
     checked, count, room = Checked(), _size(), 128
     while True:
         array = (FieldParts * room)()

@@ -1,7 +1,7 @@
-"""Octets of record classes of one's own, by formats as of the module struct with two additions.
+"""The octets of record classes that a caller defines, by formats as of the module struct with two additions.
 
-`*` at the end stands for all octets that are left. `+` behind a number, as in 'B+' or '>H+', stands for that many octets
-behind it; with a format in brackets, as in 'B+(BH)', for that many groups of values, each of that format.
+`*` at the end stands for all octets that are left. `+` after a number, as in 'B+' or '>H+', stands for that many octets
+after it; with a format in brackets, as in 'B+(BH)', for that many groups of values, each of that format.
 """
 from __future__ import annotations
 
@@ -27,7 +27,7 @@ def _parts(form: str) -> Tuple[str, List[Tuple[str, str]]]:
 
 
 def unpacked(form: str, octets: bytes, offset: int = 0) -> Tuple[Any, ...]:
-    """The values that stand at the offset; what lies behind them doesn't matter. struct.error where octets are wanting."""
+    """The values that stand at the offset; what lies after them doesn't matter. struct.error where octets are missing."""
     order, parts = _parts(form)
     values: List[Any] = []
     for part, group in parts:

@@ -13,7 +13,7 @@ __all__ = ['AlternativeCarrier', 'AlternativeCarrierRecord', 'CollisionResolutio
 
 _POWERS = ('inactive', 'active', 'activating', 'unknown')
 _NO_CARRIER = 'an alternative carrier has references of at most 255 octets, and at most 255 auxiliary ones'
-# The message of the payload stands behind a version byte (ndef.h).
+# The message of the payload stands after a version byte (ndef.h).
 _BEFORE = 1
 
 
@@ -146,7 +146,7 @@ class CollisionResolutionRecord(LocalRecord):
 
     @classmethod
     def _decode_payload(cls, octets: bytes, errors: str) -> CollisionResolutionRecord:
-        # The library tells the number of a request alone.
+        # The library gives the number only for a request.
         record = Record(cls._type, '', octets)._written(library.FIRST | library.LAST, 0)
         status, request = library.put(library.write_handover, library.REQUEST, 1, 2, record, library.size_of(len(record)), given=len(record))
         parts, why = library.RequestParts(), library.Checked()
@@ -187,7 +187,7 @@ class ErrorRecord(LocalRecord):
         self._take(octets)
 
     def _take(self, octets: bytes) -> None:
-        """Takes what the library tells of a payload."""
+        """Takes what the library gives for a payload."""
         parts, why = library.ErrorParts(), library.Checked()
         if library.error(octets, library.size_of(len(octets)), library.byref(parts), library.byref(why)) != library.OK:
             raise library.refused(why)
@@ -284,7 +284,7 @@ class _Handover(GlobalRecord):
         return [record.told() for record in self._records if isinstance(record, AlternativeCarrierRecord)]
 
     def _place_of_error(self) -> int:
-        """Where the first error record stands among the records, or behind them."""
+        """Where the first error record stands among the records, or the place after them."""
         return next((at for at, record in enumerate(self._records) if isinstance(record, ErrorRecord)), len(self._records))
 
     def add_alternative_carrier(self, cps: str, cdr: str, *adr: str) -> None:

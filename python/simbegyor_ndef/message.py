@@ -20,7 +20,7 @@ _ENDING = Record()._written(library.LAST, 0)
 _AT_FRONT = SIZES[0]
 Known = Mapping[Parts, Type[Record]]
 Told = Optional[Dict[Type[Record], Any]]
-# The limits of a message, the classes that are known, and what `records_of` is to be told.
+# The limits of a message, the classes that are known, and what `records_of` is given as `told`.
 Reading = Tuple[Any, Known, Told]
 # The fields of a RecordParts.
 Fields = Tuple[int, ...]
@@ -49,7 +49,7 @@ def message_decoder(stream_or_bytes: Union[bytes, bytearray, memoryview, BinaryI
     """A generator of the records of the message with which the octets begin; of none where there are no octets.
 
     The octets are bytes, or a stream, of which only those of the records that were given are taken. A fault is raised as
-    DecodeError where the next record would be given: a message is known to be right only behind its last record. With
+    DecodeError where the next record would be given: a message is known to be right only after its last record. With
     `whole` no record is given before the message is known to be right.
 
     `known_types` are classes by the spelling of their type, in place of those that are registered; with {} every payload is
@@ -87,7 +87,7 @@ def _octets_of(given: Any) -> Optional[bytes]:
 
 
 def lone_record(octets: bytes, desk: Desk, limits: Any, known: Known, told: Told) -> Optional[Record]:
-    """The record of a message of one record, as most are; None for others. The desk has what a check tells of the octets, and
+    """The record of a message of one record, as most are; None for others. The desk has what a check gives for the octets, and
     where they are a message, its first record."""
     _, why, room, out = desk
     count = len(octets)
@@ -161,7 +161,7 @@ class _Incoming:
         library.begin(limits, library.byref(self.checker))
 
     def _feed(self, checker: library.Checker, octets: bytes) -> int:
-        """Feeds a checker, and tells whether the message ends, goes on or is refused."""
+        """Feeds a checker, and returns whether the message ends, goes on or is refused."""
         return library.feed(library.byref(checker), octets, library.size_of(len(octets)), library.byref(self.checked))
 
     def _take(self, octets: bytes) -> int:
@@ -198,8 +198,8 @@ class _Incoming:
         return self._take(_read(self.stream, mine))
 
     def next_record(self) -> Tuple[bytes, int]:
-        """Takes the octets of the next record, and tells whether the message goes on behind it. Of a stream that has no octet
-        there is no record. Octets ahead are looked at together where they are an eighth of those that were taken, or `_LOOK`
+        """Takes the octets of the next record, and says whether the message goes on after it. A stream that has no octet
+        has no record. Octets ahead are looked at together where they are an eighth of those that were taken, or `_LOOK`
         of them: a look takes as long as the record has pieces. Fewer are taken one by one."""
         self.taken = bytearray()
         while True:
@@ -230,8 +230,8 @@ def _from_stream(stream: BinaryIO, limits: Any, known: Known, told: Told) -> Ite
 
 def records_of(octets: bytes, start: int, end: int, known: Known, told: Told, fields: Optional[Fields] = None) -> Iterator[Record]:
     """The records of a message that has been checked and that lies between two places. `told` is None where payloads weren't
-    looked into; else it has, for classes of which the library told the first record's value with the whole, what it told.
-    `fields` are those of the first record, where they are at hand."""
+    looked into; else it has, for classes of which the library gave the first record's value with the whole, what it gave.
+    `fields` are those of the first record, where they are known."""
     desk, size, at = taken_desk(), size_of(end), start
     _, _, room, out = desk
     while at != end:
@@ -275,7 +275,7 @@ def record_of(octets: bytes, fields: Fields, known: Known, before: int, is_first
 
 def _place_in_pieces(octets: bytes, is_first: bool, error: DecodeError, payload_at: int) -> int:
     """Where the octet lies for which a record in pieces is refused; the error has its place in the joined payload. The library
-    finds it where it checks the record, which is the first of its message or stands behind an empty one here."""
+    finds it where it checks the record, which is the first of its message or stands after an empty one here."""
     checker, checked = library.Checker(), library.Checked()
     library.begin(library.limits(library.U32_END - 1, 0), library.byref(checker))
     before = b'' if is_first else Record()._written(library.FIRST, 0)
@@ -305,7 +305,7 @@ def message_encoder(message: None = None, *, stream: BinaryIO) -> Generator[Opti
 
 def message_encoder(message: Optional[Iterable[Record]] = None, stream: Optional[BinaryIO] = None) -> Generator[Any, Any, None]:
     """A generator of the octets of each record of the message in turn, or, where a stream is given that they are written
-    to, of their numbers. With no message, a generator to which the records are sent, and None behind the last: each
+    to, of their numbers. With no message, a generator to which the records are sent, and None after the last: each
     gives the octets of the record before it."""
     if message is None:
         return _sent(stream)

@@ -76,7 +76,7 @@ def number_of(value: Any, what: str) -> int:
 
 
 def octets_of(value: Any, what: str) -> bytearray:
-    """The octets, of a copy of their own; none for None."""
+    """A copy of the octets; no octets for None."""
     if isinstance(value, (int, str)):
         raise TypeError('%s is octets, not %s' % (what, type(value).__name__))
     return bytearray(value if value is not None else b'')
@@ -217,7 +217,7 @@ class Record:
     __hash__ = None  # type: ignore[assignment]
 
     def __format__(self, form: str) -> str:
-        """'args': what stands in the brackets of repr(). 'data': what str() tells of the payload. Others: str() so formatted."""
+        """'args': what stands in the brackets of repr(). 'data': what str() says of the payload. Others: str() so formatted."""
         if form == 'args':
             return '%r, %r, %r' % (self.type, self.name, self.data)
         if form == 'data':
@@ -258,7 +258,7 @@ class Record:
     def _decode_struct(cls, form: str, octets: Octets, offset: int = 0, always_tuple: bool = False) -> Any:
         """The values that stand at the offset by a format, as of the module struct; one value alone where `always_tuple` is False.
         '*' at the end stands for all octets left, 'B+' for a number and that many octets, 'B+(H)' for a number and that many
-        values. Where octets are wanting, the record is refused with DecodeError."""
+        values. Where octets are missing, the record is refused with DecodeError."""
         values = unpacked(form, bytes(octets), offset)
         return values[0] if len(values) == 1 and not always_tuple else values
 

@@ -17,7 +17,7 @@ _Kind = TypeVar('_Kind', bound=Record)
 
 
 def _parts_of(octets: bytes) -> library.PosterParts:
-    """What the library tells of the payload of a poster."""
+    """What the library gives for the payload of a poster."""
     parts, why = library.PosterParts(), library.Checked()
     if library.poster(octets, library.size_of(len(octets)), library.NO_FLAGS, library.byref(parts), library.byref(why)) != library.OK:
         raise library.refused(why)
@@ -25,7 +25,7 @@ def _parts_of(octets: bytes) -> library.PosterParts:
 
 
 def _parts_within(spelled: str, octets: bytes) -> library.PosterParts:
-    """What the library tells of a poster of a URI and a record with this payload. A refusal is told by its place in the payload."""
+    """What the library gives for a poster of a URI and a record with this payload. A refusal has its place in the payload."""
     message = list(message_encoder([UriRecord(), Record(spelled, '', octets)]))
     try:
         return _parts_of(b''.join(message))
@@ -166,7 +166,7 @@ class TypeRecord(LocalRecord):
 
 
 class SmartposterRecord(GlobalRecord):
-    """A smart poster: a URI, and what is told of it.
+    """A smart poster: a URI, and what is said of it.
 
     resource: the URI, as a UriRecord; a str may be assigned.
     title: a text for the language 'en', or a dict of texts by language.

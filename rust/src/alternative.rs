@@ -133,7 +133,7 @@ impl fmt::Debug for AlternativeCarrier<'_> {
     }
 }
 
-/// When the library tells where the references lie.
+/// When the library gives the places of the references.
 #[derive(Clone)]
 enum Told {
     /// Each one when it is asked for, which looks at those before it.

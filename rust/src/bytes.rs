@@ -22,7 +22,7 @@ pub enum Bytes<'a> {
 }
 
 impl<'a> Bytes<'a> {
-    /// A part that the library told of them. It is borrowed if they are.
+    /// A part of them that the library gave. It is borrowed if they are.
     pub(crate) fn part(&self, at: Size, length: Size) -> Bytes<'a> {
         match self {
             Self::Borrowed(bytes) => Bytes::Borrowed(ffi::part(bytes, at, length)),
@@ -98,7 +98,7 @@ impl<'a> From<&'a str> for Bytes<'a> {
     }
 }
 
-/// What becomes bytes where there is memory, and how.
+/// Which types become bytes where there is an allocator, and how.
 #[cfg(feature = "alloc")]
 macro_rules! become_bytes {
     ($($given:ty: $name:ident => $bytes:expr;)*) => { $(

@@ -9,7 +9,7 @@ use core::fmt;
 pub enum DecodeError {
     /// The payload is not one of its type.
     Refused(Refusal),
-    /// The room is too small. So many bytes are needed, or elements where the room is one of [`Part`](crate::Part)s.
+    /// The room is too small. This many bytes are needed, or elements where the room is one of [`Part`](crate::Part)s.
     NoRoom(usize),
 }
 
@@ -64,7 +64,7 @@ pub enum EncodeError {
     Poster(Refusal),
     /// The minor version of a handover is above 15, or its records are not those of a handover.
     Handover,
-    /// The room is too small. So many bytes are needed.
+    /// The room is too small. This many bytes are needed.
     NoRoom(usize),
 }
 

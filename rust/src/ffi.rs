@@ -1,6 +1,6 @@
 //! The calls of `include/ndef.h`, which `ffi/calls.rs` declares. All `unsafe` of this crate is here.
 //!
-//! The header demands this of a caller, and it is kept so:
+//! The header demands this of a caller, and this module does it:
 //!
 //! - LEN, "a pointer that comes with a length points to that many bytes (or elements)": the pointer and the length are
 //!   those of one slice, or of the spare capacity of one `Vec`.
@@ -15,7 +15,7 @@
 //!
 //! - P1: with NDEF_OK a call that fills a room has written `*count` bytes from the room's start on. What the room held
 //!   before does not matter, so it need not be initialized.
-//! - P2: `ndef_uri` and `ndef_text_in_utf8` write UTF-8. `ndef_text` tells a language code that is ASCII, and a text
+//! - P2: `ndef_uri` and `ndef_text_in_utf8` write UTF-8. `ndef_text` gives a language code that is ASCII, and a text
 //!   that is UTF-8 where `utf16` is 0.
 #![allow(unsafe_code)]
 // Which calls are used depends on the features.
@@ -43,13 +43,13 @@ fn size<T>(slice: &[T]) -> Size {
     slice.len() as Size
 }
 
-/// A length or a place that the library told of bytes in memory: so it fits.
+/// A length or a place that the library gave for bytes in memory: so it fits.
 #[inline]
 pub(crate) fn index(told: Size) -> usize {
     told as usize
 }
 
-/// A part of bytes that the library told of them: so it lies within them.
+/// A part of bytes that the library gave for them: so it lies within them.
 #[inline]
 pub(crate) fn part(bytes: &[u8], at: Size, length: Size) -> &[u8] {
     &bytes[index(at)..][..index(length)]
@@ -93,7 +93,7 @@ pub(crate) fn feed(checker: &mut Checker, bytes: &[u8]) -> (u32, Checked) {
 
 // ---- records
 
-/// Tells the record that begins at a place. An error is the status.
+/// Gives the record that begins at a place. An error is the status.
 #[inline]
 pub(crate) fn record_at(bytes: &[u8], at: Size, out: &mut Record) -> Result<(), u32> {
     // SAFETY: LEN, ONE, MAX: a slice, and a value of its type. APART: `out` is a `&mut`.
@@ -103,7 +103,7 @@ pub(crate) fn record_at(bytes: &[u8], at: Size, out: &mut Record) -> Result<(), 
     }
 }
 
-/// What the payload of a record is that the library told of these bytes.
+/// What the payload is of a record that the library gave for these bytes.
 pub(crate) fn kind(bytes: &[u8], record: &Record, within: u32) -> u32 {
     // SAFETY: LEN, ONE, MAX: a slice, and a value of its type. The call writes nothing.
     unsafe { c::ndef_kind(bytes.as_ptr(), size(bytes), record, within) }
@@ -128,7 +128,7 @@ pub(crate) fn pieces(bytes: &[u8], at: Size, parts: &mut [Part]) -> Result<usize
 
 // ---- fields
 
-/// The fields of the message with which the bytes begin, or those before the refused byte, which `why` tells: their
+/// The fields of the message with which the bytes begin, or those before the refused byte, which `why` gives: their
 /// number. If the array has fewer elements it is unchanged, and the error is the number.
 pub(crate) fn fields(bytes: &[u8], limits: &Limits, fields: &mut [Field], why: &mut Checked) -> Result<usize, usize> {
     let (at, room, mut count) = (fields.as_mut_ptr(), size(fields), 0);
@@ -145,7 +145,7 @@ pub(crate) fn fields(bytes: &[u8], limits: &Limits, fields: &mut [Field], why: &
 /// Why a room is not filled.
 #[derive(Debug, PartialEq, Eq)]
 pub(crate) enum Unfilled {
-    /// The room is too small. So many bytes, or elements, are needed.
+    /// The room is too small. This many bytes, or elements, are needed.
     NoRoom(usize),
     /// The payload is not one of its type.
     Refused(Checked),
@@ -163,7 +163,7 @@ fn filled(status: u32, count: Size, why: Checked) -> Result<usize, Unfilled> {
     }
 }
 
-/// Memory to which a call writes bytes: a slice, from its start on, or a `Vec`, behind what it holds.
+/// Memory to which a call writes bytes: a slice, from its start on, or a `Vec`, after what it holds.
 pub(crate) trait Room {
     /// Gives the call the memory and its size, and answers the status and the count. A `Vec` takes the memory that is
     /// needed, and holds what was written then.
@@ -192,7 +192,7 @@ impl Room for Vec<u8> {
             match call(spare.as_mut_ptr().cast(), size(spare), &mut count) {
                 NO_ROOM => self.reserve(index(count)),
                 OK => {
-                    // SAFETY: P1: so many bytes of the spare capacity are written, which has as many.
+                    // SAFETY: P1: `count` bytes of the spare capacity are written, which has as many.
                     unsafe { self.set_len(self.len() + index(count)) };
                     return (OK, count);
                 }
@@ -263,7 +263,7 @@ pub(crate) fn uri_length(payload: &[u8], flags: u32) -> Result<usize, Checked> {
 /// The URI of a payload, in a room.
 pub(crate) fn uri_in<'r>(payload: &[u8], flags: u32, room: &'r mut [u8]) -> Result<&'r str, Unfilled> {
     let count = uri(payload, flags, room)?;
-    // SAFETY: P1, P2: so many bytes of the room are what `ndef_uri` wrote.
+    // SAFETY: P1, P2: the first `count` bytes of the room are what `ndef_uri` wrote.
     Ok(unsafe { core::str::from_utf8_unchecked(&room[..count]) })
 }
 
@@ -288,7 +288,7 @@ fn text_in_utf8(payload: &[u8], room: &mut (impl Room + ?Sized)) -> Result<usize
 
 // ---- payloads
 
-/// Calls that tell the parts of a payload.
+/// Calls that give the parts of a payload.
 macro_rules! parts {
     ($($name:ident ($($argument:ident: $kind:ty),*) -> $out:ty = $call:ident;)*) => { $(
         pub(crate) fn $name(payload: &[u8], $($argument: $kind),*) -> Result<$out, Checked> {
@@ -328,7 +328,7 @@ pub(crate) fn references(payload: &[u8], parts: &mut [Part]) -> Result<usize, Un
     filled(status, count, Checked::default())
 }
 
-/// The payload of a text, and the parts that `ndef_text` told of it.
+/// The payload of a text, and the parts that `ndef_text` gave for it.
 #[derive(Clone)]
 pub(crate) struct TextPayload<'a> {
     bytes: Bytes<'a>,
@@ -360,7 +360,7 @@ impl<'a> TextPayload<'a> {
 
     pub(crate) fn language(&self) -> &str {
         let code = part(&self.bytes, self.parts.language_at, self.parts.language_length);
-        // SAFETY: P2: `ndef_text` told this part of these bytes, and both fields never change.
+        // SAFETY: P2: `ndef_text` gave this part of these bytes, and both fields never change.
         unsafe { core::str::from_utf8_unchecked(code) }
     }
 
@@ -383,7 +383,7 @@ impl<'a> TextPayload<'a> {
     /// The text in UTF-8, in a room.
     pub(crate) fn utf8_in<'r>(&self, room: &'r mut [u8]) -> Result<&'r str, Unfilled> {
         let count = text_in_utf8(&self.bytes, room)?;
-        // SAFETY: P1, P2: so many bytes of the room are what `ndef_text_in_utf8` wrote.
+        // SAFETY: P1, P2: the first `count` bytes of the room are what `ndef_text_in_utf8` wrote.
         Ok(unsafe { core::str::from_utf8_unchecked(&room[..count]) })
     }
 

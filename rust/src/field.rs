@@ -98,7 +98,7 @@ pub struct Field<'a> {
     pub name: FieldName,
 }
 
-/// Where the fields are kept that the library told.
+/// Where the fields that the library gave are kept.
 #[derive(Clone)]
 enum Told<'a> {
     Borrowed(&'a [FieldPart]),
@@ -180,7 +180,7 @@ impl<'a> Fields<'a> {
     }
 }
 
-/// The refusal, if the library told one.
+/// The refusal, if the library gave one.
 fn refusal_of(why: ffi::Checked) -> Option<Refusal> {
     (why.reason != 0).then(|| Refusal::of(why))
 }
@@ -264,7 +264,7 @@ mod tests {
         assert_eq!((fields.len(), fields.refusal().unwrap().at), (3, 3));
     }
 
-    /// What `of` keeps in memory of its own is what `of_in` keeps in a room.
+    /// What `of` keeps in memory that it allocates is what `of_in` keeps in a room.
     #[cfg(feature = "alloc")]
     #[test]
     fn fields_in_memory() {

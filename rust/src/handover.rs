@@ -48,7 +48,7 @@ macro_rules! handovers {
                 ffi::index(self.parts.carriers)
             }
 
-            /// Its alternative carriers. [`Message::links`](crate::Message::links) tells the record of each.
+            /// Its alternative carriers. [`Message::links`](crate::Message::links) gives the record of each.
             pub fn alternatives(&self) -> Alternatives<'_> {
                 Alternatives { records: self.records(), left: self.alternative_count() }
             }

@@ -6,13 +6,13 @@ use crate::{promised, Refusal};
 #[derive(Clone, Copy, Debug, PartialEq, Eq, Hash)]
 #[non_exhaustive]
 pub struct HandoverError<'a> {
-    /// The reason. 1: memory is short for a while. 2: memory is short for good. 3: the carrier has an error of its own.
-    /// Others are reserved.
+    /// The reason. 1: memory is short temporarily. 2: memory is short permanently. 3: the carrier has an error of its
+    /// own. Others are reserved.
     pub reason: u8,
     /// The error data.
     pub data: &'a [u8],
-    /// With the reasons 1 to 3, the number in the data: after so many milliseconds (1 and 3) another request may
-    /// succeed, and a message may have so many bytes (2).
+    /// With the reasons 1 to 3, the number in the data: after that many milliseconds (1 and 3) another request may
+    /// succeed, and a message may have that many bytes (2).
     pub number: Option<u32>,
 }
 

@@ -6,7 +6,7 @@ use core::num::{NonZeroU16, NonZeroU32};
 /// docs/FORMAT.md has each difference from the standards.
 #[derive(Clone, Copy, Debug, Default, PartialEq, Eq, Hash)]
 pub enum Profile {
-    /// They are refused, though the standards bid a reader accept them.
+    /// They are refused, though the standards ask a reader to accept them.
     #[default]
     Strict,
     /// They are read as the standards say: the type name format 7 as [`Tnf::Unknown`](crate::Tnf::Unknown) (NDEF 1.0,

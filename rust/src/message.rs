@@ -69,7 +69,7 @@ impl<'a> Message<'a> {
         self.bytes
     }
 
-    /// The bytes behind it.
+    /// The bytes after it.
     pub fn rest(&self) -> &'a [u8] {
         self.rest
     }
@@ -182,7 +182,7 @@ impl fmt::Debug for Message<'_> {
 /// How many records are left.
 #[derive(Clone, Copy, Debug)]
 enum Left {
-    /// So many.
+    /// This many.
     Counted(u32),
     /// At least one; the last one says that it is.
     Some,

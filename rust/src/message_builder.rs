@@ -40,7 +40,7 @@ impl<'a> MessageBuilder<'a> {
         self.records.push(record.into());
     }
 
-    /// Cuts payloads into chunks of so many bytes.
+    /// Cuts payloads into chunks of this many bytes.
     pub fn chunk(mut self, bytes: NonZeroU32) -> Self {
         self.form.chunk = Some(bytes);
         self

@@ -16,7 +16,7 @@ pub struct Form {
 }
 
 impl Form {
-    /// The flags of the record with an index of so many.
+    /// The flags of the record with an index, out of `count` records.
     fn flags(self, index: usize, count: usize) -> u32 {
         (if self.long { ffi::WRITE_LONG } else { 0 })
             | (if index == 0 { ffi::WRITE_FIRST } else { 0 })
@@ -115,7 +115,7 @@ impl<'a> NewRecord<'a> {
         16 + self.kind.len() + self.id.len() + self.payload.len()
     }
 
-    /// Writes it as the record with an index of so many.
+    /// Writes it as the record with an index, out of `count` records.
     pub(crate) fn write(
         &self,
         form: Form,

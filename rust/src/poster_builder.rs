@@ -27,12 +27,12 @@ impl<'a> SmartPosterBuilder<'a> {
         self.written(b"act", |room| ffi::write_action(action.number().into(), room))
     }
 
-    /// Tells the size in bytes of what the URI leads to.
+    /// Adds the size in bytes of what the URI leads to.
     pub fn size(self, bytes: u32) -> Self {
         self.written(b"s", |room| ffi::write_size(bytes, room))
     }
 
-    /// Tells the media type of what the URI leads to.
+    /// Adds the media type of what the URI leads to.
     pub fn media_type(self, kind: impl Into<Bytes<'a>>) -> Self {
         self.record(NewRecord::new(Tnf::WellKnown, b"t", kind))
     }

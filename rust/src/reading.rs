@@ -44,7 +44,7 @@ impl From<Refusal> for ReadError {
     }
 }
 
-/// Reads the bytes of one message, and takes none of those behind it. `None`: the input ends before the first byte.
+/// Reads the bytes of one message, and takes none of those after it. `None`: the input ends before the first byte.
 /// [`Message::parse_within`](crate::Message::parse_within) reads the bytes.
 ///
 /// # Errors

@@ -39,7 +39,7 @@ impl<'a> Record<'a> {
         Self::of(message, told, profile)
     }
 
-    /// A record that the library told of a message.
+    /// The record of a message whose parts the library gave.
     #[inline(always)]
     pub(crate) fn of(message: &'a [u8], told: ffi::Record, profile: Profile) -> Self {
         Self {

@@ -13,7 +13,7 @@ pub enum Encoding {
     /// In UTF-8.
     #[default]
     Utf8,
-    /// In UTF-16. It is written big-endian behind a byte order mark, and read as its mark says.
+    /// In UTF-16. It is written big-endian after a byte order mark, and read as its mark says.
     Utf16,
 }
 

@@ -32,7 +32,7 @@ impl<'a> Uri<'a> {
         Ok(Self { payload, length, profile })
     }
 
-    /// A part of a payload that the library told as the payload of a URI of so many bytes.
+    /// A part of a payload that the library gave as the payload of a URI of `length` bytes.
     pub(crate) fn within(payload: &'a [u8], length: usize, profile: Profile) -> Self {
         Self { payload: payload.into(), length, profile }
     }

@@ -32,7 +32,7 @@ fn is_v2() -> bool {
     ["ssse3", "sse4.1"].iter().all(|wanted| features.split(',').any(|feature| feature == *wanted))
 }
 
-/// Links the library of a folder, and tells whether there is one.
+/// Links the library of a folder, and returns whether there is one.
 fn link(folder: &Path) -> bool {
     let names: &[&str] = if is_v2() { &["ndef-v2", "ndef", "ndef_c"] } else { &["ndef", "ndef_c"] };
     for name in names {

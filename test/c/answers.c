@@ -40,7 +40,7 @@ static void mix_checked(const ndef_checked *checked) {
     mix(checked->reason);
 }
 
-/* A room of `size` bytes, and marks behind it that no call may write. */
+/* A room of `size` bytes, and marks after it that no call may write. */
 static uint8_t *marked(ndef_size size) {
     for (ndef_size i = 0; i < size + MARKS; i++) room[i] = 0xa5;
     return room;
@@ -187,7 +187,7 @@ static void fill_links(const uint8_t *bytes, ndef_size length, const uint8_t *ha
     }
 }
 
-/* The fields of a message, or of what comes before a refused byte; the field of a byte, and the one behind it. */
+/* The fields of a message, or of what comes before a refused byte; the field of a byte, and the one after it. */
 static void fill_fields(const uint8_t *bytes, ndef_size length, const ndef_limits *limits) {
     static ndef_field fields[ELEMENTS];
     const ndef_field mark = { 7, 7, 7, 7 };

@@ -47,7 +47,7 @@ static int is_part(const char *digits, const uint8_t *part, ndef_size length) {
     return from_hex(digits, told) == length && memcmp(told, part, length) == 0;
 }
 
-/* Whether the record, which is written behind what was, is the one that the text tells. */
+/* Whether the record, which is written after what was written before, is the one that the text gives. */
 static int is_record(const char *text, const ndef_record *record, const uint8_t *whole, ndef_size *end) {
     static char hexadecimal[LINE];
     static uint8_t told[LINE];
@@ -70,7 +70,7 @@ static int is_record(const char *text, const ndef_record *record, const uint8_t 
     return 1;
 }
 
-/* Whether the records are those that the text tells, and what is written of them is read again. */
+/* Whether the records are those that the text gives, and what is written of them is read again. */
 static int are_records(char *text, const ndef_limits *limits, const ndef_checked *checked) {
     ndef_checked again;
     ndef_record record;

@@ -7,7 +7,7 @@
 
 static uint8_t payload[1024], room[2048];
 
-/* The bytes that a record should have, one part behind another. */
+/* The bytes that a record should have, one part after another. */
 typedef struct expected {
     uint8_t bytes[2048];
     size_t count;
@@ -18,7 +18,7 @@ static void add(expected *to, const char *bytes, size_t length) {
     to->count += length;
 }
 
-/* Adds a head and so many bytes of the payload from a place on. */
+/* Adds a head and `length` bytes of the payload from a place on. */
 static void add_piece(expected *to, const char *head, size_t head_length, size_t at, size_t length) {
     add(to, head, head_length);
     add(to, (const char *)payload + at, length);

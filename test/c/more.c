@@ -388,7 +388,7 @@ static void icons(void) {
 
 /* ---- a message written again */
 
-/* A text in chunks of 3, 0 and 2 bytes, with an empty id; a record in the long form, with an id; and bytes behind them. */
+/* A text in chunks of 3, 0 and 2 bytes, with an empty id; a record in the long form, with an id; and bytes after them. */
 static void rewritten(void) {
     static const uint8_t chunked[] = {
         0xb9, 1, 3, 0, 'T', 2, 'e', 'n', 0x36, 0, 0, 0x16, 0, 2, 'H', 'i',

@@ -120,7 +120,7 @@ static void more_calls(int way, const uint8_t *none, ndef_part *no_parts, ndef_l
     answer(way, ndef_title((const uint8_t *)"\xd1\1\1U\0", 5, none, 0, &text));
 }
 
-/* The calls that tell fields. */
+/* The calls that give fields. */
 static void field_calls(int way, const uint8_t *none, ndef_field *no_fields, uint8_t *room) {
     ndef_limits limits;
     ndef_field field = { 0, 0, 0, 0 };

@@ -110,7 +110,7 @@ static int is_why(const ndef_checked *why, ndef_size place, uint32_t records, ui
     return why->place == place && why->records == records && why->reason == reason;
 }
 
-/* Each byte is in the field in which it lies, and no byte behind them is in one. */
+/* Each byte is in the field in which it lies, and no byte after them is in one. */
 static void ask_places(const uint8_t *bytes, ndef_size length, const ndef_limits *limits, const ndef_field *fields,
                        const ndef_checked *checked) {
     const uint32_t behind = checked->reason ? NDEF_REFUSED : NDEF_END;

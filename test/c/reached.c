@@ -227,7 +227,7 @@ static void references(void) {
 enum { TEXT_BYTES = 40 };
 static const ndef_part inside = { 3, 5 };
 
-/* Parts that reach beyond TEXT_BYTES bytes, or begin behind them. */
+/* Parts that reach beyond TEXT_BYTES bytes, or begin after them. */
 static const ndef_part outside[] = { { 41, 0 }, { 40, 1 }, { 36, 5 }, { 0, 41 }, { 1, (ndef_size)-1 }, { (ndef_size)-1, 1 }, { (ndef_size)-1, 0 } };
 
 static uint32_t write_poster(ndef_part uri, ndef_part media, ndef_part language, ndef_part text, ndef_part type, ndef_part data) {
@@ -300,7 +300,7 @@ static void nothing(void) {
 
 /* ---- more than there can be */
 
-/* A select of so many carriers, with an error or without. */
+/* A select of `many` carriers, with an error or without. */
 static uint32_t write_carriers(const ndef_alternative_writing *carriers, ndef_size many, uint32_t has_error) {
     const ndef_select_writing how = { { 0, 1 }, 2, has_error, 9 };
     const ndef_part reference = { 0, 1 };

@@ -1,5 +1,5 @@
-/* Random messages there and back, fronts and single changes of them, and wild bytes, for so many rounds. Each room is
- * a block of its own, so that a sanitizer sees a write behind it. */
+/* Random messages there and back, fronts and single changes of them, and wild bytes, for a number of rounds. Each room is
+ * a separate block, so that a sanitizer sees a write beyond it. */
 #include "ndef.h"
 
 #include <stdio.h>

@@ -10,7 +10,7 @@ import java.nio.file.Path;
 import java.util.Arrays;
 import org.simbegyor.ndef.*;
 
-/** Prints what the module tells of the messages in a file, the lines that test/faces/lines.c prints. */
+/** Prints what the module says of the messages in a file, the lines that test/faces/lines.c prints. */
 final class Lines {
     private static final byte[] EN = {'E', 'N'};
 

@@ -77,7 +77,7 @@ final class Load {
 
     // ---- memory
 
-    /** The pages of this process; -1 where the system doesn't tell. */
+    /** The bytes of the resident pages of this process; -1 where the system doesn't give them. */
     private static long resident() throws Exception {
         Path told = Path.of("/proc/self/statm");
         return Files.exists(told) ? Long.parseLong(Files.readString(told).split(" ")[1]) * 4096 : -1;

@@ -3,7 +3,7 @@ package org.simbegyor.ndef;
 import java.util.Objects;
 
 /**
- * Bytes are not what they have to be: {@link #place()} tells the first byte that is wrong, and {@link #reason()} why.
+ * Bytes are not what they have to be: {@link #place()} gives the first byte that is wrong, and {@link #reason()} why.
  */
 public class FormatException extends Exception {
     private static final long serialVersionUID = 1;
@@ -13,13 +13,13 @@ public class FormatException extends Exception {
     /** Why it is refused. */
     private final Reason reason;
 
-    /** Makes an exception of the program's own. It has no place. */
+    /** Makes an exception that the program itself throws. It has no place. */
     public FormatException() {
         this(null, null);
     }
 
     /**
-     * Makes an exception of the program's own. It has no place.
+     * Makes an exception that the program itself throws. It has no place.
      *
      * @param message what {@link #getMessage()} returns, or null
      */
@@ -28,7 +28,7 @@ public class FormatException extends Exception {
     }
 
     /**
-     * Makes an exception of the program's own. It has no place.
+     * Makes an exception that the program itself throws. It has no place.
      *
      * @param message what {@link #getMessage()} returns, or null
      * @param cause what {@link #getCause()} returns, or null

@@ -8,7 +8,7 @@ import java.util.Objects;
 
 /** What a {@link HandoverRequest} and a {@link HandoverSelect} share. */
 public abstract class Handover extends Payload {
-    /** The numbers that the library tells: the version, and of a request its random number. */
+    /** The numbers that the library gives: the version, and for a request its random number. */
     private final int[] told;
     private final int kind;
     private final List<NdefRecord> records;
@@ -57,7 +57,7 @@ public abstract class Handover extends Payload {
     }
 
     /**
-     * The alternative carriers. {@link NdefMessage#links()} tells the record of each.
+     * The alternative carriers. {@link NdefMessage#links()} gives the record of each.
      *
      * @return the alternative carriers, in their order
      */

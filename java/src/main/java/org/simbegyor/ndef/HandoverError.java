@@ -75,7 +75,7 @@ public final class HandoverError extends Payload {
     }
 
     /**
-     * The number that the data tell.
+     * The number that the data hold.
      *
      * @return the number, with the reasons 1 to 3
      */

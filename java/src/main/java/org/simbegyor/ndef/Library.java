@@ -80,7 +80,7 @@ final class Library {
     /** A name; null where there is none. */
     static native String name(int list, int number);
 
-    /** What {@link #list} tells of all bytes of an array. */
+    /** What {@link #list} gives for all bytes of an array. */
     static int[] list(int call, byte[] bytes, byte[] more) {
         return list(call, bytes, more, 0, bytes.length, null, null);
     }

@@ -15,7 +15,7 @@ public final class NdefRecord {
     public static final short TNF_MIME_MEDIA = 2;
     /** The type is a URI. */
     public static final short TNF_ABSOLUTE_URI = 3;
-    /** The type is somebody else's, such as {@code example.com:x}. */
+    /** The type is an external one, such as {@code example.com:x}. */
     public static final short TNF_EXTERNAL_TYPE = 4;
     /** The type of the payload is not known; the type has no bytes. */
     public static final short TNF_UNKNOWN = 5;
@@ -38,7 +38,7 @@ public final class NdefRecord {
     public static final byte[] RTD_HANDOVER_SELECT = Types.HANDOVER_SELECT.clone();
 
     private static final byte[] NONE = {};
-    /** The numbers that the library tells of each record. */
+    /** How many numbers the library gives for each record. */
     private static final int COLUMNS = 7;
 
     private final short tnf;
@@ -194,7 +194,7 @@ public final class NdefRecord {
     }
 
     /**
-     * Makes a record of a type of one's own, {@code domain:type}. Both are written in lower case.
+     * Makes a record of an external type, {@code domain:type}. Both are written in lower case.
      *
      * @param domain the domain of the organization that issues the type
      * @param type the type
@@ -304,7 +304,7 @@ public final class NdefRecord {
 
     /**
      * The URI of the record: that of a URI record or of a smart poster; the type where that is a URI; or
-     * {@code vnd.android.nfc://ext/} and a type of somebody else's.
+     * {@code vnd.android.nfc://ext/} and an external type.
      *
      * @return the URI, or null where the record has none or its payload is refused
      */

@@ -67,7 +67,7 @@ public enum Reason {
         sentence = number == 0 ? "Another reason." : Library.name(Library.REASON_SENTENCE, number);
     }
 
-    /** The reason with a number that the library told; {@link #OTHER}, if only a newer library knows it. */
+    /** The reason with a number that the library gave; {@link #OTHER}, if only a newer library knows it. */
     static Reason of(long number) {
         return number < ALL.length ? ALL[(int) number] : OTHER;
     }

@@ -110,7 +110,7 @@ public final class SmartPoster extends Payload {
     /**
      * The size in bytes of what the URI leads to.
      *
-     * @return the size, if the poster tells it
+     * @return the size, if the poster gives it
      */
     public OptionalLong size() {
         return told[4] == 0 ? OptionalLong.empty() : OptionalLong.of(told[5] & 0xffffffffL);
@@ -119,7 +119,7 @@ public final class SmartPoster extends Payload {
     /**
      * The media type of what the URI leads to.
      *
-     * @return the media type, if the poster tells it
+     * @return the media type, if the poster gives it
      */
     public Optional<String> mediaType() {
         int[] found = Library.list(Library.MEDIA_TYPE, payload(), null);
