@@ -92,7 +92,7 @@ enum ndef_tnf {
  *   records  the most records of the message: 1 to 65535
  *   pieces   the most chunks of one record: 1 to 65535
  *   flags    NDEF_STANDARD: read the reserved type name format 7 and URI codes above 0x23 as the standards say;
- *            without it they are refused, though the standards bid a reader accept them. A type name format 7 with a
+ *            without it they are refused, though the standards ask a reader to accept them. A type name format 7 with a
  *            type, and bit 6 of a text's status octet, are refused in both. docs/FORMAT.md has each difference from
  *            the standards.
  *            NDEF_OPAQUE: don't check payloads; without it texts, URIs, smart posters and handovers are checked too. */

@@ -57,7 +57,7 @@ def packed(form: str, *values: Any) -> bytes:
     for part, group in parts:
         if part == '*' or '+' in part:
             if not left:
-                raise struct.error('a value is wanting for %r' % part)
+                raise struct.error('a value is missing for %r' % part)
             value = left.pop(0)
             if '+' in part:
                 octets += struct.pack(order + part[:1], len(value))
