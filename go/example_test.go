@@ -71,11 +71,14 @@ func Example_write() {
 
 // Show where a broken message breaks.
 func Example_refusal() {
-	_, err := ndef.Parse([]byte("\xD1\x01\x08T\x02enHel"))
+	broken := []byte("\xD1\x01\x08T\x02enHel")
+	_, err := ndef.Parse(broken)
 	var refusal *ndef.Refusal
 	if errors.As(err, &refusal) {
 		fmt.Println(refusal.Place, refusal.Reason, refusal.Reason.Sentence())
+		fmt.Println(ndef.Why(broken))
 	}
 	// Output:
 	// 10 EndOfInput The input ends within a message.
+	// 2 octets of the payload are missing.
 }

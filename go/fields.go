@@ -18,7 +18,8 @@ type Field struct {
 
 // Fields returns in which field each byte of the message stands with which the bytes begin. The fields follow one
 // another without a gap. Where the bytes are refused they are the fields of the bytes before the refused one, and the
-// error is a *Refusal. The options must not be opaque; ErrLimits is the error for those that are.
+// error is a *Refusal. The options must not be opaque; ErrLimits is the error for those that are. FieldRemark says what is
+// strange in a field.
 func (options Options) Fields(bytes []byte) ([]Field, error) {
 	limits := options.limits()
 	var why C.ndef_checked

@@ -4,6 +4,7 @@ import (
 	"bufio"
 	"bytes"
 	"errors"
+	"fmt"
 	"io"
 	"reflect"
 	"strings"
@@ -213,26 +214,15 @@ func timeOf(run func()) time.Duration {
 	return least
 }
 
-// Ten times as many records take some ten times as long.
-func TestGrowth(t *testing.T) {
+// grows says where ten times as many records take much more than ten times as long.
+func grows(t *testing.T, run func(options Options, message *Message) error) {
 	var before time.Duration
 	for _, count := range []int{100, 1000, 10000} {
 		message := &Message{Records: make([]Record, count)}
 		limits := UsualLimits()
 		limits.Records = uint32(count)
-		options := Options{Limits: &limits}
 		taken := timeOf(func() {
-			encoded, err := message.Encode()
-			if err != nil {
-				t.Fatal(err)
-			}
-			if _, err = options.Parse(encoded); err != nil {
-				t.Fatal(err)
-			}
-			if _, err = options.Fields(encoded); err != nil {
-				t.Fatal(err)
-			}
-			if _, err = NewReader(bytes.NewReader(encoded), options).Next(); err != nil {
+			if err := run(Options{Limits: &limits}, message); err != nil {
 				t.Fatal(err)
 			}
 		})
@@ -241,4 +231,39 @@ func TestGrowth(t *testing.T) {
 		}
 		before = taken
 	}
+}
+
+func TestGrowth(t *testing.T) {
+	grows(t, func(options Options, message *Message) error {
+		encoded, err := message.Encode()
+		if err != nil {
+			return err
+		}
+		if _, err = options.Parse(encoded); err != nil {
+			return err
+		}
+		if _, err = options.Fields(encoded); err != nil {
+			return err
+		}
+		_, err = NewReader(bytes.NewReader(encoded), options).Next()
+		return err
+	})
+}
+
+// The messages lack their last byte, or follow one byte of what surrounds a message on a tag.
+func TestGrowthOfSentences(t *testing.T) {
+	grows(t, func(options Options, message *Message) error {
+		encoded, err := message.Encode()
+		if err != nil {
+			return err
+		}
+		if why, err := options.Why(encoded[:len(encoded)-1]); err != nil || why == "" {
+			return fmt.Errorf("said is %q, %v", why, err)
+		}
+		if hint, err := options.Hint(append([]byte{3}, encoded...)); err != nil || hint == "" {
+			return fmt.Errorf("said is %q, %v", hint, err)
+		}
+		RecordRemark(encoded, len(message.Records)-1)
+		return nil
+	})
 }
