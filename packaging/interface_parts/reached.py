@@ -38,8 +38,6 @@ REASONS: Tuple[Tuple[str, Dict[str, str]], ...] = (
     ('Its classes are those of ndeflib, which has nothing of the kind.', {'Python': 'kind links link_at'}),
     ('A payload is given with its chunks joined, and not where they lie.', {
         'Python': 'pieces', 'JavaScript': 'pieces', 'Java': 'pieces', 'Go': 'pieces'}),
-    ('An error has the sentence of its reason, and not that of the bytes.', {'Go': 'why hint'}),
-    ('The release of which it is made lacks the call.', {'Go': 'field_remark record_remark'}),
     ('It gives the fields of messages alone.', {
         'Python': 'payload_fields', 'Rust': 'payload_fields', 'JavaScript': 'payload_fields', 'Java': 'payload_fields',
         'Go': 'payload_fields'}),
