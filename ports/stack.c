@@ -17,6 +17,8 @@ static ndef_checked out;
 static uint32_t flags;
 static const ndef_part parts[2] = { { 0, 0 }, { 0, 1 } };
 static const ndef_alternative_writing alternatives[2] = { { 0, 2, 1 }, { 1, 1, 0 } };
+static const char *const types[] = { "T", "Sp", "Hr", "Hs" };
+static const ndef_size type_lengths[] = { 1, 2, 2, 2 };
 
 /* Arrays that calls fill. */
 static union {
@@ -31,7 +33,14 @@ static void nothing(void) {}
 static void check(void) { ndef_check(given, given_length, &limits, &out); }
 static void begin(void) { ndef_begin(&limits, &checker); }
 static void feed(void) { ndef_feed(&checker, given, given_length, &out); }
+static void why(void) { ndef_why(given, given_length, &limits, room, sizeof room, &count); }
+static void hint(void) { ndef_hint(given, given_length, &limits, room, sizeof room, &count); }
 static void record_at(void) { static ndef_record to; ndef_record_at(given, given_length, 0, &to); }
+static void kind(void) {
+    static ndef_record of;
+    of.tnf = NDEF_TNF_WELL_KNOWN, of.type_length = type_lengths[flags];
+    ndef_kind((const uint8_t *)types[flags], type_lengths[flags], &of, NDEF_KIND_OTHER);
+}
 static void payload_of(void) { ndef_payload(given, given_length, 0, room, sizeof room, &count); }
 static void uri(void) { ndef_uri(given, given_length, flags & 1, room, sizeof room, &count, &out); }
 static void text(void) { static ndef_text_parts to; ndef_text(given, given_length, &to, &out); }
@@ -60,6 +69,7 @@ static void write_action(void) { ndef_write_action(7, room, sizeof room, &count)
 static void write_size(void) { ndef_write_size(7, room, sizeof room, &count); }
 static void write_collision(void) { ndef_write_collision(7, room, sizeof room, &count); }
 static void reason_name(void) { ndef_reason_name(flags, room, sizeof room, &count); }
+static void reason_sentence(void) { ndef_reason_sentence(flags, room, sizeof room, &count); }
 static void usual_limits(void) { static ndef_limits to; ndef_usual_limits(&to); }
 static void version(void) { ndef_version(); }
 static void status_name(void) { ndef_status_name(flags, room, sizeof room, &count); }
@@ -75,11 +85,16 @@ static void next_field(void) {
     if (ndef_next_field(given, given_length, &limits, &to, &out) != NDEF_OK) to.at = to.length = 0;
 }
 static void payload_fields(void) {
-    static const char *const types[] = { "T", "Sp", "Hr", "Hs" };
-    static const ndef_size lengths[] = { 1, 2, 2, 2 };
-    ndef_payload_fields(1, (const uint8_t *)types[flags], lengths[flags], given, given_length, array.fields, ELEMENTS, &count);
+    ndef_payload_fields(1, (const uint8_t *)types[flags], type_lengths[flags], given, given_length,
+                        array.fields, ELEMENTS, &count);
 }
 static void field_name(void) { ndef_field_name(flags, room, sizeof room, &count); }
+/* All bytes given, or the first of them, as each field. */
+static void field_remark(void) {
+    for (uint32_t name = NDEF_FIELD_HEADER; name <= NDEF_FIELD_CARRIER_DATA; name++)
+        ndef_field_remark(name, given, flags & 1 && given_length ? 1 : given_length, room, sizeof room, &count);
+}
+static void record_remark(void) { ndef_record_remark(given, given_length, flags, room, sizeof room, &count); }
 static void uri_view(void) { static ndef_uri_parts to; ndef_uri_view(given, given_length, flags & 1, &to, &out); }
 static void uri_prefix(void) { ndef_uri_prefix(flags, room, sizeof room, &count); }
 static void append(void) {
@@ -126,15 +141,16 @@ static void write_select(void) {
 
 #define CALL(name) { "ndef_" #name, name, 0 }
 static struct call { const char *name; void (*make)(void); unsigned most; } calls[] = {
-    { "", nothing, 0 }, CALL(check), CALL(begin), CALL(feed), CALL(record_at), { "ndef_payload", payload_of, 0 }, CALL(pieces),
-    CALL(find_type), CALL(find_id), CALL(fields), CALL(field_at), CALL(next_field), CALL(payload_fields), CALL(uri), CALL(uri_view),
+    { "", nothing, 0 }, CALL(check), CALL(begin), CALL(feed), CALL(why), CALL(hint), CALL(record_at), CALL(kind),
+    { "ndef_payload", payload_of, 0 }, CALL(pieces), CALL(find_type), CALL(find_id), CALL(fields), CALL(field_at),
+    CALL(next_field), CALL(payload_fields), CALL(field_remark), CALL(record_remark), CALL(uri), CALL(uri_view),
     CALL(uri_prefix), CALL(text), CALL(text_in_utf8), CALL(carrier), CALL(alternative), CALL(reference), CALL(references),
     CALL(request), { "ndef_select", select_of, 0 }, CALL(link_at), CALL(links), CALL(poster), CALL(poster_titles), CALL(title),
     CALL(poster_media_type), CALL(poster_icons), CALL(error), CALL(write_record), CALL(write_uri), CALL(write_text),
     CALL(write_carrier), CALL(write_alternative), CALL(write_error), CALL(write_error_number), CALL(write_handover),
     CALL(write_action), CALL(write_size), CALL(write_collision), CALL(write_poster), CALL(write_request), CALL(write_select),
-    CALL(append), CALL(append_text), CALL(append_uri), CALL(rewrite), CALL(reason_name), CALL(field_name), CALL(status_name),
-    CALL(version), CALL(usual_limits)
+    CALL(append), CALL(append_text), CALL(append_uri), CALL(rewrite), CALL(reason_name), CALL(reason_sentence),
+    CALL(field_name), CALL(status_name), CALL(version), CALL(usual_limits)
 };
 enum { CALLS = sizeof calls / sizeof *calls };
 
