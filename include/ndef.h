@@ -535,6 +535,8 @@ uint32_t ndef_payload_fields(uint32_t tnf, const uint8_t *type, ndef_size type_l
  * NDEF_OK, NDEF_NO_ROOM. NDEF_BAD_ARGUMENT: there is no such name. */
 uint32_t ndef_field_name(uint32_t name, uint8_t *room, ndef_size size, ndef_size *count);
 
+/* ---- what is strange in a message that is accepted */
+
 /* Writes what is strange in a field of a message that ndef_check accepts to the room: a sentence of ASCII, at most 192 bytes,
  * as ndef-explain prints it. `octets` are the bytes of the field, `name` is its name.
  * NDEF_OK, NDEF_NO_ROOM. NDEF_END: nothing is known to be strange. NDEF_BAD_ARGUMENT: there is no such name. After these two
