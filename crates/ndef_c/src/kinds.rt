@@ -39,10 +39,10 @@ fn kind_within(within: u32, kind: Kind) -> Kind
 #[unsafe(no_mangle)]
 pub extern "C" fn ndef_kind(bytes: &[u8], record: &NdefRecord, within: u32) -> u32
     ensures known { result ≤ 12 }
-    ensures kind { HasType bytes.now record.now
-        → result ≡ kind_number (kind_within within (type_kind bytes.now record.now)) }
-    ensures other { (¬ HasType bytes.now record.now) → result ≡ 0 }
-    ensures record { (at : ℕ) → (r : IsRecordAt bytes.now at record.now)
+    ensures kind { HasType bytes.now «record».now
+        → result ≡ kind_number (kind_within within (type_kind bytes.now «record».now)) }
+    ensures other { (¬ HasType bytes.now «record».now) → result ≡ 0 }
+    ensures record { (at : ℕ) → (r : IsRecordAt bytes.now at «record».now)
         → result ≡ kind_number (kind_within within (kind_of (run_record r.run).tnf (run_record r.run).kind)) }
 {
     let place = NdefPart {
