@@ -42,3 +42,6 @@ linked_tests() {
     done
 }
 leave_out_lacking() { [ -z "$(lacking)" ] || left_out "tests of the Rust crate that make calls which the release in dist/ lacks: $(lacking | paste -sd ' ')"; }
+
+# The calls to the system in whose place test/fuzz/commands.c puts its own, as words for the compiler that links it.
+wrapped=(-Wl,--wrap={read,write,isatty,open,close,lseek,statx})

@@ -4,26 +4,29 @@
  *
  *     the exit status is one that the page docs/COMMAND.md lists, and 3 only where a call to the system failed
  *     `check` takes what the library takes, and what `encode` prints is taken again, with the same number of records
- *     all memory that was taken is given back
+ *     all memory that was taken is given back, and each file that was opened is closed
  *     the steps are at most a multiple of the bytes that were read and written
  *
- * commands faults COUNT: lets memory be refused, and reading and writing fail, at each place: runs each of some commands on each of COUNT messages with
+ * commands faults COUNT: lets memory be refused, and reading, writing and the look at what a file is fail, at each place: runs each of some commands on each of COUNT messages with
  * the first such call failing, then the second, and so on, until a run has no such call. A run that fails ends with 3 and gives all
  * memory back, and what it printed is the front of what it prints otherwise, but for a last line that says the fault. */
+#define _GNU_SOURCE
 #include "ndef.h"
 
 #include <errno.h>
+#include <fcntl.h>
 #include <stdbool.h>
 #include <stdio.h>
 #include <stdlib.h>
 #include <string.h>
+#include <sys/stat.h>
 #include <sys/types.h>
 #include <time.h>
 #include <unistd.h>
 
 /* The most steps for each byte that a command reads, writes or is given in its words, and 4096 more: it builds the page of its options
  * each time. */
-enum { MOST_STEPS = 100, MOST_INPUT = 1 << 16, MOST_OUTPUT = 1 << 20, MOST_WORDS = 24, INPUT_FILE = 1000 };
+enum { MOST_STEPS = 100, MOST_INPUT = 1 << 16, MOST_OUTPUT = 1 << 20, MOST_WORDS = 24, INPUT_FILE = 1000, FOLDER };
 
 typedef struct {
     bool is_there;
@@ -35,12 +38,12 @@ extern uint8_t coverage_marks[], coverage_marks_end[];
 int ndef_commands(void);
 
 static uint8_t input[MOST_INPUT], output[MOST_OUTPUT], nowhere;
-static size_t input_length, input_at, output_length, told_length, blocks, failing;
+static size_t input_length, input_at, output_length, told_length, blocks, files, failing;
 static const char *words[MOST_WORDS];
 static size_t words_count, words_length;
 static bool names_files, is_terminal;
 /* Which call fails, of those of a kind, counted from 1; and how many there were. */
-enum kind { ALLOCATION, READ, WRITE, KINDS };
+enum kind { ALLOCATION, READ, WRITE, LOOK, KINDS };
 static size_t fails_at[KINDS], calls[KINDS];
 static uint64_t greatest;
 
@@ -101,6 +104,7 @@ ssize_t __wrap_write(int file, const void *bytes, size_t size);
 int __wrap_isatty(int file);
 int __wrap_open(const char *name, int how, ...);
 int __wrap_close(int file);
+int __wrap_statx(int folder, const char *name, int how, unsigned asked, struct statx *told);
 off_t __wrap_lseek(int file, off_t by, int from);
 
 /* Gives at most as many bytes as asked for, often fewer; where `failing` says so, none and an error. */
@@ -128,15 +132,33 @@ ssize_t __wrap_write(int file, const void *bytes, size_t size) {
 
 int __wrap_isatty(int file) { return (void)file, is_terminal; }
 
-/* The files a and b are there, and hold the input. */
+/* The files a and b are there, and hold the input; d is a folder. */
 int __wrap_open(const char *name, int how, ...) {
     (void)how;
-    if (strcmp(name, "a") != 0 && strcmp(name, "b") != 0) return errno = ENOENT, -1;
+    const bool is_folder = strcmp(name, "d") == 0;
+    if (strcmp(name, "a") != 0 && strcmp(name, "b") != 0 && !is_folder) return errno = ENOENT, -1;
     input_at = 0;
-    return INPUT_FILE;
+    files++;
+    return is_folder ? FOLDER : INPUT_FILE;
 }
 
-int __wrap_close(int file) { return file == INPUT_FILE ? 0 : (errno = EBADF, -1); }
+int __wrap_close(int file) {
+    if (file != INPUT_FILE && file != FOLDER) return errno = EBADF, -1;
+    files--;
+    return 0;
+}
+
+/* Says what an open file is: a folder, or a file of bytes. */
+int __wrap_statx(int file, const char *name, int how, unsigned asked, struct statx *told) {
+    (void)asked;
+    if ((file != INPUT_FILE && file != FOLDER) || *name != 0 || (how & AT_EMPTY_PATH) == 0) return errno = EBADF, -1;
+    if (fails_now(LOOK)) return errno = EIO, -1;
+    memset(told, 0, sizeof *told);
+    told->stx_mask = STATX_BASIC_STATS;
+    told->stx_mode = file == FOLDER ? S_IFDIR | 0755 : S_IFREG | 0644;
+    told->stx_size = file == FOLDER ? 0 : input_length;
+    return 0;
+}
 
 /* Standard input of an even length can be read again from another place, as a file can. */
 off_t __wrap_lseek(int file, off_t by, int from) {
@@ -157,12 +179,14 @@ static void begin(const char *name) { words_count = words_length = 0, word(name)
 /* Runs the command with the words and the input. Its status is one of those listed. */
 static int run(void) {
     input_at = output_length = told_length = 0;
-    coverage_steps = calls[ALLOCATION] = calls[READ] = calls[WRITE] = 0;
+    coverage_steps = 0;
+    memset(calls, 0, sizeof calls);
     const size_t before = blocks;
     const int status = ndef_commands();
     hold(status >= 0 && status <= 3, "the exit status is listed");
     hold(blocks == before, "all memory is given back");
-    const bool is_faulty = failing != 0 || fails_at[ALLOCATION] + fails_at[READ] + fails_at[WRITE] != 0;
+    hold(files == 0, "all files are closed");
+    const bool is_faulty = failing != 0 || fails_at[ALLOCATION] + fails_at[READ] + fails_at[WRITE] + fails_at[LOOK] != 0;
     hold(status != 3 || is_faulty || names_files, "only a failing system ends with 3");
     const uint64_t steps = coverage_steps / (input_length + output_length + told_length + words_length + 4096);
     if (steps > greatest) greatest = steps;
@@ -302,7 +326,7 @@ static int run_words(size_t which) {
     words_count = words_length = 0;
     for (size_t i = 0; i < 14 && given_words[which][i] != NULL; i++) word(given_words[which][i]);
     names_files = false;
-    for (size_t i = 1; i < words_count; i++) names_files |= strcmp(words[i], "nowhere") == 0;
+    for (size_t i = 1; i < words_count; i++) names_files |= strcmp(words[i], "nowhere") == 0 || strcmp(words[i], "d") == 0;
     return run();
 }
 
