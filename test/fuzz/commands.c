@@ -26,7 +26,7 @@
 
 /* The most steps for each byte that a command reads, writes or is given in its words, and 4096 more: it builds the page of its options
  * each time. */
-enum { MOST_STEPS = 100, MOST_INPUT = 1 << 16, MOST_OUTPUT = 1 << 20, MOST_WORDS = 24, INPUT_FILE = 1000, FOLDER };
+enum { MOST_STEPS = 100, MOST_INPUT = 1 << 16, MOST_OUTPUT = 1 << 20, MOST_WORDS = 24, MOST_GIVEN = 14, INPUT_FILE = 1000, FOLDER };
 
 typedef struct {
     bool is_there;
@@ -46,6 +46,9 @@ static bool names_files, is_terminal;
 enum kind { ALLOCATION, READ, WRITE, LOOK, KINDS };
 static size_t fails_at[KINDS], calls[KINDS];
 static uint64_t greatest;
+/* What a run printed without a fault. Its bytes count for the steps of a run with a fault too, which may make them and not print them. */
+static uint8_t whole[MOST_OUTPUT];
+static size_t whole_length;
 
 static void hold(bool fact, const char *what) {
     if (fact) return;
@@ -188,7 +191,8 @@ static int run(void) {
     hold(files == 0, "all files are closed");
     const bool is_faulty = failing != 0 || fails_at[ALLOCATION] + fails_at[READ] + fails_at[WRITE] + fails_at[LOOK] != 0;
     hold(status != 3 || is_faulty || names_files, "only a failing system ends with 3");
-    const uint64_t steps = coverage_steps / (input_length + output_length + told_length + words_length + 4096);
+    const size_t printed = output_length > whole_length ? output_length : whole_length;
+    const uint64_t steps = coverage_steps / (input_length + printed + told_length + words_length + 4096);
     if (steps > greatest) greatest = steps;
     hold(steps <= MOST_STEPS, "the steps are a multiple of the bytes");
     return status;
@@ -293,22 +297,38 @@ static void fails(uint32_t number) {
 
 /* ---- faults at each place */
 
-/* The words of the commands that are run. */
-static const char *const given_words[][14] = {
+/* The words of the commands that are run on each message. */
+static const char *const given_words[][MOST_GIVEN] = {
     { "ndef", "show" }, { "ndef", "check" }, { "ndef", "encode", "--chunk", "7" }, { "ndef", "encode", "--hex" }, { "ndef", "show", "--pieces", "0" },
-    { "ndef", "show", "--hex" }, { "ndef", "--help" }, { "ndef-explain" }, { "ndef-explain", "--json" }, { "ndef-explain", "--color", "always" },
-    { "ndef-explain", "--hex", "--json" }, { "ndef-explain", "--help" }, { "ndef-explain", "--version" }, { "ndef-explain", "--wrong" }, { "ndef-explain", "nowhere" },
-    { "ndef-make", "text", "--language", "de", "Hello", "--and", "uri", "http://www.example.com", "--hex" }, { "ndef-make", "--help" },
-    { "ndef-make", "text", "--help" }, { "ndef-make", "text", "--utf16", "\xc3\xa9" }, { "ndef-make", "record", "--tnf", "1", "--type", "T" },
-    { "ndef-make", "poster", "http://www.example.com", "--title", "en=Example", "--action", "save", "--size", "7", "--media", "text/html" },
-    { "ndef-make", "carrier", "--format", "2", "--type", "a/b", "--id", "0" }, { "ndef-make", "record", "--tnf", "1", "--type", "Hs", "--unchecked" },
-    { "ndef-make", "handover", "request", "--collision", "7", "--carrier", "active=0,1", "--version", "1.3" },
-    { "ndef-make", "handover", "select", "--error", "2:00000001", "--carrier", "active=0", "--and", "text", "x" }, { "ndef-make", "wrong" },
-    { "ndef-explain", "a", "b" }, { "ndef-explain", "--json", "a", "nowhere", "-" }, { "ndef-explain", "--hex", "b", "a" }, { "ndef-explain", "--records", "2", "a" },
-    { "ndef-make", "poster", "tel:1", "--and", "text", "a", "--and", "carrier", "--format", "1", "--type", "x", "--raw" }, { "ndef-make", "--version" },
-    { "ndef-make", "handover", "select", "--carrier", "unknown=", "--and", "text" }, { "ndef-make", "poster", "\xff" }, { "ndef", "show", "--wrong" }, { "ndef" }, { "ndef-make", "text" },
+    { "ndef", "show", "--hex" }, { "ndef-explain" }, { "ndef-explain", "--json" }, { "ndef-explain", "--color", "always" },
+    { "ndef-explain", "--hex", "--json" }, { "ndef-explain", "--utf8", "--profile", "standard" }, { "ndef-explain", "a", "b" },
+    { "ndef-explain", "--json", "a", "nowhere", "-" }, { "ndef-explain", "--hex", "b", "a" }, { "ndef-explain", "--records", "2", "a" },
+    { "ndef-make", "record", "--tnf", "1", "--type", "T" }, { "ndef-make", "carrier", "--format", "2", "--type", "a/b", "--id", "0" },
+    { "ndef-make", "record", "--tnf", "1", "--type", "Hs", "--unchecked" }, { "ndef-make", "--size", "media", "a/b", "--file", "a" },
+    { "ndef-make", "poster", "tel:1", "--and", "text", "a", "--and", "carrier", "--format", "1", "--type", "x", "--raw" },
+    { "ndef-make", "poster", "tel:1", "--icon", "b", "--icon-type", "image/png", "--and", "external", "a:b", "--file", "nowhere" },
+    { "ndef-make", "--from", "a" }, { "ndef-make", "--from", "-", "--drop", "1", "--hex" },
+    { "ndef-make", "--from", "a", "--drop", "1", "--and", "--replace", "2", "text", "Hello", "--and", "app", "a.b" },
+    { "ndef-make", "--tag", "ntag213", "--from", "b", "--replace", "1", "handover", "select", "--carrier", "ref=0,power=active" },
 };
-enum { GIVEN = sizeof given_words / sizeof *given_words };
+
+/* Those of commands that take no message: they are run a few times alone. */
+static const char *const other_words[][MOST_GIVEN] = {
+    { "ndef" }, { "ndef", "--help" }, { "ndef", "show", "--wrong" }, { "ndef-explain", "--help" }, { "ndef-explain", "--version" },
+    { "ndef-explain", "--wrong" }, { "ndef-explain", "nowhere" }, { "ndef-explain", "d" }, { "ndef-make" }, { "ndef-make", "--help" }, { "ndef-make", "--version" },
+    { "ndef-make", "wrong" }, { "ndef-make", "text" }, { "ndef-make", "poster", "\xff" }, { "ndef-make", "text", "--utf16", "\xc3\xa9" },
+    { "ndef-make", "text", "--language", "de", "Hello", "--and", "uri", "http://www.example.com", "--hex" },
+    { "ndef-make", "poster", "http://www.example.com", "--title", "en=Example", "--action", "save", "--size", "7", "--media", "text/html" },
+    { "ndef-make", "handover", "request", "--collision", "7", "--carrier", "active=0,1", "--version", "1.3" },
+    { "ndef-make", "handover", "select", "--error", "2:00000001", "--carrier", "active=0", "--and", "text", "x" },
+    { "ndef-make", "handover", "select", "--carrier", "unknown=", "--and", "text" }, { "ndef-make", "--tag", "9", "external", "a:b", "--payload", "00ff" },
+    { "ndef-make", "uri", "a", "--and", "record", "--tnf", "7" }, { "ndef-make", "uri", "a", "--and", "text", "--lang", "en", "a" },
+    { "ndef-make", "--from", "d" }, { "ndef-make", "--from", "nowhere", "--drop", "1" }, { "ndef-make", "--from", "a", "--drop" },
+    { "ndef-make", "text", "--help" }, { "ndef-make", "uri", "--help" }, { "ndef-make", "poster", "--help" }, { "ndef-make", "handover", "--help" },
+    { "ndef-make", "handover", "request", "--help" }, { "ndef-make", "handover", "select", "--help" }, { "ndef-make", "record", "--help" },
+    { "ndef-make", "media", "--help" }, { "ndef-make", "external", "--help" }, { "ndef-make", "app", "--help" }, { "ndef-make", "carrier", "--help" },
+};
+enum { GIVEN = sizeof given_words / sizeof *given_words, OTHER = sizeof other_words / sizeof *other_words };
 
 /* Makes the input hexadecimal digits. */
 static void spell_input(void) {
@@ -322,16 +342,13 @@ static void spell_input(void) {
     input_length *= 2;
 }
 
-static int run_words(size_t which) {
+static int run_words(const char *const *given) {
     words_count = words_length = 0;
-    for (size_t i = 0; i < 14 && given_words[which][i] != NULL; i++) word(given_words[which][i]);
+    for (size_t i = 0; i < MOST_GIVEN && given[i] != NULL; i++) word(given[i]);
     names_files = false;
     for (size_t i = 1; i < words_count; i++) names_files |= strcmp(words[i], "nowhere") == 0 || strcmp(words[i], "d") == 0;
     return run();
 }
-
-/* What a run printed without a fault. */
-static uint8_t whole[MOST_OUTPUT];
 
 /* Whether the words name several inputs: a fault of one ends that one alone. */
 static bool are_several(void) {
@@ -341,11 +358,11 @@ static bool are_several(void) {
 }
 
 /* Whether what was printed is the front of it, and perhaps the fault: as a line, or in JSON as a member. */
-static bool is_front(size_t length) {
+static bool is_front(void) {
     static const char *const faults[] = { "fault: memory\n", "fault: reading\n", "\33[31mfault: memory\33[0m\n",
         "\33[31mfault: reading\33[0m\n", "\"fault\":\"memory\"}\n", "\"fault\":\"reading\"}\n" };
     size_t same = 0;
-    while (same < output_length && same < length && output[same] == whole[same]) same++;
+    while (same < output_length && same < whole_length && output[same] == whole[same]) same++;
     if (same == output_length) return true;
     for (size_t i = 0; i < sizeof faults / sizeof *faults; i++) {
         const size_t line = strlen(faults[i]);
@@ -355,15 +372,16 @@ static bool is_front(size_t length) {
 }
 
 /* Lets each call of a kind fail in turn, of one command on one message. */
-static size_t faults_of(size_t which, enum kind kind) {
-    fails_at[kind] = 0;
-    const int usual = run_words(which);
-    const size_t length = output_length, all = calls[kind];
-    memcpy(whole, output, length);
+static size_t faults_of(const char *const *given, enum kind kind) {
+    fails_at[kind] = whole_length = 0;
+    const int usual = run_words(given);
+    const size_t all = calls[kind];
+    whole_length = output_length;
+    memcpy(whole, output, whole_length);
     for (fails_at[kind] = 1; fails_at[kind] <= all; fails_at[kind]++) {
-        const int status = run_words(which);
+        const int status = run_words(given);
         hold(status == 3 || status == usual, "a fault ends with 3");
-        hold(status == usual || are_several() ? output_length <= 2 * length + 20 : is_front(length), "what is printed is the front of what is printed without a fault");
+        hold(status == usual || are_several() ? output_length <= 2 * whole_length + 20 : is_front(), "what is printed is the front of what is printed without a fault");
     }
     fails_at[kind] = 0;
     return all;
@@ -382,8 +400,10 @@ static int faults(size_t wanted) {
     for (size_t done = 0; done < wanted && read_message(); done++) {
         if (done % 4 == 3) spell_input();
         is_terminal = done % 3 == 2;
-        for (size_t which = 0; which < GIVEN; which++)
-            for (int kind = 0; kind < KINDS; kind++) runs += faults_of(which, (enum kind)kind);
+        for (int kind = 0; kind < KINDS; kind++) {
+            for (size_t i = 0; i < GIVEN; i++) runs += faults_of(given_words[i], (enum kind)kind);
+            for (size_t i = 0; i < OTHER && done < 4; i++) runs += faults_of(other_words[i], (enum kind)kind);
+        }
     }
     printf("%zu runs with a fault\n", runs);
     return runs == 0;
