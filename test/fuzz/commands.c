@@ -7,9 +7,12 @@
  *     all memory that was taken is given back, and each file that was opened is closed
  *     the steps are at most a multiple of the bytes that were read and written
  *
- * commands faults COUNT: lets memory be refused, and reading, writing and the look at what a file is fail, at each place: runs each of some commands on each of COUNT messages with
- * the first such call failing, then the second, and so on, until a run has no such call. A run that fails ends with 3 and gives all
- * memory back, and what it printed is the front of what it prints otherwise, but for a last line that says the fault. */
+ * commands runs SECONDS: the same, where the assembly counts no steps.
+ *
+ * commands faults COUNT: lets memory be refused, and reading, writing and the look at what a file is fail, at each place: runs each of some
+ * commands on each of COUNT messages with the first such call failing, then the second, and so on, until a run has no such call. A run that
+ * fails ends with 3 and gives all memory back, and what it printed is the front of what it prints otherwise, but for a last line that says
+ * the fault. */
 #define _GNU_SOURCE
 #include "ndef.h"
 
@@ -415,7 +418,8 @@ static size_t marked(void) {
     return taken;
 }
 
-static int steps(long seconds) {
+/* Runs the commands on messages for so many seconds; with `counts`, steps are counted. */
+static int runs(long seconds, bool counts) {
     const time_t end = time(NULL) + seconds;
     uint64_t messages = 0;
     while (time(NULL) < end && read_message()) {
@@ -426,12 +430,16 @@ static int steps(long seconds) {
         if (messages % 16 == 0) fails((uint32_t)(messages / 16));
         messages++;
     }
-    printf("%llu messages, at most %llu steps a byte, %zu branches taken\n", (unsigned long long)messages, (unsigned long long)greatest, marked());
+    printf("%llu messages, ", (unsigned long long)messages);
+    if (counts) printf("at most %llu steps a byte, ", (unsigned long long)greatest);
+    printf("%zu branches taken\n", marked());
+    hold(!counts || greatest != 0, "steps are counted");
     return messages == 0;
 }
 
 int main(int count, char **given) {
     if (count == 3 && strcmp(given[1], "faults") == 0) return faults((size_t)atol(given[2]));
-    if (count == 3 && strcmp(given[1], "steps") == 0) return steps(atol(given[2]));
+    const bool counts = count == 3 && strcmp(given[1], "steps") == 0;
+    if (counts || (count == 3 && strcmp(given[1], "runs") == 0)) return runs(atol(given[2]), counts);
     return 2;
 }
