@@ -44,4 +44,5 @@ linked_tests() {
 leave_out_lacking() { [ -z "$(lacking)" ] || left_out "tests of the Rust crate that make calls which the release in dist/ lacks: $(lacking | paste -sd ' ')"; }
 
 # The calls to the system in whose place test/fuzz/commands.c puts its own, as words for the compiler that links it.
-wrapped=(-Wl,--wrap={read,write,isatty,open,close,lseek,statx})
+wrapped=()
+for call in read write isatty open close lseek statx; do wrapped+=("-Wl,--wrap=$call"); done
