@@ -20,7 +20,7 @@ import branches
 
 TOP = pathlib.Path(__file__).resolve().parents[2]
 # What the crates of the kit are called in the names of functions. No list has their branches.
-OF_KIT = re.compile(r'^"?(<|core::|std|std_alloc::|clap|simdutf8|hex|serde|json|smallvec|byteorder|strsim|anstyle|itoa|arrayvec|anyhow|thiserror|regex|memchr|bytes::)')
+OF_KIT = re.compile(r'^"?(<|core::|std|std_alloc::|clap|simdutf8|hex|serde|json|smallvec|byteorder|strsim|anstyle|itoa|arrayvec|anyhow|thiserror|regex|memchr|bytes::|os::)')
 
 
 def of_gcov(notes, source):

@@ -322,7 +322,7 @@ static const char *const other_words[][MOST_GIVEN] = {
     { "ndef-make", "wrong" }, { "ndef-make", "text" }, { "ndef-make", "poster", "\xff" }, { "ndef-make", "text", "--utf16", "\xc3\xa9" },
     { "ndef-make", "text", "--language", "de", "Hello", "--and", "uri", "http://www.example.com", "--hex" },
     { "ndef-make", "poster", "http://www.example.com", "--title", "en=Example", "--action", "save", "--size", "7", "--media", "text/html" },
-    { "ndef-make", "handover", "request", "--collision", "7", "--carrier", "active=0,1", "--version", "1.3" },
+    { "ndef-make", "handover", "request", "--collision", "7", "--carrier", "active=0,1", "--carrier", "inactive=2", "--carrier", "power=activating,ref=3" },
     { "ndef-make", "handover", "select", "--error", "2:00000001", "--carrier", "active=0", "--and", "text", "x" },
     { "ndef-make", "handover", "select", "--carrier", "unknown=", "--and", "text" }, { "ndef-make", "--tag", "9", "external", "a:b", "--payload", "00ff" },
     { "ndef-make", "uri", "a", "--and", "record", "--tnf", "7" }, { "ndef-make", "uri", "a", "--and", "text", "--lang", "en", "a" },
