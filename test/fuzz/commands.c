@@ -10,9 +10,9 @@
  * commands runs SECONDS: the same, where the assembly counts no steps.
  *
  * commands faults COUNT: lets memory be refused, and reading, writing and the look at what a file is fail, at each place: runs each of some
- * commands on each of COUNT messages with the first such call failing, then the second, and so on, until a run has no such call. A run that
- * fails ends with 3 and gives all memory back, and what it printed is the front of what it prints otherwise, but for a last line that says
- * the fault. */
+ * commands on each of COUNT messages with the first such call failing, then the second, and so on, until a run has no such call. After 300
+ * runs it skips some, and more the longer it goes on. A run that fails ends with 3 and gives all memory back, and what it printed is the
+ * front of what it prints otherwise, but for a last line that says the fault. */
 #define _GNU_SOURCE
 #include "ndef.h"
 
@@ -29,7 +29,7 @@
 
 /* The most steps for each byte that a command reads, writes or is given in its words, and 4096 more: it builds the page of its options
  * each time. */
-enum { MOST_STEPS = 100, MOST_INPUT = 1 << 16, MOST_OUTPUT = 1 << 20, MOST_WORDS = 24, MOST_GIVEN = 14, INPUT_FILE = 1000, FOLDER };
+enum { MOST_STEPS = 100, MOST_INPUT = 1 << 16, MOST_OUTPUT = 1 << 20, MOST_WORDS = 24, MOST_GIVEN = 14, EACH = 300, INPUT_FILE = 1000, FOLDER };
 
 typedef struct {
     bool is_there;
@@ -374,20 +374,22 @@ static bool is_front(void) {
     return false;
 }
 
-/* Lets each call of a kind fail in turn, of one command on one message. */
+/* Lets each call of a kind fail in turn, of one command on one message; of a run with many, each of the first and then ever fewer. */
 static size_t faults_of(const char *const *given, enum kind kind) {
     fails_at[kind] = whole_length = 0;
     const int usual = run_words(given);
     const size_t all = calls[kind];
+    size_t runs = 0;
     whole_length = output_length;
     memcpy(whole, output, whole_length);
-    for (fails_at[kind] = 1; fails_at[kind] <= all; fails_at[kind]++) {
+    for (fails_at[kind] = 1; fails_at[kind] <= all; fails_at[kind] += 1 + fails_at[kind] / EACH) {
         const int status = run_words(given);
+        runs++;
         hold(status == 3 || status == usual, "a fault ends with 3");
         hold(status == usual || are_several() ? output_length <= 2 * whole_length + 20 : is_front(), "what is printed is the front of what is printed without a fault");
     }
     fails_at[kind] = 0;
-    return all;
+    return runs;
 }
 
 static bool read_message(void) {
