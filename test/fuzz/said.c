@@ -7,7 +7,7 @@
 #include <string.h>
 
 enum { MOST = 1 << 14, MOST_FIELDS = 1 << 12, LONGEST = 192 };
-static uint8_t message[MOST], sentence[LONGEST + 1];
+static uint8_t surrounded[1 + MOST], *const message = surrounded + 1, sentence[LONGEST + 1];
 static ndef_field fields[MOST_FIELDS];
 static ndef_size length, count;
 static unsigned long long messages, sentences;
@@ -43,6 +43,13 @@ static void look_at_hint(const ndef_limits *limits) {
     if (at != NULL) HOLDS(checked_from(strtoul(at + strlen(near), NULL, 10), limits) == NDEF_OK);
     if (strstr(text, "NDEF_STANDARD") != NULL)
         HOLDS(checked_from(0, limits) == NDEF_REFUSED && checked_from(0, &standard) == NDEF_OK);
+}
+
+/* A byte of what surrounds a message on a tag: the hint says that the message begins at byte 1, exactly where one begins there. */
+static void look_at_surrounded(uint32_t status, const ndef_limits *limits) {
+    surrounded[0] = "\0\1\3"[messages % 3];
+    const int said = is_said(ndef_hint(surrounded, length + 1, limits, sentence, LONGEST, &count));
+    HOLDS((said && strstr((const char *)sentence, " a message begins at byte 1.") != NULL) == (status == NDEF_OK));
 }
 
 /* The sentences of what is refused; none where it is accepted. */
@@ -85,6 +92,7 @@ static void look(const ndef_limits *limits) {
     const uint32_t status = ndef_check(message, length, limits, &checked);
     HOLDS(status == NDEF_OK || status == NDEF_REFUSED);
     look_at_refusal(status, limits);
+    look_at_surrounded(status, limits);
     if (status == NDEF_OK) look_at_remarks(&checked, limits);
     feed(status, &checked, limits, 1 + messages % 7);
     feed(status, &checked, limits, 1 + length * (messages % 11) / 11);
@@ -94,7 +102,7 @@ int main(void) {
     uint8_t head[4];
     while (fread(head, 1, 4, stdin) == 4) {
         length = head[0] | (ndef_size)head[1] << 8;
-        if (length > sizeof message || fread(message, 1, length, stdin) != length) return 2;
+        if (length > MOST || fread(message, 1, length, stdin) != length) return 2;
         messages++;
         for (uint32_t flags = 0; flags <= NDEF_STANDARD; flags += NDEF_STANDARD) {
             const ndef_limits usual = { 1048576, 1024, 4096, flags }, small = { 20, 2, 2, flags };
