@@ -553,7 +553,29 @@ static void record_remark_is(const uint8_t *bytes, ndef_size length, ndef_size i
     expect(wrote(status, room, count, text), text ? text : "remarks: a record has one");
 }
 
+/* Two ids are the same where all their octets are. */
+static void remarks_on_ids(void) {
+    enum { LONGEST = 20, AT = 4, BOTH = 2 * (AT + LONGEST) };
+    for (uint8_t length = 1; length <= LONGEST; length++) {
+        const uint8_t head[] = { 0x9d, 0, 0, length }, last[] = { 0x5d, 0, 0, length };
+        uint8_t bytes[BOTH];
+        uint8_t *second = bytes + AT + length;
+        memset(bytes, 'a', sizeof bytes), memcpy(bytes, head, AT), memcpy(second, last, AT);
+        record_remark_is(bytes, 2 * (AT + length), 1, "Another record has the same id.");
+        for (uint8_t at = 0; at < length; at++) {
+            second[AT + at] = 'b';
+            record_remark_is(bytes, 2 * (AT + length), 1, NULL);
+            second[AT + at] = 'a';
+        }
+    }
+}
+
 static void remarks(void) {
+    remarks_on_ids();
+    field_remark_is(NDEF_FIELD_PAYLOAD_LENGTH, "\0\0\0\xff", 4, "The payload length 255 fits one octet (SR): the message could be 3 bytes shorter.");
+    field_remark_is(NDEF_FIELD_PAYLOAD_LENGTH, "\0\0\1\0", 4, NULL);
+    field_remark_is(NDEF_FIELD_PAYLOAD_LENGTH, "\0\1\0\0", 4, NULL);
+    field_remark_is(NDEF_FIELD_PAYLOAD_LENGTH, "\1\0\0\0", 4, NULL);
     field_remark_is(NDEF_FIELD_ACTION, "\3", 1, "The action 3 is reserved.");
     field_remark_is(NDEF_FIELD_ACTION, "\2", 1, NULL);
     field_remark_is(NDEF_FIELD_URI_REST, "a\n", 2, "The URI has a control character.");

@@ -340,7 +340,8 @@ static void records(void) {
 static void lengths(void) {
     const ndef_size most = 4294967295u;
     const ndef_writing how = { NDEF_TNF_UNKNOWN, NDEF_WRITE_FIRST | NDEF_WRITE_LAST, 0 };
-    ndef_checked why[8];
+    ndef_checked why[10];
+    ndef_part part;
     ndef_text_parts text;
     ndef_uri_parts uri;
     ndef_carrier_parts carrier;
@@ -356,9 +357,13 @@ static void lengths(void) {
     const uint32_t status[] = { ndef_text(bytes, most + 1, &text, &why[0]), ndef_uri_view(bytes, most + 1, 0, &uri, &why[1]),
         ndef_carrier(bytes, most + 1, &carrier, &why[2]), ndef_error(bytes, most + 1, &error, &why[3]),
         ndef_alternative(bytes, most + 1, &alternative, &why[4]), ndef_poster(bytes, most + 1, 0, &poster, &why[5]),
-        ndef_request(bytes, most + 1, 0, &request, &why[6]), ndef_select(bytes, most + 1, 0, &select, &why[7]) };
-    for (size_t i = 0; i < 8; i++)
+        ndef_request(bytes, most + 1, 0, &request, &why[6]), ndef_select(bytes, most + 1, 0, &select, &why[7]),
+        ndef_text_in_utf8(bytes, most + 1, NULL, 0, &count, &why[8]), ndef_uri(bytes, most + 1, 0, NULL, 0, &count, &why[9]) };
+    for (size_t i = 0; i < 10; i++)
         expect(status[i] == NDEF_REFUSED && why[i].place == 0 && why[i].reason == NDEF_REASON_DOES_NOT_FIT, "a payload is too long", i, why[i].place);
+    expect(ndef_reference(bytes, most + 1, 0, &part) == NDEF_BAD_ARGUMENT, "a long carrier has a reference", 0, 0);
+    expect(ndef_references(bytes, most + 1, NULL, 0, &count) == NDEF_BAD_ARGUMENT, "a long carrier has references", 0, 0);
+    expect(ndef_links(bytes, 0, bytes, most + 1, NULL, 0, &count) == NDEF_BAD_ARGUMENT, "a long handover has links", 0, 0);
     expect(ndef_write_record(NULL, 0, NULL, 0, bytes, most + 1, &how, NULL, 0, &count) == NDEF_BAD_ARGUMENT, "a long payload is written", 0, 0);
     expect(ndef_write_record(NULL, 0, NULL, 0, bytes, most, &how, NULL, 0, &count) == NDEF_NO_ROOM && count == most + 6, "the longest payload isn't written", 0, 0);
     expect(ndef_write_error(9, bytes, most, room, sizeof room, &count) == NDEF_BAD_ARGUMENT, "a long error is written", 0, 0);

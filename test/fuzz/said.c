@@ -94,6 +94,7 @@ static void look(const ndef_limits *limits) {
     look_at_refusal(status, limits);
     look_at_surrounded(status, limits);
     if (status == NDEF_OK) look_at_remarks(&checked, limits);
+    else for (ndef_size index = 0; index < 3; index++) is_said(ndef_record_remark(message, length, index, sentence, LONGEST, &count));
     feed(status, &checked, limits, 1 + messages % 7);
     feed(status, &checked, limits, 1 + length * (messages % 11) / 11);
 }
