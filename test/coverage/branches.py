@@ -36,12 +36,14 @@ def cases(source, number):
 
 
 def outcomes(source, line):
-    """The name of each branch of a line: what its condition is, or which label is taken, or its number."""
+    """The name of each branch of a line: what its condition is, or which label is taken, or its number. Before the labels of a switch stand
+    the branches of what it switches over."""
     count, text = len(line['branches']), source[line['line_number'] - 1]
     if count == 2 and 'switch' not in text:
         return ['true', 'false']
     labels = cases(source, line['line_number']) if 'switch' in text else []
-    return labels if len(labels) == count else [f'{number + 1} of {count}' for number in range(count)]
+    numbers = [f'{number + 1} of {count}' for number in range(count)]
+    return numbers[:count - len(labels)] + labels if len(labels) <= count else numbers
 
 
 def after_label(source, number, label):
