@@ -1,5 +1,5 @@
 /* The library of Simbegyor for C, in one file of C99: ndef.h documents its calls. Compile it with your program, with
- * ndef.h beside it; it needs memcpy, memmove and memset alone.
+ * ndef.h beside it; of the C library it needs memcpy, memmove and memset alone.
  *
  * Made by `make amalgamation` of the crates with the hash b329b653bba7f84217259b0da6d3186782869ff28642ef06d30ec5241fdacac2
  * (packaging/tree_hash prints that of a checkout). The crates are proved. This file is their LLVM module, optimised by

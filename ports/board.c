@@ -1,5 +1,6 @@
 /* What a program needs on qemu's board mps2-an385, a Cortex-M3 without an operating system: vectors, output by semihosting,
- * and the functions that a compiler may call. The library itself wants memcpy, memmove and memset alone. */
+ * and the functions that a compiler may call. The library itself needs memcpy, memmove and memset alone, and
+ * libgcc's division of 64 bits. */
 #include <stddef.h>
 #include <stdint.h>
 

@@ -13,7 +13,7 @@ from module_text import Array, Bytes, Fields, Int, Moved, Nothing, Number, Point
 
 WIDE = 100  # numbers to a line of an array
 HEAD = '''/* The library of Simbegyor for C, in one file of C99: ndef.h documents its calls. Compile it with your program, with
- * ndef.h beside it; it needs memcpy, memmove and memset alone.
+ * ndef.h beside it; of the C library it needs memcpy, memmove and memset alone.
  *
  * Made by `make amalgamation` of the crates with the hash {tree}
  * (packaging/tree_hash prints that of a checkout). The crates are proved. This file is their LLVM module, optimised by
