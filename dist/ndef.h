@@ -4,8 +4,9 @@
  * point to. So every call is safe in any thread and in an interrupt handler. Every call returns, whatever bytes it
  * is given.
  *
- * On x86-64 the archive libndef.a runs on every processor. libndef-v2.a needs SSSE3 and SSE4.1 (x86-64-v2), and checks
- * long texts that are not ASCII some twelve times as fast.
+ * On x86-64 the archive libndef.a and the shared library run on every processor. With glibc both take the code for
+ * x86-64-v2 where the processor has that (the shared library by a file in glibc-hwcaps), and check long texts that are
+ * not ASCII some twelve times as fast. libndef-v2.a has that code alone, and needs SSSE3 and SSE4.1.
  *
  * The caller must keep these rules:
  *   - A pointer that comes with a length points to that many bytes (or elements). Where the length is 0, the pointer
@@ -35,7 +36,7 @@
 
 /* The version of this header. */
 #define NDEF_VERSION_MAJOR 0
-#define NDEF_VERSION_MINOR 2
+#define NDEF_VERSION_MINOR 3
 #define NDEF_VERSION_PATCH 0
 
 /* A length, or the place of a byte counted from 0. It has 64 bits on every machine, since the library is compiled
@@ -55,7 +56,7 @@ extern "C" {
 /* What most calls return. */
 enum ndef_status {
     NDEF_OK = 0,
-    NDEF_REFUSED = 1,      /* the bytes are no message, or no such payload; the call tells the place and the reason */
+    NDEF_REFUSED = 1,      /* the bytes are no message, or no such payload; the call gives the place and the reason */
     NDEF_NO_ROOM = 2,      /* the room is too small; *count has the size that is needed, and the room is unchanged */
     NDEF_BAD_ARGUMENT = 3, /* an argument is wrong; the comment at each call lists what it refuses */
     NDEF_END = 4,          /* there are no more records, references, links or fields */
@@ -74,20 +75,6 @@ enum ndef_reason {
     NDEF_REASON_END_OF_INPUT = 24, NDEF_REASON_COLLISION_MISSING = 25
 };
 
-/* The list of reasons, for tables of your own: NDEF_REASONS(X) is X(number, name, text) for each, without a separator.
- * NDEF_REASON_ and the name make the constant; the text is what ndef_reason_name writes. So a table of texts is
- *     #define TEXT(number, name, text) [number] = text,
- *     static const char *const texts[] = { NDEF_REASONS(TEXT) }; */
-#define NDEF_REASONS(X) \
-    X(1, RESERVED_TNF, "ReservedTnf") X(2, BEGIN_MISSING, "BeginMissing") X(3, BEGIN_AGAIN, "BeginAgain") \
-    X(4, UNCHANGED_OUTSIDE, "UnchangedOutside") X(5, CHANGED_INSIDE, "ChangedInside") X(6, ID_INSIDE, "IdInside") \
-    X(7, CHUNK_AT_END, "ChunkAtEnd") X(8, CHUNK_OF_EMPTY, "ChunkOfEmpty") X(9, TOO_MANY_PIECES, "TooManyPieces") \
-    X(10, TOO_MANY_RECORDS, "TooManyRecords") X(11, TYPE_NOT_EMPTY, "TypeNotEmpty") X(12, TYPE_EMPTY, "TypeEmpty") \
-    X(13, EMPTY_NOT_EMPTY, "EmptyNotEmpty") X(14, PAYLOAD_TOO_LARGE, "PayloadTooLarge") X(15, TEXT_BIT, "TextBit") \
-    X(16, LANGUAGE, "Language") X(17, UTF8, "Utf8") X(18, UTF16, "Utf16") X(19, URI_CODE, "UriCode") \
-    X(20, URI_MISSING, "UriMissing") X(21, URI_AGAIN, "UriAgain") X(22, VERSION, "Version") \
-    X(23, DOES_NOT_FIT, "DoesNotFit") X(24, END_OF_INPUT, "EndOfInput") X(25, COLLISION_MISSING, "CollisionMissing")
-
 /* The type name format of a record (TNF, NDEF 1.0, 3.2.6). */
 enum ndef_tnf {
     NDEF_TNF_EMPTY = 0,
@@ -105,7 +92,7 @@ enum ndef_tnf {
  *   records  the most records of the message: 1 to 65535
  *   pieces   the most chunks of one record: 1 to 65535
  *   flags    NDEF_STANDARD: read the reserved type name format 7 and URI codes above 0x23 as the standards say;
- *            without it they are refused, though the standards bid a reader accept them. A type name format 7 with a
+ *            without it they are refused, though the standards ask a reader to accept them. A type name format 7 with a
  *            type, and bit 6 of a text's status octet, are refused in both. docs/FORMAT.md has each difference from
  *            the standards.
  *            NDEF_OPAQUE: don't check payloads; without it texts, URIs, smart posters and handovers are checked too. */
@@ -161,6 +148,18 @@ uint32_t ndef_reason_name(uint32_t reason, uint8_t *room, ndef_size size, ndef_s
  * NDEF_OK, NDEF_NO_ROOM. NDEF_BAD_ARGUMENT: there is no such reason. */
 uint32_t ndef_reason_sentence(uint32_t reason, uint8_t *room, ndef_size size, ndef_size *count);
 
+/* Writes what was wanted where the bytes are refused, or what the reason means: a sentence of ASCII, at most 192 bytes.
+ * NDEF_OK, NDEF_NO_ROOM. NDEF_END: they begin with a message. NDEF_BAD_ARGUMENT: as of ndef_fields. After these two the
+ *   room and *count are unchanged. */
+uint32_t ndef_why(const uint8_t *bytes, ndef_size length, const ndef_limits *limits, uint8_t *room, ndef_size size,
+                  ndef_size *count);
+
+/* Writes a sentence that may help where the bytes are refused, as ndef_why does: a message begins at one of the places 1
+ * to 16, the code of a URI may be missing, or NDEF_STANDARD reads the bytes. It may take 17 times as long as a check.
+ * NDEF_OK, NDEF_NO_ROOM, NDEF_BAD_ARGUMENT: as of ndef_why. NDEF_END: also where nothing is known to help. */
+uint32_t ndef_hint(const uint8_t *bytes, ndef_size length, const ndef_limits *limits, uint8_t *room, ndef_size size,
+                   ndef_size *count);
+
 /* ---- read records */
 
 /* A record: where its parts lie in the bytes of the message. Of its first chunk the type, the id and the payload follow
@@ -178,9 +177,9 @@ typedef struct ndef_record {
     uint32_t last;                  /* 1 for the last record of the message, else 0 */
 } ndef_record;
 
-/* Tells the record that begins at a place. The first record of a message begins at 0, the next at the `end` of the
+/* Gives the record that begins at a place. The first record of a message begins at 0, the next at the `end` of the
  * one before, up to the record whose `last` is 1. If ndef_check took the message, this reaches every record of it.
- * In other bytes the call tells whether a whole record begins at the place: an unchunked record, or an initial
+ * In other bytes the call says whether a whole record begins at the place: an unchunked record, or an initial
  * chunk with all chunks that follow.
  * NDEF_OK: `out` has the record. NDEF_END: `at` is `length`. NDEF_BAD_ARGUMENT: no record begins at any other `at`. */
 uint32_t ndef_record_at(const uint8_t *bytes, ndef_size length, ndef_size at, ndef_record *out);
@@ -224,7 +223,7 @@ typedef struct ndef_writing {
 } ndef_writing;
 enum { NDEF_WRITE_FIRST = 1, NDEF_WRITE_LAST = 2, NDEF_WRITE_LONG = 4 };
 
-/* Writes a record to the room. With an id of length 0 the record gets no id. Records written one behind the other,
+/* Writes a record to the room. With an id of length 0 the record gets no id. Records written one after the other,
  * the first with NDEF_WRITE_FIRST and the last with NDEF_WRITE_LAST, are a message.
  * NDEF_OK, NDEF_NO_ROOM.
  * NDEF_BAD_ARGUMENT: tnf is above 5; an unknown flag is set; the type or the id has more than 255 bytes; the
@@ -239,7 +238,7 @@ uint32_t ndef_write_record(const uint8_t *type, ndef_size type_length, const uin
  *
  * A call that reads a payload is given the whole payload of a record, its chunks joined: its bytes in the message
  * if the record has one chunk, or else what ndef_payload wrote. With NDEF_OK it leaves `why` unchanged. With
- * NDEF_REFUSED the bytes are no payload of that type: why->place and why->reason tell where in the payload and why,
+ * NDEF_REFUSED the bytes are no payload of that type: why->place and why->reason say where in the payload and why,
  * why->records is 0, and nothing else is written. */
 
 /* Writes the URI of a URI record (`U`) to the room, in UTF-8, with its prefix spelled out. Flags: with
@@ -260,7 +259,7 @@ typedef struct ndef_text_parts {
     uint32_t utf16; /* 0: UTF-8. 1: UTF-16, as the byte order mark says; big-endian if there is none */
 } ndef_text_parts;
 
-/* Tells where the parts of the text lie in the payload of a Text record (`T`): language_at is 1.
+/* Says where the parts of the text lie in the payload of a Text record (`T`): language_at is 1.
  * NDEF_OK, NDEF_REFUSED. */
 uint32_t ndef_text(const uint8_t *payload, ndef_size length, ndef_text_parts *out, ndef_checked *why);
 
@@ -286,7 +285,7 @@ typedef struct ndef_carrier_parts {
     uint32_t format;                /* the carrier type format, 0 to 7: what kind of name the carrier type is */
 } ndef_carrier_parts;
 
-/* Tells where the parts of the carrier lie in the payload of a Handover Carrier record (`Hc`). Reserved bits are
+/* Says where the parts of the carrier lie in the payload of a Handover Carrier record (`Hc`). Reserved bits are
  * ignored.
  * NDEF_OK, NDEF_REFUSED. */
 uint32_t ndef_carrier(const uint8_t *payload, ndef_size length, ndef_carrier_parts *out, ndef_checked *why);
@@ -304,7 +303,7 @@ typedef struct ndef_alternative_parts {
     uint32_t references; /* the number of references, 1 to 256: the carrier data reference and the auxiliary ones */
 } ndef_alternative_parts;
 
-/* Tells the power state and the number of references in the payload of an Alternative Carrier record (`ac`).
+/* Gives the power state and the number of references in the payload of an Alternative Carrier record (`ac`).
  * Reserved bits are ignored. Such records stand in the message within a handover request or select.
  * NDEF_OK, NDEF_REFUSED. */
 uint32_t ndef_alternative(const uint8_t *payload, ndef_size length, ndef_alternative_parts *out, ndef_checked *why);
@@ -314,7 +313,7 @@ typedef struct ndef_part {
     ndef_size at, length;
 } ndef_part;
 
-/* Tells where a reference lies in the payload of an Alternative Carrier record (`ac`). Index 0 is the carrier data
+/* Says where a reference lies in the payload of an Alternative Carrier record (`ac`). Index 0 is the carrier data
  * reference, which is the id of the record that describes the carrier; the auxiliary references begin at index 1.
  * NDEF_OK. NDEF_END: there are no more references. NDEF_BAD_ARGUMENT: it is no such payload. */
 uint32_t ndef_reference(const uint8_t *payload, ndef_size length, ndef_size index, ndef_part *out);
@@ -329,12 +328,12 @@ uint32_t ndef_write_alternative(uint32_t power, const uint8_t *bytes, ndef_size 
 
 /* A handover request. */
 typedef struct ndef_request_parts {
-    ndef_size carriers;    /* the number of its alternative carriers; ndef_link_at tells each */
+    ndef_size carriers;    /* the number of its alternative carriers; ndef_link_at gives each */
     uint32_t major, minor; /* its version: major is 1, minor 0 to 15 */
     uint32_t collision;    /* the random number of its Collision Resolution record, the first of its records */
 } ndef_request_parts;
 
-/* Tells the version, the random number and the number of alternative carriers in the payload of a Handover Request
+/* Gives the version, the random number and the number of alternative carriers in the payload of a Handover Request
  * record (`Hr`). The payload is a version byte and then a message; pass what follows the version byte to
  * ndef_record_at to reach its records. Flags: NDEF_STANDARD reads the reserved type name format 7 and URI codes above
  * 0x23 as the standards say; without it they are refused.
@@ -344,13 +343,13 @@ uint32_t ndef_request(const uint8_t *payload, ndef_size length, uint32_t flags, 
 
 /* A handover select. */
 typedef struct ndef_select_parts {
-    ndef_size carriers;                 /* the number of its alternative carriers; ndef_link_at tells each */
+    ndef_size carriers;                 /* the number of its alternative carriers; ndef_link_at gives each */
     ndef_size detail_at, detail_length; /* where the data of its first error lie, in the payload; 0 and 0 without one */
     uint32_t major, minor;              /* its version: major is 1, minor 0 to 15 */
     uint32_t has_error, error;          /* 1 and the reason of its error (the standard defines 1 to 3), or 0 and 0 */
 } ndef_select_parts;
 
-/* Tells the version, the first error and the number of alternative carriers in the payload of a Handover Select
+/* Gives the version, the first error and the number of alternative carriers in the payload of a Handover Select
  * record (`Hs`). The payload is a version byte, alone or followed by a message; pass what follows the version byte
  * to ndef_record_at to reach its records. Flags: as ndef_request.
  * NDEF_OK, NDEF_REFUSED. NDEF_BAD_ARGUMENT: an unknown flag is set. */
@@ -364,7 +363,7 @@ typedef struct ndef_link {
     uint32_t has_record;                  /* 1; or 0 if it refers to no record, and then index and place are 0 */
 } ndef_link;
 
-/* Tells one link: the alternative carrier with an index, from 0, and the first record of the message whose id
+/* Gives one link: the alternative carrier with an index, from 0, and the first record of the message whose id
  * equals the carrier data reference. There is no such record if the reference is empty or no record has that id.
  * The bytes begin with the message, and other bytes may follow it. The payload is that of its Handover Request or
  * Handover Select record, its chunks joined, as ndef_payload writes it. Each call reads the whole payload and the
@@ -382,7 +381,7 @@ typedef struct ndef_poster_parts {
     uint32_t has_size, size;      /* 1 and the size in bytes of what the URI leads to, or 0 and 0 */
 } ndef_poster_parts;
 
-/* Tells the URI, the first action and the first size in the payload of a Smart Poster record (`Sp`). The payload is
+/* Gives the URI, the first action and the first size in the payload of a Smart Poster record (`Sp`). The payload is
  * a message; pass it to ndef_record_at to reach its records. Flags: as ndef_request.
  * NDEF_OK, NDEF_REFUSED. NDEF_BAD_ARGUMENT: an unknown flag is set. */
 uint32_t ndef_poster(const uint8_t *payload, ndef_size length, uint32_t flags, ndef_poster_parts *out,
@@ -408,10 +407,10 @@ uint32_t ndef_write_collision(uint32_t number, uint8_t *room, ndef_size size, nd
 typedef struct ndef_error_parts {
     ndef_size data_at, data_length; /* where its data lie in the payload; data_at is 1, also if they are empty */
     uint32_t reason;                /* 0 to 255; the standard defines 1 to 3 */
-    uint32_t has_number, number;    /* with the reasons 1 to 3, 1 and the number that the data tell; else 0 and 0 */
+    uint32_t has_number, number;    /* with the reasons 1 to 3, 1 and the number that the data hold; else 0 and 0 */
 } ndef_error_parts;
 
-/* Tells the reason, the data and the number of the error in the payload of an Error record (`err`) of a handover
+/* Gives the reason, the data and the number of the error in the payload of an Error record (`err`) of a handover
  * select.
  * NDEF_OK, NDEF_REFUSED. */
 uint32_t ndef_error(const uint8_t *payload, ndef_size length, ndef_error_parts *out, ndef_checked *why);
@@ -443,21 +442,21 @@ enum ndef_handover { NDEF_REQUEST = 0, NDEF_SELECT = 1 };
  *
  * These calls fill an array of the caller, `size` elements long, from its front. They put the number of elements they
  * wrote into *count. Where the array is too small, the answer is NDEF_NO_ROOM, *count has the size that is needed, and
- * the array is unchanged: so an array of 0 elements asks for the size. Elements behind *count are unchanged. */
+ * the array is unchanged: so an array of 0 elements asks for the size. Elements after *count are unchanged. */
 
-/* Tells where the payload of each chunk lies, of the record that begins at a place. The parts are in the order of the
+/* Says where the payload of each chunk lies, of the record that begins at a place. The parts are in the order of the
  * chunks, so their bytes, joined, are what ndef_payload writes; a record that is not chunked has one.
  * NDEF_OK, NDEF_NO_ROOM. NDEF_BAD_ARGUMENT: no record begins at the place, or the place is `length`. */
 uint32_t ndef_pieces(const uint8_t *bytes, ndef_size length, ndef_size at, ndef_part *parts, ndef_size size,
                      ndef_size *count);
 
-/* Tells where each reference lies in the payload of an Alternative Carrier record (`ac`): for each index what
- * ndef_reference tells, the carrier data reference first. ndef_write_alternative takes such parts.
+/* Says where each reference lies in the payload of an Alternative Carrier record (`ac`): for each index what
+ * ndef_reference gives, the carrier data reference first. ndef_write_alternative takes such parts.
  * NDEF_OK, NDEF_NO_ROOM. NDEF_BAD_ARGUMENT: it is no such payload. */
 uint32_t ndef_references(const uint8_t *payload, ndef_size length, ndef_part *parts, ndef_size size,
                          ndef_size *count);
 
-/* Tells the links of a message: for each index what ndef_link_at tells of the same message and payload. The payload is
+/* Gives the links of a message: for each index what ndef_link_at gives for the same message and payload. The payload is
  * read once. Each alternative carrier is compared with the records up to its own, so the time grows with carriers times
  * records: for bytes of a stranger, have ndef_check take the message with limits first.
  * NDEF_OK, NDEF_NO_ROOM. NDEF_BAD_ARGUMENT: as ndef_link_at answers it. */
@@ -466,16 +465,16 @@ uint32_t ndef_links(const uint8_t *bytes, ndef_size length, const uint8_t *paylo
 
 /* ---- find records */
 
-/* Tells the first record of a type, from the record that begins at a place on, up to the last of its message. The type
+/* Gives the first record of a type, from the record that begins at a place on, up to the last of its message. The type
  * name format is an ndef_tnf; types are equal where their bytes are. To find the next one, ask again with its `end`,
  * unless it was the last: what follows the last is another message.
- * NDEF_OK: `out` is what ndef_record_at tells of that record. NDEF_END: none of these records has the type, or the
+ * NDEF_OK: `out` is what ndef_record_at gives for that record. NDEF_END: none of these records has the type, or the
  *   place is `length`. NDEF_BAD_ARGUMENT: no record begins at the place; or, before a record that has the type or is
  *   the last, no whole record begins where the one before it ends. */
 uint32_t ndef_find_type(const uint8_t *bytes, ndef_size length, ndef_size at, uint32_t tnf, const uint8_t *type,
                         ndef_size type_length, ndef_record *out);
 
-/* Tells the first record with an id, in the same way. No record has the empty id.
+/* Gives the first record with an id, in the same way. No record has the empty id.
  * NDEF_OK, NDEF_END, NDEF_BAD_ARGUMENT: as ndef_find_type. */
 uint32_t ndef_find_id(const uint8_t *bytes, ndef_size length, ndef_size at, const uint8_t *id, ndef_size id_length,
                       ndef_record *out);
@@ -486,67 +485,20 @@ uint32_t ndef_find_id(const uint8_t *bytes, ndef_size length, ndef_size at, cons
  * standards define. The fields follow one another without a gap from the first byte to the last. A message within a
  * payload has fields of its own, with depth 1. The payload of a chunk is one field.
  *
- * The calls with a `why` write to it what ndef_check tells of the bytes: where why->reason is 0, the fields are those
+ * The calls with a `why` write to it what ndef_check says of the bytes: where why->reason is 0, the fields are those
  * of the message with which the bytes begin, why->place bytes; otherwise those of the bytes before the refused one, at
  * why->place, and the last of them ends there, so that bytes of it may be missing. They look into payloads:
  * NDEF_BAD_ARGUMENT also answers the flag NDEF_OPAQUE. */
-
-/* The names of fields. ndef_field_name gives each as text. */
-enum ndef_field_names {
-    NDEF_FIELD_HEADER = 1,               /* the header byte: MB, ME, CF, SR, IL and TNF */
-    NDEF_FIELD_TYPE_LENGTH = 2,
-    NDEF_FIELD_PAYLOAD_LENGTH = 3,       /* 1 byte in a short record, else 4 */
-    NDEF_FIELD_ID_LENGTH = 4,            /* only where IL is set */
-    NDEF_FIELD_TYPE = 5,
-    NDEF_FIELD_ID = 6,
-    NDEF_FIELD_PAYLOAD = 7,              /* a payload of another type, or a chunk */
-    NDEF_FIELD_STATUS = 8,               /* of a text */
-    NDEF_FIELD_LANGUAGE = 9,             /* of a text */
-    NDEF_FIELD_MARK = 10,                /* of a text in UTF-16 */
-    NDEF_FIELD_TEXT = 11,
-    NDEF_FIELD_URI_CODE = 12,            /* of a URI */
-    NDEF_FIELD_URI_REST = 13,            /* behind the prefix for which the code stands */
-    NDEF_FIELD_ACTION = 14,              /* of a smart poster */
-    NDEF_FIELD_SIZE = 15,                /* of a smart poster */
-    NDEF_FIELD_MEDIA_TYPE = 16,          /* of a smart poster */
-    NDEF_FIELD_VERSION = 17,             /* of a handover */
-    NDEF_FIELD_COLLISION = 18,           /* of a collision resolution */
-    NDEF_FIELD_POWER = 19,               /* of an alternative carrier, as the next six */
-    NDEF_FIELD_REFERENCE_LENGTH = 20,
-    NDEF_FIELD_REFERENCE = 21,
-    NDEF_FIELD_AUXILIARY_COUNT = 22,
-    NDEF_FIELD_AUXILIARY_LENGTH = 23,
-    NDEF_FIELD_AUXILIARY = 24,
-    NDEF_FIELD_AFTER_AUXILIARY = 25,     /* the bytes behind the references */
-    NDEF_FIELD_ERROR_REASON = 26,        /* of a handover's error */
-    NDEF_FIELD_ERROR_DATA = 27,
-    NDEF_FIELD_CARRIER_FORMAT = 28,      /* of a handover carrier, as the next three */
-    NDEF_FIELD_CARRIER_TYPE_LENGTH = 29, NDEF_FIELD_CARRIER_TYPE = 30, NDEF_FIELD_CARRIER_DATA = 31
-};
-
-/* The list of names, as NDEF_REASONS: NDEF_FIELDS(X) is X(number, name, text) for each. */
-#define NDEF_FIELDS(X) \
-    X(1, HEADER, "header") X(2, TYPE_LENGTH, "TYPE_LENGTH") X(3, PAYLOAD_LENGTH, "PAYLOAD_LENGTH") \
-    X(4, ID_LENGTH, "ID_LENGTH") X(5, TYPE, "TYPE") X(6, ID, "ID") X(7, PAYLOAD, "PAYLOAD") X(8, STATUS, "status") \
-    X(9, LANGUAGE, "language code") X(10, MARK, "byte order mark") X(11, TEXT, "text") \
-    X(12, URI_CODE, "identifier code") X(13, URI_REST, "URI") X(14, ACTION, "action") X(15, SIZE, "size") \
-    X(16, MEDIA_TYPE, "media type") X(17, VERSION, "version") X(18, COLLISION, "random number") \
-    X(19, POWER, "carrier power state") X(20, REFERENCE_LENGTH, "carrier data reference length") \
-    X(21, REFERENCE, "carrier data reference") X(22, AUXILIARY_COUNT, "auxiliary data reference count") \
-    X(23, AUXILIARY_LENGTH, "auxiliary data reference length") X(24, AUXILIARY, "auxiliary data reference") \
-    X(25, AFTER_AUXILIARY, "reserved") X(26, ERROR_REASON, "error reason") X(27, ERROR_DATA, "error data") \
-    X(28, CARRIER_FORMAT, "carrier type format") X(29, CARRIER_TYPE_LENGTH, "carrier type length") \
-    X(30, CARRIER_TYPE, "carrier type") X(31, CARRIER_DATA, "carrier data")
 
 /* A field: at least one byte. */
 typedef struct ndef_field {
     ndef_size at, length; /* where it begins, and its bytes */
     uint32_t depth;       /* 0 in the message itself, 1 in a message within a payload */
-    uint32_t name;        /* one of ndef_field_names */
+    uint32_t name;        /* one of ndef_field_names (ndef_names.h), such as NDEF_FIELD_TYPE */
 } ndef_field;
 
 /* Fills the array with the fields, in order. It has `size` elements; *count is the number of the fields.
- * NDEF_OK: they are those of the message. NDEF_REFUSED: they are those before the refused byte. Elements behind *count
+ * NDEF_OK: they are those of the message. NDEF_REFUSED: they are those before the refused byte. Elements after *count
  *   are unchanged.
  * NDEF_NO_ROOM: the array is too small, whether the bytes are refused or not: *count has the size that is needed, *why
  *   says the rest, and the array is unchanged.
@@ -554,17 +506,17 @@ typedef struct ndef_field {
 uint32_t ndef_fields(const uint8_t *bytes, ndef_size length, const ndef_limits *limits, ndef_field *fields,
                      ndef_size size, ndef_size *count, ndef_checked *why);
 
-/* Tells the field in which the byte at a place stands. Each call looks at the message from its start.
+/* Gives the field in which the byte at a place stands. Each call looks at the message from its start.
  * NDEF_OK: `out` is that field.
- * NDEF_END: the place is behind the message. NDEF_REFUSED: the bytes are refused, and the place is that of the refused
- *   byte or behind it. After either, `out` is unchanged.
+ * NDEF_END: the place is after the message. NDEF_REFUSED: the bytes are refused, and the place is that of the refused
+ *   byte or after it. After either, `out` is unchanged.
  * NDEF_BAD_ARGUMENT: as ndef_fields answers it. */
 uint32_t ndef_field_at(const uint8_t *bytes, ndef_size length, const ndef_limits *limits, ndef_size place,
                        ndef_field *out, ndef_checked *why);
 
-/* Steps to the next field: replaces the field by the one that holds the byte behind it. Before the first one the field
+/* Steps to the next field: replaces the field by the one that holds the byte after it. Before the first one the field
  * has `at` and `length` 0. Each call looks at the message from its start, so all fields of a message take time that
- * grows with the square of its length; ndef_fields tells them all in one walk.
+ * grows with the square of its length; ndef_fields gives them all in one walk.
  * NDEF_OK: there is one. NDEF_END: it was the last of the message. NDEF_REFUSED: it was the last before the refused
  *   byte. After either, the field is unchanged.
  * NDEF_BAD_ARGUMENT: as ndef_fields answers it. */
@@ -583,6 +535,23 @@ uint32_t ndef_payload_fields(uint32_t tnf, const uint8_t *type, ndef_size type_l
  * NDEF_OK, NDEF_NO_ROOM. NDEF_BAD_ARGUMENT: there is no such name. */
 uint32_t ndef_field_name(uint32_t name, uint8_t *room, ndef_size size, ndef_size *count);
 
+/* ---- what is strange in a message that is accepted */
+
+/* Writes what is strange in a field of a message that ndef_check accepts to the room: a sentence of ASCII, at most 192 bytes,
+ * as ndef-explain prints it. `octets` are the bytes of the field, `name` is its name.
+ * NDEF_OK, NDEF_NO_ROOM. NDEF_END: nothing is known to be strange. NDEF_BAD_ARGUMENT: there is no such name. After these two
+ *   the room and *count are unchanged. */
+uint32_t ndef_field_remark(uint32_t name, const uint8_t *octets, ndef_size octets_length, uint8_t *room, ndef_size size,
+                           ndef_size *count);
+
+/* Writes what is strange in a record beside the others to the room, as ndef_field_remark does: two titles in one language,
+ * a request without an alternative carrier or with a second collision record, a reference to no record, a text that may be
+ * little-endian; or else an id that another record has too. `bytes` begin with a message that ndef_check accepts; the
+ * record with `index` 0 is its first. Messages of more than 64 records are not looked through.
+ * NDEF_OK, NDEF_NO_ROOM. NDEF_END: nothing is known to be strange, or there is no such record. */
+uint32_t ndef_record_remark(const uint8_t *bytes, ndef_size length, ndef_size index, uint8_t *room, ndef_size size,
+                            ndef_size *count);
+
 /* ---- names */
 
 /* The version of the library, as the file VERSION has it: 65536 times the first number, 256 times the second, and the
@@ -595,13 +564,13 @@ uint32_t ndef_status_name(uint32_t status, uint8_t *room, ndef_size size, ndef_s
 
 /* ---- URIs where they lie */
 
-/* A URI: the prefix of a code, and behind it the rest, which lies in the payload. */
+/* A URI: the prefix of a code, and after it the rest, which lies in the payload. */
 typedef struct ndef_uri_parts {
     ndef_size rest_at, rest_length; /* the rest, in UTF-8 */
     uint32_t code;                  /* 0 to 255; ndef_uri_prefix writes its prefix */
 } ndef_uri_parts;
 
-/* Tells the code and where the rest lies in the payload of a URI record (`U`). The URI that ndef_uri writes is the
+/* Gives the code and where the rest lies in the payload of a URI record (`U`). The URI that ndef_uri writes is the
  * prefix of the code and then the rest. Flags: as ndef_uri.
  * NDEF_OK, NDEF_REFUSED. NDEF_BAD_ARGUMENT: an unknown flag is set. */
 uint32_t ndef_uri_view(const uint8_t *payload, ndef_size length, uint32_t flags, ndef_uri_parts *out,
@@ -616,16 +585,16 @@ uint32_t ndef_uri_prefix(uint32_t code, uint8_t *room, ndef_size size, ndef_size
 
 /* What is known of a message that is being built in a room. All 0: it has no record yet. */
 typedef struct ndef_built {
-    uint64_t length;  /* its bytes, from the front of the room */
-    uint64_t last_at; /* where the last chunk of its last record begins */
+    ndef_size length;  /* its bytes, from the front of the room */
+    ndef_size last_at; /* where the last chunk of its last record begins */
     uint32_t records; /* the number of its records */
 } ndef_built;
 
-/* Appends a record to the message that the room begins with, and tells in `built` what is known of the message then.
- * The room holds a whole message behind each call: the record that was the last says so no longer. The record is
+/* Appends a record to the message that the room begins with, and writes to `built` what is known of the message then.
+ * The room holds a whole message after each call: the record that was the last says so no longer. The record is
  * written as ndef_write_record writes it; the only flag is NDEF_WRITE_LONG, since the call knows which record is
  * first and which is last. `built` and the room are as the call before left them; for the first record all of `built`
- * is 0. *count has the length of the message with the record. Bytes of the room behind it are unchanged.
+ * is 0. *count has the length of the message with the record. Bytes of the room after it are unchanged.
  * NDEF_OK. NDEF_NO_ROOM: the room and `built` are unchanged.
  * NDEF_BAD_ARGUMENT: another flag is set; what ndef_write_record answers so; or `built` does not fit the room: its
  *   length is above `size`; the last bytes of the message, from last_at on, are not the chunk that ends a message; it
@@ -656,19 +625,19 @@ uint32_t ndef_append_uri(ndef_built *built, const uint8_t *id, ndef_size id_leng
  * The payload is that of a Smart Poster record (`Sp`), its chunks joined. Reserved values are treated as the standard
  * says. Places count from the front of this payload. */
 
-/* Tells the titles of a smart poster, one text in each of several languages: where the parts of each lie, in the order
+/* Gives the titles of a smart poster, one text in each of several languages: where the parts of each lie, in the order
  * of their records. It fills the array as the calls above do.
- * NDEF_OK, NDEF_NO_ROOM. NDEF_BAD_ARGUMENT: it is no such payload; ndef_poster with NDEF_STANDARD tells where and
+ * NDEF_OK, NDEF_NO_ROOM. NDEF_BAD_ARGUMENT: it is no such payload; ndef_poster with NDEF_STANDARD says where and
  *   why. */
 uint32_t ndef_poster_titles(const uint8_t *payload, ndef_size length, ndef_text_parts *titles, ndef_size size,
                             ndef_size *count);
 
-/* Tells the first title in a language, such as "en". Upper and lower case are the same in the language code.
+/* Gives the first title in a language, such as "en". Upper and lower case are the same in the language code.
  * NDEF_OK. NDEF_END: the poster has no title in the language. NDEF_BAD_ARGUMENT: it is no such payload. */
 uint32_t ndef_title(const uint8_t *payload, ndef_size length, const uint8_t *language, ndef_size language_length,
                     ndef_text_parts *out);
 
-/* Tells where the media type (`t`) of what the URI leads to lies, such as "text/html", in UTF-8; of several the first.
+/* Says where the media type (`t`) of what the URI leads to lies, such as "text/html", in UTF-8; of several the first.
  * NDEF_OK. NDEF_END: the poster has none. NDEF_BAD_ARGUMENT: it is no such payload. */
 uint32_t ndef_poster_media_type(const uint8_t *payload, ndef_size length, ndef_part *out);
 
@@ -678,7 +647,7 @@ typedef struct ndef_icon {
     ndef_part data;       /* the bytes of the image */
 } ndef_icon;
 
-/* Tells the icons of a smart poster: where the media type and the bytes of each lie, in the order of their records. It
+/* Gives the icons of a smart poster: where the media type and the bytes of each lie, in the order of their records. It
  * fills the array as the calls above do. Each record of a media type (NDEF_TNF_MEDIA) counts as an icon. The standard
  * asks for types that begin with "image/" or "video/", and the call does not look at that: look at the type before you
  * use the data.
@@ -739,7 +708,7 @@ uint32_t ndef_write_poster(const uint8_t *bytes, ndef_size length, const ndef_po
 
 /* ---- handovers written in one call */
 
-/* An alternative carrier of a handover that is written. Its references are some of an array of parts, one behind
+/* An alternative carrier of a handover that is written. Its references are some of an array of parts, one after
  * another: the carrier data reference, which is the id of the record that describes the carrier, and then the auxiliary
  * references. */
 typedef struct ndef_alternative_writing {

@@ -1,4 +1,5 @@
-/* ndef_names.h: the names of ndef.h as strings of C. ndef.h includes this file; do not include it alone.
+/* ndef_names.h: the names of fields, lists of constants, and the names of ndef.h as strings of C. ndef.h includes this
+ * file; do not include it alone.
  *
  * The functions here are compiled into the program that calls them, and a program that calls none has none of these
  * texts. Each returns a string that ends with NUL and stays valid as long as the program runs; it never returns NULL.
@@ -13,7 +14,56 @@
 #define NDEF_INLINE static inline
 #endif
 
+/* ---- names of fields */
+
+/* The names of fields. ndef_field_name gives each as text. */
+enum ndef_field_names {
+    NDEF_FIELD_HEADER = 1,               /* the header byte: MB, ME, CF, SR, IL and TNF */
+    NDEF_FIELD_TYPE_LENGTH = 2,
+    NDEF_FIELD_PAYLOAD_LENGTH = 3,       /* 1 byte in a short record, else 4 */
+    NDEF_FIELD_ID_LENGTH = 4,            /* only where IL is set */
+    NDEF_FIELD_TYPE = 5,
+    NDEF_FIELD_ID = 6,
+    NDEF_FIELD_PAYLOAD = 7,              /* a payload of another type, or a chunk */
+    NDEF_FIELD_STATUS = 8,               /* of a text */
+    NDEF_FIELD_LANGUAGE = 9,             /* of a text */
+    NDEF_FIELD_MARK = 10,                /* of a text in UTF-16 */
+    NDEF_FIELD_TEXT = 11,
+    NDEF_FIELD_URI_CODE = 12,            /* of a URI */
+    NDEF_FIELD_URI_REST = 13,            /* after the prefix for which the code stands */
+    NDEF_FIELD_ACTION = 14,              /* of a smart poster */
+    NDEF_FIELD_SIZE = 15,                /* of a smart poster */
+    NDEF_FIELD_MEDIA_TYPE = 16,          /* of a smart poster */
+    NDEF_FIELD_VERSION = 17,             /* of a handover */
+    NDEF_FIELD_COLLISION = 18,           /* of a collision resolution */
+    NDEF_FIELD_POWER = 19,               /* of an alternative carrier, as the next six */
+    NDEF_FIELD_REFERENCE_LENGTH = 20,
+    NDEF_FIELD_REFERENCE = 21,
+    NDEF_FIELD_AUXILIARY_COUNT = 22,
+    NDEF_FIELD_AUXILIARY_LENGTH = 23,
+    NDEF_FIELD_AUXILIARY = 24,
+    NDEF_FIELD_AFTER_AUXILIARY = 25,     /* the bytes after the references */
+    NDEF_FIELD_ERROR_REASON = 26,        /* of a handover's error */
+    NDEF_FIELD_ERROR_DATA = 27,
+    NDEF_FIELD_CARRIER_FORMAT = 28,      /* of a handover carrier, as the next three */
+    NDEF_FIELD_CARRIER_TYPE_LENGTH = 29, NDEF_FIELD_CARRIER_TYPE = 30, NDEF_FIELD_CARRIER_DATA = 31
+};
+
 /* ---- lists */
+
+/* The list of reasons, for tables of your own: NDEF_REASONS(X) is X(number, name, text) for each, without a separator.
+ * NDEF_REASON_ and the name make the constant; the text is what ndef_reason_name writes. So a table of texts is
+ *     #define TEXT(number, name, text) [number] = text,
+ *     static const char *const texts[] = { NDEF_REASONS(TEXT) }; */
+#define NDEF_REASONS(X) \
+    X(1, RESERVED_TNF, "ReservedTnf") X(2, BEGIN_MISSING, "BeginMissing") X(3, BEGIN_AGAIN, "BeginAgain") \
+    X(4, UNCHANGED_OUTSIDE, "UnchangedOutside") X(5, CHANGED_INSIDE, "ChangedInside") X(6, ID_INSIDE, "IdInside") \
+    X(7, CHUNK_AT_END, "ChunkAtEnd") X(8, CHUNK_OF_EMPTY, "ChunkOfEmpty") X(9, TOO_MANY_PIECES, "TooManyPieces") \
+    X(10, TOO_MANY_RECORDS, "TooManyRecords") X(11, TYPE_NOT_EMPTY, "TypeNotEmpty") X(12, TYPE_EMPTY, "TypeEmpty") \
+    X(13, EMPTY_NOT_EMPTY, "EmptyNotEmpty") X(14, PAYLOAD_TOO_LARGE, "PayloadTooLarge") X(15, TEXT_BIT, "TextBit") \
+    X(16, LANGUAGE, "Language") X(17, UTF8, "Utf8") X(18, UTF16, "Utf16") X(19, URI_CODE, "UriCode") \
+    X(20, URI_MISSING, "UriMissing") X(21, URI_AGAIN, "UriAgain") X(22, VERSION, "Version") \
+    X(23, DOES_NOT_FIT, "DoesNotFit") X(24, END_OF_INPUT, "EndOfInput") X(25, COLLISION_MISSING, "CollisionMissing")
 
 /* The list of what most calls return, as NDEF_REASONS: NDEF_STATUSES(X) is X(number, name, text) for each. */
 #define NDEF_STATUSES(X) \
@@ -47,6 +97,20 @@
     X(24, END_OF_INPUT, "The input ends within a message.") \
     X(25, COLLISION_MISSING, "A handover request has to begin with a collision resolution record.")
 
+/* The list of names of fields, as NDEF_REASONS: NDEF_FIELDS(X) is X(number, name, text) for each. */
+#define NDEF_FIELDS(X) \
+    X(1, HEADER, "header") X(2, TYPE_LENGTH, "TYPE_LENGTH") X(3, PAYLOAD_LENGTH, "PAYLOAD_LENGTH") \
+    X(4, ID_LENGTH, "ID_LENGTH") X(5, TYPE, "TYPE") X(6, ID, "ID") X(7, PAYLOAD, "PAYLOAD") X(8, STATUS, "status") \
+    X(9, LANGUAGE, "language code") X(10, MARK, "byte order mark") X(11, TEXT, "text") \
+    X(12, URI_CODE, "identifier code") X(13, URI_REST, "URI") X(14, ACTION, "action") X(15, SIZE, "size") \
+    X(16, MEDIA_TYPE, "media type") X(17, VERSION, "version") X(18, COLLISION, "random number") \
+    X(19, POWER, "carrier power state") X(20, REFERENCE_LENGTH, "carrier data reference length") \
+    X(21, REFERENCE, "carrier data reference") X(22, AUXILIARY_COUNT, "auxiliary data reference count") \
+    X(23, AUXILIARY_LENGTH, "auxiliary data reference length") X(24, AUXILIARY, "auxiliary data reference") \
+    X(25, AFTER_AUXILIARY, "reserved") X(26, ERROR_REASON, "error reason") X(27, ERROR_DATA, "error data") \
+    X(28, CARRIER_FORMAT, "carrier type format") X(29, CARRIER_TYPE_LENGTH, "carrier type length") \
+    X(30, CARRIER_TYPE, "carrier type") X(31, CARRIER_DATA, "carrier data")
+
 /* ---- names as text */
 
 #define NDEF_TEXT_CASE(number, name, text) case number: return text;
@@ -71,52 +135,11 @@ NDEF_INLINE const char *ndef_field_text(uint32_t name) {
     switch (name) { NDEF_FIELDS(NDEF_TEXT_CASE) default: return "unknown"; }
 }
 
-/* The version of this header as text: NDEF_VERSION_STRING is "0.2.0". ndef_version_string returns it, and ndef_version
- * tells the version of the library, which is another where the program runs with another shared library. */
+/* The version of this header as text: NDEF_VERSION_STRING is "0.3.0". ndef_version_string returns it, and ndef_version
+ * gives the version of the library, which is another where the program runs with another shared library. */
 #define NDEF_DIGITS(number) #number
 #define NDEF_VERSION_TEXT(major, minor, patch) NDEF_DIGITS(major) "." NDEF_DIGITS(minor) "." NDEF_DIGITS(patch)
 #define NDEF_VERSION_STRING NDEF_VERSION_TEXT(NDEF_VERSION_MAJOR, NDEF_VERSION_MINOR, NDEF_VERSION_PATCH)
 NDEF_INLINE const char *ndef_version_string(void) { return NDEF_VERSION_STRING; }
-
-/* ---- old names */
-
-/* The names that version 0.1 had for the reasons, the type name formats and the flags of ndef_writing. They are there
- * where NDEF_OLD_NAMES is defined before this header is included, and go with the next version. */
-#ifdef NDEF_OLD_NAMES
-#define NDEF_RESERVED_TNF NDEF_REASON_RESERVED_TNF
-#define NDEF_BEGIN_MISSING NDEF_REASON_BEGIN_MISSING
-#define NDEF_BEGIN_AGAIN NDEF_REASON_BEGIN_AGAIN
-#define NDEF_UNCHANGED_OUTSIDE NDEF_REASON_UNCHANGED_OUTSIDE
-#define NDEF_CHANGED_INSIDE NDEF_REASON_CHANGED_INSIDE
-#define NDEF_ID_INSIDE NDEF_REASON_ID_INSIDE
-#define NDEF_CHUNK_AT_END NDEF_REASON_CHUNK_AT_END
-#define NDEF_CHUNK_OF_EMPTY NDEF_REASON_CHUNK_OF_EMPTY
-#define NDEF_TOO_MANY_PIECES NDEF_REASON_TOO_MANY_PIECES
-#define NDEF_TOO_MANY_RECORDS NDEF_REASON_TOO_MANY_RECORDS
-#define NDEF_TYPE_NOT_EMPTY NDEF_REASON_TYPE_NOT_EMPTY
-#define NDEF_TYPE_EMPTY NDEF_REASON_TYPE_EMPTY
-#define NDEF_EMPTY_NOT_EMPTY NDEF_REASON_EMPTY_NOT_EMPTY
-#define NDEF_PAYLOAD_TOO_LARGE NDEF_REASON_PAYLOAD_TOO_LARGE
-#define NDEF_TEXT_BIT NDEF_REASON_TEXT_BIT
-#define NDEF_LANGUAGE NDEF_REASON_LANGUAGE
-#define NDEF_UTF8 NDEF_REASON_UTF8
-#define NDEF_UTF16 NDEF_REASON_UTF16
-#define NDEF_URI_CODE NDEF_REASON_URI_CODE
-#define NDEF_URI_MISSING NDEF_REASON_URI_MISSING
-#define NDEF_URI_AGAIN NDEF_REASON_URI_AGAIN
-#define NDEF_VERSION NDEF_REASON_VERSION
-#define NDEF_DOES_NOT_FIT NDEF_REASON_DOES_NOT_FIT
-#define NDEF_END_OF_INPUT NDEF_REASON_END_OF_INPUT
-#define NDEF_COLLISION_MISSING NDEF_REASON_COLLISION_MISSING
-#define NDEF_EMPTY NDEF_TNF_EMPTY
-#define NDEF_WELL_KNOWN NDEF_TNF_WELL_KNOWN
-#define NDEF_MEDIA NDEF_TNF_MEDIA
-#define NDEF_ABSOLUTE_URI NDEF_TNF_ABSOLUTE_URI
-#define NDEF_EXTERNAL NDEF_TNF_EXTERNAL
-#define NDEF_UNKNOWN NDEF_TNF_UNKNOWN
-#define NDEF_FIRST NDEF_WRITE_FIRST
-#define NDEF_LAST NDEF_WRITE_LAST
-#define NDEF_LONG NDEF_WRITE_LONG
-#endif
 
 #endif

@@ -5,7 +5,7 @@ plugins {
 }
 
 group = "org.simbegyor"
-version = "0.3.0-SNAPSHOT"
+version = "0.3.0"
 
 tasks.withType<JavaCompile> {
     options.release.set(11)
