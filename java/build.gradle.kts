@@ -5,7 +5,7 @@ plugins {
 }
 
 group = "org.simbegyor"
-version = "0.3.0"
+version = "0.4.0-SNAPSHOT"
 
 tasks.withType<JavaCompile> {
     options.release.set(11)
