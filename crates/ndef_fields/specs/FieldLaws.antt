@@ -2,7 +2,7 @@
 use Rattle.std.specs.Prelude.{◌≡◌, ℕ, ◌+◌, ◌<◌, List, [], ◌∷◌, length, map, take, drop}
 use Rattle.std.specs.List.{flat_map}
 use Rattle.ndef_format.specs.Limits.{LimitValues}
-use Rattle.ndef_format.specs.Payloads.{IsTypedPayload}
+use Rattle.ndef_format.specs.Payloads.{IsKindPayload}
 use Rattle.ndef_format.specs.declared.kind.Kind.{Kind}
 use Rattle.ndef_format.specs.declared.profile.Profile.{Profile}
 use Rattle.ndef_fields.specs.declared.field.Field.{Field}
@@ -67,7 +67,7 @@ PayloadFieldsAreSlices = (kind : Kind) (payload : List ℕ) (told : List Field) 
 -- Those of a valid payload are the parts that it has in a message.
 abbrev pub PayloadsAreTold : Type 0
 PayloadsAreTold = (kind : Kind) (records : ℕ) (profile : Profile) (payload : List ℕ) (told : List Field)
-    → IsTypedPayload kind records profile payload
+    → IsKindPayload kind records profile payload
     → (a : ArePayloadFields kind payload told) → ArePayloadParts kind payload a.parts
 
 -- ---- the bytes of all fields

@@ -3,16 +3,15 @@ use Rattle.std.specs.Prelude.{ℕ, List, ◌++◌}
 use Rattle.std.specs.List.{AllByRecursion}
 use Rattle.ndef_format.specs.Messages.{Item, SpellsBy}
 use Rattle.ndef_format.specs.Limits.{LimitValues, IsWithin}
-use Rattle.ndef_format.specs.Kinds.{kind_of}
 use Rattle.ndef_format.specs.Payloads.{Sets}
 use Rattle.ndef_format.specs.Records.{Run}
 
--- the payload of the record is one of the kind that its type names
+-- the payload of the record is one of its type
 abbrev pub IsMember : Sets → LimitValues → Item → Type 0
-IsMember set limits m = set (kind_of m.tnf m.kind) limits.records limits.profile m.payload
+IsMember set limits m = set m.tnf m.kind limits.records limits.profile m.payload
 
 -- NDEF 1.0, messages: the bytes spell these records, within the limits, and each payload is one of
--- its kind
+-- its type
 pub record Accepted (set : Sets) (limits : LimitValues) (items : List Item) (bytes : List ℕ) : Type 0 where
   pub runs : List Run
   pub spelling : SpellsBy limits.profile runs items bytes

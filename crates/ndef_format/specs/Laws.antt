@@ -1,17 +1,18 @@
 -- What holds of the format.
-use Rattle.std.specs.Prelude.{◌≡◌, ℕ, ◌+◌, List, [], ◌++◌, ◌≢◌, true, map, ◌≤◌, length, take, ◌<◌, ⊤}
+use Rattle.std.specs.Prelude.{◌≡◌, ℕ, ◌+◌, List, [], ◌++◌, ◌≢◌, true, map, ◌≤◌, length, take, ◌<◌, ⊤, ◌∷◌, ◌⊎◌}
 use Rattle.std.specs.List.{AllByRecursion}
 use Rattle.ndef_format.specs.Messages.{Item, Spells, SpellsBy}
 use Rattle.ndef_format.specs.Canonical.{IsItem, whole_pieces, canonical}
 use Rattle.ndef_format.specs.Records.{Run}
 use Rattle.ndef_format.specs.Limits.{AreInRange, LimitValues, IsWithin, greatest_length}
-use Rattle.ndef_format.specs.Payloads.{Sets}
+use Rattle.ndef_format.specs.Payloads.{Sets, KindSets}
 use Rattle.ndef_format.specs.Refusals.{IsPlace, Refuses}
 use Rattle.ndef_format.specs.Accepted.{Accepted, IsAccepted}
 use Rattle.ndef_format.specs.Reasons.{Conditions}
 use Rattle.ndef_format.specs.declared.kind.Kind.{Kind}
 use Rattle.ndef_format.specs.declared.profile.Profile.{Profile}
 use Rattle.ndef_format.specs.declared.profile.Profile.TheVariants.{Strict, Standard}
+use Rattle.ndef_format.specs.declared.tnf.Tnf.{Tnf}
 use Rattle.ndef_format.specs.declared.refusal.Refusal.{Refusal}
 
 -- ---- messages and their spellings
@@ -60,9 +61,19 @@ pub record AreWider (limits wider : LimitValues) : Type 0 where
   pub profile : IsNoStricter limits.profile wider.profile
 
 -- A payload of a kind is one too where a message may have more records and the profile is no stricter.
-abbrev pub PayloadsStay : Sets → Type 0
+abbrev pub PayloadsStay : KindSets → Type 0
 PayloadsStay set = (kind : Kind) (records more : ℕ) (profile other : Profile) (payload : List ℕ) → records ≤ more
     → IsNoStricter profile other → set kind records profile payload → set kind more other payload
+
+-- A payload of a type is one too, likewise.
+abbrev pub TypesStay : Sets → Type 0
+TypesStay set = (tnf : Tnf) (name : List ℕ) (records more : ℕ) (profile other : Profile) (payload : List ℕ)
+    → records ≤ more → IsNoStricter profile other → set tnf name records profile payload
+    → set tnf name more other payload
+
+-- A type has a name that none of the types with payloads of their own has: it is empty, or has a 0 octet.
+abbrev pub IsNoName : List ℕ → Type 0
+IsNoName name = (name ≡ []) ⊎ ((front rest : List ℕ) × (name ≡ front ++ 0 ∷ rest))
 
 -- What is accepted is accepted within wider limits, as the same message.
 abbrev pub WiderAccept : Sets → Type 0

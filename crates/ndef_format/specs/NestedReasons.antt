@@ -8,7 +8,7 @@ use Rattle.ndef_format.specs.Nested.{kind_in, table_in, IsVersion}
 use Rattle.ndef_format.specs.HeadReasons.{is_set, tnf_number, conditions}
 use Rattle.ndef_format.specs.Positions.{Field, InHead, InType, InPayload, spot_after, IsAt}
 use Rattle.ndef_format.specs.PayloadReasons.{PayloadReason}
-use Rattle.ndef_format.specs.Reasons.{OneReason}
+use Rattle.ndef_format.specs.Reasons.{OneReason, Conditions, KindConditions, reasons_by_kind}
 use Rattle.ndef_format.specs.declared.profile.Profile.{Profile}
 use Rattle.ndef_format.specs.declared.kind.Kind.TheVariants as kinds
 use Rattle.ndef_format.specs.declared.table.Table.TheVariants.{SmartPoster, Request, Select}
@@ -94,5 +94,9 @@ TypedReasonBy (Some table) kind records profile s b = NestReason table records p
 TypedReasonBy None kind records profile s b = PayloadReason (outer_kind kind) profile s b
 
 -- which reasons hold of the octet b after the octets s of the payload of a record of a message
-abbrev pub TypedReason : Kind → ℕ → Profile → List ℕ → ℕ → Reason → Type 0
-TypedReason kind = TypedReasonBy (table_in kind) kind
+abbrev pub KindReason : KindConditions
+KindReason kind = TypedReasonBy (table_in kind) kind
+
+-- .. and of their types
+abbrev pub TypedReason : Conditions
+TypedReason = reasons_by_kind KindReason

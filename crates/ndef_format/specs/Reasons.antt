@@ -3,7 +3,9 @@ use Rattle.std.specs.Prelude.{ℕ, List, codes, ◌≡◌, ◌≤◌, ◌⊎◌}
 use Rattle.ndef_format.specs.declared.reason.Reason.{Reason}
 use Rattle.ndef_format.specs.declared.reason.Reason.TheVariants.{ReservedTnf, BeginMissing, BeginAgain, UnchangedOutside, ChangedInside, IdInside, ChunkAtEnd, ChunkOfEmpty, TooManyPieces, TooManyRecords, TypeNotEmpty, TypeEmpty, EmptyNotEmpty, PayloadTooLarge, TextBit, Language, Utf8, Utf16, UriCode, UriMissing, UriAgain, Version, CollisionMissing, DoesNotFit, EndOfInput}
 use Rattle.ndef_format.specs.declared.profile.Profile.{Profile}
+use Rattle.ndef_format.specs.Kinds.{kind_of}
 use Rattle.ndef_format.specs.declared.kind.Kind.{Kind}
+use Rattle.ndef_format.specs.declared.tnf.Tnf.{Tnf}
 
 -- the number by which a reason is printed
 abbrev pub reason_number : Reason → ℕ
@@ -77,7 +79,15 @@ RanksAreApart = (reason other : Reason) → rank_of reason ≡ rank_of other →
 
 -- which reasons hold of an octet after the octets of a payload before it
 abbrev pub Conditions : Type 1
-Conditions = Kind → ℕ → Profile → List ℕ → ℕ → Reason → Type 0
+Conditions = Tnf → List ℕ → ℕ → Profile → List ℕ → ℕ → Reason → Type 0
+
+-- those of the payloads of each kind
+abbrev pub KindConditions : Type 1
+KindConditions = Kind → ℕ → Profile → List ℕ → ℕ → Reason → Type 0
+
+-- those of the types, by their kinds
+abbrev pub reasons_by_kind : KindConditions → Conditions
+reasons_by_kind holds tnf name = holds (kind_of tnf name)
 
 -- of the reasons that hold the one that is tried first
 pub record IsLowest (holds : Reason → Type 0) (reason : Reason) : Type 0 where

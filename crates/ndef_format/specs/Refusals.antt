@@ -6,7 +6,6 @@ use Rattle.ndef_format.specs.Accepted.{IsAccepted, IsViable}
 use Rattle.ndef_format.specs.Messages.{Item}
 use Rattle.ndef_format.specs.HeadReasons.{reason_for}
 use Rattle.ndef_format.specs.Positions.{Field, InHead, InType, InId, InPayload, AtEnd, record_so_far, spot_after, begun_record, IsAt}
-use Rattle.ndef_format.specs.Kinds.{kind_of}
 use Rattle.ndef_format.specs.Reasons.{Conditions, IsLowest}
 use Rattle.ndef_format.specs.Records.{Piece, Run}
 use Rattle.ndef_format.specs.declared.reason.Reason.{Reason}
@@ -24,7 +23,7 @@ pub record IsPlace (set : Sets) (limits : LimitValues) (bytes : List ℕ) (place
 
 -- Why an octet is refused, by its field, the spot of its piece and the record that the pieces
 -- before it begin: in a head the lowest condition that holds of it, in a payload the lowest of its
--- kind, and else that it doesn't fit.
+-- type, and else that it doesn't fit.
 abbrev pub IsReasonOf : Conditions → LimitValues → Spot → Option Item → Field → ℕ → Reason → Type 0
 IsReasonOf holds limits spot m (InHead front) b reason =
     reason ≡ unwrap_or (reason_for spot front b) DoesNotFit
@@ -32,7 +31,7 @@ IsReasonOf holds limits spot m (InType head name) b reason = reason ≡ DoesNotF
 IsReasonOf holds limits spot m (InId head name id) b reason = reason ≡ DoesNotFit
 IsReasonOf holds limits spot m (InPayload head name id content) b reason =
     let item = record_so_far m head name id content in
-    IsLowest (holds (kind_of item.tnf item.kind) limits.records limits.profile item.payload b) reason
+    IsLowest (holds item.tnf item.kind limits.records limits.profile item.payload b) reason
 IsReasonOf holds limits spot m AtEnd b reason = ⊥
 
 -- why it is, after these runs and the pieces of an open one

@@ -25,7 +25,7 @@ ascii_parts (suc k) [] h = (tt, tt)
 ascii_parts (suc k) (x ∷ s) h = let p = ascii_parts k s h.1 in ((h.0, p.0), p.1)
 
 -- both together
-ascii_joined : (k : ℕ) (s : List ℕ) → AllByRecursion IsCodeOctet (take k s) → AllByRecursion IsCodeOctet (drop k s) → AllByRecursion IsCodeOctet s
+pub ascii_joined : (k : ℕ) (s : List ℕ) → AllByRecursion IsCodeOctet (take k s) → AllByRecursion IsCodeOctet (drop k s) → AllByRecursion IsCodeOctet s
 ascii_joined zero s h t = t
 ascii_joined (suc k) [] h t = tt
 ascii_joined (suc k) (x ∷ s) h t = (h.0, ascii_joined k s h.1 t)

@@ -1,21 +1,17 @@
 -- The greatest length is that of a message.
-use Rattle.std.proofs.Common.{◌≡◌, ℕ, zero, suc, ◌+◌, ◌-◌, ◌*◌, ◌^◌, ◌<◌, ◌≤◌, Bool, true, false, refl, sym, ◌∙◌, ap, subst, arith, List, [], ◌∷◌, ◌++◌, length, map, Some, None, length-append, append-nil}
+use Rattle.std.proofs.Common.{◌≡◌, ℕ, zero, suc, ◌+◌, ◌-◌, ◌*◌, ◌^◌, ◌<◌, ◌≤◌, Bool, true, false, refl, inr, sym, ◌∙◌, ap, subst, arith, List, [], ◌∷◌, ◌++◌, length, map, Some, None, length-append, append-nil}
 use Rattle.std.specs.List.{flat_map, AllByRecursion}
 use Rattle.ndef_format.specs.Accepted.{Accepted, IsMember}
 use Rattle.ndef_format.specs.Limits.{LimitValues, greatest_length}
 use Rattle.ndef_format.specs.Messages.{IsShaped, BeginsOnce, EndsOnce, SpellsPieces, all_pieces, payload_of, run_record}
 use Rattle.ndef_format.specs.Payloads.{Sets}
-use Rattle.ndef_format.specs.Records.{AreOctets, Piece, IsPiece, Run, IsRun, IsRead, Follow, pieces, octets, fields, body}
-use Rattle.ndef_format.specs.Laws.{GreatestIsReached}
-use Rattle.ndef_format.specs.declared.kind.Kind.TheVariants.{Other}
+use Rattle.ndef_format.specs.Records.{AreOctets, Piece, IsPiece, Run, IsRun, IsRead, tnf_of, Follow, pieces, octets, fields, body}
+use Rattle.ndef_format.specs.Laws.{GreatestIsReached, IsNoName}
+use Rattle.ndef_lang.specs.RecordLanguage.{TakesOthers}
 use Rattle.ndef_format.specs.declared.profile.Profile.{Profile}
 use Rattle.ndef_format.specs.declared.profile.Profile.TheVariants.{Strict, Standard}
 use Rattle.ndef_value.specs.ListLaws.{all_append, zeros, zeros_length, zeros_octets}
 use Rattle.ndef_value.specs.PieceLaws.{piece_octets}
-
--- any octets are a payload of no known kind
-abbrev TakesOthers : Sets → Type 0
-TakesOthers set = (records : ℕ) (profile : Profile) (s : List ℕ) → AreOctets s → set Other records profile s
 
 -- the long spelling of a piece
 abbrev long : Piece → List ℕ
@@ -55,6 +51,10 @@ abbrev later : (last : Bool) → ℕ → List Piece
 later last zero = []
 later last (suc n) = empty_piece last n ∷ later last n
 
+a_zero : (n : ℕ) → IsNoName (zeros (suc n))
+unfolding zeros
+a_zero n = inr ([], zeros n, refl)
+
 clash : true ≡ false → ⊥
 clash e = cc
 
@@ -62,7 +62,7 @@ reads_media : (profile : Profile) → IsRead profile 2
 reads_media Strict = omega arith
 reads_media Standard = omega arith
 
-module _ (name content : List ℕ) (named : AreOctets name) (long_name : length name ≡ 255) (filled : AreOctets content) (small : length content < 2 ^ 32) where
+module _ (name content : List ℕ) (no_name : IsNoName name) (named : AreOctets name) (long_name : length name ≡ 255) (filled : AreOctets content) (small : length content < 2 ^ 32) where
   abbrev initial : (first last : Bool) → ℕ → Piece
   initial first last n = record { first = first; last = ends last n; chunked = is_some_more n; tnf = 2; kind = name; id = Some name; payload = content }
 
@@ -197,7 +197,7 @@ module _ (name content : List ℕ) (named : AreOctets name) (long_name : length 
   members : (set : Sets) → TakesOthers set → (limits : LimitValues) (first : Bool) (k n : ℕ) → AllByRecursion (IsMember set limits) (map run_record (runs first k n))
   members set others limits first zero n = tt
   members set others limits first (suc k) n =
-      (others limits.records limits.profile _ (subst AreOctets (sym (run_payload first (is_none_more k) n)) filled), members set others limits false k n)
+      (others (tnf_of 2) name no_name limits.records limits.profile _ (subst AreOctets (sym (run_payload first (is_none_more k) n)) filled), members set others limits false k n)
 
   accepted : (set : Sets) → TakesOthers set → (limits : LimitValues) (k n : ℕ) → limits.records ≡ suc k → limits.pieces ≡ n + 1 → length content ≡ limits.payload
       → Accepted set limits (map run_record (runs true (suc k) n)) (flat_map long (all_pieces (runs true (suc k) n)))
@@ -241,8 +241,8 @@ greatest_length_is_reached set others limits range =
     let filled = zeros_octets limits.payload in
     let full = zeros_length limits.payload in
     let small : length content < 2 ^ 32 = (let h = range.payload.1 in omega arith) in (
-      map run_record (runs name content named long_name filled small true (suc k) n),
-      flat_map long (all_pieces (runs name content named long_name filled small true (suc k) n)),
-      accepted name content named long_name filled small set others limits k n few parts full,
-      greatest name content named long_name filled small limits k n few parts full,
+      map run_record (runs name content (a_zero 254) named long_name filled small true (suc k) n),
+      flat_map long (all_pieces (runs name content (a_zero 254) named long_name filled small true (suc k) n)),
+      accepted name content (a_zero 254) named long_name filled small set others limits k n few parts full,
+      greatest name content (a_zero 254) named long_name filled small limits k n few parts full,
     )

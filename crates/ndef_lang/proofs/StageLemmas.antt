@@ -8,9 +8,11 @@ use Rattle.ndef_format.specs.declared.reason.Reason.{Reason}
 use Rattle.ndef_format.specs.declared.reason.Reason.TheVariants as reasons
 use Rattle.ndef_format.specs.Reasons.{IsLowest, OneReason, rank_of}
 use Rattle.ndef_format.specs.Texts.{IsCodeOctet, IsTextIn}
+use Rattle.std.specs.List.{AllByRecursion}
 use Rattle.ndef_format.specs.Octets.{AreOctetsOf, IsOctet, Octets}
 use Rattle.ndef_format.specs.Records.{AreOctets}
 use Rattle.ndef_format.specs.PayloadReasons.{Passes, TextFieldReason, code_octet, utf8_octet, utf16_octet}
+use Rattle.ndef_lang.specs.declared.leaf.Class.{Class}
 use Rattle.ndef_lang.specs.declared.leaf.Class.TheVariants as classes
 use Rattle.ndef_lang.specs.declared.leaf.Stage.{Stage}
 use Rattle.ndef_lang.specs.declared.leaf.Stage.TheVariants as stages
@@ -20,7 +22,6 @@ use Rattle.ndef_lang.specs.declared.utf8.Utf8Lang.{Utf8Lang}
 use Rattle.ndef_lang.specs.declared.utf8.Utf8Lang.TheVariants.{Whole, OneMore, TwoMore, ThreeMore, AfterE0, AfterEd, AfterF0, AfterF4, Refused}
 use Rattle.ndef_lang.specs.declared.utf16.Utf16State.{Utf16State}
 use Rattle.ndef_lang.specs.Language.{Behind, Continues, PassesBetween, Reaches, StepsAll, StepsFront}
-use Rattle.ndef_value.specs.ListLaws.{octets_taken}
 use Rattle.ndef_lang.specs.LengthLaws.{some_octets}
 use Rattle.ndef_lang.specs.StepLaws.{octets_follow}
 use Rattle.ndef_lang.specs.Machine.Utf8.{CompletesUtf8, utf8_told}
@@ -176,38 +177,38 @@ any_front bytes a = record {
 }
 
 -- octets of a field
-pub field_front : (t : List ℕ) (left : ℕ) (next : List ℕ → Type 0) → AreOctets t → Continues (Octets IsOctet (length t + left) next) (Octets IsOctet left next) t
-field_front [] left next a r = let e : 0 + left ≡ left = omega arith in rw e (λ h. h, λ h. h)
-field_front (b ∷ t) left next a r =
+pub field_front : (passes : ℕ → Type 0) (t : List ℕ) (left : ℕ) (next : List ℕ → Type 0) → AllByRecursion passes t → Continues (Octets passes (length t + left) next) (Octets passes left next) t
+field_front passes [] left next a r = let e : 0 + left ≡ left = omega arith in rw e (λ h. h, λ h. h)
+field_front passes (b ∷ t) left next a r =
     let e : suc (length t) + left ≡ suc (length t + left) = omega arith in
-    let f = field_front t left next a.1 r in
+    let f = field_front passes t left next a.1 r in
     rw e (λ h. (a.0, f.0 h), λ h. f.1 h.1)
 
-pub field_goes : (t : List ℕ) (left : ℕ) (next : Stage) (u : List ℕ) (b : ℕ) (reason : Reason) → FieldReason classes.Any (length t + left) next (t ++ u) b reason ↔ FieldReason classes.Any left next u b reason
-field_goes [] left next u b reason = let e : 0 + left ≡ left = omega arith in rw e (λ h. h, λ h. h)
-field_goes (c ∷ t) left next u b reason = let e : suc (length t) + left ≡ suc (length t + left) = omega arith in rw e (field_goes t left next u b reason)
+pub field_goes : (class : Class) (t : List ℕ) (left : ℕ) (next : Stage) (u : List ℕ) (b : ℕ) (reason : Reason) → FieldReason class (length t + left) next (t ++ u) b reason ↔ FieldReason class left next u b reason
+field_goes class [] left next u b reason = let e : 0 + left ≡ left = omega arith in rw e (λ h. h, λ h. h)
+field_goes class (c ∷ t) left next u b reason = let e : suc (length t) + left ≡ suc (length t + left) = omega arith in rw e (field_goes class t left next u b reason)
 
-field_behind : (n m left : ℕ) (next : List ℕ → Type 0) (r : List ℕ) → m ≡ n + left → Octets IsOctet m next r → (rest : List ℕ) × (Octets IsOctet left next rest × (length r ≡ n + length rest))
-field_behind zero m left next r e h = (r, (subst (λ k. Octets IsOctet k next r) (let q : m ≡ left = omega arith in q) h, omega arith))
-field_behind (suc n) zero left next r e h = absurd (omega arith)
-field_behind (suc n) (suc m) left next [] e h = absurd h
-field_behind (suc n) (suc m) left next (b ∷ r) e h = let t = field_behind n m left next r (omega arith) h.1 in (t.0, (t.1.0, omega (arith, t.1.1)))
+field_behind : (passes : ℕ → Type 0) (n m left : ℕ) (next : List ℕ → Type 0) (r : List ℕ) → m ≡ n + left → Octets passes m next r → (rest : List ℕ) × (Octets passes left next rest × (length r ≡ n + length rest))
+field_behind passes zero m left next r e h = (r, (subst (λ k. Octets passes k next r) (let q : m ≡ left = omega arith in q) h, omega arith))
+field_behind passes (suc n) zero left next r e h = absurd (omega arith)
+field_behind passes (suc n) (suc m) left next [] e h = absurd h
+field_behind passes (suc n) (suc m) left next (b ∷ r) e h = let t = field_behind passes n m left next r (omega arith) h.1 in (t.0, (t.1.0, omega (arith, t.1.1)))
 
-pub field_steps : (bytes : List ℕ) (n left : ℕ) (next : List ℕ → Type 0) → AreOctets bytes → n ≤ length bytes → n ≤ left → StepsFront (Octets IsOctet left next) (Octets IsOctet (left - n) next) bytes n
-field_steps bytes n left next a l m = record { within = l; stepped = stepped; fits = fits }
+pub field_steps : (passes : ℕ → Type 0) (bytes : List ℕ) (n left : ℕ) (next : List ℕ → Type 0) → AllByRecursion passes (take n bytes) → n ≤ length bytes → n ≤ left → StepsFront (Octets passes left next) (Octets passes (left - n) next) bytes n
+field_steps passes bytes n left next a l m = record { within = l; stepped = stepped; fits = fits }
   where
-    stepped : Continues (Octets IsOctet left next) (Octets IsOctet (left - n) next) (take n bytes)
-    stepped = subst (λ k. Continues (Octets IsOctet k next) (Octets IsOctet (left - n) next) (take n bytes)) (let e : length (take n bytes) + (left - n) ≡ left = omega (arith, length-take-le n bytes l) in e) (field_front (take n bytes) (left - n) next (octets_taken n bytes a))
+    stepped : Continues (Octets passes left next) (Octets passes (left - n) next) (take n bytes)
+    stepped = subst (λ k. Continues (Octets passes k next) (Octets passes (left - n) next) (take n bytes)) (let e : length (take n bytes) + (left - n) ≡ left = omega (arith, length-take-le n bytes l) in e) (field_front passes (take n bytes) (left - n) next a)
 
-    fits : (lo hi : ℕ) → n ≤ lo → PassesBetween (Octets IsOctet left next) lo hi → PassesBetween (Octets IsOctet (left - n) next) (lo - n) (hi - n)
+    fits : (lo hi : ℕ) → n ≤ lo → PassesBetween (Octets passes left next) lo hi → PassesBetween (Octets passes (left - n) next) (lo - n) (hi - n)
     fits lo hi few p =
         let least = p.least in
         let most = p.most in
-        let t = field_behind n left (left - n) next p.rest (omega arith) p.passed in
+        let t = field_behind passes n left (left - n) next p.rest (omega arith) p.passed in
         record { rest = t.0; passed = t.1.0; least = omega (arith, t.1.1); most = omega (arith, t.1.1) }
 
-pub field_goes_on : (bytes : List ℕ) (n left : ℕ) (next : Stage) → n ≤ length bytes → n ≤ left → (u : List ℕ) (b : ℕ) (reason : Reason)
-    → FieldReason classes.Any left next (take n bytes ++ u) b reason ↔ FieldReason classes.Any (left - n) next u b reason
-field_goes_on bytes n left next l m u b reason =
+pub field_goes_on : (class : Class) (bytes : List ℕ) (n left : ℕ) (next : Stage) → n ≤ length bytes → n ≤ left → (u : List ℕ) (b : ℕ) (reason : Reason)
+    → FieldReason class left next (take n bytes ++ u) b reason ↔ FieldReason class (left - n) next u b reason
+field_goes_on class bytes n left next l m u b reason =
     let e : length (take n bytes) + (left - n) ≡ left = omega (arith, length-take-le n bytes l) in
-    subst (λ k. FieldReason classes.Any k next (take n bytes ++ u) b reason ↔ FieldReason classes.Any (left - n) next u b reason) e (field_goes (take n bytes) (left - n) next u b reason)
+    subst (λ k. FieldReason class k next (take n bytes ++ u) b reason ↔ FieldReason class (left - n) next u b reason) e (field_goes class (take n bytes) (left - n) next u b reason)

@@ -4,8 +4,8 @@ use Rattle.ndef_format.specs.Records.{AreOctets}
 use Rattle.ndef_format.specs.declared.profile.Profile.{Profile}
 use Rattle.ndef_format.specs.declared.reason.Reason.{Reason}
 use Rattle.ndef_format.specs.declared.kind.Kind.{Kind}
-use Rattle.ndef_format.specs.Payloads.{Sets}
-use Rattle.ndef_format.specs.Reasons.{Conditions, IsLowest}
+use Rattle.ndef_format.specs.Payloads.{KindSets}
+use Rattle.ndef_format.specs.Reasons.{KindConditions, IsLowest}
 use Rattle.ndef_format.specs.PayloadReasons.{Passes}
 
 -- some list of lo to hi octets passes
@@ -45,7 +45,7 @@ pub record StepsFront (old new : List ℕ → Type 0) (bytes : List ℕ) (count 
       → PassesBetween new (lo - count) (hi - count)
 
 -- The octets lead on, whatever the kind, the number of records and the profile.
-abbrev pub ReachesEach : (old new : Sets) → List ℕ → Type 0
+abbrev pub ReachesEach : (old new : KindSets) → List ℕ → Type 0
 ReachesEach old new octets = (kind : Kind) (records : ℕ) (profile : Profile)
     → Reaches (old kind records profile) (new kind records profile) octets
 
@@ -55,7 +55,7 @@ AllPass future = (r : List ℕ) → AreOctets r → future r
 
 -- What was reached is reached again after any octets, whatever the kind, the number of records and
 -- the profile.
-abbrev pub AllReach : Sets → Type 0
+abbrev pub AllReach : KindSets → Type 0
 AllReach reached = (octets : List ℕ) → AreOctets octets → ReachesEach reached reached octets
 
 -- Whatever octets were reached, after which something could still follow: the reason is that of the
@@ -75,21 +75,21 @@ TellsWhyAt reached holds octets place reason = (s : List ℕ) → reached s
     → IsLowest (holds (s ++ take place octets) (slice_index octets place)) reason
 
 -- the payloads of each kind are the same
-abbrev pub SameSets : (set other : Sets) → Type 0
+abbrev pub SameSets : (set other : KindSets) → Type 0
 SameSets set other =
     (kind : Kind) (records : ℕ) (profile : Profile) (s : List ℕ) → set kind records profile s
     ↔ other kind records profile s
 
 -- the same reasons hold of each octet
-abbrev pub SameConditions : (holds other : Conditions) → Type 0
+abbrev pub SameConditions : (holds other : KindConditions) → Type 0
 SameConditions holds other =
     (kind : Kind) (records : ℕ) (profile : Profile) (s : List ℕ) (b : ℕ) (reason : Reason)
     → holds kind records profile s b reason ↔ other kind records profile s b reason
 
 -- these are the sets, whatever the number of records
-abbrev pub AreSets : Sets → (Kind → Profile → List ℕ → Type 0) → Type 0
+abbrev pub AreSets : KindSets → (Kind → Profile → List ℕ → Type 0) → Type 0
 AreSets set payloads = SameSets set (λ kind records. payloads kind)
 
 -- these are the conditions, whatever the number of records
-abbrev pub AreConditions : Conditions → (Kind → Profile → List ℕ → ℕ → Reason → Type 0) → Type 0
+abbrev pub AreConditions : KindConditions → (Kind → Profile → List ℕ → ℕ → Reason → Type 0) → Type 0
 AreConditions holds conditions = SameConditions holds (λ kind records. conditions kind)

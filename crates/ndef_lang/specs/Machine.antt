@@ -3,6 +3,7 @@
 pub mod Kind
 pub mod Leaf
 pub mod LeafLaws
+pub mod TypeName
 pub mod Utf16
 pub mod Utf16Laws
 pub mod Utf8

@@ -1,5 +1,5 @@
 //! Whether octets are ASCII. Only a true answer is conclusive.
-ghost use Rattle.std.specs.Prelude.{◌≡◌, ◌<◌, [], ◌∷◌, length, IsTrue};
+ghost use Rattle.std.specs.Prelude.{◌≡◌, ◌<◌, ◌≤◌, [], ◌∷◌, length, IsTrue};
 ghost use Rattle.std.specs.List.{AllByRecursion};
 ghost use Rattle.ndef_format.specs.Texts.{IsCodeOctet};
 
@@ -31,10 +31,10 @@ fn are_up_to_seven(bytes: &[u8]) -> bool
     requires { length bytes.now < 8 }
     ensures { IsTrue result → AllByRecursion IsCodeOctet bytes.now }
 {
-    if let [a, b, c, d, ..] = bytes
-        && let [.., e, f, g, h] = bytes
-    {
-        return are_four(*a, *b, *c, *d) && are_four(*e, *f, *g, *h);
+    if let [a, b, c, d, ..] = bytes {
+        if let [.., e, f, g, h] = bytes {
+            return are_four(*a, *b, *c, *d) && are_four(*e, *f, *g, *h);
+        }
     }
     are_few(bytes)
 }
@@ -50,6 +50,32 @@ fn are_eight(bytes: &[u8]) -> bool
     }
 }
 
+/// Whether they are eight to sixteen octets of ASCII, whose ends overlap.
+#[inline(always)]
+fn are_up_to_sixteen(bytes: &[u8]) -> bool
+    requires some { 8 ≤ length bytes.now }
+    requires few { length bytes.now ≤ 16 }
+    ensures { IsTrue result → AllByRecursion IsCodeOctet bytes.now }
+{
+    are_eight(&bytes[..8]) && are_eight(&bytes[bytes.len() - 8..])
+}
+
+/// Whether more octets are ASCII, eight after eight: a text that isn't costs no more than one that is.
+#[inline(never)]
+fn are_many(bytes: &[u8]) -> bool
+    requires { 8 ≤ length bytes.now }
+    ensures { IsTrue result → AllByRecursion IsCodeOctet bytes.now }
+{
+    let mut rest = bytes;
+    while rest.len() > 16 {
+        if !are_eight(&rest[..8]) {
+            return false;
+        }
+        rest = &rest[8..];
+    }
+    are_up_to_sixteen(rest)
+}
+
 /// Whether all octets are ASCII, of which there are mostly few.
 #[inline(always)]
 pub(crate) fn is_ascii(bytes: &[u8]) -> bool
@@ -59,8 +85,7 @@ pub(crate) fn is_ascii(bytes: &[u8]) -> bool
         return are_up_to_seven(bytes);
     }
     if bytes.len() > 16 {
-        return bytes.is_ascii();
+        return are_many(bytes);
     }
-    // The ends of up to sixteen octets overlap.
-    are_eight(&bytes[..8]) && are_eight(&bytes[bytes.len() - 8..])
+    are_up_to_sixteen(bytes)
 }

@@ -1,8 +1,11 @@
 -- Whole records at once.
-use Rattle.std.proofs.Common.{◌≡◌, ℕ, ◌+◌, ◌-◌, ◌<◌, ◌≤◌, ◌^◌, ◌↔◌, append_assoc, inl, inr, Bool, true, false, refl, sym, ◌∙◌, ap, subst, arith, List, [], ◌∷◌, ◌++◌, length, take, length-append, Option, Some, None}
+use Rattle.std.proofs.Common.{◌≡◌, ℕ, ◌+◌, ◌-◌, ◌<◌, ◌≤◌, ◌^◌, append_assoc, inl, inr, Bool, true, false, refl, sym, ◌∙◌, ap, subst, arith, List, [], ◌∷◌, ◌++◌, length, take, length-append, Option, Some, None}
 use Rattle.std.specs.Prelude.{is_some, if◌then◌else◌}
 use Rattle.std.proofs.lemmas.List.{length-take-le, append-nil}
 use Rattle.std.proofs.Math.Seq.{take-append_seam, take-append-add}
+use Rattle.ndef_format.specs.declared.tnf.Tnf.TheVariants.{Empty}
+use Rattle.ndef_format.specs.declared.tnf.Tnf.{Tnf}
+use Rattle.ndef_lang.specs.RecordLanguage.{TakesOthers}
 use Rattle.ndef_format.specs.Records.{HasShape, Piece, AreOctets, SpellsPiece, body, fields, octets, tnf_of}
 use Rattle.ndef_format.specs.Canonical.{IsItem}
 use Rattle.ndef_format.specs.Messages.{Item, SpellsPieces}
@@ -10,10 +13,7 @@ use Rattle.ndef_format.specs.Limits.{LimitValues, AreInRange}
 use Rattle.ndef_value.specs.ListLaws.{octets_append}
 use Rattle.ndef_value.specs.TnfLaws.{changed_name}
 use Rattle.ndef_format.specs.declared.profile.Profile.{Profile}
-use Rattle.ndef_format.specs.declared.kind.Kind.{Kind}
-use Rattle.ndef_format.specs.declared.kind.Kind.TheVariants.{Other}
-use Rattle.ndef_lang.specs.declared.language.Language.{Ghosts}
-use Rattle.ndef_format.specs.Kinds.{kind_of}
+use Rattle.ndef_lang.specs.declared.record_language.RecordLanguage.{Ghosts}
 use Rattle.ndef_format.specs.Payloads.{Sets}
 use Rattle.ndef_lang.specs.StepLaws.{rest, rest_length, take_rests}
 use Rattle.ndef_format.specs.HeadReasons.{is_set, tnf_number}
@@ -40,9 +40,9 @@ use Rattle.ndef_message.proofs.Rests.{spell_append, walked_snoc, members_append}
 use Rattle.ndef_message.proofs.Viable.{viable}
 
 -- a member, by the same kind and limits
-pub member_at : (set : Sets) (kind kind' : Kind) (records records' : ℕ) (profile profile' : Profile) (s : List ℕ) → kind ≡ kind' → records ≡ records' → profile ≡ profile' → set kind records profile s → set kind' records' profile' s
-member_at set kind kind' records records' profile profile' s ek en ep h =
-    subst (λ k. set k records' profile' s) ek (subst (λ n. set kind n profile' s) en (subst (λ p. set kind records p s) ep h))
+pub member_at : (set : Sets) (tnf tnf' : Tnf) (name : List ℕ) (records records' : ℕ) (profile profile' : Profile) (s : List ℕ) → tnf ≡ tnf' → records ≡ records' → profile ≡ profile' → set tnf name records profile s → set tnf' name records' profile' s
+member_at set tnf tnf' name records records' profile profile' s et en ep h =
+    subst (λ t. set t name records' profile' s) et (subst (λ n. set tnf name n profile' s) en (subst (λ p. set tnf name records p s) ep h))
 
 -- ---- pieces
 
@@ -206,7 +206,7 @@ module _ (limits : LimitValues) (records count room : ℕ) (m : Item) (bytes res
 
 -- a piece that begins a run, and the run
 pub run_from : (set : Sets) (limits : LimitValues) (place : Place) (bytes : List ℕ) (p : Piece) (short : Bool) (rest : List ℕ) (taken k : ℕ) (last : Bool) (next : Place) → IsSplit p short rest bytes
-    → pieces.Stands (spot_of limits.profile place) p → p.chunked ≡ true → place.inside ≡ false → ((s : List ℕ) → AreOctets s → set (kind_of (tnf_of p.tnf) p.kind) limits.records limits.profile s) → taken ≡ length bytes - length rest
+    → pieces.Stands (spot_of limits.profile place) p → p.chunked ≡ true → place.inside ≡ false → ((s : List ℕ) → AreOctets s → set (tnf_of p.tnf) p.kind limits.records limits.profile s) → taken ≡ length bytes - length rest
     → next ≡ behind_chunk place (length p.payload) → k ≤ length rest → IsRunEnd limits next (take k rest) last → IsTakenRecord set limits place bytes (taken + k) last
 run_from set limits place bytes p short rest taken k last next split stands chunked outer any is ne small run =
     let f = front_and bytes split.front rest taken k split.joined is small in
@@ -308,7 +308,7 @@ finished_by laws set limits empty true left = ([], [], tt, (laws.rests_end limit
 finished_by laws set limits empty false left = let x = close limits false left in (x.0, nothing ∷ [], (empty, tt), x.1)
 
 module _ (laws : FormatLaws) {L : Type 0} {language : Ghosts L} {limits : LimitValues} (range : AreInRange limits)
-    (others : (n : ℕ) (profile : Profile) (s : List ℕ) → language.payloads Other n profile s ↔ AreOctets s)
+    (others : TakesOthers language.payloads)
     {bytes : List ℕ} {given : List Item} {c : Before} (at : IsAtPoint limits bytes given (InHead c [])) (v : IsViable language.payloads limits bytes)
     {items : List Item} {left : ℕ} (last : Bool) {t : List ℕ} (ends : EndsRecords language.payloads limits c items left last t)
     (new : State L) {place : Place} (is : place ≡ numbers (outside limits false last left)) (behind : IsBehind limits new place last) where
@@ -322,7 +322,7 @@ module _ (laws : FormatLaws) {L : Type 0} {language : Ghosts L} {limits : LimitV
       let s = spell_append at.pieces ends.pieces at.done t at.spelled ends.spelled in
       let m = members_append language.payloads limits given items (given_members laws language.payloads limits range bytes given (InHead c []) at v) ends.members in
       let all : bytes ++ t ≡ (at.done ++ t) ++ [] = ap (λ x. x ++ t) start_is ∙ sym (append-nil (at.done ++ t)) in
-      let more : IsViable language.payloads limits (bytes ++ t) = subst (IsViable language.payloads limits) (sym all) (viable laws limits language.payloads range ps d (given ++ items) (at.done ++ t) w s [] m (finished_by laws language.payloads limits ((others limits.records limits.profile []).1 tt) last left)) in
+      let more : IsViable language.payloads limits (bytes ++ t) = subst (IsViable language.payloads limits) (sym all) (viable laws limits language.payloads range ps d (given ++ items) (at.done ++ t) w s [] m (finished_by laws language.payloads limits (others Empty [] (inl refl) limits.records limits.profile [] tt) last left)) in
       let reader : last ≡ false → new.reader ≡ record { spot = spot limits.profile d; octets = []; answer = steps.More } = λ e. behind.reader_is e ∙ ap (λ x. record { spot = spot_of limits.profile x; octets = []; answer = steps.More }) is in
       let opens : last ≡ false → IsOpen (spot limits.profile d) [] = λ e. subst (λ x. IsOpen (spot_of limits.profile x) []) is (behind.opens e) in
       by_end last ps w s all more (behind.place_is ∙ is) reader opens behind.phase_is
@@ -339,7 +339,7 @@ module _ (laws : FormatLaws) {L : Type 0} {language : Ghosts L} {limits : LimitV
           (InHead d [], (d, refl, inl refl), record { at = record { pieces = ps; done = at.done ++ t; walked = w; spelled = s; split = e; proper = (refl, o refl) }; viable = v; matches = (e1, ee, e2 refl, tt) })
 
 -- the record in one piece leads after it
-pub record_passed : (laws : FormatLaws) {L : Type 0} {language : Ghosts L} (limits : LimitValues) → AreInRange limits → ((n : ℕ) (profile : Profile) (s : List ℕ) → language.payloads Other n profile s ↔ AreOctets s)
+pub record_passed : (laws : FormatLaws) {L : Type 0} {language : Ghosts L} (limits : LimitValues) → AreInRange limits → (TakesOthers language.payloads)
     → (old new : State L) (input : List ℕ) (w : WholePiece) (taken : ℕ) → IsFresh old → BeginsWith language.payloads limits old.place input w → taken ≡ length input - length w.rest.now
     → IsBehind limits new (behind_record limits old.place) (is_set 6 w.header)
     → WhateverLed (Stands language limits old) (λ bytes given point. LeadsBetween (Stands language limits new) (bytes ++ take taken input) (given ++ record_of w ∷ []))

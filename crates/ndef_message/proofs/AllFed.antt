@@ -13,7 +13,7 @@ use Rattle.ndef_format.specs.Payloads.{Sets}
 use Rattle.ndef_format.specs.Positions.{IsAt}
 use Rattle.ndef_format.specs.Accepted.{Accepted, IsAccepted, IsViable}
 use Rattle.ndef_format.specs.Refusals.{IsPlace, Refuses}
-use Rattle.ndef_lang.specs.declared.language.Language.{Ghosts}
+use Rattle.ndef_lang.specs.declared.record_language.RecordLanguage.{Ghosts}
 use Rattle.ndef_piece.specs.Field.{OneField}
 use Rattle.ndef_message.specs.Feed.{Tells, TellsEnd, IsLongestViable, CountsRecords, CountsMessage, Ends, OneCount, MessagesAreLongest}
 use Rattle.ndef_message.specs.Opened.{IsTaken, HasLed}

@@ -7,7 +7,7 @@ use Rattle.ndef_value.specs.ListLaws.{octets_taken}
 use Rattle.ndef_format.specs.Messages.{Item}
 use Rattle.ndef_format.specs.Records.{Piece, HeadFields, AreOctets, fields, octets, body}
 use Rattle.ndef_format.specs.Limits.{AreInRange}
-use Rattle.ndef_lang.specs.declared.language.Language.{Ghosts}
+use Rattle.ndef_lang.specs.declared.record_language.RecordLanguage.{Ghosts}
 use Rattle.ndef_format.specs.HeadReasons.{is_set}
 use Rattle.ndef_format.specs.Positions.{MayStand}
 use Rattle.ndef_format.specs.Positions as pieces

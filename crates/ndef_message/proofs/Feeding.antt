@@ -4,7 +4,7 @@ use Rattle.std.proofs.lemmas.List.{append-nil, take_all, take-append-drop}
 use Rattle.ndef_format.specs.Messages.{Item}
 use Rattle.ndef_format.specs.Limits.{LimitValues, AreInRange}
 use Rattle.ndef_lang.specs.StepLaws.{rest, take_rests}
-use Rattle.ndef_lang.specs.declared.language.Language.{Ghosts}
+use Rattle.ndef_lang.specs.declared.record_language.RecordLanguage.{Ghosts}
 use Rattle.ndef_message.specs.Machine.Checkers.{CheckerReached}
 use Rattle.ndef_format.specs.Accepted.{IsAccepted, IsViable}
 use Rattle.ndef_message.specs.Machine.Points.{Point, IsAtPoint}
@@ -75,7 +75,7 @@ module _ (laws : FormatLaws) {L : Type 0} {language : Ghosts L} (c : Checker L l
   feeds_here : (phase : Phase) → c.state.phase ≡ phase → (front bytes : List ℕ) (given : List Item) (point : Point) (at : ℕ) (answer : Fed) → answer_of phase at ≡ Some answer → at ≤ length bytes
       → CheckerReached c (front ++ take at bytes) given point → Feeds language.payloads language.reasons c.limits (CheckerReached c) front bytes answer
   feeds_here phases.Head w front bytes given point at answer e h k = cc
-  feeds_here (phases.Type x y z) w front bytes given point at answer e h k = cc
+  feeds_here (phases.Type x y) w front bytes given point at answer e h k = cc
   feeds_here (phases.Id x y) w front bytes given point at answer e h k = cc
   feeds_here (phases.Payload x y) w front bytes given point at answer e h k = cc
   feeds_here phases.Done w front bytes given point at answer e h k =

@@ -1,9 +1,11 @@
 -- Where payloads aren't looked into, octets are refused in heads alone.
-use Rattle.std.proofs.Common.{◌≡◌, ℕ, ◌-◌, ◌<◌, ◌≤◌, ◌^◌, ◌⊎◌, inl, inr, Bool, true, false, refl, sym, ◌∙◌, ap, subst, arith, List, [], ◌∷◌, ◌++◌, length, map, take, get_or, append_assoc, length-append, Option, Some, None, zero, suc}
+use Rattle.std.proofs.Common.{◌≡◌, ℕ, ◌-◌, ◌<◌, ◌≤◌, ◌^◌, ◌⊎◌, ◌↔◌, inl, inr, Bool, true, false, refl, sym, ◌∙◌, ap, subst, arith, List, [], ◌∷◌, ◌++◌, length, map, take, get_or, append_assoc, length-append, Option, Some, None, zero, suc}
 use Rattle.std.specs.Prelude.{unwrap_or, is_some, slice_index, ⊤, if◌then◌else◌}
 use Rattle.std.specs.List.{AllByRecursion}
 use Rattle.std.proofs.lemmas.List.{append-nil, take_more}
+use Rattle.ndef_format.specs.declared.tnf.Tnf.{Tnf}
 use Rattle.ndef_value.specs.ListLaws.{octets_append, octets_front, zeros, zeros_length, zeros_octets}
+use Rattle.ndef_lang.specs.RecordLanguage.{AreOfOctets, TakesOthers}
 use Rattle.ndef_format.specs.Reasons.{reason_number, Conditions}
 use Rattle.ndef_format.specs.Messages.{Item}
 use Rattle.ndef_format.specs.Records.{HeadFields, AreOctets, octets}
@@ -12,9 +14,6 @@ use Rattle.ndef_format.specs.declared.profile.Profile.{Profile}
 use Rattle.ndef_format.specs.declared.reason.Reason.{Reason}
 use Rattle.ndef_format.specs.declared.reason.Reason.TheVariants.{DoesNotFit, EndOfInput}
 use Rattle.ndef_format.specs.Payloads.{Sets}
-use Rattle.ndef_lang.specs.Language.{AreSets}
-use Rattle.ndef_format.specs.declared.kind.Kind.{Kind}
-use Rattle.ndef_format.specs.declared.kind.Kind.TheVariants.{Other}
 use Rattle.ndef_format.specs.HeadReasons.{conditions, lowest, reason_for}
 use Rattle.ndef_piece.specs.Conditions.{ConditionsAreInOrder}
 use Rattle.ndef_piece.specs.Field.{OneField}
@@ -66,9 +65,12 @@ octet_at [] n a h = absurd (omega arith)
 octet_at (b ∷ bytes) zero a h = a.0
 octet_at (b ∷ bytes) (suc n) a h = octet_at bytes n a.1 (omega arith)
 
-module _ (laws : FormatLaws) (limits : LimitValues) (set : Sets) (any : AreSets set (λ kind profile. AreOctets)) where
-  octets_of : (k : Kind) (n : ℕ) (profile : Profile) (s : List ℕ) → set k n profile s → AreOctets s
-  octets_of k n profile s h = (any k n profile s).0 h
+module _ (laws : FormatLaws) (limits : LimitValues) (set : Sets) (any : (tnf : Tnf) (name : List ℕ) (records : ℕ) (profile : Profile) (s : List ℕ) → set tnf name records profile s ↔ AreOctets s) where
+  octets_of : AreOfOctets set
+  octets_of tnf name n profile s h = (any tnf name n profile s).0 h
+
+  others : TakesOthers set
+  others tnf name unnamed n profile s h = (any tnf name n profile s).1 h
 
   -- a payload that is octets so far can be completed
   filled : (c : Before) (f : HeadFields) (k i z : List ℕ) → AreOctets (record_so_far c.begun f k i z).payload → CanComplete set limits c f k i z
@@ -77,7 +79,7 @@ module _ (laws : FormatLaws) (limits : LimitValues) (set : Sets) (any : AreSets 
       let so_far = (record_so_far c.begun f k i z).payload in
       record {
         rest = zeros n;
-        passed = (any _ limits.records limits.profile (so_far ++ zeros n)).1 (octets_append so_far (zeros n) a (zeros_octets n));
+        passed = (any _ _ limits.records limits.profile (so_far ++ zeros n)).1 (octets_append so_far (zeros n) a (zeros_octets n));
         least = omega (arith, zeros_length n);
         most = at_most f.chunked n (zeros_length n);
       }
@@ -88,7 +90,7 @@ module _ (laws : FormatLaws) (limits : LimitValues) (set : Sets) (any : AreSets 
 
   -- what can be completed is octets so far
   octets_so : (c : Before) (f : HeadFields) (k i z : List ℕ) → CanComplete set limits c f k i z → AreOctets (record_so_far c.begun f k i z).payload
-  octets_so c f k i z y = octets_front (record_so_far c.begun f k i z).payload y.rest (octets_of _ _ _ _ y.passed)
+  octets_so c f k i z y = octets_front (record_so_far c.begun f k i z).payload y.rest (octets_of _ _ _ _ _ y.passed)
 
   abbrev Done : Before → List ℕ → Type 0
   Done = Finished laws limits set
@@ -103,12 +105,12 @@ module _ (laws : FormatLaws) (limits : LimitValues) (set : Sets) (any : AreSets 
       none (Some m) e = cc
 
       by_begun : (v : Bool) → is_some c.begun ≡ v → Done c (xs ++ b ∷ [])
-      by_begun false e = viable.head_finished laws limits set octets_of (any Other) c (xs ++ b ∷ []) h.0 o small (none c.begun e) h.1
+      by_begun false e = viable.head_finished laws limits set octets_of others c (xs ++ b ∷ []) h.0 o small (none c.begun e) h.1
       by_begun true e =
           let t = viable.first_head laws limits set c xs o open_still done in
           let y = viable.later_needs laws limits set c t.0 o e t.1.stands t.2 in
           let a = subst AreOctets (same_payload c.begun t.0 h.0 [] [] []) (octets_so c t.0 [] [] [] y) in
-          viable.later_finished laws limits set octets_of (any Other) c (xs ++ b ∷ []) h.0 o small e h.1 (filled c h.0 [] [] [] a)
+          viable.later_finished laws limits set octets_of others c (xs ++ b ∷ []) h.0 o small e h.1 (filled c h.0 [] [] [] a)
 
   -- where a type or an id goes on, no record is open
   none_open : (m : Option Item) (n : ℕ) → 0 < n → (is_some m ≡ true → n ≡ 0) → m ≡ None
@@ -128,8 +130,8 @@ module _ (laws : FormatLaws) (limits : LimitValues) (set : Sets) (any : AreSets 
         payload_octets = tt;
       } in
       let whole : Done c (part_octets f t [] []) = elim (order (length t) f.kind_length) as (λ v. Done c (part_octets f t [] [])) [
-        | inl less ↦ viable.type_finished laws limits set octets_of (any Other) c f t q small none (inl less)
-        | inr more ↦ viable.id_finished laws limits set octets_of (any Other) c f t [] q small (omega arith) (omega arith) (filled c f t [] [] (none_so_far c.begun f t [] none))
+        | inl less ↦ viable.type_finished laws limits set octets_of others c f t q small none (inl less)
+        | inr more ↦ viable.id_finished laws limits set octets_of others c f t [] q small (omega arith) (omega arith) (filled c f t [] [] (none_so_far c.begun f t [] none))
       ] in
       viable.finished_same laws limits set c _ _ (regroup (octets f)) whole
     where
@@ -149,7 +151,7 @@ module _ (laws : FormatLaws) (limits : LimitValues) (set : Sets) (any : AreSets 
         id_octets = octets_append i (b ∷ []) p.id_octets (octet, tt);
         payload_octets = tt;
       } in
-      let whole = viable.id_finished laws limits set octets_of (any Other) c f k j q small ek (omega arith) (filled c f k j [] (none_so_far c.begun f k j none)) in
+      let whole = viable.id_finished laws limits set octets_of others c f k j q small ek (omega arith) (filled c f k j [] (none_so_far c.begun f k j none)) in
       viable.finished_same laws limits set c _ _ (regroup (octets f)) whole
     where
       regroup : (h : List ℕ) → h ++ (k ++ ((i ++ b ∷ []) ++ [])) ≡ (h ++ (k ++ (i ++ []))) ++ b ∷ []
@@ -171,7 +173,7 @@ module _ (laws : FormatLaws) (limits : LimitValues) (set : Sets) (any : AreSets 
         id_octets = p.id_octets;
         payload_octets = octets_append z (b ∷ []) p.payload_octets (octet, tt);
       } in
-      let whole = viable.body_finished laws limits set octets_of (any Other) c f k i w q small ek ei (omega arith) (filled c f k i w a) in
+      let whole = viable.body_finished laws limits set octets_of others c f k i w q small ek ei (omega arith) (filled c f k i w a) in
       viable.finished_same laws limits set c _ _ (regroup (octets f)) whole
     where
       regroup : (h : List ℕ) → h ++ (k ++ (i ++ (z ++ b ∷ []))) ≡ (h ++ (k ++ (i ++ z))) ++ b ∷ []
@@ -220,7 +222,8 @@ module _ (laws : FormatLaws) (limits : LimitValues) (set : Sets) (any : AreSets 
   by_head ordered range holds front given (AtEnd c) b reason a v stops octet why = absurd why
 
 -- octets are refused in heads alone
-pub heads_alone : FormatLaws → OneField → ConditionsAreInOrder → (set : Sets) (holds : Conditions) → AreSets set (λ kind profile. AreOctets) → RefusesHeadsAlone set holds
+pub heads_alone : FormatLaws → OneField → ConditionsAreInOrder → (set : Sets) (holds : Conditions)
+    → ((tnf : Tnf) (name : List ℕ) (records : ℕ) (profile : Profile) (s : List ℕ) → set tnf name records profile s ↔ AreOctets s) → RefusesHeadsAlone set holds
 heads_alone laws one ordered set holds any limits bytes refusal range a r =
     let at = refusal.at in
     let within = r.place.within in

@@ -2,7 +2,7 @@
 use Rattle.std.proofs.Common.{◌≡◌, ℕ, sym, List, [], ◌∷◌, ◌++◌, append-nil, arith, Some, None, inl, inr}
 use Rattle.ndef_format.specs.Messages.{Item}
 use Rattle.ndef_format.specs.Limits.{LimitValues}
-use Rattle.ndef_lang.specs.declared.language.Language.{Ghosts}
+use Rattle.ndef_lang.specs.declared.record_language.RecordLanguage.{Ghosts}
 use Rattle.ndef_piece.specs.Walk.{WalksAreCounted}
 use Rattle.ndef_message.specs.Machine.Fronts.{WhateverLed}
 use Rattle.ndef_format.specs.Payloads.{Sets}

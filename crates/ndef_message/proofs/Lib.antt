@@ -12,6 +12,7 @@ pub mod Encoded
 pub mod Ended
 pub mod Entered
 pub mod Feeding
+pub mod FirstOctets
 pub mod Fitting
 pub mod Fronts
 pub mod Halted

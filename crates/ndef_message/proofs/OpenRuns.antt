@@ -6,10 +6,10 @@ use Rattle.ndef_value.specs.ListLaws.{octets_append, octets_back}
 use Rattle.ndef_format.specs.Messages.{Item, SpellsPieces}
 use Rattle.ndef_format.specs.Limits.{LimitValues, AreInRange}
 use Rattle.ndef_format.specs.Records.{AreOctets, body, fields, octets}
-use Rattle.ndef_format.specs.Kinds.{kind_of}
 use Rattle.ndef_format.specs.Payloads.{Sets}
-use Rattle.ndef_lang.specs.Language.{AllPass, AllReach}
-use Rattle.ndef_lang.specs.declared.language.Language.{Ghosts}
+use Rattle.ndef_lang.specs.Language.{AllPass}
+use Rattle.ndef_lang.specs.RecordLanguage.{AllLead}
+use Rattle.ndef_lang.specs.declared.record_language.RecordLanguage.{Ghosts}
 use Rattle.ndef_format.specs.Positions.{IsOpen}
 use Rattle.ndef_piece.specs.Walk.{Before, start, record_with, inside, Walked}
 use Rattle.ndef_piece.specs.declared.head_reader.Step.TheVariants as steps
@@ -49,10 +49,10 @@ run_cut limits records count room m bytes rest place g n is = record {
 -- ---- the payload
 
 -- the language has read more of a payload that any octets complete
-speaks_on : {L : Type 0} (language : Ghosts L) (limits : LimitValues) (payload : L) → ((r : List ℕ) → language.future payload r → AreOctets r) → AllPass (language.future payload) → AllReach (language.reached payload)
+speaks_on : {L : Type 0} (language : Ghosts L) (limits : LimitValues) (payload : L) → ((r : List ℕ) → language.future payload r → AreOctets r) → AllPass (language.future payload) → AllLead (language.reached payload)
     → (m : Item) (z : List ℕ) → AreOctets z → Speaks language limits payload m → Speaks language limits payload (with_payload m z)
 speaks_on language limits payload octets_of all reach m z o s = record {
-  reached = reach z o (kind_of m.tnf m.kind) limits.records limits.profile m.payload s.reached;
+  reached = reach z o m.tnf m.kind limits.records limits.profile m.payload s.reached;
   future = λ r. (
     λ x. subst set_of (sym (append_assoc m.payload z r)) ((s.future (z ++ r)).0 (all (z ++ r) (octets_append z r o (octets_of r x)))),
     λ y. all r (octets_back z r (octets_of (z ++ r) ((s.future (z ++ r)).1 (subst set_of (append_assoc m.payload z r) y)))),
@@ -60,7 +60,7 @@ speaks_on language limits payload octets_of all reach m z o s = record {
 }
   where
     set_of : List ℕ → Type 0
-    set_of = language.payloads (kind_of m.tnf m.kind) limits.records limits.profile
+    set_of = language.payloads m.tnf m.kind limits.records limits.profile
 
 -- a run whose payload may end is ended by an empty piece, and its message with it
 finished_inside : (laws : FormatLaws) (set : Sets) (limits : LimitValues) (records count room : ℕ) (m : Item) → room < 2 ^ 32 → completes set limits m [] → Finished laws limits set (inside records count room m) []
@@ -70,7 +70,7 @@ finished_inside laws set limits records count room m small x =
     let p = t.0 in
     let item = record_with (Some m) p in
     let bytes = octets (fields p false) ++ body p in
-    let member : IsMember set limits item = subst (λ v. set (kind_of m.tnf m.kind) limits.records limits.profile (m.payload ++ v)) (sym t.2) x in
+    let member : IsMember set limits item = subst (λ v. set m.tnf m.kind limits.records limits.profile (m.payload ++ v)) (sym t.2) x in
     (bytes, item ∷ [], (member, tt), (p ∷ [], t.3, spelled_one p false bytes (record { piece = t.1; form = tt; spelled = refl })))
 
 -- ---- a checker

@@ -1,20 +1,19 @@
 -- Octets of PAYLOAD that are taken at once.
-use Rattle.std.proofs.Common.{◌≡◌, ℕ, ◌+◌, ◌-◌, ◌<◌, ◌≤◌, ◌↔◌, Bool, true, false, inl, inr, refl, sym, ◌∙◌, ap, subst, arith, List, [], ◌∷◌, ◌++◌, length, take, get_or, append_assoc, length-append, Option, Some, None}
+use Rattle.std.proofs.Common.{◌≡◌, ℕ, ◌+◌, ◌-◌, ◌<◌, ◌≤◌, Bool, true, false, inl, inr, refl, sym, ◌∙◌, ap, subst, arith, List, [], ◌∷◌, ◌++◌, length, take, get_or, append_assoc, length-append, Option, Some, None}
 use Rattle.std.specs.List.{AllByRecursion}
 use Rattle.std.proofs.lemmas.List.{take_more, length-take-le}
+use Rattle.ndef_format.specs.declared.tnf.Tnf.{Tnf}
 use Rattle.ndef_value.specs.ListLaws.{octets_append, octets_taken}
+use Rattle.ndef_lang.specs.RecordLanguage.{AreOfOctets, TakesOthers}
 use Rattle.ndef_format.specs.Messages.{Item}
 use Rattle.ndef_format.specs.Records.{HeadFields, AreOctets}
 use Rattle.ndef_format.specs.Limits.{LimitValues, AreInRange}
 use Rattle.ndef_format.specs.declared.profile.Profile.{Profile}
 use Rattle.ndef_format.specs.declared.reason.Reason.{Reason}
-use Rattle.ndef_format.specs.declared.kind.Kind.{Kind}
-use Rattle.ndef_format.specs.declared.kind.Kind.TheVariants.{Other}
-use Rattle.ndef_format.specs.Kinds.{kind_of}
 use Rattle.ndef_lang.specs.Language.{Continues, Reaches, PassesBetween, Behind, StepsAll}
 use Rattle.ndef_format.specs.Reasons.{IsLowest}
 use Rattle.ndef_lang.specs.StepLaws.{steps_done}
-use Rattle.ndef_lang.specs.declared.language.Language.{Ghosts}
+use Rattle.ndef_lang.specs.declared.record_language.RecordLanguage.{Ghosts}
 use Rattle.ndef_piece.specs.declared.head.Head.{Head}
 use Rattle.ndef_piece.specs.Walk.{Before}
 use Rattle.ndef_format.specs.Accepted.{IsMember, IsViable}
@@ -31,13 +30,13 @@ use Rattle.ndef_message.proofs.Octets.{AtPayload, at_with, payload_body, payload
 
 -- what a language has read, with these octets more
 speaks_all : {L : Type 0} (language : Ghosts L) (limits : LimitValues) (old new : L) (m : Item) (t : List ℕ)
-    → ((k : Kind) (n : ℕ) (profile : Profile) → Reaches (language.reached old k n profile) (language.reached new k n profile) t) → Continues (language.future old) (language.future new) t
+    → ((tnf : Tnf) (name : List ℕ) (n : ℕ) (profile : Profile) → Reaches (language.reached old tnf name n profile) (language.reached new tnf name n profile) t) → Continues (language.future old) (language.future new) t
     → Speaks language limits old m → Speaks language limits new (record m { payload = m.payload ++ t })
 speaks_all language limits old new m t r f s = record {
-  reached = r _ _ _ m.payload s.reached;
+  reached = r _ _ _ _ m.payload s.reached;
   future = λ z. (
-    λ x. subst (λ y. language.payloads (kind_of m.tnf m.kind) limits.records limits.profile y) (sym (append_assoc m.payload t z)) ((s.future (t ++ z)).0 ((f z).0 x)),
-    λ x. (f z).1 ((s.future (t ++ z)).1 (subst (λ y. language.payloads (kind_of m.tnf m.kind) limits.records limits.profile y) (append_assoc m.payload t z) x)),
+    λ x. subst (λ y. language.payloads m.tnf m.kind limits.records limits.profile y) (sym (append_assoc m.payload t z)) ((s.future (t ++ z)).0 ((f z).0 x)),
+    λ x. (f z).1 ((s.future (t ++ z)).1 (subst (λ y. language.payloads m.tnf m.kind limits.records limits.profile y) (append_assoc m.payload t z) x)),
   );
 }
 
@@ -51,14 +50,14 @@ so_far_all (Some m) f k i z t = ap (λ y. record m { payload = y }) (append_asso
 -- the language, each state of which stands after these octets
 abbrev behind : {L : Type 0} → Ghosts L → List ℕ → Ghosts L
 behind language t =
-    record language { future = λ state. Behind (language.future state) t; reached = λ state k n profile s. (before : List ℕ) × ((s ≡ before ++ t) × language.reached state k n profile before) }
+    record language { future = λ state. Behind (language.future state) t; reached = λ state tnf name n profile s. (before : List ℕ) × ((s ≡ before ++ t) × language.reached state tnf name n profile before) }
 
 speaks_behind : {L : Type 0} (language : Ghosts L) (limits : LimitValues) (state : L) (m : Item) (t : List ℕ) → Speaks language limits state m → Speaks (behind language t) limits state (record m { payload = m.payload ++ t })
 speaks_behind language limits state m t s = record {
   reached = (m.payload, (refl, s.reached));
   future = λ z. (
-    λ x. subst (λ y. language.payloads (kind_of m.tnf m.kind) limits.records limits.profile y) (sym (append_assoc m.payload t z)) ((s.future (t ++ z)).0 x),
-    λ x. (s.future (t ++ z)).1 (subst (λ y. language.payloads (kind_of m.tnf m.kind) limits.records limits.profile y) (append_assoc m.payload t z) x),
+    λ x. subst (λ y. language.payloads m.tnf m.kind limits.records limits.profile y) (sym (append_assoc m.payload t z)) ((s.future (t ++ z)).0 x),
+    λ x. (s.future (t ++ z)).1 (subst (λ y. language.payloads m.tnf m.kind limits.records limits.profile y) (append_assoc m.payload t z) x),
   );
 }
 
@@ -106,7 +105,7 @@ module _ {L : Type 0} {language : Ghosts L} {limits : LimitValues} {state : Stat
 
   -- .. by a state that has
   pub body_all : (payload' : L) (t : List ℕ) → AreOctets t → length t ≤ left
-      → ((k : Kind) (n : ℕ) (profile : Profile) → Reaches (language.reached state.payload k n profile) (language.reached payload' k n profile) t) → Continues (language.future state.payload) (language.future payload') t
+      → ((tnf : Tnf) (name : List ℕ) (n : ℕ) (profile : Profile) → Reaches (language.reached state.payload tnf name n profile) (language.reached payload' tnf name n profile) t) → Continues (language.future state.payload) (language.future payload') t
       → InBody language limits (record state { payload = payload' }) h 0 (left - length t) (bytes ++ t) given a.c a.f a.kind a.id (a.payload ++ t)
   body_all payload' t are few r f = body_by language payload' t are few (speaks_all language limits state.payload payload' (record_so_far a.c.begun a.f a.kind a.id a.payload) t r f a.speaks)
 
@@ -121,8 +120,8 @@ module _ {L : Type 0} {language : Ghosts L} {limits : LimitValues} {state : Stat
       at_with limits bytes given (InPayload a.c a.f a.kind a.id a.payload) t are (omega arith) (subst (IsAtPoint limits bytes given) a.point_is a.stands.at)
 
 module _ (laws : FormatLaws) {L : Type 0} {language : Ghosts L} {limits : LimitValues} (range : AreInRange limits)
-    (octets_of : (k : Kind) (n : ℕ) (profile : Profile) (s : List ℕ) → language.payloads k n profile s → AreOctets s)
-    (others : (n : ℕ) (profile : Profile) (s : List ℕ) → language.payloads Other n profile s ↔ AreOctets s)
+    (octets_of : AreOfOctets language.payloads)
+    (others : TakesOthers language.payloads)
     {state : State L} {bytes : List ℕ} {given : List Item} {h : Head} {left : ℕ} {point : Point}
     (a : AtPayload language limits state bytes given h left point)
     (payload' : L) (t : List ℕ) (are : AreOctets t) (few : length t ≤ left) {most count : ℕ} (most_is : most ≡ most_left h.chunked state.place.room h.payload_length left)
@@ -132,7 +131,7 @@ module _ (laws : FormatLaws) {L : Type 0} {language : Ghosts L} {limits : LimitV
     members = given_members laws language.payloads limits range bytes given point a.stands.at a.stands.viable
 
     -- the last of them doesn't end what was viable
-    pub all_viable : (r : (k : Kind) (n : ℕ) (profile : Profile) → Reaches (language.reached state.payload k n profile) (language.reached payload' k n profile) t) → count ≡ length t → IsViable language.payloads limits (bytes ++ t)
+    pub all_viable : (r : (tnf : Tnf) (name : List ℕ) (n : ℕ) (profile : Profile) → Reaches (language.reached state.payload tnf name n profile) (language.reached payload' tnf name n profile) t) → count ≡ length t → IsViable language.payloads limits (bytes ++ t)
     all_viable r e =
         let d = steps_done steps e in
         body_goes_on laws range (body_all a payload' t are few r d.0) octets_of others members
@@ -147,7 +146,7 @@ module _ (laws : FormatLaws) {L : Type 0} {language : Ghosts L} {limits : LimitV
         (ap (λ n. n - count) most_is ∙ most_after h.chunked state.place.room h.payload_length left count l ∙ ap (λ n. most_left h.chunked state.place.room h.payload_length (left - n)) (sym e)) p)
 
     -- .. and it
-    never_viable : (s : List ℕ) → AreOctets s → length s ≡ count + 1 → count + 1 ≤ left → ((k : Kind) (n : ℕ) (profile : Profile) → Reaches (language.reached state.payload k n profile) (language.reached payload' k n profile) s) → Continues (language.future state.payload) (language.future payload') s
+    never_viable : (s : List ℕ) → AreOctets s → length s ≡ count + 1 → count + 1 ≤ left → ((tnf : Tnf) (name : List ℕ) (n : ℕ) (profile : Profile) → Reaches (language.reached state.payload tnf name n profile) (language.reached payload' tnf name n profile) s) → Continues (language.future state.payload) (language.future payload') s
         → (PassesBetween (language.future payload') (left - (count + 1)) (most - (count + 1)) → ⊥) → IsViable language.payloads limits (bytes ++ s) → ⊥
     never_viable s ok e l r f bad v =
         bad (between_at (left - length s) (most_left h.chunked state.place.room h.payload_length (left - length s)) (left - (count + 1)) (most - (count + 1)) (ap (λ n. left - n) e)
@@ -155,8 +154,8 @@ module _ (laws : FormatLaws) {L : Type 0} {language : Ghosts L} {limits : LimitV
         (body_went_on laws range (body_all a payload' s ok (omega arith) r f) octets_of others members v))
 
     -- one of them is refused
-    pub all_stopped : ((k : Kind) (n : ℕ) (profile : Profile) → Reaches (language.reached state.payload k n profile) (language.reached payload' k n profile) (take (count + 1) t)) → count < length t → {at : ℕ} {reason : Reason} → at ≡ length bytes
-        → ((k : Kind) (n : ℕ) (profile : Profile) (s : List ℕ) → language.reached state.payload k n profile s → IsLowest (language.reasons k n profile (s ++ take count t) (get_or t count 0)) reason)
+    pub all_stopped : ((tnf : Tnf) (name : List ℕ) (n : ℕ) (profile : Profile) → Reaches (language.reached state.payload tnf name n profile) (language.reached payload' tnf name n profile) (take (count + 1) t)) → count < length t → {at : ℕ} {reason : Reason} → at ≡ length bytes
+        → ((tnf : Tnf) (name : List ℕ) (n : ℕ) (profile : Profile) (s : List ℕ) → language.reached state.payload tnf name n profile s → IsLowest (language.reasons tnf name n profile (s ++ take count t) (get_or t count 0)) reason)
         → Onward language limits (record state { payload = payload'; phase = phases.Refused (record { at = at + count; reason = reason }) }) bytes given point (take (count + 1) t)
     all_stopped r l {at} {reason} at_is why =
         subst (λ x. Onward language limits (record state { payload = payload'; phase = phases.Refused (record { at = at + count; reason = reason }) }) bytes given x (take (count + 1) t)) (sym a.point_is)
@@ -186,8 +185,8 @@ module _ (laws : FormatLaws) {L : Type 0} {language : Ghosts L} {limits : LimitV
               at_is = at_front a (take count t) front_octets (omega (arith, few_front));
               viable = front_viable (take count t) front_octets few_front (omega arith) fits;
               place_is = omega (arith, at_is, few_front, length-append bytes (take count t));
-              reason_is = subst (λ m. IsLowest (language.reasons (kind_of m.tnf m.kind) limits.records limits.profile m.payload (get_or t count 0)) reason) (so_far_all a.c.begun a.f a.kind a.id a.payload (take count t))
-                  (why (kind_of so_far.tnf so_far.kind) limits.records limits.profile so_far.payload a.speaks.reached);
+              reason_is = subst (λ m. IsLowest (language.reasons m.tnf m.kind limits.records limits.profile m.payload (get_or t count 0)) reason) (so_far_all a.c.begun a.f a.kind a.id a.payload (take count t))
+                  (why so_far.tnf so_far.kind limits.records limits.profile so_far.payload a.speaks.reached);
             }
 
 -- all of them were taken

@@ -35,7 +35,7 @@ shaped_of_some A m some f = record {
 
 pub room_of_some : (A : Type 0) (phase : Phase) (o : Opened) (t : List ℕ) → ∥ A ∥₁ → (A → HasRoom phase o t) → HasRoom phase o t
 room_of_some A phases.Head o t some f = tt
-room_of_some A (phases.Type x y z) o t some f = number_of_some A (length o.kind + length t) 255 some f
+room_of_some A (phases.Type x y) o t some f = number_of_some A (length o.kind + length t) 255 some f
 room_of_some A (phases.Id x y) o t some f = number_of_some A (length o.id + length t) 255 some f
 room_of_some A (phases.Payload x y) o t some f = tt
 room_of_some A phases.Done o t some f = tt

@@ -12,7 +12,7 @@ ghost use Rattle.ndef_message.specs.Machine.State.{spot_of};
 use crate::format::format_laws;
 use crate::phase::Place;
 use ndef_format::header::{END, is_set};
-use ndef_lang::{Kind, OuterLanguage};
+use ndef_lang::RecordLanguage;
 use ndef_piece::{WholePiece, messages_are_walks, whole_piece};
 use ndef_value::Limits;
 
@@ -73,9 +73,9 @@ pub(crate) fn accepted_chunks(limits: &Limits, place: Place, bytes: &[u8]) -> (u
     (bytes.len() - rest.len(), found)
 }
 
-/// Whether the piece is a record, which may stand at the place, with a payload of its kind.
+/// Whether the piece is a record, which may stand at the place, with a payload of its type.
 #[inline(always)]
-fn is_record<L: OuterLanguage>(limits: &Limits, place: &Place, piece: &WholePiece<'_>) -> bool
+fn is_record<L: RecordLanguage>(limits: &Limits, place: &Place, piece: &WholePiece<'_>) -> bool
     ensures stands { IsTrue result → pieces.Stands (spot_of limits.now.profile place.now) (shown piece.now) }
     ensures one { IsTrue result → is_set 5 piece.now.header ≡ false }
     ensures outer { IsTrue result → place.now.inside ≡ false }
@@ -85,12 +85,17 @@ fn is_record<L: OuterLanguage>(limits: &Limits, place: &Place, piece: &WholePiec
     if !piece.is_record_at(&place.spot(profile)) {
         return false;
     }
-    let kind = Kind::of(piece.tnf(), piece.kind);
-    L::has(kind, limits.records(), profile, piece.payload)
+    L::has(
+        piece.tnf(),
+        piece.kind,
+        limits.records(),
+        profile,
+        piece.payload,
+    )
 }
 
 /// The record in one piece at the front of the bytes.
-pub(crate) fn whole_record<'a, L: OuterLanguage>(
+pub(crate) fn whole_record<'a, L: RecordLanguage>(
     limits: &Limits,
     place: &Place,
     bytes: &'a [u8],
@@ -105,7 +110,7 @@ pub(crate) fn whole_record<'a, L: OuterLanguage>(
 }
 
 /// The bytes of the message at the front of these, where it is a record in one piece that the fast test finds right.
-pub(crate) fn lone_record<L: OuterLanguage>(limits: &Limits, bytes: &[u8]) -> Option<usize>
+pub(crate) fn lone_record<L: RecordLanguage>(limits: &Limits, bytes: &[u8]) -> Option<usize>
     ensures within { IfSome result (λ taken. taken ≤ length bytes.now) }
     ensures message { IfSome result (λ taken. HasRecords L.payloads limits.now (take taken bytes.now) 1) }
 {
@@ -124,8 +129,8 @@ pub(crate) fn lone_record<L: OuterLanguage>(limits: &Limits, bytes: &[u8]) -> Op
 }
 
 /// The bytes of the record at the front of these, in one piece or more, and whether it ends the message.
-/// In more pieces, any payload has to be one of its kind.
-fn accepted_record<L: OuterLanguage>(
+/// In more pieces, any payload has to be one of its type.
+fn accepted_record<L: RecordLanguage>(
     limits: &Limits,
     place: &Place,
     bytes: &[u8],
@@ -140,8 +145,7 @@ fn accepted_record<L: OuterLanguage>(
         }
         return Some((taken, piece.is_last()));
     }
-    let kind = Kind::of(piece.tnf(), piece.kind);
-    if !piece.opens_at(&place.spot(limits.profile())) || !L::takes_all(kind) {
+    if !piece.opens_at(&place.spot(limits.profile())) || !L::takes_all(piece.tnf(), piece.kind) {
         return None;
     }
     let next = place.behind_chunk(piece.payload.len() as u32);
@@ -151,7 +155,7 @@ fn accepted_record<L: OuterLanguage>(
 
 /// As many whole records at the front of the bytes as the fast test finds right: their bytes, the
 /// place after them, and whether the message ends there.
-pub(crate) fn accepted_records<L: OuterLanguage>(
+pub(crate) fn accepted_records<L: RecordLanguage>(
     limits: &Limits,
     place: Place,
     bytes: &[u8],

@@ -11,20 +11,20 @@ use crate::Fed;
 use crate::format::format_laws;
 use crate::phase::{Phase, Place};
 use crate::state::State;
-use ndef_lang::{Kind, Language, OuterLanguage};
+use ndef_lang::{RecordLanguage, TypeName};
 use ndef_piece::{HeadReader, WholePiece};
-use ndef_value::{Limits, Reason, Refusal, one_meaning};
+use ndef_value::{Limits, Reason, Refusal, Tnf, one_meaning};
 
 /// Checks one message in memory of fixed size.
 #[derive(Debug, Drop)]
-pub struct Checker<L: OuterLanguage> {
+pub struct Checker<L: RecordLanguage> {
     pub(crate) limits: Limits,
     pub(crate) state: State<L>,
     pub(crate) taken: u64,
-    ghost led: { ∥ SomeLed (Knows L.Language limits state taken) ∥₁ },
+    ghost led: { ∥ SomeLed (Knows L.RecordLanguage limits state taken) ∥₁ },
 }
 
-impl<L: OuterLanguage> Checker<L> {
+impl<L: RecordLanguage> Checker<L> {
     ghost use Rattle.ndef_message.specs.Machine.Taken.{WasFed, WhateverFed};
 
     /// Before a message.
@@ -82,7 +82,7 @@ impl<L: OuterLanguage> Checker<L> {
 }
 
 /// What these do, by the bytes that led to the checker, the records that they end and the point where they end.
-impl<L: OuterLanguage> Checker<L> {
+impl<L: RecordLanguage> Checker<L> {
     ghost use Rattle.ndef_message.specs.Machine.Points.{start_point};
     ghost use Rattle.ndef_message.specs.Machine.Checkers.{CheckerReached, checker_limits};
 
@@ -99,8 +99,9 @@ impl<L: OuterLanguage> Checker<L> {
             state: State {
                 place,
                 reader: HeadReader::new(place.spot(limits.profile())),
-                payload: L::start(Kind::Other, limits.records(), limits.profile()),
+                payload: L::start(Tnf::Unknown, &[], limits.records(), limits.profile()),
                 phase: Phase::Head,
+                name: TypeName::new(),
             },
             taken: 0,
         }
@@ -112,14 +113,27 @@ impl<L: OuterLanguage> Checker<L> {
         ensures fed { WhateverLed (CheckerReached self.old) (λ front given point.
             Feeds L.payloads L.reasons (checker_limits self.old) (CheckerReached self.new) front bytes.now result) }
     {
+        self.feed_tried(bytes, false)
+    }
+
+    /// The same. Where `tried` is set, the fast test has just failed on the record at the front of the bytes, and isn't
+    /// tried on it again.
+    pub(crate) fn feed_tried(&mut self, bytes: &[u8], tried: bool) -> Fed
+        ensures limits { checker_limits self.new ≡ checker_limits self.old }
+        ensures fed { WhateverLed (CheckerReached self.old) (λ front given point.
+            Feeds L.payloads L.reasons (checker_limits self.old) (CheckerReached self.new) front bytes.now result) }
+    {
         // For the proof alone.
         format_laws(&self.limits);
+        let mut tried = tried;
         let mut at = 0;
         while at < bytes.len() {
             if let Some(answer) = self.answer(at) {
                 return answer;
             }
-            at += self.advance(&bytes[at..]);
+            let (count, failed) = self.advance(&bytes[at..], tried);
+            at += count;
+            tried = failed;
         }
         match self.answer(bytes.len()) {
             Some(answer) => answer,
@@ -180,25 +194,43 @@ impl<L: OuterLanguage> Checker<L> {
         }
     }
 
-    /// Takes whole records or pieces where that can be done at once, else the next bytes of one field, up to the first
-    /// that is refused. Returns the number taken, including a refused one.
-    fn advance(&mut self, bytes: &[u8]) -> usize
+    /// Takes whole records or pieces where that can be done at once, unless it was tried on these bytes; returns their
+    /// number of bytes.
+    fn pass(&mut self, bytes: &[u8], tried: bool) -> usize
         requires going { answer_of self.old.state.phase 0 ≡ None }
-        requires some { 0 < length bytes.now }
         ensures limits { self.new.limits ≡ self.old.limits }
-        ensures some { 0 < result }
+        ensures none { result ≡ 0 → self.new.state.phase ≡ self.old.state.phase }
         ensures most { result ≤ length bytes.now }
         ensures onward { WhateverLed (CheckerReached self.old) (λ front given point.
             Leads (CheckerReached self.new) (front ++ take result bytes.now)) }
     {
         // For the proof alone.
         format_laws(&self.limits);
+        if tried {
+            return 0;
+        }
         let taken = self.state.take_pieces(&self.limits, bytes);
         self.taken += taken as u64;
+        taken
+    }
+
+    /// Takes whole records or pieces where that can be done at once, else the next bytes of one field, up to the first
+    /// that is refused. Returns the number taken, including a refused one, and whether the fast test failed on what
+    /// comes after them. Where `tried` is set, it has failed on these bytes.
+    fn advance(&mut self, bytes: &[u8], tried: bool) -> (usize, bool)
+        requires going { answer_of self.old.state.phase 0 ≡ None }
+        requires some { 0 < length bytes.now }
+        ensures limits { self.new.limits ≡ self.old.limits }
+        ensures some { 0 < result.0 }
+        ensures most { result.0 ≤ length bytes.now }
+        ensures onward { WhateverLed (CheckerReached self.old) (λ front given point.
+            Leads (CheckerReached self.new) (front ++ take result.0 bytes.now)) }
+    {
+        let taken = self.pass(bytes, tried);
         if taken > 0 {
-            return taken;
+            return (taken, true);
         }
-        self.step(bytes)
+        (self.step(bytes), false)
     }
 
     /// Continues after the record in one piece at the front of the bytes.
@@ -231,7 +263,7 @@ impl<L: OuterLanguage> Checker<L> {
         ensures taken { self.new.taken ≡ self.old.taken + result }
         ensures onward { WhateverLed (CheckerReached self.old) (λ front given point.
             (self.new.taken ≡ length (front ++ take result bytes.now))
-            × Onward L.Language self.new.limits self.new.state front given point (take result bytes.now)) }
+            × Onward L.RecordLanguage self.new.limits self.new.state front given point (take result bytes.now)) }
     {
         // For the proof alone.
         format_laws(&self.limits);

@@ -3,10 +3,11 @@ ghost use Rattle.std.specs.Prelude.{IfErr, IfOk};
 ghost use Rattle.ndef_format.specs.Refusals.{Refuses};
 ghost use Rattle.ndef_message.specs.Views.{IsViewOf};
 
+use crate::View;
 use crate::accepted::lone_record;
 use crate::format::format_laws;
-use crate::{CheckError, SliceSource, View, check_message};
-use ndef_lang::OuterLanguage;
+use crate::judging::judge;
+use ndef_lang::RecordLanguage;
 use ndef_value::{Limits, Refusal};
 
 /// Views the message with which the bytes begin, without copying or memory (NDEF 1.0, messages).
@@ -15,7 +16,7 @@ use ndef_value::{Limits, Refusal};
 /// `Typed` of ndef_nest looks into the payloads that the standards define, `Opaque` of ndef_lang into none.
 /// Bytes that begin with no such message are refused at the first byte after which no continuation is
 /// one, or where they end too early, with the reason.
-pub fn view<L: OuterLanguage>(bytes: &[u8], limits: Limits) -> Result<View<'_>, Refusal>
+pub fn view<L: RecordLanguage>(bytes: &[u8], limits: Limits) -> Result<View<'_>, Refusal>
     ensures message { IfOk result (IsViewOf L.payloads limits bytes.now) }
     ensures refused { IfErr result (Refuses L.payloads L.reasons limits bytes.now) }
 {
@@ -24,14 +25,12 @@ pub fn view<L: OuterLanguage>(bytes: &[u8], limits: Limits) -> Result<View<'_>, 
     if let Some(taken) = lone_record::<L>(&limits, bytes) {
         return Ok(View::new(&bytes[..taken], 1, limits.profile()));
     }
-    let mut source = SliceSource::whole(bytes);
-    match check_message::<L, SliceSource<'_>>(&mut source, limits) {
+    match judge::<L>(limits, bytes) {
         Ok(checked) => Ok(View::new(
             &bytes[..checked.taken as usize],
             checked.records,
             limits.profile(),
         )),
-        Err(CheckError::Refused(refusal)) => Err(refusal),
-        Err(CheckError::ReadFault) => unreachable!(),
+        Err(refusal) => Err(refusal),
     }
 }

@@ -4,20 +4,22 @@ ghost use Rattle.std.specs.Prelude.{◌≡◌, ◌≢◌, ◌++◌, ◌∷◌, [
 use crate::accepted::{accepted_chunks, accepted_records, whole_record};
 use crate::format::format_laws;
 use crate::phase::{Phase, Place, greatest, phase_after};
-use ndef_lang::{Kind, KindReader, Language, OuterLanguage};
+use ndef_lang::{RecordLanguage, TypeName};
 use ndef_piece::{Head, HeadReader, Step, WholePiece};
 use ndef_value::{Limits, Reason, Refusal};
 
 /// What a checker keeps.
 #[derive(Debug, Drop)]
-pub(crate) struct State<L: OuterLanguage> {
+pub(crate) struct State<L: RecordLanguage> {
     pub(crate) place: Place,
     pub(crate) reader: HeadReader,
     pub(crate) payload: L,
     pub(crate) phase: Phase,
+    /// The octets of TYPE that have come, while it comes.
+    pub(crate) name: TypeName,
 }
 
-impl<L: OuterLanguage> State<L> {
+impl<L: RecordLanguage> State<L> {
     ghost use Rattle.ndef_message.specs.Machine.Fronts.{Leads, SomeLed, WhateverLed};
     ghost use Rattle.ndef_message.specs.Machine.State.{Stands, SettlesBehind, EntersBehind, BeginsBehind, GoesBehind, Onward, InBody, SomeBody, WholeHead, SomeWhole, IsWithinHead, CanGoOn};
     ghost use Rattle.ndef_message.specs.Machine.Accepted.{BeginsWith, IsAtChunk, IsBehind, IsBehindChunks, IsFresh};
@@ -48,8 +50,8 @@ impl<L: OuterLanguage> State<L> {
     fn take_records(&mut self, limits: &Limits, bytes: &[u8]) -> usize
         ensures within { result ≤ length bytes.now }
         ensures none { result ≡ 0 → self.new.phase ≡ self.old.phase }
-        ensures onward { WhateverLed (Stands L.Language limits.now self.old) (λ front given point.
-            Leads (Stands L.Language limits.now self.new) (front ++ take result bytes.now)) }
+        ensures onward { WhateverLed (Stands L.RecordLanguage limits.now self.old) (λ front given point.
+            Leads (Stands L.RecordLanguage limits.now self.new) (front ++ take result bytes.now)) }
     {
         // For the proof alone.
         format_laws(limits);
@@ -66,7 +68,7 @@ impl<L: OuterLanguage> State<L> {
     /// Whether a piece of an open run may begin here, no octet of it has come, and any octets complete
     /// the payload.
     fn is_at_chunk(&self) -> bool
-        ensures { IsTrue result → IsAtChunk L.Language self.now }
+        ensures { IsTrue result → IsAtChunk L.RecordLanguage self.now }
     {
         matches!(self.phase, Phase::Head)
             && self.place.inside
@@ -89,8 +91,8 @@ impl<L: OuterLanguage> State<L> {
     fn take_chunks(&mut self, limits: &Limits, bytes: &[u8]) -> usize
         ensures within { result ≤ length bytes.now }
         ensures phase { self.new.phase ≡ self.old.phase }
-        ensures onward { WhateverLed (Stands L.Language limits.now self.old) (λ front given point.
-            Leads (Stands L.Language limits.now self.new) (front ++ take result bytes.now)) }
+        ensures onward { WhateverLed (Stands L.RecordLanguage limits.now self.old) (λ front given point.
+            Leads (Stands L.RecordLanguage limits.now self.new) (front ++ take result bytes.now)) }
     {
         // For the proof alone.
         format_laws(limits);
@@ -109,8 +111,8 @@ impl<L: OuterLanguage> State<L> {
     pub(crate) fn take_pieces(&mut self, limits: &Limits, bytes: &[u8]) -> usize
         ensures within { result ≤ length bytes.now }
         ensures none { result ≡ 0 → self.new.phase ≡ self.old.phase }
-        ensures onward { WhateverLed (Stands L.Language limits.now self.old) (λ front given point.
-            Leads (Stands L.Language limits.now self.new) (front ++ take result bytes.now)) }
+        ensures onward { WhateverLed (Stands L.RecordLanguage limits.now self.old) (λ front given point.
+            Leads (Stands L.RecordLanguage limits.now self.new) (front ++ take result bytes.now)) }
     {
         if self.place.inside {
             return self.take_chunks(limits, bytes);
@@ -136,15 +138,15 @@ impl<L: OuterLanguage> State<L> {
     /// Takes the next bytes of one field, after `at` others, up to the first that is refused;
     /// returns the number taken, including a refused one.
     pub(crate) fn step(&mut self, limits: &Limits, at: u64, bytes: &[u8]) -> usize
-        requires led { ∥ SomeLed (Stands L.Language limits.now self.old) ∥₁ }
+        requires led { ∥ SomeLed (Stands L.RecordLanguage limits.now self.old) ∥₁ }
         requires far { at ≤ 2 ^ 60 }
         requires some { 0 < length bytes.now }
         ensures some { 0 < result }
         ensures most { result ≤ length bytes.now }
         ensures few { result < 2 ^ 32 }
-        ensures onward { WhateverLed (Stands L.Language limits.now self.old) (λ front given point.
+        ensures onward { WhateverLed (Stands L.RecordLanguage limits.now self.old) (λ front given point.
             at ≡ length front → self.old.phase ≢ Phase.Done
-            → Onward L.Language limits.now self.new front given point (take result bytes.now)) }
+            → Onward L.RecordLanguage limits.now self.new front given point (take result bytes.now)) }
     {
         match self.phase {
             Phase::Head => match self.take_head(limits, bytes) {
@@ -154,9 +156,9 @@ impl<L: OuterLanguage> State<L> {
                     1
                 }
             },
-            Phase::Type { head, left, kind } => {
+            Phase::Type { head, left } => {
                 let most = bytes.len().min(usize::from(left));
-                self.in_type(limits, at, head, left, kind, &bytes[..most])
+                self.in_type(limits, at, head, left, &bytes[..most])
             }
             Phase::Id { head, left } => {
                 let most = bytes.len().min(usize::from(left));
@@ -174,14 +176,14 @@ impl<L: OuterLanguage> State<L> {
     /// and the payload can be completed after it; returns its number of octets. Else nothing changes.
     fn take_head(&mut self, limits: &Limits, bytes: &[u8]) -> Option<usize>
         requires phase { self.old.phase ≡ Phase.Head }
-        requires led { ∥ SomeLed (Stands L.Language limits.now self.old) ∥₁ }
+        requires led { ∥ SomeLed (Stands L.RecordLanguage limits.now self.old) ∥₁ }
         ensures none { IfNone result (self.new ≡ self.old) }
         ensures some { IfSome result (λ count. 0 < count) }
         ensures most { IfSome result (λ count. count ≤ length bytes.now) }
         ensures few { IfSome result (λ count. count < 2 ^ 32) }
         ensures onward { IfSome result (λ count.
-            WhateverLed (Stands L.Language limits.now self.old) (λ front given point.
-            Onward L.Language limits.now self.new front given point (take count bytes.now))) }
+            WhateverLed (Stands L.RecordLanguage limits.now self.old) (λ front given point.
+            Onward L.RecordLanguage limits.now self.new front given point (take count bytes.now))) }
     {
         // For the proof alone.
         format_laws(limits);
@@ -202,10 +204,10 @@ impl<L: OuterLanguage> State<L> {
     /// Takes an octet of the head of a piece.
     fn in_head(&mut self, limits: &Limits, at: u64, byte: u8)
         requires phase { self.old.phase ≡ Phase.Head }
-        requires led { ∥ SomeLed (Stands L.Language limits.now self.old) ∥₁ }
-        ensures onward { WhateverLed (Stands L.Language limits.now self.old) (λ front given point.
+        requires led { ∥ SomeLed (Stands L.RecordLanguage limits.now self.old) ∥₁ }
+        ensures onward { WhateverLed (Stands L.RecordLanguage limits.now self.old) (λ front given point.
             at ≡ length front
-            → Onward L.Language limits.now self.new front given point (byte ∷ [])) }
+            → Onward L.RecordLanguage limits.now self.new front given point (byte ∷ [])) }
     {
         // For the proof alone.
         format_laws(limits);
@@ -229,7 +231,7 @@ impl<L: OuterLanguage> State<L> {
 
     /// Whether the payload of an open run can be completed by a piece whose head continues so.
     fn head_goes_on(&self) -> bool
-        ensures { IsWithinHead self.now → (IsTrue result ↔ CanGoOn L.Language self.now) }
+        ensures { IsWithinHead self.now → (IsTrue result ↔ CanGoOn L.RecordLanguage self.now) }
     {
         if !self.place.inside {
             return true;
@@ -244,9 +246,9 @@ impl<L: OuterLanguage> State<L> {
 
     /// Continues after a whole head.
     fn behind_head(&mut self, limits: &Limits, at: u64, head: Head)
-        requires led { ∥ SomeWhole L.Language limits.now self.old head ∥₁ }
-        ensures entered { GoesBehind L.Language limits.now self.new at
-            (WholeHead L.Language limits.now self.old head) }
+        requires led { ∥ SomeWhole L.RecordLanguage limits.now self.old head ∥₁ }
+        ensures entered { GoesBehind L.RecordLanguage limits.now self.new at
+            (WholeHead L.RecordLanguage limits.now self.old head) }
     {
         // For the proof alone.
         format_laws(limits);
@@ -260,20 +262,20 @@ impl<L: OuterLanguage> State<L> {
     /// Continues after the whole head of a record's first piece, after which any payload can be completed.
     fn begin_record(&mut self, limits: &Limits, head: Head)
         requires outside { self.old.place.inside ≡ false }
-        ensures stands { BeginsBehind L.Language limits.now self.new
-            (WholeHead L.Language limits.now self.old head) }
+        ensures stands { BeginsBehind L.RecordLanguage limits.now self.new
+            (WholeHead L.RecordLanguage limits.now self.old head) }
     {
         // For the proof alone.
         format_laws(limits);
         if head.kind_length > 0 {
+            self.name.clear();
             self.phase = Phase::Type {
                 head,
                 left: head.kind_length,
-                kind: KindReader::new(head.tnf, head.kind_length),
             };
             return;
         }
-        self.payload = L::start(Kind::Other, limits.records(), limits.profile());
+        self.payload = L::start(head.tnf, &[], limits.records(), limits.profile());
         let id_left = head.id_length.unwrap_or(0);
         self.settle(limits, head, id_left, head.payload_length);
     }
@@ -282,15 +284,15 @@ impl<L: OuterLanguage> State<L> {
     /// returns the number taken, including a refused one.
     fn in_payload(&mut self, limits: &Limits, at: u64, head: Head, left: u32, bytes: &[u8]) -> usize
         requires phase { self.old.phase ≡ Phase.Payload head left }
-        requires led { ∥ SomeLed (Stands L.Language limits.now self.old) ∥₁ }
+        requires led { ∥ SomeLed (Stands L.RecordLanguage limits.now self.old) ∥₁ }
         requires far { at ≤ 2 ^ 60 }
         requires some { 0 < length bytes.now }
         requires enough { length bytes.now ≤ left }
         ensures some { 0 < result }
         ensures most { result ≤ length bytes.now }
-        ensures onward { WhateverLed (Stands L.Language limits.now self.old) (λ front given point.
+        ensures onward { WhateverLed (Stands L.RecordLanguage limits.now self.old) (λ front given point.
             at ≡ length front
-            → Onward L.Language limits.now self.new front given point (take result bytes.now)) }
+            → Onward L.RecordLanguage limits.now self.new front given point (take result bytes.now)) }
     {
         // For the proof alone.
         format_laws(limits);
@@ -314,8 +316,8 @@ impl<L: OuterLanguage> State<L> {
         requires phase { self.old.phase ≡ Phase.Id head left }
         requires enough { length bytes.now ≤ left }
         ensures all { result ≡ length bytes.now }
-        ensures onward { WhateverLed (Stands L.Language limits.now self.old) (λ front given point.
-            Onward L.Language limits.now self.new front given point bytes.now) }
+        ensures onward { WhateverLed (Stands L.RecordLanguage limits.now self.old) (λ front given point.
+            Onward L.RecordLanguage limits.now self.new front given point bytes.now) }
     {
         // For the proof alone.
         format_laws(limits);
@@ -325,39 +327,34 @@ impl<L: OuterLanguage> State<L> {
     }
 
     /// Takes octets of TYPE, no more than the piece still has: all of them, the last of which may be refused.
-    fn in_type(
-        &mut self,
-        limits: &Limits,
-        at: u64,
-        head: Head,
-        left: u8,
-        kind: KindReader,
-        bytes: &[u8],
-    ) -> usize
-        requires phase { self.old.phase ≡ Phase.Type head left kind }
-        requires led { ∥ SomeLed (Stands L.Language limits.now self.old) ∥₁ }
+    fn in_type(&mut self, limits: &Limits, at: u64, head: Head, left: u8, bytes: &[u8]) -> usize
+        requires phase { self.old.phase ≡ Phase.Type head left }
+        requires led { ∥ SomeLed (Stands L.RecordLanguage limits.now self.old) ∥₁ }
         requires far { at ≤ 2 ^ 60 }
         requires some { 0 < length bytes.now }
         requires enough { length bytes.now ≤ left }
         ensures all { result ≡ length bytes.now }
-        ensures onward { WhateverLed (Stands L.Language limits.now self.old) (λ front given point.
+        ensures onward { WhateverLed (Stands L.RecordLanguage limits.now self.old) (λ front given point.
             at ≡ length front
-            → Onward L.Language limits.now self.new front given point bytes.now) }
+            → Onward L.RecordLanguage limits.now self.new front given point bytes.now) }
     {
         // For the proof alone.
         format_laws(limits);
         let count = bytes.len();
-        let mut kind = kind;
-        kind.step_all(bytes);
+        self.name.push_all(bytes);
         if count < usize::from(left) {
             self.phase = Phase::Type {
                 head,
                 left: left - count as u8,
-                kind,
             };
             return count;
         }
-        self.payload = L::start(kind.kind(), limits.records(), limits.profile());
+        self.payload = L::start(
+            head.tnf,
+            self.name.octets(),
+            limits.records(),
+            limits.profile(),
+        );
         let last = at + (count - 1) as u64;
         let id_left = head.id_length.unwrap_or(0);
         self.enter(limits, last, head, id_left, head.payload_length);
@@ -367,9 +364,9 @@ impl<L: OuterLanguage> State<L> {
     /// Continues where `id_left` octets of the id and `left` of the payload of a piece are left, if
     /// these can complete the payload; else the octet at `at`, the last one, doesn't fit.
     fn enter(&mut self, limits: &Limits, at: u64, head: Head, id_left: u8, left: u32)
-        requires led { ∥ SomeBody L.Language limits.now self.old head id_left left ∥₁ }
-        ensures entered { EntersBehind L.Language limits.now self.new at
-            (InBody L.Language limits.now self.old head id_left left) }
+        requires led { ∥ SomeBody L.RecordLanguage limits.now self.old head id_left left ∥₁ }
+        ensures entered { EntersBehind L.RecordLanguage limits.now self.new at
+            (InBody L.RecordLanguage limits.now self.old head id_left left) }
     {
         // For the proof alone.
         format_laws(limits);
@@ -390,8 +387,8 @@ impl<L: OuterLanguage> State<L> {
 
     /// Continues where `id_left` octets of the id and `left` of the payload of a piece are left.
     fn settle(&mut self, limits: &Limits, head: Head, id_left: u8, left: u32)
-        ensures stands { SettlesBehind L.Language limits.now self.new
-            (InBody L.Language limits.now self.old head id_left left) }
+        ensures stands { SettlesBehind L.RecordLanguage limits.now self.new
+            (InBody L.RecordLanguage limits.now self.old head id_left left) }
     {
         // For the proof alone.
         format_laws(limits);

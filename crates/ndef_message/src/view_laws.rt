@@ -2,12 +2,12 @@
 ghost use Rattle.ndef_message.specs.Views.{NeverRefusedInView, OneView};
 
 use crate::places_are_told;
-use ndef_lang::OuterLanguage;
+use ndef_lang::RecordLanguage;
 use ndef_value::one_meaning;
 
 /// There is a view exactly where the bytes begin with a message: such bytes are not refused, and what
 /// is seen is the only message at their front, in the only runs that spell it.
-pub fn views_are_exact<L: OuterLanguage>()
+pub fn views_are_exact<L: RecordLanguage>()
     ensures refused { NeverRefusedInView L.payloads L.reasons }
     ensures one { OneView L.payloads L.reasons }
 {

@@ -8,7 +8,7 @@ use Rattle.ndef_nest.specs.Machine.Demands.{IsBody}
 use Rattle.ndef_nest.proofs.Steps.{after_id, chain}
 
 module _ (member tail : List ℕ → Type 0) where
-  ids_follow : (id payload : ℕ) (t : List ℕ) → AreOctets t → length t ≤ id → Continues (IsBody member id payload tail) (IsBody member (id - length t) payload tail) t
+  pub ids_follow : (id payload : ℕ) (t : List ℕ) → AreOctets t → length t ≤ id → Continues (IsBody member id payload tail) (IsBody member (id - length t) payload tail) t
   ids_follow id payload [] are few r = subst (λ n. IsBody member n payload tail r ↔ IsBody member id payload tail r) (let e : id ≡ id - 0 = omega arith in e) (λ x. x, λ x. x)
   ids_follow id payload (b ∷ t) are few r =
       subst (λ n. IsBody member n payload tail r ↔ IsBody member id payload tail ((b ∷ t) ++ r)) (let e : id - 1 - length t ≡ id - length (b ∷ t) = omega arith in e)

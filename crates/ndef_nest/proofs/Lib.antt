@@ -9,3 +9,4 @@ pub mod Slices
 pub mod Steps
 pub mod TypedReasons
 pub mod WholeHeads
+pub mod WholeRecords

@@ -22,7 +22,7 @@ use Rattle.ndef_nest.specs.Machine.Demands.{IsBody}
 use Rattle.ndef_piece.specs.Field.{OneField}
 use Rattle.ndef_format.specs.NestedReasons.{MessageReason}
 use Rattle.ndef_nest.specs.Machine.Reached.{IsInBody}
-use Rattle.ndef_nest.specs.Machine.BodyLaws.{payload_step, body_as}
+use Rattle.ndef_nest.specs.Machine.BodyLaws.{payload_step, body_as, body_end}
 use Rattle.ndef_nest.specs.Machine.SpanLaws.{leaf_at}
 use Rattle.ndef_nest.proofs.Reaching.{stands_in_payload}
 use Rattle.ndef_nest.proofs.Reasons.{told_of_payload}
@@ -43,6 +43,15 @@ payload_follows member next tail payload t h f r =
       λ x. w.0 (body_as next (λ s. member (t ++ s)) tail 0 (payload - length t) r (λ s. (f s).0) x),
       λ x. body_as (λ s. member (t ++ s)) next tail 0 (payload - length t) r (λ s. (f s).1) (w.1 x),
     )
+
+-- the whole payload at once: what follows the record
+pub payload_ends : (member tail : List ℕ → Type 0) (payload : ℕ) (bytes : List ℕ) → length bytes ≡ payload → member bytes → Continues (IsBody member 0 payload tail) tail bytes
+payload_ends member tail payload bytes e h r =
+    let w = payload_steps member tail payload bytes r (omega arith) in
+    let z : payload - length bytes ≡ 0 = omega arith in
+    let v = body_end (λ s. member (bytes ++ s)) tail r in
+    let u : IsBody (λ s. member (bytes ++ s)) 0 (payload - length bytes) tail r ↔ tail r = rw z (λ x. (v.0 x).1, λ x. v.1 (subst member (sym (append-nil bytes)) h, x)) in
+    (λ x. w.0 (u.1 x), λ x. u.0 (w.1 x))
 
 -- what the leaf takes, the message takes
 pub body_steps : (member next tail : List ℕ → Type 0) (payload : ℕ) (bytes : List ℕ) (lo hi count : ℕ) → length bytes ≤ payload → StepsAll member next bytes payload payload count → PassesBetween (IsBody member 0 payload tail) lo hi

@@ -1,5 +1,5 @@
 -- A whole head at the front of some octets of a nested message.
-use Rattle.std.proofs.Common.{◌≡◌, ◌≢◌, ℕ, ◌+◌, ◌-◌, ◌<◌, ◌≤◌, ◌↔◌, inl, inr, Bool, true, false, List, [], ◌∷◌, ◌++◌, length, take, drop, refl, sym, ◌∙◌, ap, subst, arith}
+use Rattle.std.proofs.Common.{◌≡◌, ◌≢◌, ℕ, ◌-◌, ◌<◌, ◌≤◌, ◌↔◌, inl, inr, Bool, true, false, List, [], ◌∷◌, ◌++◌, length, take, refl, sym, ◌∙◌, ap, subst, arith}
 use Rattle.std.specs.Prelude.{◌==◌, ◌||◌, if◌then◌else◌, nat_lt, unwrap_or}
 use Rattle.std.proofs.lemmas.Bool.{eq-eqb}
 use Rattle.std.proofs.lemmas.Bool.Decides.{eqb_tells, nat_tests}
@@ -10,7 +10,7 @@ use Rattle.ndef_piece.specs.declared.head.Head.{Head}
 use Rattle.ndef_piece.specs.Heads.{HeadsAreApart, IsWholeHead}
 use Rattle.ndef_piece.specs.Whole.{BeginWithHead}
 use Rattle.ndef_lang.specs.Language.{Continues, PassesBetween, Reaches, StepsAll}
-use Rattle.ndef_lang.specs.StepLaws.{follows_more, reaches_more, steps_whole, take_parts}
+use Rattle.ndef_lang.specs.StepLaws.{steps_whole}
 use Rattle.ndef_format.specs.Nested.{IsPayload, kind_in}
 use Rattle.ndef_format.specs.Kinds.{kind_of}
 use Rattle.ndef_format.specs.declared.kind.Kind.{Kind}
@@ -84,7 +84,7 @@ head_comes c first xs phase bytes h count records between some at m x =
     whole_head c (fewer c) (is_first_octet phase first) [] records m (nested_spot c.profile (is_first_octet phase first) c.records) (take count bytes) h some refl refl at.whole (between_come c first xs phase records m between x)
 
 -- a whole type
-typed_whole : (profile : Profile) (more : Demand → List ℕ → Type 0) (last : Bool) (demand : Demand) (of : List ℕ → Kind) (id payload : ℕ) (t r : List ℕ) → AreOctets t
+pub typed_whole : (profile : Profile) (more : Demand → List ℕ → Type 0) (last : Bool) (demand : Demand) (of : List ℕ → Kind) (id payload : ℕ) (t r : List ℕ) → AreOctets t
     → (Allows demand (of t) × IsBody (IsPayload (of t) profile) id payload (Tail more last (demand_after demand (of t))) r) ↔ IsTypeField profile of more last demand (length t) id payload (t ++ r)
 typed_whole profile more last demand of id payload [] r are = let w = typed_end profile more last demand of id payload r in (w.1, w.0)
 typed_whole profile more last demand of id payload (b ∷ t) r are =
@@ -134,14 +134,3 @@ front_taken old new bytes lo hi count within f p =
     let t = take count bytes in
     let e : length t ≡ count = length-take-le count bytes within in
     subst (λ k. StepsAll old new t lo hi k) e (steps_whole old new t lo hi f (subst (λ k. PassesBetween new (lo - k) (hi - k)) (sym e) p))
-
--- what follows two parts of the octets, and what they lead to
-pub both_follow : (old mid new : List ℕ → Type 0) (bytes : List ℕ) (n m : ℕ) → Continues old mid (take n bytes) → Continues mid new (take (n + m - n) (drop n bytes)) → Continues old new (take (n + m) bytes)
-both_follow old mid new bytes n m f g =
-    let e : n + m - n ≡ m = omega arith in
-    subst (Continues old new) (sym (take_parts bytes n m)) (follows_more old mid new (take n bytes) (take m (drop n bytes)) f (subst (λ k. Continues mid new (take k (drop n bytes))) e g))
-
-pub both_reach : (old mid new : List ℕ → Type 0) (bytes : List ℕ) (n m : ℕ) → Reaches old mid (take n bytes) → Reaches mid new (take (n + m - n) (drop n bytes)) → Reaches old new (take (n + m) bytes)
-both_reach old mid new bytes n m f g =
-    let e : n + m - n ≡ m = omega arith in
-    subst (Reaches old new) (sym (take_parts bytes n m)) (reaches_more old mid new (take n bytes) (take m (drop n bytes)) f (subst (λ k. Reaches mid new (take k (drop n bytes))) e g))

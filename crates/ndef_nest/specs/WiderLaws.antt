@@ -4,7 +4,7 @@ use Rattle.ndef_format.specs.Kinds.{outer_kind}
 use Rattle.ndef_format.specs.Laws.{IsNoStricter, PayloadsStay}
 use Rattle.ndef_format.specs.Messages.{Item}
 use Rattle.ndef_format.specs.Nested.{HasContents, IsNest, IsPayload, Nested, kind_in, table_in}
-use Rattle.ndef_format.specs.Payloads.{IsTypedBy, IsTypedPayload}
+use Rattle.ndef_format.specs.Payloads.{IsTypedBy, IsKindPayload}
 use Rattle.ndef_format.specs.declared.kind.Kind.{Kind}
 use Rattle.ndef_format.specs.declared.profile.Profile.{Profile}
 use Rattle.ndef_format.specs.declared.table.Table.{Table}
@@ -52,6 +52,6 @@ module _ (records more : ℕ) (profile other : Profile) (few : records ≤ more)
   typed_stays_by None kind s n = payload_for_more (outer_kind kind) profile other s a n
 
 -- a payload of a record of a message is one within wider limits
-pub typed_stays : PayloadsStay IsTypedPayload
+pub typed_stays : PayloadsStay IsKindPayload
 typed_stays kind records more profile other s few a n =
     typed_stays_by records more profile other few a (table_in kind) kind s n

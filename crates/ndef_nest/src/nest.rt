@@ -1,5 +1,6 @@
 //! A nested message: whole heads with their types, ids and payloads at once, else octet by octet.
 ghost use Rattle.std.specs.Prelude.{◌≡◌, ◌≤◌, ◌<◌, ◌+◌, ◌-◌, ◌^◌, ◌↔◌, ◌||◌, ℕ, nat_lt, Bool, true, List, [], ◌∷◌, length, take, IfSome};
+ghost use Rattle.ndef_piece.specs.Bounds.{AreBounds};
 ghost use Rattle.ndef_piece.specs.Whole.{BeginWithHead};
 ghost use Rattle.ndef_piece.specs.declared.head_reader.Step.TheVariants as steps;
 ghost use Rattle.ndef_format.specs.declared.reason.Reason.TheVariants as reasons;
@@ -21,8 +22,9 @@ use crate::Table;
 use crate::context::Context;
 use crate::demand::Demand;
 use crate::member::is_nested;
-use crate::phase::{NestPhase, headed, typed};
-use crate::span::{OpenRecord, least, meets, most};
+use crate::phase::{NestPhase, headed, records_span};
+use crate::span::{OpenRecord, meets};
+use crate::whole::behind_head;
 use ndef_lang::{Kind, Language};
 use ndef_piece::{
     Bounds, Head, HeadReader, Step, conditions_are_exact, fields_are_told, heads_are_apart,
@@ -81,17 +83,6 @@ fn head_reason(demand: Demand, bounds: &Bounds) -> Reason
     }
 }
 
-/// The least and the greatest number of octets of the records to come.
-fn records_span(context: &Context) -> (u64, u64)
-    requires { 0 < context.now.records }
-    ensures { result ≡ (least_octets context.now.demand, most context.now.demand (context.now.records - 1)) }
-{
-    (
-        least(context.demand),
-        most(context.demand, context.records - 1),
-    )
-}
-
 /// Whether some `lo` to `hi` octets complete a message that has not begun.
 fn start_fits(context: &Context, lo: u64, hi: u64) -> bool
     requires { 0 < context.now.records }
@@ -102,7 +93,7 @@ fn start_fits(context: &Context, lo: u64, hi: u64) -> bool
 }
 
 impl Nest {
-    ghost use Rattle.ndef_nest.specs.Machine.Nests.{come, future, nest_head_span, nest_span, nest_spot, nest_told, reached};
+    ghost use Rattle.ndef_nest.specs.Machine.Nests.{come, future, nest_fits, nest_head_span, nest_span, nest_spot, nest_told, reached, reached_behind};
 
     /// Before the first octet of the payload; its message has at most `records` records, 1 to 65535.
     pub fn new(table: Table, records: u32, profile: Profile) -> Self
@@ -130,15 +121,18 @@ impl Nest {
         ensures { result ≡ nest_span self.now }
     {
         match self.phase {
-            NestPhase::Version | NestPhase::Start | NestPhase::Refused => (1, 0),
             NestPhase::Head => self.head_span(),
-            NestPhase::Name(name) => {
-                let demand = self.context.demand;
-                OpenRecord::of_name(demand, name).span(demand)
-            }
-            NestPhase::Body(body) => body.span(&self.context),
-            NestPhase::Ended => (0, 0),
+            phase => phase.span(&self.context),
         }
+    }
+
+    /// The same in a head of which these are the bounds.
+    fn bounded_span(&self, bounds: &Bounds) -> (u64, u64)
+        requires head { self.now.phase ≡ NestPhase.Head }
+        requires bounds { AreBounds self.now.reader.spot self.now.reader.octets bounds.now }
+        ensures { result ≡ nest_head_span self.now }
+    {
+        OpenRecord::of_head(self.context.demand, bounds).span(self.context.demand)
     }
 
     /// The same in a head.
@@ -147,54 +141,22 @@ impl Nest {
         ensures { result ≡ nest_head_span self.now }
     {
         match self.reader.bounds() {
-            Some(bounds) => OpenRecord::of_head(self.context.demand, &bounds).span(
-                self.context.demand,
-            ),
+            Some(bounds) => self.bounded_span(&bounds),
             None => records_span(&self.context),
         }
     }
 
-    /// Where no octet of a head has come.
-    fn at(context: Context, phase: NestPhase) -> Nest
-        requires suited { Suits context }
-        requires sound { IsSoundBehind context phase }
-        ensures future { Continues (CompletesBehind context phase) (future result) [] }
-        ensures come { (records : ℕ) (m : List ℕ) → HasComeBehind context phase records m
-            → come result records m }
-        ensures kept { result.context ≡ context }
+    /// Whether some `lo` to `hi` octets complete the message. Bounds are those of the head in which it is.
+    fn fits_bounds(&self, bounds: Option<Bounds>, lo: u64, hi: u64) -> bool
+        requires head { IfSome bounds (λ b. self.now.phase ≡ NestPhase.Head) }
+        requires bounds { IfSome bounds (λ b. AreBounds self.now.reader.spot self.now.reader.octets b) }
+        requires small { hi < 2 ^ 32 }
+        ensures { result ≡ nest_fits self.now lo hi }
     {
-        Nest {
-            context,
-            reader: HeadReader::new(context.spot(false)),
-            phase,
-            told: Reason::DoesNotFit,
+        match bounds {
+            Some(bounds) => meets(self.bounded_span(&bounds), lo, hi),
+            None => self.fits(lo, hi),
         }
-    }
-
-    /// After the head of a record.
-    fn behind_head(context: Context, head: &Head) -> Nest
-        requires suited { Suits context }
-        requires followed { head.now.last || nat_lt 0 context.records ≡ true }
-        ensures future { Continues (CompletesHeaded context head.now) (future result) [] }
-        ensures come { (records : ℕ) (m : List ℕ) → IsHeaded context head.now records m
-            → come result records m }
-        ensures kept { (result.context.table ≡ context.table) × (result.context.profile ≡ context.profile) }
-    {
-        let (demand, phase) = headed(&context, head);
-        Nest::at(Context { demand, ..context }, phase)
-    }
-
-    /// After the head of a record and its type.
-    fn behind_type(context: Context, head: &Head, name: &[u8]) -> Nest
-        requires suited { Suits context }
-        requires followed { head.now.last || nat_lt 0 context.records ≡ true }
-        requires whole { length name.now ≡ head.now.kind_length }
-        ensures future { Continues (CompletesHeaded context head.now) (future result) name.now }
-        ensures come { (records : ℕ) → Reaches (IsHeaded context head.now records) (come result records) name.now }
-        ensures kept { (result.context.table ≡ context.table) × (result.context.profile ≡ context.profile) }
-    {
-        let (demand, phase) = typed(&context, head, name);
-        Nest::at(Context { demand, ..context }, phase)
     }
 
     /// The head at the front of the bytes, and its number of octets, where a record may begin and it is clear at once
@@ -210,37 +172,35 @@ impl Nest {
         }
     }
 
-    /// The nest after the whole head at the front of the bytes, and after its type if all of that
-    /// follows, and the number of octets taken, where it is clear at once that they stand there,
-    /// and some `lo` to `hi` octets continue them.
-    fn behind_whole(&self, bytes: &[u8], lo: u64, hi: u64) -> Option<(Nest, usize)>
+    /// After the whole head at the front of the bytes, and as much of its record as follows, if that is all of it or
+    /// its type, where it is clear at once that they stand there and some `lo` to `hi` octets continue them: what is
+    /// known then, where the next octet stands, and the number of octets taken.
+    fn behind_whole(&self, bytes: &[u8], lo: u64, hi: u64) -> Option<(Context, NestPhase, usize)>
         requires enough { length bytes.now ≤ lo }
         requires ordered { lo ≤ hi }
         requires small { hi < 2 ^ 32 }
-        ensures some { IfSome result (λ r. 0 < r.1) }
-        ensures most { IfSome result (λ r. r.1 ≤ length bytes.now) }
+        ensures some { IfSome result (λ r. 0 < r.2) }
+        ensures most { IfSome result (λ r. r.2 ≤ length bytes.now) }
+        ensures suited { IfSome result (λ r. Suits r.0) }
+        ensures sound { IfSome result (λ r. IsSoundBehind r.0 r.1) }
         ensures steps { IfSome result (λ r.
-            StepsAll (future self.now) (future r.0) (take r.1 bytes.now) lo hi r.1) }
+            StepsAll (future self.now) (CompletesBehind r.0 r.1) (take r.2 bytes.now) lo hi r.2) }
         ensures reached { IfSome result (λ r.
-            ReachesEach (reached self.now) (reached r.0) (take r.1 bytes.now)) }
+            ReachesEach (reached self.now) (reached_behind r.0 r.1) (take r.2 bytes.now)) }
     {
         // For the proof alone.
         heads_are_apart();
         let (head, count) = self.whole_head(bytes)?;
         let context = self.context.fewer();
-        let whole = count + usize::from(head.kind_length);
-        if whole <= bytes.len() {
-            let named = Nest::behind_type(context, &head, &bytes[count..whole]);
-            if named.fits(lo - whole as u64, hi - whole as u64) {
-                return Some((named, whole));
-            }
-        }
-        let next = Nest::behind_head(context, &head);
-        if next.fits(lo - count as u64, hi - count as u64) {
-            Some((next, count))
-        } else {
-            None
-        }
+        let before = count as u64;
+        let (demand, phase, more) = behind_head(
+            &context,
+            &head,
+            &bytes[count..],
+            lo - before,
+            hi - before,
+        )?;
+        Some((Context { demand, ..context }, phase, count + more))
     }
 
     /// Takes the next octet, or more where they are a whole head, with its type, or of one nested id or payload, up to
@@ -276,20 +236,22 @@ impl Nest {
             self.phase = body.pass_id(&self.context, &bytes[..few]);
             return (few, few);
         }
-        if let Some((next, count)) = self.behind_whole(bytes, lo, hi) {
-            *self = next;
+        if let Some((context, phase, count)) = self.behind_whole(bytes, lo, hi) {
+            self.context = context;
+            self.reader = HeadReader::new(context.spot(false));
+            self.phase = phase;
             return (count, count);
         }
-        self.step(bytes[0]);
-        if self.fits(lo - 1, hi - 1) {
+        let bounds = self.stepped(bytes[0]);
+        if self.fits_bounds(bounds, lo - 1, hi - 1) {
             (1, 1)
         } else {
             (1, 0)
         }
     }
 
-    /// Takes an octet of a head.
-    fn at_head(&mut self, byte: u8)
+    /// Takes an octet of a head. Returns the bounds of the head where it goes on.
+    fn at_head(&mut self, byte: u8) -> Option<Bounds>
         requires { self.old.phase ≡ NestPhase.Head }
         ensures future { Continues (future self.old) (future self.new) (byte ∷ []) }
         ensures come { (records : ℕ) → Reaches (come self.old records) (come self.new records) (byte ∷ []) }
@@ -298,6 +260,8 @@ impl Nest {
         ensures reason { (records : ℕ) → TellsWhy (come self.old records) (future self.old)
             (MessageReason self.old.context.table records self.old.context.profile)
             byte (nest_told self.new) }
+        ensures head { IfSome result (λ b. self.new.phase ≡ NestPhase.Head) }
+        ensures bounds { IfSome result (λ b. AreBounds self.new.reader.spot self.new.reader.octets b) }
     {
         // For the proof alone.
         lengths_are_independent();
@@ -306,9 +270,11 @@ impl Nest {
         conditions_are_exact();
         match self.reader.step(byte) {
             Step::More => {
-                if let Some(bounds) = self.reader.bounds() {
+                let bounds = self.reader.bounds();
+                if let Some(bounds) = bounds {
                     self.told = head_reason(self.context.demand, &bounds);
                 }
+                bounds
             }
             Step::Head(head) => {
                 self.context.records -= 1;
@@ -317,11 +283,59 @@ impl Nest {
                 self.context.demand = demand;
                 self.phase = phase;
                 self.told = Reason::DoesNotFit;
+                None
             }
             Step::Refused(reason) => {
                 self.reader = HeadReader::new(self.context.spot(false));
                 self.phase = NestPhase::Refused;
                 self.told = reason;
+                None
+            }
+        }
+    }
+
+    /// Takes an octet. Returns the bounds of the head where that goes on.
+    fn stepped(&mut self, byte: u8) -> Option<Bounds>
+        ensures future { Continues (future self.old) (future self.new) (byte ∷ []) }
+        ensures reached { ReachesEach (reached self.old) (reached self.new) (byte ∷ []) }
+        ensures reason { (kind : Kind) (records : ℕ) (profile : Profile)
+            → TellsWhy (reached self.old kind records profile) (future self.old)
+            (NestReason (table_of kind) records profile) byte (nest_told self.new) }
+        ensures head { IfSome result (λ b. self.new.phase ≡ NestPhase.Head) }
+        ensures bounds { IfSome result (λ b. AreBounds self.new.reader.spot self.new.reader.octets b) }
+    {
+        // For the proof alone.
+        fields_are_told();
+        match self.phase {
+            NestPhase::Version => {
+                let (phase, told) = after_version(byte);
+                self.phase = phase;
+                self.told = told;
+                None
+            }
+            NestPhase::Start => {
+                self.reader = HeadReader::new(self.context.spot(true));
+                self.phase = NestPhase::Head;
+                self.at_head(byte)
+            }
+            NestPhase::Head => self.at_head(byte),
+            NestPhase::Name(name) => {
+                self.told = name.reason(self.context.demand, byte);
+                let (demand, phase) = name.step(&self.context, byte);
+                self.context.demand = demand;
+                self.phase = phase;
+                None
+            }
+            NestPhase::Body(body) => {
+                let (phase, told) = body.step(&self.context, byte);
+                self.phase = phase;
+                self.told = told;
+                None
+            }
+            NestPhase::Ended | NestPhase::Refused => {
+                self.phase = NestPhase::Refused;
+                self.told = Reason::DoesNotFit;
+                None
             }
         }
     }
@@ -354,38 +368,11 @@ impl Language for Nest {
     }
 
     fn step(&mut self, byte: u8) {
-        // For the proof alone.
-        fields_are_told();
-        match self.phase {
-            NestPhase::Version => {
-                let (phase, told) = after_version(byte);
-                self.phase = phase;
-                self.told = told;
-            }
-            NestPhase::Start => {
-                self.reader = HeadReader::new(self.context.spot(true));
-                self.phase = NestPhase::Head;
-                self.at_head(byte);
-            }
-            NestPhase::Head => self.at_head(byte),
-            NestPhase::Name(name) => {
-                self.told = name.reason(self.context.demand, byte);
-                let (demand, phase) = name.step(&self.context, byte);
-                self.context.demand = demand;
-                self.phase = phase;
-            }
-            NestPhase::Body(body) => {
-                let (phase, told) = body.step(&self.context, byte);
-                self.phase = phase;
-                self.told = told;
-            }
-            NestPhase::Ended | NestPhase::Refused => {
-                self.phase = NestPhase::Refused;
-                self.told = Reason::DoesNotFit;
-            }
-        }
+        self.stepped(byte);
     }
 
+    // Not inlined, so that payloads without a message are read fast.
+    #[inline(never)]
     fn step_all(&mut self, bytes: &[u8], lo: u64, hi: u64) -> usize {
         let mut at = 0;
         while at < bytes.len() {

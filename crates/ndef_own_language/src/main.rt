@@ -1,7 +1,7 @@
 //! Reads messages in a payload language of the program's own: texts are checked, and any other payload will do.
 //!
 //! `language.rt` has the language. `read_message` has its contract for each language that meets the contract of
-//! `OuterLanguage`, so for this one too.
+//! `RecordLanguage`, so for this one too.
 #![tactic(auto)]
 
 mod language;

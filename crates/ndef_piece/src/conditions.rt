@@ -1,6 +1,7 @@
 //! Why an octet is refused in the head of a piece: the lowest reason that holds of it.
 ghost use Rattle.std.specs.Prelude.{◌≡◌, ◌<◌, ◌≤◌, [], ◌∷◌, length};
 ghost use Rattle.ndef_format.specs.HeadReasons.{width, is_strict, reason_for};
+ghost use Rattle.ndef_format.specs.Positions.{IsOpen};
 
 use crate::Spot;
 use crate::payload_length::least;
@@ -48,6 +49,16 @@ fn header_reason(spot: &Spot, octet: u8) -> Option<Reason>
     } else {
         None
     }
+}
+
+/// Why the octet is refused as the first of a head, if it is.
+#[tactic(auto, using(crate::proofs::Steps::open_start))]
+pub fn first_reason(spot: &Spot, octet: u8) -> Option<Reason>
+    ensures reason { result ≡ reason_for spot.now [] octet }
+    // Some head may stand at any spot.
+    ensures open { IsOpen spot.now [] }
+{
+    header_reason(spot, octet)
 }
 
 /// Why the octet of TYPE_LENGTH is refused.

@@ -26,6 +26,7 @@ mod whole;
 mod write;
 
 pub use bounds::Bounds;
+pub use conditions::first_reason;
 pub use head::Head;
 pub use head_reader::{HeadReader, Step};
 pub use header::header_tnf;

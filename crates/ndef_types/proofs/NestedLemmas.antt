@@ -19,7 +19,7 @@ use Rattle.ndef_format.specs.Accepted.{Accepted, IsMember}
 
 -- what every list of octets is in
 abbrev pub opaque : Sets
-opaque kind records profile s = AreOctets s
+opaque tnf name records profile s = AreOctets s
 
 are_pieces : (ps : List Piece) (bytes : List ℕ) → SpellsPieces ps bytes → AllByRecursion IsPiece ps
 are_pieces [] bytes h = tt

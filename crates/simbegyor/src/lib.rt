@@ -6,14 +6,15 @@
 //! - Write it: [`encode`], [`encode_chunked`], [`write_message`] to a [`Sink`].
 //! - Payloads: [`Text`], [`Uri`], [`SmartPoster`], [`Request`], [`Select`] and their parts, and the
 //!   [`carriers`] of a message. A [`Builder`] makes posters and handovers record by record. [`Typed`] says that
-//!   payloads are checked, [`Opaque`] that they are not; a [`Language`] of your own over [`Leaf`] says which.
+//!   payloads are checked, [`Opaque`] that they are not; [`With`] adds a record type of your own, whose payloads
+//!   are a [`Language`], and a [`RecordLanguage`] of your own over [`Leaf`] says which are checked.
 //! - A [`Refusal`] has the place of the first byte after which no continuation is a message, and its [`Reason`].
 //!
 //! The crates that these come from have the laws, and what only other crates of this repository need.
 #![tactic(auto)]
 
 pub use ndef_building::{BuildError, Builder};
-pub use ndef_lang::{Kind, Language, Leaf, Opaque, OuterLanguage};
+pub use ndef_lang::{Fixed, Kind, Language, Leaf, Opaque, OwnType, RecordLanguage, With, is_type};
 pub use ndef_message::{
     CheckError, Checked, Checker, Decoder, Event, Fed, Form, InputError, Item, Items, Pieces, Read,
     ReadError, Sink, SinkFault, SliceSource, Source, SourceFault, StdSink, StdSource, View,

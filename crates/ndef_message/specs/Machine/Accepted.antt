@@ -5,8 +5,9 @@ use Rattle.ndef_format.specs.Records.{Piece, AreOctets, tnf_of}
 use Rattle.ndef_format.specs.Messages.{Item, SpellsPieces}
 use Rattle.ndef_format.specs.Limits.{LimitValues}
 use Rattle.ndef_format.specs.Payloads.{Sets}
-use Rattle.ndef_lang.specs.Language.{AllPass, AllReach}
-use Rattle.ndef_lang.specs.declared.language.Language.{Ghosts}
+use Rattle.ndef_lang.specs.Language.{AllPass}
+use Rattle.ndef_lang.specs.RecordLanguage.{AllLead}
+use Rattle.ndef_lang.specs.declared.record_language.RecordLanguage.{Ghosts}
 use Rattle.ndef_format.specs.HeadReasons.{is_set, tnf_number}
 use Rattle.ndef_format.specs.Positions.{IsOpen}
 use Rattle.ndef_format.specs.Positions as pieces
@@ -152,7 +153,7 @@ pub record IsAtChunk {L : Type 0} (language : Ghosts L) (state : State L) : Type
   pub empty : state.reader.octets ≡ []
   pub inner : state.place.inside ≡ true
   pub future : AllPass (language.future state.payload)
-  pub reached : AllReach (language.reached state.payload)
+  pub reached : AllLead (language.reached state.payload)
 
 -- pieces of the run have led to this place, where another begins
 pub record IsBehindChunks {L : Type 0} (limits : LimitValues) (old new : State L) (place : Place) : Type 0 where

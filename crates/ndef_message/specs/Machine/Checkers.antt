@@ -1,6 +1,6 @@
 -- What a checker shows.
 use Rattle.ndef_format.specs.Limits.{LimitValues}
-use Rattle.ndef_lang.specs.declared.language.Language.{Ghosts}
+use Rattle.ndef_lang.specs.declared.record_language.RecordLanguage.{Ghosts}
 use Rattle.ndef_message.specs.Machine.Points.{Point}
 use Rattle.ndef_message.specs.Machine.Fronts.{Fronts}
 use Rattle.ndef_message.specs.Machine.State.{Knows}

@@ -1,7 +1,7 @@
 -- What a decoder shows, and what it does of bytes of one record or of one field.
 use Rattle.std.specs.Prelude.{◌≡◌, ◌≢◌, ◌+◌, ◌-◌, ◌<◌, ◌≤◌, ℕ, Bool, List, length, take, Some, None, is_some}
 use Rattle.ndef_format.specs.Limits.{LimitValues}
-use Rattle.ndef_lang.specs.declared.language.Language.{Ghosts}
+use Rattle.ndef_lang.specs.declared.record_language.RecordLanguage.{Ghosts}
 use Rattle.ndef_message.specs.Machine.Points.{Point}
 use Rattle.ndef_format.specs.declared.refusal.Refusal.{Refusal}
 use Rattle.ndef_message.specs.Machine.DecoderState.{DecoderKnows, Failed, Takes}

@@ -19,7 +19,7 @@ tnf_after None t = header_tnf t
 -- after octets, by the field that they are of
 abbrev pub opened_after : Phase → Opened → List ℕ → Opened
 opened_after phases.Head o t = record o { tnf = tnf_after o.tnf t }
-opened_after (phases.Type head left kind) o t = record o { kind = o.kind ++ t }
+opened_after (phases.Type head left) o t = record o { kind = o.kind ++ t }
 opened_after (phases.Id head left) o t = record o { id = o.id ++ t }
 opened_after (phases.Payload head left) o t = record o { payload = o.payload ++ t }
 opened_after phases.Done o t = o
@@ -27,13 +27,13 @@ opened_after (phases.Refused refusal) o t = o
 
 -- there is room for these octets of that field
 abbrev pub HasRoom : Phase → Opened → List ℕ → Type 0
-HasRoom (phases.Type head left kind) o t = length o.kind + length t ≤ 255
+HasRoom (phases.Type head left) o t = length o.kind + length t ≤ 255
 HasRoom (phases.Id head left) o t = length o.id + length t ≤ 255
 HasRoom _ o t = ⊤
 
 -- there are such octets of that field, and they may need memory
 abbrev pub WantsMemory : Phase → Opened → List ℕ → Type 0
-WantsMemory (phases.Type head left kind) o t = (0 < length t) × (32 < length o.kind + length t)
+WantsMemory (phases.Type head left) o t = (0 < length t) × (32 < length o.kind + length t)
 WantsMemory (phases.Id head left) o t = (0 < length t) × (32 < length o.id + length t)
 WantsMemory (phases.Payload head left) o t = 0 < length t
 WantsMemory _ o t = ⊥

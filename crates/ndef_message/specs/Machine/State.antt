@@ -1,18 +1,15 @@
 -- What the fields of a checker say of the bytes that led there.
 use Rattle.std.specs.Prelude.{◌≡◌, ◌≢◌, ◌+◌, ◌-◌, ◌≤◌, ◌==◌, ◌||◌, nat_lt, ℕ, Bool, true, false, List, [], ◌∷◌, ◌++◌, length, Option, Some, None, is_some, unwrap_or, ⊤, ◌⊎◌, ◌↔◌, if◌then◌else◌}
 use Rattle.std.specs.List.{AllByRecursion}
+use Rattle.ndef_lang.specs.Machine.TypeName.{name_of}
 use Rattle.ndef_format.specs.Messages.{Item, SpellsPieces}
-use Rattle.ndef_format.specs.Records.{Piece, HeadFields, octets, tnf_of}
+use Rattle.ndef_format.specs.Records.{Piece, HeadFields, octets}
 use Rattle.ndef_format.specs.Limits.{LimitValues}
 use Rattle.ndef_format.specs.declared.profile.Profile.{Profile}
 use Rattle.ndef_format.specs.declared.reason.Reason.TheVariants.{DoesNotFit}
 use Rattle.ndef_format.specs.declared.refusal.Refusal.{Refusal}
-use Rattle.ndef_format.specs.declared.kind.Kind.TheVariants.{Other}
-use Rattle.ndef_lang.specs.declared.kind.KindReader.{KindReader}
-use Rattle.ndef_format.specs.Kinds.{kind_of}
-use Rattle.ndef_lang.specs.Machine.Kind.{kind_after, missing_of}
 use Rattle.ndef_lang.specs.Language.{PassesBetween}
-use Rattle.ndef_lang.specs.declared.language.Language.{Ghosts}
+use Rattle.ndef_lang.specs.declared.record_language.RecordLanguage.{Ghosts}
 use Rattle.ndef_piece.specs.declared.head.Head.{Head}
 use Rattle.ndef_format.specs.declared.spot.Spot.{Spot}
 use Rattle.ndef_piece.specs.declared.head_reader.Step.TheVariants as steps
@@ -107,19 +104,13 @@ CanGoOn language state = state.place.inside ≡ true
 
 -- the language has read the payload of the record so far
 pub record Speaks {L : Type 0} (language : Ghosts L) (limits : LimitValues) (payload : L) (m : Item) : Type 0 where
-  pub reached : language.reached payload (kind_of m.tnf m.kind) limits.records limits.profile m.payload
+  pub reached : language.reached payload m.tnf m.kind limits.records limits.profile m.payload
   pub future : (r : List ℕ) → language.future payload r ↔ completes language.payloads limits m r
 
 -- it has, where a record is open
 abbrev pub SpeaksIf : {L : Type 0} (language : Ghosts L) → LimitValues → (payload : L) → Option Item → Type 0
 SpeaksIf language limits payload None = ⊤
 SpeaksIf language limits payload (Some m) = Speaks language limits payload m
-
--- the reader of a type's name has read these octets
-pub record Reads (reader : KindReader) (f : HeadFields) (kind : List ℕ) (left : ℕ) : Type 0 where
-  pub missing : missing_of reader ≡ left
-  pub kinds : (more : List ℕ) → kind_after reader more ≡
-      (if length more == left then kind_of (tnf_of f.tnf) (kind ++ more) else Other)
 
 module _ {L : Type 0} (language : Ghosts L) (limits : LimitValues) (state : State L) where
   -- the fields of the state give the point
@@ -129,9 +120,8 @@ module _ {L : Type 0} (language : Ghosts L) (limits : LimitValues) (state : Stat
       × (state.reader ≡ record { spot = spot limits.profile c; octets = xs; answer = steps.More })
       × SpeaksIf language limits state.payload c.begun
   Matches (InType c f kind) =
-      (state.place ≡ numbers c) × (c.begun ≡ None) × (r : KindReader)
-      × (state.phase ≡ phases.Type (head f) (f.kind_length - length kind) r)
-      × Reads r f kind (f.kind_length - length kind)
+      (state.place ≡ numbers c) × (c.begun ≡ None)
+      × (state.phase ≡ phases.Type (head f) (f.kind_length - length kind)) × (name_of state.name ≡ kind)
   Matches (InId c f kind id) =
       (state.place ≡ numbers c) × (state.phase ≡ phases.Id (head f) (unwrap_or f.id_length 0 - length id))
       × Speaks language limits state.payload (record_so_far c.begun f kind id [])

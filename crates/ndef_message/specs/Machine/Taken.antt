@@ -3,7 +3,7 @@ use Rattle.std.specs.Prelude.{◌≡◌, ℕ, ◌≤◌, ◌⊎◌, List, length
 use Rattle.ndef_format.specs.Limits.{LimitValues}
 use Rattle.ndef_format.specs.Payloads.{Sets}
 use Rattle.ndef_format.specs.Accepted.{IsAccepted, IsViable}
-use Rattle.ndef_lang.specs.declared.language.Language.{Ghosts}
+use Rattle.ndef_lang.specs.declared.record_language.RecordLanguage.{Ghosts}
 use Rattle.ndef_message.specs.Machine.Fronts.{Fronts, Leads}
 use Rattle.ndef_message.specs.Machine.Checkers.{CheckerReached, checker_limits}
 use Rattle.ndef_message.specs.Machine.Decoders.{DecoderReached, decoder_limits, has_failed}

@@ -3,7 +3,7 @@ use Rattle.std.specs.Prelude.{◌≡◌, ◌<◌, ◌≤◌, ◌-◌, ℕ, true,
 use Rattle.ndef_format.specs.Limits.{LimitValues}
 use Rattle.ndef_format.specs.Accepted.{IsAccepted, IsViable}
 use Rattle.ndef_format.specs.Refusals.{Refuses}
-use Rattle.ndef_lang.specs.declared.language.Language.{Ghosts}
+use Rattle.ndef_lang.specs.declared.record_language.RecordLanguage.{Ghosts}
 use Rattle.ndef_message.specs.Decoding.{SoFar, onward}
 use Rattle.ndef_message.specs.Machine.Checkers.{CheckerReached, checker_limits}
 use Rattle.ndef_message.specs.Machine.Fronts.{Leads, WhateverLed}

@@ -1,11 +1,13 @@
 -- What completes the payload that a nest reads, and its possible lengths.
-use Rattle.std.specs.Prelude.{◌≡◌, ℕ, ◌^◌, ◌<◌, ◌≤◌, Bool, List, [], ◌∷◌, ◌↔◌, ◌⊎◌}
+use Rattle.std.specs.Prelude.{◌≡◌, ℕ, ◌^◌, ◌<◌, ◌≤◌, Bool, false, List, [], ◌∷◌, ◌↔◌, ◌⊎◌}
 use Rattle.ndef_format.specs.declared.spot.Spot.{Spot}
 use Rattle.ndef_format.specs.declared.kind.Kind.{Kind}
 use Rattle.ndef_format.specs.Records.{AreOctets}
 use Rattle.ndef_format.specs.declared.profile.Profile.{Profile}
 use Rattle.ndef_format.specs.declared.reason.Reason.{Reason}
 use Rattle.ndef_nest.specs.declared.nest.Nest.{Nest}
+use Rattle.ndef_nest.specs.declared.context.Context.{Context}
+use Rattle.ndef_nest.specs.declared.phase.NestPhase.{NestPhase}
 use Rattle.ndef_nest.specs.declared.phase.NestPhase.TheVariants as phases
 use Rattle.ndef_format.specs.declared.table.Table.TheVariants.{Select}
 use Rattle.ndef_format.specs.Nested.{table_of}
@@ -46,6 +48,11 @@ abbrev pub reached : Nest → Kind → ℕ → Profile → List ℕ → Type 0
 reached n kind records profile s =
     (n.context.table ≡ table_of kind) × (n.context.profile ≡ profile)
     × IsReached n.context n.reader.spot.first n.reader.octets n.phase records s
+
+-- the same, where no octet of a head has come
+abbrev pub reached_behind : Context → NestPhase → Kind → ℕ → Profile → List ℕ → Type 0
+reached_behind c phase kind records profile s =
+    (c.table ≡ table_of kind) × (c.profile ≡ profile) × IsReached c false [] phase records s
 
 -- the lengths below 2 ^ 32 of the lists that pass are one number, and all from another on
 abbrev pub IsGap : (List ℕ → Type 0) → ℕ → ℕ → Type 0

@@ -4,4 +4,4 @@ use Rattle.ndef_lang.proofs.PlaceLemmas.{no_refusal}
 use Rattle.ndef_lang.proofs.laws.opaque_payloads.Goals as goal
 
 pub returns-clause-taken : goal.returns-clause-taken
-returns-clause-taken c kind records profile s place reason = no_refusal AreOctets (λ before octet. NoReason) s place reason
+returns-clause-taken c tnf name records profile s place reason = no_refusal AreOctets (λ before octet. NoReason) s place reason

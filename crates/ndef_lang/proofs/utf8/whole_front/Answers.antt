@@ -14,9 +14,9 @@ loop-at-preserved c =
 pub returns-then-not-is_utf8-clause-text : goal.returns-then-not-is_utf8-clause-text
 returns-then-not-is_utf8-clause-text c =
     let at = c.loop-at.at in
-    let front = c.valid_front.result in
+    let front = c.valid_front-then-not-is_utf8.result in
     let most = at + c.block_length.result - at in
     let rest = drop at c.args.bytes.now in
-    let within = c.valid_front.ensures.within in
+    let within = c.valid_front-then-not-is_utf8.ensures.within in
     let l : front ≤ most = omega (arith, length-take most rest) in
-    text_parts c.args.bytes.now at front c.loop-at.invariant.1 (subst IsUtf8 (take-take front most rest l) c.valid_front.ensures.text)
+    text_parts c.args.bytes.now at front c.loop-at.invariant.1 (subst IsUtf8 (take-take front most rest l) c.valid_front-then-not-is_utf8.ensures.text)

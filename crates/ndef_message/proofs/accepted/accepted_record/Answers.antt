@@ -1,6 +1,5 @@
 use Rattle.std.proofs.Common.{◌≡◌, ℕ, List, true, false, sym, ◌∙◌, ap, subst, refl}
 use Rattle.ndef_format.specs.Records.{AreOctets, tnf_of}
-use Rattle.ndef_format.specs.Kinds.{kind_of}
 use Rattle.ndef_format.specs.HeadReasons.{is_set}
 use Rattle.ndef_format.specs.Positions as pieces
 use Rattle.ndef_piece.specs.Whole.{shown}
@@ -11,7 +10,7 @@ use Rattle.ndef_message.proofs.accepted.accepted_record.Goals as goal
 
 pub returns : goal.returns
 returns g c =
-    let set = g.L.Language.payloads in
+    let set = g.L.RecordLanguage.payloads in
     let l = c.args.limits.now in
     let w = c.in_ok-piece.piece in
     let p = shown w in
@@ -22,14 +21,13 @@ returns g c =
     let stands = subst (λ x. pieces.Stands x p) spot (at.stands yes) in
     let outside : place.inside ≡ false = sym (ap (λ x. x.inside) spot) ∙ at.outside yes in
     let chunked : is_set 5 w.header ≡ true = sym c.is_chunked.ensures ∙ c.if-not-is_chunked.false in
-    let kind = c.of-kind.ensures ∙ ap (λ t. kind_of t w.kind.now) c.tnf.ensures in
-    let any : (s : List ℕ) → AreOctets s → set (kind_of (tnf_of p.tnf) p.kind) l.records l.profile s = λ s h. subst (λ k. set k l.records l.profile s) kind (c.takes_all.ensures c.if-not-takes_all.false l.records l.profile s h) in
+    let any : (s : List ℕ) → AreOctets s → set (tnf_of p.tnf) p.kind l.records l.profile s = λ s h. subst (λ t. set t w.kind.now l.records l.profile s) c.tnf.ensures (c.takes_all.ensures c.if-not-takes_all.false l.records l.profile s h) in
     run_from set l place c.args.bytes.now p (is_set 4 w.header) w.rest.now _ c.in_ok-more.more c.in_ok-more.last c.behind_chunk-next.result c.in_ok-piece.ensures.piece stands chunked outside any refl
     c.behind_chunk-next.ensures c.in_ok-more.ensures.within c.in_ok-more.ensures.ends
 
 pub returns-then-not-is_chunked : goal.returns-then-not-is_chunked
 returns-then-not-is_chunked g c =
-    let set = g.L.Language.payloads in
+    let set = g.L.RecordLanguage.payloads in
     let l = c.args.limits.now in
     let place = c.args.place.now in
     let is = c.is_record.ensures in

@@ -1,5 +1,4 @@
 use Rattle.std.proofs.Common.{sym, ◌∙◌, ap, subst}
-use Rattle.ndef_format.specs.Kinds.{kind_of}
 use Rattle.ndef_format.specs.Positions as pieces
 use Rattle.ndef_piece.specs.Whole.{shown}
 use Rattle.ndef_message.specs.Machine.State.{spot_of}
@@ -13,10 +12,9 @@ returns g c =
     let spot = c.spot.ensures ∙ ap (λ x. spot_of x place) c.profile-profile.ensures.value in
     let at = c.is_record_at.ensures in
     let yes = c.if-not-is_record_at.false in
-    let kind = c.of-kind.ensures ∙ ap (λ t. kind_of t w.kind.now) c.tnf.ensures in
     record {
       stands = λ h. subst (λ x. pieces.Stands x (shown w)) spot (at.stands yes);
       one = λ h. at.one yes;
       outer = λ h. sym (ap (λ x. x.inside) spot) ∙ at.outside yes;
-      member = λ h. member_at g.L.Language.payloads _ _ _ _ _ _ w.payload.now kind c.records.ensures.value c.profile-profile.ensures.value (c.has.ensures h);
+      member = λ h. member_at g.L.RecordLanguage.payloads _ _ w.kind.now _ _ _ _ w.payload.now c.tnf.ensures c.records.ensures.value c.profile-profile.ensures.value (c.has.ensures h);
     }

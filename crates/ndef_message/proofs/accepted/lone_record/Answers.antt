@@ -8,7 +8,7 @@ use Rattle.ndef_message.proofs.accepted.lone_record.Goals as goal
 pub returns-clause-message : goal.returns-clause-message
 returns-clause-message g c =
     let limits = c.args.limits.now in
-    let set = g.L.Language.payloads in
+    let set = g.L.RecordLanguage.payloads in
     let bytes = c.args.bytes.now in
     let w = c.in_ok-piece.piece in
     let found = c.in_ok-piece.ensures in

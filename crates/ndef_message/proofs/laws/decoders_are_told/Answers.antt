@@ -9,5 +9,5 @@ returns g c =
     let s = c.args.decoder.now in
     record {
       some = ∥∥₁_map s.led (some_read s);
-      records = told_of s (λ limits front given. HasLed g.L.Language.payloads limits front given) (decoder_led c.messages_are_walks.ensures.counted s);
+      records = told_of s (λ limits front given. HasLed g.L.RecordLanguage.payloads limits front given) (decoder_led c.messages_are_walks.ensures.counted s);
     }

@@ -5,5 +5,5 @@ use Rattle.ndef_message.proofs.laws.fronts_are_told.Goals as goal
 pub returns : goal.returns
 returns g c =
     let one = c.fields_are_told.ensures.one in
-    let set = g.L.Language.payloads in
+    let set = g.L.RecordLanguage.payloads in
     record { counted = one_count one set; led = one_led one set; held = one_held one set }

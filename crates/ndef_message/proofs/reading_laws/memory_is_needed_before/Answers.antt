@@ -3,6 +3,6 @@ use Rattle.ndef_message.proofs.reading_laws.memory_is_needed_before.Goals as goa
 
 pub returns : goal.returns
 returns g c = record {
-  before = memory_is_needed_before g.L.Language.payloads g.L.Language.reasons;
-  first = first_byte_needs_none g.L.Language.payloads g.L.Language.reasons;
+  before = memory_is_needed_before g.L.RecordLanguage.payloads g.L.RecordLanguage.reasons;
+  first = first_byte_needs_none g.L.RecordLanguage.payloads g.L.RecordLanguage.reasons;
 }

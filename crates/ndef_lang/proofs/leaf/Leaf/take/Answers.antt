@@ -1,12 +1,15 @@
-use Rattle.std.proofs.Common.{◌≡◌, ◌+◌, ◌-◌, ◌<◌, ◌∙◌, true, [], ◌∷◌, sym, subst, arith, length, take}
+use Rattle.std.proofs.Common.{◌≡◌, ℕ, List, ◌+◌, ◌-◌, ◌<◌, ◌++◌, ◌∙◌, true, [], ◌∷◌, sym, subst, arith, length, take}
+use Rattle.std.proofs.lemmas.List.{append-nil}
+use Rattle.ndef_lang.specs.declared.leaf.Leaf.{Leaf}
+use Rattle.ndef_lang.specs.declared.utf8.Utf8Lang.{Utf8Lang}
 use Rattle.ndef_format.specs.declared.reason.Reason.TheVariants as reasons
 use Rattle.ndef_lang.specs.LengthLaws.{lengths_fit}
 use Rattle.ndef_lang.specs.Lengths.{meets}
-use Rattle.ndef_lang.specs.Language.{Continues, PassesBetween, Reaches}
+use Rattle.ndef_lang.specs.Language.{Continues, PassesBetween, Reaches, StepsFront}
 use Rattle.ndef_lang.specs.StepLaws.{rest, follows_none, reaches_none, passes_none, follows_take, reaches_take, steps_refused, follows_rest, reaches_rest, front_passes, steps_through, all_reached, steps_on, reaches_on, reason_on, rest_length}
 use Rattle.ndef_lang.specs.Machine.Utf8.{CompletesUtf8}
 use Rattle.ndef_lang.specs.declared.leaf.Leaf.TheVariants.{Utf8}
-use Rattle.ndef_lang.specs.Machine.Leaf.{CompletesLeaf, Holds, ReachedBy, leaf_lengths, leaf_told}
+use Rattle.ndef_lang.specs.Machine.Leaf.{CompletesLeaf, GoesOn, Holds, ReachedBy, leaf_lengths, leaf_told}
 use Rattle.ndef_lang.specs.Machine.LeafLaws.{are_leaf_lengths}
 use Rattle.ndef_lang.proofs.PlaceLemmas.{not_true}
 use Rattle.ndef_lang.proofs.StageLemmas.{text_goes, reached_first, staged_reached, staged_reason, utf8_staged_reason}
@@ -92,34 +95,69 @@ returns-then-at-bytes c =
       reason = λ less. absurd (omega arith);
     }
 
-pub returns-in-Utf8-clause-steps : goal.returns-in-Utf8-clause-steps
-returns-in-Utf8-clause-steps c =
-    let at = c.loop-at.at in
-    let follows : Continues (CompletesLeaf c.args.self.now) (CompletesUtf8 c.in-Utf8.text) (take at c.args.bytes.now) = subst (λ x. Continues (CompletesLeaf c.args.self.now) (CompletesLeaf x) (take at c.args.bytes.now)) c.in-Utf8.is c.loop-at.invariant.follows in
-    steps_on (CompletesLeaf c.args.self.now) (CompletesUtf8 c.in-Utf8.text) (CompletesUtf8 c.take-more.new.self) c.args.bytes.now c.args.lo c.args.hi at c.take-more.result (omega arith) follows c.take-more.ensures
+-- the text that goes on behind the octets at the front
+text_follows : (old mid front : Leaf) (text : Utf8Lang) (bytes : List ℕ) (at n : ℕ) → Continues (CompletesLeaf old) (CompletesLeaf mid) (take at bytes)
+    → StepsFront (CompletesLeaf mid) (CompletesLeaf front) (rest bytes at) n → Continues (CompletesLeaf front) (CompletesUtf8 text) []
+    → Continues (CompletesLeaf old) (CompletesUtf8 text) (take (at + n) bytes)
+text_follows old mid front text bytes at n f w g r =
+    let t = follows_rest (CompletesLeaf old) (CompletesLeaf mid) (CompletesLeaf front) bytes at n f w.stepped r in
+    let k = g r in
+    (λ x. t.0 (k.0 x), λ x. k.1 (t.1 x))
 
-pub returns-in-Utf8-clause-goes : goal.returns-in-Utf8-clause-goes
-returns-in-Utf8-clause-goes c =
-    let at = c.loop-at.at in
-    let old = c.in-Utf8.text in
+text_fits : (front : Leaf) (text : Utf8Lang) (lo hi : ℕ) → Continues (CompletesLeaf front) (CompletesUtf8 text) [] → PassesBetween (CompletesLeaf front) lo hi
+    → PassesBetween (CompletesUtf8 text) lo hi
+text_fits front text lo hi g p = record { rest = p.rest; passed = (g p.rest).1 p.passed; least = p.least; most = p.most }
+
+text_reached : (old mid front : Leaf) (text : Utf8Lang) (bytes : List ℕ) (at n : ℕ) → Reaches (ReachedBy old (Holds old)) (ReachedBy mid (Holds old)) (take at bytes)
+    → StepsFront (CompletesLeaf mid) (CompletesLeaf front) (rest bytes at) n → GoesOn (Holds mid) (take n (rest bytes at)) front
+    → Continues (CompletesLeaf front) (CompletesUtf8 text) [] → GoesOn (Holds front) [] (Utf8 text)
+    → Reaches (ReachedBy old (Holds old)) (ReachedBy (Utf8 text) (Holds old)) (take (at + n) bytes)
+text_reached old mid front text bytes at n come w goes g k s h =
+    let t = reaches_rest (ReachedBy old (Holds old)) (ReachedBy mid (Holds old)) (ReachedBy front (Holds old)) bytes at n come
+    (staged_reached mid front (take n (rest bytes at)) w.stepped (λ p. goes) (Holds old)) in
+    subst (ReachedBy (Utf8 text) (Holds old)) (append-nil (s ++ take (at + n) bytes))
+    (staged_reached front (Utf8 text) [] g (λ p. k) (Holds old) (s ++ take (at + n) bytes) (t s h))
+
+pub take-more-requires-clause-fits : goal.take-more-requires-clause-fits
+take-more-requires-clause-fits c =
+    let mid = c.loop-at.self in
+    let front = c.take_front-at.new.self in
+    let at = c.loop-at.at + c.take_front-at.result in
+    let inv = c.loop-at.invariant in
+    text_fits front c.in-Some.text (c.args.lo - at) (c.args.hi - at) c.in-Some.ensures.future
+    (front_passes (CompletesLeaf mid) (CompletesLeaf front) c.args.bytes.now c.args.lo c.args.hi c.loop-at.at c.take_front-at.result c.requires.enough inv.within c.take_front-at.ensures.front inv.fits)
+
+pub returns-in-Some-clause-steps : goal.returns-in-Some-clause-steps
+returns-in-Some-clause-steps c =
+    let n = c.take_front-at.result in
+    let whole = c.take_front-at.ensures.front in
+    let within = whole.within in
+    steps_on (CompletesLeaf c.args.self.now) (CompletesUtf8 c.in-Some.text) (CompletesUtf8 c.take-more.new.self) c.args.bytes.now c.args.lo c.args.hi (c.loop-at.at + n) c.take-more.result (omega (arith, rest_length c.args.bytes.now c.loop-at.at))
+    (text_follows c.args.self.now c.loop-at.self c.take_front-at.new.self c.in-Some.text c.args.bytes.now c.loop-at.at n c.loop-at.invariant.follows whole c.in-Some.ensures.future) c.take-more.ensures
+
+pub returns-in-Some-clause-goes : goal.returns-in-Some-clause-goes
+returns-in-Some-clause-goes c =
+    let n = c.take_front-at.result in
+    let at = c.loop-at.at + n in
+    let old = c.in-Some.text in
     let new = c.take-more.new.self in
     let more = c.take-more.result in
     let first = c.args.self.now in
     let front = take (more + 1) (rest c.args.bytes.now at) in
-    let before : Reaches (ReachedBy first (Holds first)) (ReachedBy (Utf8 old) (Holds first)) (take at c.args.bytes.now) =
-    subst (λ x. Reaches (ReachedBy first (Holds first)) (ReachedBy x (Holds first)) (take at c.args.bytes.now)) c.in-Utf8.is c.loop-at.invariant.reached in
+    let before = text_reached first c.loop-at.self c.take_front-at.new.self old c.args.bytes.now c.loop-at.at n c.loop-at.invariant.reached c.take_front-at.ensures.front c.take_front-at.ensures.goes c.in-Some.ensures.future c.in-Some.ensures.goes in
     reaches_on (ReachedBy first (Holds first)) (ReachedBy (Utf8 old) (Holds first)) (ReachedBy (Utf8 new) (Holds first)) c.args.bytes.now at more before
     (staged_reached (Utf8 old) (Utf8 new) front c.take-more.ensures.stepped (λ p. text_goes reasons.Utf8 (CompletesUtf8 old) (CompletesUtf8 new) front c.take-more.ensures.stepped) (Holds first)) [] (reached_first first)
 
-pub returns-in-Utf8-clause-reason : goal.returns-in-Utf8-clause-reason
-returns-in-Utf8-clause-reason c less =
-    let at = c.loop-at.at in
-    let old = c.in-Utf8.text in
+pub returns-in-Some-clause-reason : goal.returns-in-Some-clause-reason
+returns-in-Some-clause-reason c less =
+    let n = c.take_front-at.result in
+    let at = c.loop-at.at + n in
+    let old = c.in-Some.text in
     let more = c.take-more.result in
     let first = c.args.self.now in
     let bytes = c.args.bytes.now in
     let left = rest_length bytes at in
-    let before : ReachedBy (Utf8 old) (Holds first) (take at bytes) = subst (λ x. ReachedBy x (Holds first) (take at bytes)) c.in-Utf8.is (c.loop-at.invariant.reached [] (reached_first first)) in
+    let before = text_reached first c.loop-at.self c.take_front-at.new.self old bytes c.loop-at.at n c.loop-at.invariant.reached c.take_front-at.ensures.front c.take_front-at.ensures.goes c.in-Some.ensures.future c.in-Some.ensures.goes [] (reached_first first) in
     reason_on (Holds first) _ bytes [] at more (utf8_staged_reason old c.take-more.new.self (rest bytes at) (c.args.lo - at) (c.args.hi - at) more c.take-more.ensures (omega arith) (Holds first) (take at bytes) before)
 
 pub returns-clause-goes : goal.returns-clause-goes

@@ -1,7 +1,7 @@
 use Rattle.std.proofs.Common.{sym, subst, arith}
 use Rattle.ndef_value.specs.SliceLaws.{each_octet}
 use Rattle.ndef_lang.specs.Language.{StepsFront}
-use Rattle.ndef_lang.specs.Machine.Leaf.{CompletesLeaf, CompletesStage}
+use Rattle.ndef_lang.specs.Machine.Leaf.{CompletesLeaf, CompletesStage, InClass}
 use Rattle.ndef_lang.specs.Machine.Utf16.{CompletesUtf16}
 use Rattle.ndef_lang.proofs.StageLemmas.{any_front, field_steps, field_goes_on}
 use Rattle.ndef_lang.proofs.leaf.Leaf.take_front.Goals as goal
@@ -9,14 +9,14 @@ use Rattle.ndef_lang.proofs.leaf.Leaf.take_front.Goals as goal
 pub returns-in-Any-clause-front : goal.returns-in-Any-clause-front
 returns-in-Any-clause-front c = rw (c.in-Field.is, c.in-Any.is, c.if-left-eq0.true) (any_front c.args.bytes.now (each_octet _ c.type_inv.bytes))
 
-pub returns-in-Any-class-clause-front : goal.returns-in-Any-class-clause-front
-returns-in-Any-class-clause-front c =
-    rw (c.in-Field.is, c.in-Any-class.is) (field_steps c.args.bytes.now c.min-count.result c.in-Field.left (CompletesStage c.in-Field.next) (each_octet _ c.type_inv.bytes) (omega (arith, c.min-count.ensures)) (omega (arith, c.min-count.ensures)))
-
-pub returns-in-Any-class-clause-goes : goal.returns-in-Any-class-clause-goes
-returns-in-Any-class-clause-goes c =
-    rw (c.in-Field.is, c.in-Any-class.is) (field_goes_on c.args.bytes.now c.min-count.result c.in-Field.left c.in-Field.next (omega (arith, c.min-count.ensures)) (omega (arith, c.min-count.ensures)))
-
 pub returns-in-Utf16-clause-front : goal.returns-in-Utf16-clause-front
 returns-in-Utf16-clause-front c =
     subst (λ s. StepsFront (CompletesLeaf s) (CompletesUtf16 c.take_front-count.new.self) c.args.bytes.now c.take_front-count.result) (sym c.in-Utf16.is) c.take_front-count.ensures
+
+pub returns-else-not-has_all-clause-front : goal.returns-else-not-has_all-clause-front
+returns-else-not-has_all-clause-front c =
+    rw c.in-Field.is (field_steps (InClass c.in-Field.class) c.args.bytes.now c.min-count.result c.in-Field.left (CompletesStage c.in-Field.next) (c.has_all.ensures c.if-not-has_all.false) (omega (arith, c.min-count.ensures)) (omega (arith, c.min-count.ensures)))
+
+pub returns-else-not-has_all-clause-goes : goal.returns-else-not-has_all-clause-goes
+returns-else-not-has_all-clause-goes c =
+    rw c.in-Field.is (field_goes_on c.in-Field.class c.args.bytes.now c.min-count.result c.in-Field.left c.in-Field.next (omega (arith, c.min-count.ensures)) (omega (arith, c.min-count.ensures)))

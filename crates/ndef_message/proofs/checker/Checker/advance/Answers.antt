@@ -1,47 +1,15 @@
-use Rattle.std.proofs.Common.{◌≡◌, ◌+◌, ◌≤◌, ◌^◌, ◌++◌, suc, ◌∙◌, ap, take, arith}
-use Rattle.std.proofs.Math.Logic.{∥∥₁_map}
+use Rattle.std.proofs.Common.{◌≡◌, ◌++◌, ◌∙◌, ap, take, arith}
 use Rattle.std.proofs.lemmas.List.{append-nil}
-use Rattle.ndef_message.proofs.Accepting.{taken_bounded, taken_knows}
-use Rattle.ndef_message.proofs.Feeding.{going, knows_on}
-use Rattle.ndef_message.proofs.Somewhere.{number_of_some}
+use Rattle.ndef_message.proofs.Feeding.{knows_on}
 use Rattle.ndef_message.proofs.checker.Checker.advance.Goals as goal
-
-pub overflow_add-self : goal.overflow_add-self
-overflow_add-self g c =
-    let s = c.args.self.now in
-    let took = c.take_pieces-taken in
-    let laws = c.format_laws.ensures in
-    let n : suc (s.taken + took.result) ≤ 2 ^ 60 = number_of_some _ _ _ s.led (λ w.
-    let x = took.ensures.onward w.0 w.1 w.2 (going g.L.Language s.limits s.state 0 w.0 w.1 w.2 c.requires.going w.3.1) in
-    taken_bounded g.L.Language s.limits took.new.self w.0 c.args.bytes.now took.result s.taken took.ensures.within w.3.0 x.0 x.1 x.2 laws.laws laws.range) in
-    omega arith
-
-pub invariant_of-self : goal.invariant_of-self
-invariant_of-self g c =
-    let s = c.args.self.now in
-    let took = c.take_pieces-taken in
-    record {
-      led = ∥∥₁_map s.led (λ w.
-          let x = took.ensures.onward w.0 w.1 w.2 (going g.L.Language s.limits s.state 0 w.0 w.1 w.2 c.requires.going w.3.1) in
-          (w.0 ++ take took.result c.args.bytes.now, x.0, x.1, taken_knows g.L.Language s.limits took.new.self w.0 c.args.bytes.now took.result s.taken took.ensures.within w.3.0 x.0 x.1 x.2));
-    }
-
-pub returns-then-taken-gt0-clause-onward : goal.returns-then-taken-gt0-clause-onward
-returns-then-taken-gt0-clause-onward g c front given point k =
-    let s = c.args.self.now in
-    let took = c.take_pieces-taken in
-    let x = took.ensures.onward front given point (going g.L.Language s.limits s.state 0 front given point c.requires.going k.1) in
-    (x.0, x.1, taken_knows g.L.Language s.limits took.new.self front c.args.bytes.now took.result s.taken took.ensures.within k.0 x.0 x.1 x.2)
 
 pub returns-clause-onward : goal.returns-clause-onward
 returns-clause-onward g c front given point k =
-    let s = c.args.self.now in
-    let took = c.take_pieces-taken in
+    let passed = c.pass-taken in
     let new = c.step.new.self in
     let bytes = c.args.bytes.now in
-    let none : took.result ≡ 0 = omega arith in
-    let all : front ++ take took.result bytes ≡ front = ap (λ n. front ++ take n bytes) none ∙ append-nil front in
-    let y = took.ensures.onward front given point (going g.L.Language s.limits s.state 0 front given point c.requires.going k.1) in
-    let z = taken_knows g.L.Language s.limits took.new.self front bytes took.result s.taken took.ensures.within k.0 y.0 y.1 y.2 in
-    let x = c.step.ensures.onward front y.0 y.1 (rw all at z) in
-    knows_on g.L.Language new.limits new.state front y.0 y.1 (take c.step.result bytes) new.taken x.0 x.1
+    let none : passed.result ≡ 0 = omega arith in
+    let all : front ++ take passed.result bytes ≡ front = ap (λ n. front ++ take n bytes) none ∙ append-nil front in
+    let y = passed.ensures.onward front given point k in
+    let x = c.step.ensures.onward front y.0 y.1 (rw all at y.2) in
+    knows_on g.L.RecordLanguage new.limits new.state front y.0 y.1 (take c.step.result bytes) new.taken x.0 x.1

@@ -25,9 +25,9 @@ overflow_add-self g c =
     let behind : IsBehind s.limits new (behind_record s.limits s.state.place) (is_set 6 p.header) = rw (sym c.behind_record-place.ensures, sym c.is_last.ensures) c.go_behind.ensures in
     let due : answer_of s.state.phase 0 ≡ None = ap (λ p. answer_of p 0) c.requires.fresh.phase_is in
     let n : suc (s.taken + count) ≤ 2 ^ 60 = number_of_some _ _ _ s.led (λ w.
-    let x = record_passed laws.laws s.limits laws.range g.met.L.OuterLanguage.others s.state new c.args.bytes.now p count c.requires.fresh c.requires.begins refl behind
-    w.0 w.1 w.2 (going g.L.Language s.limits s.state 0 w.0 w.1 w.2 due w.3.1) in
-    taken_bounded g.L.Language s.limits new w.0 c.args.bytes.now count s.taken (omega arith) w.3.0 _ x.0 x.2 laws.laws laws.range) in
+    let x = record_passed laws.laws s.limits laws.range g.met.L.RecordLanguage.others s.state new c.args.bytes.now p count c.requires.fresh c.requires.begins refl behind
+    w.0 w.1 w.2 (going g.L.RecordLanguage s.limits s.state 0 w.0 w.1 w.2 due w.3.1) in
+    taken_bounded g.L.RecordLanguage s.limits new w.0 c.args.bytes.now count s.taken (omega arith) w.3.0 _ x.0 x.2 laws.laws laws.range) in
     omega arith
 
 pub invariant_of-self : goal.invariant_of-self
@@ -41,9 +41,9 @@ invariant_of-self g c =
     let due : answer_of s.state.phase 0 ≡ None = ap (λ p. answer_of p 0) c.requires.fresh.phase_is in
     record {
       led = ∥∥₁_map s.led (λ w.
-          let x = record_passed laws.laws s.limits laws.range g.met.L.OuterLanguage.others s.state new c.args.bytes.now p count c.requires.fresh c.requires.begins refl behind
-          w.0 w.1 w.2 (going g.L.Language s.limits s.state 0 w.0 w.1 w.2 due w.3.1) in
-          (w.0 ++ take count c.args.bytes.now, _, x.0, taken_knows g.L.Language s.limits new w.0 c.args.bytes.now count s.taken (omega arith) w.3.0 _ x.0 x.2));
+          let x = record_passed laws.laws s.limits laws.range g.met.L.RecordLanguage.others s.state new c.args.bytes.now p count c.requires.fresh c.requires.begins refl behind
+          w.0 w.1 w.2 (going g.L.RecordLanguage s.limits s.state 0 w.0 w.1 w.2 due w.3.1) in
+          (w.0 ++ take count c.args.bytes.now, _, x.0, taken_knows g.L.RecordLanguage s.limits new w.0 c.args.bytes.now count s.taken (omega arith) w.3.0 _ x.0 x.2));
     }
 
 pub returns-clause-onward : goal.returns-clause-onward
@@ -55,6 +55,6 @@ returns-clause-onward g c front given point k =
     let laws = c.format_laws.ensures in
     let behind : IsBehind s.limits new (behind_record s.limits s.state.place) (is_set 6 p.header) = rw (sym c.behind_record-place.ensures, sym c.is_last.ensures) c.go_behind.ensures in
     let due : answer_of s.state.phase 0 ≡ None = ap (λ p. answer_of p 0) c.requires.fresh.phase_is in
-    let x = record_passed laws.laws s.limits laws.range g.met.L.OuterLanguage.others s.state new c.args.bytes.now p count c.requires.fresh c.requires.begins refl behind
-    front given point (going g.L.Language s.limits s.state 0 front given point due k.1) in
-    (x.0, x.1, taken_knows g.L.Language s.limits new front c.args.bytes.now count s.taken (omega arith) k.0 _ x.0 x.2)
+    let x = record_passed laws.laws s.limits laws.range g.met.L.RecordLanguage.others s.state new c.args.bytes.now p count c.requires.fresh c.requires.begins refl behind
+    front given point (going g.L.RecordLanguage s.limits s.state 0 front given point due k.1) in
+    (x.0, x.1, taken_knows g.L.RecordLanguage s.limits new front c.args.bytes.now count s.taken (omega arith) k.0 _ x.0 x.2)

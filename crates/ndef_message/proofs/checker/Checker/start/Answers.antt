@@ -20,7 +20,7 @@ invariant_of-result g c =
         InHead (start l) [],
         (
           refl,
-          inl (start_stands c.format_laws.ensures.laws l c.format_laws.ensures.range g.met.L.OuterLanguage.others _ e (c.new.ensures.empty ∙ ap (λ x. record { spot = x; octets = []; answer = steps.More }) s) refl (subst (λ x. IsOpen x []) s c.new.ensures.open)),
+          inl (start_stands c.format_laws.ensures.laws l c.format_laws.ensures.range g.met.L.RecordLanguage.others _ e (c.new.ensures.empty ∙ ap (λ x. record { spot = x; octets = []; answer = steps.More }) s) refl (subst (λ x. IsOpen x []) s c.new.ensures.open)),
         ),
       );
     }
@@ -31,5 +31,5 @@ returns-clause-reached g c =
     let e = c.start-place.ensures in
     let s : c.spot.result ≡ spot l.profile (start l) = c.spot.ensures ∙ ap (λ p. spot_of p c.start-place.result) c.profile.ensures.value ∙ ap (spot_of l.profile) e in (
       refl,
-      inl (start_stands c.format_laws.ensures.laws l c.format_laws.ensures.range g.met.L.OuterLanguage.others _ e (c.new.ensures.empty ∙ ap (λ x. record { spot = x; octets = []; answer = steps.More }) s) refl (subst (λ x. IsOpen x []) s c.new.ensures.open)),
+      inl (start_stands c.format_laws.ensures.laws l c.format_laws.ensures.range g.met.L.RecordLanguage.others _ e (c.new.ensures.empty ∙ ap (λ x. record { spot = x; octets = []; answer = steps.More }) s) refl (subst (λ x. IsOpen x []) s c.new.ensures.open)),
     )

@@ -18,13 +18,13 @@ pub returns-in-Some-clause-onward : goal.returns-in-Some-clause-onward
 returns-in-Some-clause-onward g c front given point stands at going = c.in-Some.ensures.onward front given point stands
 
 pub in_head-requires-clause-led : goal.in_head-requires-clause-led
-in_head-requires-clause-led g c = subst (λ state. ∥ SomeLed (Stands g.L.Language c.args.limits.now state) ∥₁) (sym c.in-None.ensures.none) c.requires.led
+in_head-requires-clause-led g c = subst (λ state. ∥ SomeLed (Stands g.L.RecordLanguage c.args.limits.now state) ∥₁) (sym c.in-None.ensures.none) c.requires.led
 
 pub returns-in-None-clause-onward : goal.returns-in-None-clause-onward
 returns-in-None-clause-onward g c front given point stands at going =
     let n = c.in_head.new.self in
-    let same = subst (λ state. Stands g.L.Language c.args.limits.now state front given point) (sym c.in-None.ensures.none) stands in
-    subst (Onward g.L.Language c.args.limits.now n front given point) (sym (take_one c.args.bytes.now c.requires.some)) (c.in_head.ensures.onward front given point same at)
+    let same = subst (λ state. Stands g.L.RecordLanguage c.args.limits.now state front given point) (sym c.in-None.ensures.none) stands in
+    subst (Onward g.L.RecordLanguage c.args.limits.now n front given point) (sym (take_one c.args.bytes.now c.requires.some)) (c.in_head.ensures.onward front given point same at)
 
 pub in_type-requires-clause-some : goal.in_type-requires-clause-some
 in_type-requires-clause-some g c =
@@ -48,7 +48,7 @@ returns-in-Type-clause-onward g c front given point stands at going =
     let bytes = c.args.bytes.now in
     let most = c.min-most.ensures in
     let same : take c.min-most.result bytes ≡ take c.in_type.result bytes = ap (λ k. take k bytes) (sym (c.in_type.ensures.all ∙ length-take-le c.min-most.result bytes (omega arith))) in
-    subst (Onward g.L.Language c.args.limits.now n front given point) same (c.in_type.ensures.onward front given point stands at)
+    subst (Onward g.L.RecordLanguage c.args.limits.now n front given point) same (c.in_type.ensures.onward front given point stands at)
 
 pub returns-in-Id-clause-some : goal.returns-in-Id-clause-some
 returns-in-Id-clause-some g c =
@@ -65,7 +65,7 @@ returns-in-Id-clause-onward g c front given point stands at going =
     let bytes = c.args.bytes.now in
     let most = c.min-most-in-Id.ensures in
     let same : take c.min-most-in-Id.result bytes ≡ take c.in_id.result bytes = ap (λ k. take k bytes) (sym (c.in_id.ensures.all ∙ length-take-le c.min-most-in-Id.result bytes (omega arith))) in
-    subst (Onward g.L.Language c.args.limits.now n front given point) same (c.in_id.ensures.onward front given point stands)
+    subst (Onward g.L.RecordLanguage c.args.limits.now n front given point) same (c.in_id.ensures.onward front given point stands)
 
 pub returns-in-Payload-clause-onward : goal.returns-in-Payload-clause-onward
 returns-in-Payload-clause-onward g c front given point stands at going =
@@ -75,4 +75,4 @@ returns-in-Payload-clause-onward g c front given point stands at going =
     let count = c.in_payload.result in
     let cut = length-take c.min-most-in-Payload.result bytes in
     let same : take count (take c.min-most-in-Payload.result bytes) ≡ take count bytes = take-take count c.min-most-in-Payload.result bytes (omega arith) in
-    subst (Onward g.L.Language c.args.limits.now n front given point) same (c.in_payload.ensures.onward front given point stands at)
+    subst (Onward g.L.RecordLanguage c.args.limits.now n front given point) same (c.in_payload.ensures.onward front given point stands at)

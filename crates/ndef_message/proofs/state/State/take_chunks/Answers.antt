@@ -10,5 +10,5 @@ returns-then-taken-gt0-clause-onward g c =
     let laws = c.format_laws.ensures in
     let old = c.args.self.now in
     let found = c.accepted_chunks-taken in
-    chunks_lead laws.laws g.L.Language c.args.limits.now laws.range old c.go_behind_chunks.new.self found.result.1 _ (g.met.L.Language.future_octets old.payload) (c.is_at_chunk.ensures c.if-not-is_at_chunk.false)
+    chunks_lead laws.laws g.L.RecordLanguage c.args.limits.now laws.range old c.go_behind_chunks.new.self found.result.1 _ (g.met.L.RecordLanguage.future_octets old.payload) (c.is_at_chunk.ensures c.if-not-is_at_chunk.false)
     found.ensures.chunks c.go_behind_chunks.ensures

@@ -11,8 +11,8 @@ pub returns-then-taken-gt0-clause-onward : goal.returns-then-taken-gt0-clause-on
 returns-then-taken-gt0-clause-onward g c front given point s =
     let laws = c.format_laws.ensures in
     let found = c.accepted_records-taken in
-    let a = between g.L.Language c.args.limits.now c.args.self.now front given point (c.is_fresh.ensures c.if-not-is_fresh.false) s in
+    let a = between g.L.RecordLanguage c.args.limits.now c.args.self.now front given point (c.is_fresh.ensures c.if-not-is_fresh.false) s in
     let x = found.ensures.records.comes a.c a.place_is a.none a.over in
     let some : 0 < length (take found.result.0 c.args.bytes.now) = omega (arith, length-take-le found.result.0 c.args.bytes.now found.ensures.records.within) in
-    let w = leads_behind laws.laws laws.range g.met.L.OuterLanguage.others a.at a.viable found.result.2 (records_come x some) c.go_behind.new.self (x.place_is ∙ ap numbers (x.some some)) c.go_behind.ensures in
+    let w = leads_behind laws.laws laws.range g.met.L.RecordLanguage.others a.at a.viable found.result.2 (records_come x some) c.go_behind.new.self (x.place_is ∙ ap numbers (x.some some)) c.go_behind.ensures in
     (_, w.0, w.2)

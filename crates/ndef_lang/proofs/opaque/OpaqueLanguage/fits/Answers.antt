@@ -1,5 +1,0 @@
-use Rattle.std.proofs.Common.{rules}
-use Rattle.ndef_lang.proofs.opaque.OpaqueLanguage.fits.Goals as goal
-
-pub returns : goal.returns
-returns c = search rules
