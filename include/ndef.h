@@ -21,9 +21,9 @@
  *
  * Most calls return an ndef_status. With NDEF_BAD_ARGUMENT and NDEF_END the call has written nothing (but
  * ndef_begin has written its checker); with NDEF_NO_ROOM it has written *count alone. Where there is no room or no
- * field, ndef_fields, ndef_field_at and ndef_next_field have written *why as well. What `out`, `count`, `why` and a
- * room held before the call does not matter: nothing need have been written there, so a variable without a value and
- * fresh memory of malloc serve.
+ * field, ndef_fields, ndef_field_at and ndef_next_field have written *why as well, and ndef_items, which has no count,
+ * *out. What `out`, `count`, `why` and a room held before the call does not matter: nothing need have been written
+ * there, so a variable without a value and fresh memory of malloc serve.
  *
  * A room is memory of the caller, `size` bytes long, to which a call writes bytes. The call puts the number of
  * bytes it wrote into *count. Where the room is too small, the answer is NDEF_NO_ROOM and *count has the size that
@@ -36,7 +36,7 @@
 
 /* The version of this header. */
 #define NDEF_VERSION_MAJOR 0
-#define NDEF_VERSION_MINOR 3
+#define NDEF_VERSION_MINOR 4
 #define NDEF_VERSION_PATCH 0
 
 /* A length, or the place of a byte counted from 0. It has 64 bits on every machine, since the library is compiled
@@ -119,10 +119,11 @@ typedef struct ndef_checked {
  * NDEF_BAD_ARGUMENT: a limit is out of range, or an unknown flag is set. */
 uint32_t ndef_check(const uint8_t *bytes, ndef_size length, const ndef_limits *limits, ndef_checked *out);
 
-/* The state of a check of bytes that arrive in parts. It lies in the caller's memory, aligned to 8 bytes, and holds
- * no byte of the message. Its words have a meaning for ndef_begin and ndef_feed alone; copying it copies the state. */
+/* The state of a check of bytes that arrive in parts. It lies in the caller's memory, aligned to 8 bytes. Of the
+ * message it holds the bytes of one type at most, while that arrives in parts, and no byte of an id or a payload. Its
+ * words have a meaning for ndef_begin and ndef_feed alone; copying it copies the state. */
 typedef struct ndef_checker {
-    uint64_t words[29];
+    uint64_t words[61];
 } ndef_checker;
 
 /* Begins a check. It overwrites the checker, whatever that held. A checker needs no clean-up.
@@ -748,6 +749,42 @@ uint32_t ndef_write_select(const ndef_select_writing *how, const uint8_t *bytes,
                            const ndef_part *references, ndef_size references_count,
                            const ndef_alternative_writing *alternatives, ndef_size alternatives_count, uint8_t *room,
                            ndef_size size, ndef_size *count);
+
+/* ---- a message and all its records, in one call */
+
+/* A record, in 32-bit words: places and lengths in the bytes. Its id lies between its type and its payload, so at
+ * payload_at - id_length. */
+typedef struct ndef_item {
+    uint32_t at;              /* where it begins */
+    uint32_t end;             /* where the next one begins */
+    uint32_t tnf;             /* the type name format, 0 to 5 */
+    uint32_t kind;            /* the number of its kind, as ndef_kind says it of a record in a message of its own */
+    uint32_t type_at;         /* where its type begins */
+    uint32_t type_length;     /* the bytes of its type, at most 255 */
+    uint32_t id_length;       /* the bytes of its id, at most 255 */
+    uint32_t payload_at;      /* where the payload of its first chunk begins */
+    uint32_t payload_length;  /* the bytes of its payload, its chunks joined */
+    uint32_t pieces;          /* the number of chunks; 1 if the record is not chunked */
+    /* 1 for a text in UTF-8, 2 for one in UTF-16, 3 for a URI. 0 for any other record, for one in several chunks, and
+     * under NDEF_OPAQUE: then the members after it are 0 */
+    uint32_t form;
+    uint32_t number;          /* the code of the prefix of a URI, else 0 */
+    uint32_t language_at;     /* where the language code of a text begins, else 0 */
+    uint32_t language_length; /* the bytes of the language code of a text, at most 63, else 0 */
+    uint32_t text_at;         /* where the text or the rest of the URI begins */
+    uint32_t text_length;     /* the bytes of the text or of the rest of the URI */
+} ndef_item;
+
+/* Checks the message with which the bytes begin, and gives all its records. `out` becomes what ndef_check makes of
+ * it. Each item has what ndef_record_at gives at its `at`, and the kind that ndef_kind says with `within` 0. A text and
+ * a URI in one chunk have the parts that ndef_text and ndef_uri_view give, as places in these bytes.
+ * NDEF_OK: the first out->records items are the records of the message, in order; those after them are unchanged.
+ * NDEF_NO_ROOM: the message is accepted, and `size` is less than out->records; the items are unchanged.
+ * NDEF_REFUSED: as ndef_check answers it; the items are unchanged. ndef_record_at gives the records before the place.
+ * NDEF_BAD_ARGUMENT: a limit is out of range, an unknown flag is set, or `length` is above 4294967295; nothing is
+ *   written. */
+uint32_t ndef_items(const uint8_t *bytes, ndef_size length, const ndef_limits *limits, ndef_checked *out,
+                    ndef_item *items, ndef_size size);
 
 #include "ndef_names.h"
 

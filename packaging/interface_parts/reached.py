@@ -15,7 +15,7 @@ LIBRARY = 'python/simbegyor_ndef/_library.py'
 SOURCES = {
     'C++': ('include/*.hpp',),
     'Python': (LIBRARY,),
-    'Rust': ('rust/src/ffi.rs',),
+    'Rust': ('rust/src/calls.rs',),
     'JavaScript': (javascript_face.PATH,),
     'Java': ('java/native/ndef_jni.c',),
     'Go': ('go/*.go',),
@@ -44,10 +44,9 @@ REASONS: Tuple[Tuple[str, Dict[str, str]], ...] = (
     ('A refusal is an error of the language, so a status has no name there.', {
         'Python': 'status_name', 'Rust': 'status_name', 'Java': 'status_name', 'Go': 'status_name'}),
     ('The package has the version of the library that it brings or asks for.', {
-        'Python': 'version', 'Java': 'version', 'Go': 'version'}),
+        'Python': 'version', 'Rust': 'version', 'Java': 'version', 'Go': 'version'}),
     ('A URI is given whole, with its prefix spelled out.', {
-        'Python': 'uri_view uri_prefix', 'Rust': 'uri_view uri_prefix', 'JavaScript': 'uri_view uri_prefix', 'Java': 'uri_view uri_prefix',
-        'Go': 'uri_view uri_prefix'}),
+        'Python': 'uri_view uri_prefix', 'Rust': 'uri_view uri_prefix', 'Java': 'uri_view uri_prefix', 'Go': 'uri_view uri_prefix'}),
     ('A message is written of all its records at once, into memory that grows.', {
         'Python': APPEND, 'Rust': APPEND, 'JavaScript': APPEND, 'Java': APPEND, 'Go': APPEND}),
     ('A message is written again by decoding it and encoding its records.', {
@@ -56,6 +55,9 @@ REASONS: Tuple[Tuple[str, Dict[str, str]], ...] = (
     ('Posters and handovers are written whole, by one call each.', {
         'Go': 'write_alternative write_action write_size write_collision write_error write_error_number write_handover'}),
     ('The class Limits has these numbers.', {'Java': 'usual_limits'}),
+    ('It asks for each record by itself, as the program takes it.', {
+        face: 'items' for face in ('C++', 'Python', 'Rust', 'JavaScript', 'Java', 'Go')}),
+    ('It calls the function that this call consists of, which gives the checker as a value.', {'Rust': 'begin'}),
 )
 
 

@@ -216,6 +216,27 @@ static void say_why(const uint8_t *bytes, ndef_size length, const ndef_limits *l
 static void say_why(const uint8_t *bytes, ndef_size length, const ndef_limits *limits) { (void)bytes, (void)length, (void)limits; }
 #endif
 
+/* All records of a message at once. */
+#if IS_SINCE(0, 4)
+static void list_records(const uint8_t *bytes, ndef_size length, const ndef_limits *limits) {
+    static ndef_item items[ELEMENTS];
+    const ndef_item mark = { 7, 7, 7, 7, 7, 7, 7, 7, 7, 7, 7, 7, 7, 7, 7, 7 };
+    for (int i = 0; i < 3; i++) {
+        ndef_checked out = { 77, 77, 77 };
+        for (int k = 0; k < ELEMENTS; k++) items[k] = mark;
+        mix_status(ndef_items(bytes, length, limits, &out, items, sizes[i])), mix_checked(&out);
+        for (int k = 0; k < ELEMENTS; k++) {
+            const ndef_item *it = items + k;
+            mix(it->at), mix(it->end), mix(it->tnf), mix(it->kind), mix(it->type_at), mix(it->type_length), mix(it->id_length);
+            mix(it->payload_at), mix(it->payload_length), mix(it->pieces), mix(it->form), mix(it->number);
+            mix(it->language_at), mix(it->language_length), mix(it->text_at), mix(it->text_length);
+        }
+    }
+}
+#else
+static void list_records(const uint8_t *bytes, ndef_size length, const ndef_limits *limits) { (void)bytes, (void)length, (void)limits; }
+#endif
+
 static void mix_text(const ndef_text_parts *text) {
     mix(text->language_at), mix(text->language_length), mix(text->text_at), mix(text->text_length), mix(text->utf16);
 }
@@ -372,6 +393,7 @@ static void look_at(const uint8_t *bytes, ndef_size length, ndef_limits limits) 
         mix_status(ndef_check(bytes, length, &small, &out)), mix_checked(&out);
         fill_fields(bytes, length, &limits), fill_fields(bytes, length, &small);
         say_why(bytes, length, &limits), say_why(bytes, length, &small);
+        list_records(bytes, length, &limits), list_records(bytes, length, &small);
         feed(bytes, length, &limits);
     }
     walk(bytes, length, 0);

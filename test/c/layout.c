@@ -24,8 +24,8 @@ AT(ndef_checked, place, uint64_t, 0);
 AT(ndef_checked, records, uint32_t, 8);
 AT(ndef_checked, reason, uint32_t, 12);
 
-SIZE(ndef_checker, 232, 232);
-AT(ndef_checker, words, uint64_t[29], 0);
+SIZE(ndef_checker, 488, 488);
+AT(ndef_checker, words, uint64_t[61], 0);
 
 SIZE(ndef_record, 88, 88);
 AT(ndef_record, at, ndef_size, 0);
@@ -153,6 +153,24 @@ AT(ndef_select_writing, data, ndef_part, 0);
 AT(ndef_select_writing, minor, uint32_t, 16);
 AT(ndef_select_writing, has_error, uint32_t, 20);
 AT(ndef_select_writing, reason, uint32_t, 24);
+
+SIZE(ndef_item, 64, 64);
+AT(ndef_item, at, uint32_t, 0);
+AT(ndef_item, end, uint32_t, 4);
+AT(ndef_item, tnf, uint32_t, 8);
+AT(ndef_item, kind, uint32_t, 12);
+AT(ndef_item, type_at, uint32_t, 16);
+AT(ndef_item, type_length, uint32_t, 20);
+AT(ndef_item, id_length, uint32_t, 24);
+AT(ndef_item, payload_at, uint32_t, 28);
+AT(ndef_item, payload_length, uint32_t, 32);
+AT(ndef_item, pieces, uint32_t, 36);
+AT(ndef_item, form, uint32_t, 40);
+AT(ndef_item, number, uint32_t, 44);
+AT(ndef_item, language_at, uint32_t, 48);
+AT(ndef_item, language_length, uint32_t, 52);
+AT(ndef_item, text_at, uint32_t, 56);
+AT(ndef_item, text_length, uint32_t, 60);
 
 _Static_assert(NDEF_OK == 0, "NDEF_OK");
 _Static_assert(NDEF_REFUSED == 1, "NDEF_REFUSED");

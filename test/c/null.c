@@ -120,6 +120,19 @@ static void more_calls(int way, const uint8_t *none, ndef_part *no_parts, ndef_l
     answer(way, ndef_title((const uint8_t *)"\xd1\1\1U\0", 5, none, 0, &text));
 }
 
+#if IS_SINCE(0, 4)
+/* The call that gives records. */
+static void item_calls(int way, const uint8_t *none) {
+    ndef_limits limits;
+    ndef_item item;
+    ndef_usual_limits(&limits);
+    answer(way, ndef_items(none, 0, &limits, &why, way ? &item : NULL, 0));
+    answer(way, ndef_items((const uint8_t *)"\xd0\0", 3, &limits, &why, way ? &item : NULL, 0));
+}
+#else
+static void item_calls(int way, const uint8_t *none) { (void)way, (void)none; }
+#endif
+
 /* The calls that give fields. */
 static void field_calls(int way, const uint8_t *none, ndef_field *no_fields, uint8_t *room) {
     ndef_limits limits;
@@ -147,6 +160,7 @@ int main(void) {
         check_calls(way, way ? byte : NULL, way ? byte : NULL);
         reading_calls(way, way ? byte : NULL, way ? byte : NULL);
         field_calls(way, way ? byte : NULL, way ? field : NULL, way ? byte : NULL);
+        item_calls(way, way ? byte : NULL);
         writing_calls(way, way ? byte : NULL, way ? part : NULL, way ? byte : NULL, 0);
         writing_calls(way, way ? byte : NULL, way ? part : NULL, room[way], sizeof room[way]);
         more_calls(way, way ? byte : NULL, way ? part : NULL, way ? link : NULL, way ? byte : NULL, 0);

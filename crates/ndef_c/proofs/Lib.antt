@@ -19,6 +19,7 @@ pub mod Handovers
 pub mod HandoverValues
 pub mod Linked
 pub mod LinkParts
+pub mod Listed
 pub mod Made
 pub mod Messages
 pub mod Mixed

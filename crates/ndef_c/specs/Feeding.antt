@@ -49,12 +49,12 @@ pub record FeedsTo (set : Sets) (holds : Conditions) (limits : LimitValues) (byt
   pub checks : ChecksTo set holds limits bytes (checked_status status) out
   pub more : (status ≡ MORE) ↔ ((status ≢ OK) × (out.place ≡ length bytes))
 
--- where no payload is looked into, each is one of its kind, and none is refused for its octets
+-- where no payload is looked into, each is one of its type, and none is refused for its octets
 abbrev pub AnyPayload : Sets
-AnyPayload kind records profile s = AreOctets s
+AnyPayload tnf name records profile s = AreOctets s
 
 abbrev pub NoCondition : Conditions
-NoCondition kind records profile s b = NoReason
+NoCondition tnf name records profile s b = NoReason
 
 -- what is answered of all the bytes so far, where 2 asks for a look into no payload
 pub record AnswersFed (limits : NdefLimits) (bytes : List ℕ) (status : ℕ) (before after : NdefChecked) : Type 0 where

@@ -14,6 +14,7 @@ pub mod HandoverParts
 pub mod HandoverWrites
 pub mod Handovers
 pub mod Icons
+pub mod Items
 pub mod Kinds
 pub mod Links
 pub mod Made

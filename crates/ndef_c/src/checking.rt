@@ -5,7 +5,7 @@ ghost use Rattle.ndef_c.specs.Checks.{ChecksPayloads, ChecksTo, LeavesPayloads, 
 use crate::limits::{NdefLimits, limits_of};
 use crate::refusal::refuse;
 use crate::status::{BAD_ARGUMENT, OK};
-use ndef_lang::{Language, Opaque, OuterLanguage};
+use ndef_lang::{Opaque, RecordLanguage};
 use ndef_message::view;
 use ndef_nest::Typed;
 use ndef_value::Limits;
@@ -23,7 +23,11 @@ pub struct NdefChecked {
 }
 
 /// Checks with the payloads of a language.
-pub(crate) fn check_in<L: OuterLanguage>(bytes: &[u8], limits: Limits, out: &mut NdefChecked) -> u32
+pub(crate) fn check_in<L: RecordLanguage>(
+    bytes: &[u8],
+    limits: Limits,
+    out: &mut NdefChecked,
+) -> u32
     ensures { ChecksTo L.payloads L.reasons limits bytes.now result out.new }
 {
     match view::<L>(bytes, limits) {
@@ -45,10 +49,10 @@ pub extern "C" fn ndef_check(bytes: &[u8], limits: &NdefLimits, out: &mut NdefCh
     ensures bad { result ≡ BAD_ARGUMENT ↔ ¬ MayBeSet limits.now }
     ensures kept { result ≡ BAD_ARGUMENT → out.new ≡ out.old }
     ensures typed { MayBeSet limits.now → ChecksPayloads limits.now
-        → ChecksTo ⟦<Typed as Language>⟧.payloads ⟦<Typed as Language>⟧.reasons (limits_of limits.now)
+        → ChecksTo ⟦<Typed as RecordLanguage>⟧.payloads ⟦<Typed as RecordLanguage>⟧.reasons (limits_of limits.now)
         bytes.now result out.new }
     ensures opaque { MayBeSet limits.now → LeavesPayloads limits.now
-        → ChecksTo ⟦<Opaque as Language>⟧.payloads ⟦<Opaque as Language>⟧.reasons (limits_of limits.now)
+        → ChecksTo ⟦<Opaque as RecordLanguage>⟧.payloads ⟦<Opaque as RecordLanguage>⟧.reasons (limits_of limits.now)
         bytes.now result out.new }
 {
     let Some((limits, looks)) = limits_of(limits) else {

@@ -12,7 +12,7 @@ use crate::checking::NdefChecked;
 use crate::limits::{NdefLimits, limits_of};
 use crate::refusal::{refuse, refused_by};
 use crate::status::{BAD_ARGUMENT, MORE, OK};
-use ndef_lang::{Language, Opaque, OuterLanguage};
+use ndef_lang::{Opaque, RecordLanguage};
 use ndef_message::{Checker, Fed, places_are_told};
 use ndef_nest::Typed;
 use ndef_value::{Reason, Refusal};
@@ -29,19 +29,19 @@ pub(crate) enum Looking {
     Opaque(Checker<Opaque>),
 }
 
-/// A checker in the caller's memory, which keeps no bytes.
+/// A checker in the caller's memory, which keeps no bytes but those of a type that comes in parts.
 #[derive(Drop)]
 pub struct NdefChecker {
     looking: Looking,
 }
 
 // What `include/ndef.h` says of its bytes.
-const _: () = prove!(size_of::<NdefChecker>() <= 232);
+const _: () = prove!(size_of::<NdefChecker>() <= 488);
 
 const _: () = prove!(align_of::<NdefChecker>() == 8);
 
 /// Feeds a checker, and writes what is known of all the bytes that it was fed.
-fn feed<L: OuterLanguage>(checker: &mut Checker<L>, bytes: &[u8], out: &mut NdefChecked) -> u32
+fn feed<L: RecordLanguage>(checker: &mut Checker<L>, bytes: &[u8], out: &mut NdefChecked) -> u32
     ensures { (limits : LimitValues) (front : List ℕ) → WasFed checker.old limits front
         → WasFed checker.new limits (front ++ bytes.now)
         × FeedsTo L.payloads L.reasons limits (front ++ bytes.now) result out.new }
@@ -129,10 +129,10 @@ pub unsafe extern "C" fn ndef_feed(
     ensures bad { result ≡ BAD_ARGUMENT ↔ ¬ MayBeSet so_far.limits }
     ensures kept { result ≡ BAD_ARGUMENT → out.new ≡ out.old }
     ensures typed { MayBeSet so_far.limits → ChecksPayloads so_far.limits
-        → FeedsTo ⟦<Typed as Language>⟧.payloads ⟦<Typed as Language>⟧.reasons (limits_of so_far.limits)
+        → FeedsTo ⟦<Typed as RecordLanguage>⟧.payloads ⟦<Typed as RecordLanguage>⟧.reasons (limits_of so_far.limits)
         (so_far.bytes ++ bytes.now) result out.new }
     ensures opaque { MayBeSet so_far.limits → LeavesPayloads so_far.limits
-        → FeedsTo ⟦<Opaque as Language>⟧.payloads ⟦<Opaque as Language>⟧.reasons (limits_of so_far.limits)
+        → FeedsTo ⟦<Opaque as RecordLanguage>⟧.payloads ⟦<Opaque as RecordLanguage>⟧.reasons (limits_of so_far.limits)
         (so_far.bytes ++ bytes.now) result out.new }
     ensures* fed { ∃ₛ (λ (c : NdefChecker). sem 𝓛 (lies_at NdefCheckers.the_row full_share checker c)
         ∗ ⌜ IsFed c (record so_far { bytes = so_far.bytes ++ bytes.now }) ⌝) }

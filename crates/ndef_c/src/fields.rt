@@ -79,16 +79,18 @@ pub(crate) fn count_of(fields: Fields<'_>) -> usize
     count
 }
 
-/// Writes the fields to the front of the array.
-pub(crate) fn write_fields(fields: Fields<'_>, array: &mut [NdefField])
+/// Writes the fields to the front of the array, and returns how many there are.
+pub(crate) fn write_fields(fields: Fields<'_>, array: &mut [NdefField]) -> usize
     requires { length fields ≤ length array.old }
-    ensures { array.new ≡ set_over (map numbers_of fields.entry) array.old }
+    ensures array { array.new ≡ set_over (map numbers_of fields.entry) array.old }
+    ensures count { result ≡ length fields.entry }
 {
     let mut index = 0;
     for field in fields {
         array[index] = numbers_of(&field);
         index += 1;
     }
+    index
 }
 
 /// Writes the fields of these bytes, a front of a message, where the array has room for them, and sets `count` to their
@@ -100,12 +102,14 @@ fn give_fields(front: &[u8], checked: u32, array: &mut [NdefField], count: &mut 
         × GivesEach told checked array.old array.new count.new result }
 {
     fields_before_are_exact();
-    let needed = count_of(fields_before(front));
-    *count = needed;
-    if array.len() < needed {
-        return NO_ROOM;
+    if array.len() < front.len() {
+        // A field has at least one byte. Only here may there be more than the array takes.
+        *count = count_of(fields_before(front));
+        if array.len() < *count {
+            return NO_ROOM;
+        }
     }
-    write_fields(fields_before(front), array);
+    *count = write_fields(fields_before(front), array);
     checked
 }
 

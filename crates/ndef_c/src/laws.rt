@@ -8,7 +8,7 @@ ghost use Rattle.ndef_c.specs.PosterWrites.{WrittenPostersAreRead};
 ghost use Rattle.ndef_c.specs.Walks.{ChecksAreWalked, OneRecordIsThere};
 ghost use Rattle.ndef_c.specs.Writes.{RecordsMakeAMessage};
 
-use ndef_lang::OuterLanguage;
+use ndef_lang::RecordLanguage;
 use ndef_message::{answers_are_told, views_are_exact, writing_is_spelling};
 use ndef_nest::strict_contents_are_read;
 use ndef_piece::heads_are_apart;
@@ -17,12 +17,12 @@ use ndef_value::one_meaning;
 
 /// What a check takes is walked from place 0 on: its records lie one after another, each where the one before it ends,
 /// and only the last of them is marked as the last.
-pub fn checks_are_walked<L: OuterLanguage>()
+pub fn checks_are_walked<L: RecordLanguage>()
     ensures { ChecksAreWalked L.payloads L.reasons }
 {}
 
 /// A checker that was fed the bytes in any parts answers what a check of them all answers.
-pub fn feeds_are_checks<L: OuterLanguage>()
+pub fn feeds_are_checks<L: RecordLanguage>()
     ensures { FeedsAreChecks L.payloads L.reasons }
 {
     views_are_exact::<L>();
@@ -58,7 +58,7 @@ pub fn held_records_are_a_message()
 
 /// Of a message that a check takes and its handover `ndef_link_at` gives the links that the message has, in their
 /// order, and no more.
-pub fn links_are_told<L: OuterLanguage>()
+pub fn links_are_told<L: RecordLanguage>()
     ensures { LinksAreTold L.payloads L.reasons }
 {
     heads_are_apart();

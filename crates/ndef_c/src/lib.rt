@@ -10,6 +10,7 @@
 //! - `fields.rt`, `field_names.rt`, `payload_fields.rt`, `specs/Fields.antt`: in which field each byte stands.
 //! - `why.rt`, `specs/Whys.antt`: why bytes are refused, and what may help, in sentences. `remarks.rt`,
 //!   `specs/Remarks.antt`: what is strange in a message that is accepted.
+//! - `items.rt`, `specs/Items.antt`: a message and all its records, in one call.
 //! - `finding.rt`, `specs/Finding.antt`: the first record with a type or an id.
 //! - `writing.rt`, `specs/Writes.antt`: a record written. `building.rt`, `specs/Built.antt`, `specs/Growing.antt`: a
 //!   message built in a room. `making.rt`, `specs/Made.antt`, `content.rt`, `specs/Contents.antt`: a record whose
@@ -52,6 +53,7 @@ mod handover_making;
 mod handover_parts;
 mod handover_writing;
 mod icons;
+mod items;
 mod kinds;
 mod laws;
 mod limits;
@@ -128,6 +130,8 @@ pub use handover_writing::SELECT;
 pub use handover_writing::ndef_write_handover;
 pub use icons::NdefIcon;
 pub use icons::ndef_poster_icons;
+pub use items::NdefItem;
+pub use items::ndef_items;
 pub use kinds::ndef_kind;
 pub use laws::appended_records_are_held;
 pub use laws::checks_are_walked;

@@ -23,12 +23,14 @@ fn give_payload_fields(
 {
     // For the proof alone.
     payload_fields_are_exact();
-    let needed = count_of(payload_fields(kind, payload));
-    *count = needed;
-    if array.len() < needed {
-        return NO_ROOM;
+    if array.len() < payload.len() {
+        // A field has at least one byte. Only here may there be more than the array takes.
+        *count = count_of(payload_fields(kind, payload));
+        if array.len() < *count {
+            return NO_ROOM;
+        }
     }
-    write_fields(payload_fields(kind, payload), array);
+    *count = write_fields(payload_fields(kind, payload), array);
     OK
 }
 

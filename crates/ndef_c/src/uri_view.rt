@@ -29,7 +29,7 @@ pub struct NdefUri {
 }
 
 /// The code, and where the rest lies.
-fn uri_at(payload: &[u8]) -> NdefUri
+pub(crate) fn uri_at(payload: &[u8]) -> NdefUri
     requires uri { (profile : Profile) × IsUri profile payload.now }
     requires short { length payload.now < 2 ^ 32 }
     ensures { (profile : Profile) → IsUri profile payload.now → IsUriAt profile payload.now result }

@@ -4,7 +4,7 @@ use Rattle.ndef_c.proofs.feeding.feed.Goals as goal
 
 pub returns-in-More : goal.returns-in-More
 returns-in-More g c = λ limits front h.
-    let L = g.L.Language in
+    let L = g.L.RecordLanguage in
     let bytes = front ++ c.args.bytes.now in
     let fed = c.in-More.ensures.fed limits front h in
     let told = c.in-More.ensures.tells limits front h in
@@ -13,7 +13,7 @@ returns-in-More g c = λ limits front h.
 
 pub returns-in-Done : goal.returns-in-Done
 returns-in-Done g c = λ limits front h.
-    let L = g.L.Language in
+    let L = g.L.RecordLanguage in
     let bytes = front ++ c.args.bytes.now in
     let fed = c.in-Done.ensures.fed limits front h in
     let told = c.in-Done.ensures.tells limits front h in (
@@ -24,7 +24,7 @@ returns-in-Done g c = λ limits front h.
 
 pub returns-in-Refused : goal.returns-in-Refused
 returns-in-Refused g c = λ limits front h.
-    let L = g.L.Language in
+    let L = g.L.RecordLanguage in
     let bytes = front ++ c.args.bytes.now in
     let fed = c.in-Refused.ensures.fed limits front h in
     let told = c.in-Refused.ensures.tells limits front h in

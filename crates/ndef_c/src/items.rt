@@ -1,0 +1,301 @@
+//! A message and all its records, in one call.
+ghost use Rattle.std.specs.Prelude.{◌≡◌, ◌≢◌, ◌+◌, ◌^◌, ◌<◌, ◌≤◌, ◌↔◌, ℕ, List, true, false, length};
+ghost use Rattle.ndef_format.specs.Messages.{run_record};
+ghost use Rattle.ndef_format.specs.Payloads.{IsTypedPayload};
+ghost use Rattle.ndef_format.specs.Texts.{IsText};
+ghost use Rattle.ndef_format.specs.Uris.{IsUri};
+ghost use Rattle.ndef_format.specs.Accepted.{IsMember};
+ghost use Rattle.ndef_format.specs.Limits.{LimitValues};
+ghost use Rattle.ndef_format.specs.declared.kind.Kind.TheVariants as kinds;
+ghost use Rattle.ndef_format.specs.declared.profile.Profile.{Profile};
+ghost use Rattle.ndef_c.specs.Arrays.{set_over};
+ghost use Rattle.ndef_c.specs.Checks.{ChecksPayloads, LeavesPayloads, TakesMessage, limits_of};
+ghost use Rattle.ndef_c.specs.Items.{AreItems, AreTyped, GivesItems, HasValue, IsItemAt, IsTextValue, IsUriValue, IsValueOf, MayHaveItems, MayHaveValue, Repeats, no_value, value_of};
+ghost use Rattle.ndef_c.specs.Kinds.{kind_number};
+ghost use Rattle.ndef_c.specs.Walks.{IsRecordAt};
+ghost use Rattle.ndef_c.specs.declared.items.NdefItem.{NdefItem as Told};
+
+use crate::checking::{NdefChecked, check_in};
+use crate::kinds::ndef_kind;
+use crate::laws::one_record_is_there;
+use crate::limits::{NdefLimits, limits_of};
+use crate::record::{NdefRecord, record_at};
+use crate::status::{BAD_ARGUMENT, NO_ROOM, OK};
+use crate::text::text_at;
+use crate::uri_view::uri_at;
+use ndef_lang::{Kind, Opaque, RecordLanguage};
+use ndef_nest::Typed;
+use ndef_value::Limits;
+
+/// A record, by places and lengths in the bytes. Its id lies between its type and its payload, so at `payload_at` -
+/// `id_length`.
+#[repr(C)]
+#[derive(Clone, Copy, Drop)]
+pub struct NdefItem {
+    /// Where it begins.
+    pub at: u32,
+    /// Where the next one begins.
+    pub end: u32,
+    /// The type name format, 0 to 5.
+    pub tnf: u32,
+    /// The number of its kind, as `ndef_kind` says it of a record in a message of its own.
+    pub kind: u32,
+    /// Where its type begins.
+    pub type_at: u32,
+    /// The bytes of its type, at most 255.
+    pub type_length: u32,
+    /// The bytes of its id, at most 255.
+    pub id_length: u32,
+    /// Where the payload of its first piece begins.
+    pub payload_at: u32,
+    /// The bytes of its payload, the pieces joined.
+    pub payload_length: u32,
+    /// Its pieces.
+    pub pieces: u32,
+    /// 1 for a text in UTF-8, 2 for one in UTF-16, 3 for a URI. 0 for any other record, for one in several pieces, and
+    /// where no payload was looked into: then the members after it are 0.
+    pub form: u32,
+    /// The code of the prefix of a URI, else 0.
+    pub number: u32,
+    /// Where the language code of a text begins, else 0.
+    pub language_at: u32,
+    /// The bytes of the language code of a text, at most 63, else 0.
+    pub language_length: u32,
+    /// Where the text or the rest of the URI begins.
+    pub text_at: u32,
+    /// The bytes of the text or of the rest of the URI.
+    pub text_length: u32,
+}
+
+/// How the value of a record lies in the bytes: the last six members of its item.
+#[derive(Clone, Copy)]
+struct Value {
+    form: u32,
+    number: u32,
+    language_at: u32,
+    language_length: u32,
+    text_at: u32,
+    text_length: u32,
+}
+
+/// No value.
+fn no_value() -> Value
+    ensures { result ≡ no_value }
+{
+    Value {
+        form: 0,
+        number: 0,
+        language_at: 0,
+        language_length: 0,
+        text_at: 0,
+        text_length: 0,
+    }
+}
+
+/// The parts of the text in a payload that begins at a place.
+fn text_value(at: usize, payload: &[u8]) -> Value
+    requires text { IsText payload.now }
+    requires fits { at + length payload.now < 2 ^ 32 }
+    ensures { IsTextValue at payload.now result }
+{
+    let text = text_at(payload);
+    Value {
+        form: 1 + text.utf16,
+        number: 0,
+        language_at: (at + text.language_at) as u32,
+        language_length: text.language_length as u32,
+        text_at: (at + text.text_at) as u32,
+        text_length: text.text_length as u32,
+    }
+}
+
+/// The code and the rest of the URI in a payload that begins at a place.
+fn uri_value(at: usize, payload: &[u8]) -> Value
+    requires uri { (profile : Profile) × IsUri profile payload.now }
+    requires fits { at + length payload.now < 2 ^ 32 }
+    ensures { (profile : Profile) → IsUri profile payload.now → IsUriValue profile at payload.now result }
+{
+    let uri = uri_at(payload);
+    Value {
+        form: 3,
+        number: uri.code,
+        language_at: 0,
+        language_length: 0,
+        text_at: (at + uri.rest_at) as u32,
+        text_length: uri.rest_length as u32,
+    }
+}
+
+/// The value of a payload of a kind that begins at a place.
+fn value_in(kind: u32, at: usize, payload: &[u8]) -> Value
+    requires may { MayHaveValue kind payload.now }
+    requires fits { at + length payload.now < 2 ^ 32 }
+    ensures { (profile : Profile) → (kind ≡ kind_number kinds.Uri → IsUri profile payload.now)
+        → IsValueOf profile kind at payload.now result }
+{
+    if kind == Kind::Text as u32 {
+        text_value(at, payload)
+    } else if kind == Kind::Uri as u32 {
+        uri_value(at, payload)
+    } else {
+        no_value()
+    }
+}
+
+/// The value of a record of a kind.
+fn value_at(bytes: &[u8], found: &NdefRecord, kind: u32, looks: bool) -> Value
+    requires short { length bytes.now < 2 ^ 32 }
+    requires found { (at : ℕ) × (r : IsRecordAt bytes.now at found.now)
+        × (looks ≡ true → MayHaveValue kind (run_record r.run).payload) }
+    ensures { (profile : Profile) (at : ℕ) → (r : IsRecordAt bytes.now at found.now)
+        → (looks ≡ true → kind ≡ kind_number kinds.Uri → IsUri profile (run_record r.run).payload)
+        → HasValue looks profile kind found.now.payload_at found.now.pieces (run_record r.run).payload result }
+{
+    if !looks || found.pieces != 1 {
+        return no_value();
+    }
+    let (_before, from) = bytes.split_at(found.payload_at);
+    value_in(kind, found.payload_at, &from[..found.part_length])
+}
+
+/// The record in 32 bits for each number, with its kind and its value.
+fn in_words(found: &NdefRecord, kind: u32, value: &Value) -> NdefItem
+    requires places { found.now.end < 2 ^ 32 }
+    requires onward { found.now.at < found.now.end }
+    requires kind { found.now.type_at + found.now.type_length < 2 ^ 32 }
+    requires id { found.now.id_length < 2 ^ 32 }
+    requires payload { found.now.payload_at < 2 ^ 32 }
+    requires joined { found.now.payload_length < 2 ^ 32 }
+    requires pieces { found.now.pieces < 2 ^ 32 }
+    ensures repeats { Repeats found.now result }
+    ensures kind { result.kind ≡ kind }
+    ensures value { value_of result ≡ value.now }
+{
+    NdefItem {
+        at: found.at as u32,
+        end: found.end as u32,
+        tnf: found.tnf,
+        kind,
+        type_at: found.type_at as u32,
+        type_length: found.type_length as u32,
+        id_length: found.id_length as u32,
+        payload_at: found.payload_at as u32,
+        payload_length: found.payload_length as u32,
+        pieces: found.pieces as u32,
+        form: value.form,
+        number: value.number,
+        language_at: value.language_at,
+        language_length: value.language_length,
+        text_at: value.text_at,
+        text_length: value.text_length,
+    }
+}
+
+/// The item of a record.
+fn item_of(bytes: &[u8], found: &NdefRecord, looks: bool) -> NdefItem
+    requires short { length bytes.now < 2 ^ 32 }
+    requires found { (at : ℕ) × (r : IsRecordAt bytes.now at found.now)
+        × (looks ≡ true → (limits : LimitValues) × IsMember IsTypedPayload limits (run_record r.run)) }
+    ensures { (limits : LimitValues) (at : ℕ) → (r : IsRecordAt bytes.now at found.now)
+        → (looks ≡ true → IsMember IsTypedPayload limits (run_record r.run))
+        → IsItemAt looks limits.profile bytes.now at r.run result }
+{
+    let kind = ndef_kind(bytes, found, 0);
+    let value = value_at(bytes, found, kind, looks);
+    in_words(found, kind, &value)
+}
+
+/// Writes the records of a message that a check took to the front of the array.
+fn tell_items<L: RecordLanguage>(
+    bytes: &[u8],
+    limits: Limits,
+    looks: bool,
+    checked: &NdefChecked,
+    items: &mut [NdefItem],
+)
+    requires short { length bytes.now < 2 ^ 32 }
+    requires typed { looks ≡ true → AreTyped L.payloads }
+    requires message { TakesMessage L.payloads L.reasons limits bytes.now checked.now }
+    requires room { checked.now.records ≤ length items.old }
+    ensures { (t : TakesMessage L.payloads L.reasons limits bytes.now checked.now)
+        × (told : List Told) × AreItems looks limits.profile bytes.now 0 t.viewed.runs told checked.now.place
+        × (length told ≡ length t.viewed.runs) × (items.new ≡ set_over told items.old) }
+{
+    one_record_is_there();
+    let records = checked.records as usize;
+    let mut at = 0;
+    let mut index = 0;
+    while index < records {
+        let Some(found) = record_at(bytes, at) else {
+            unreachable!()
+        };
+        items[index] = item_of(bytes, &found, looks);
+        at = found.end;
+        index += 1;
+    }
+}
+
+/// Checks with the payloads of a language, and gives the records where there is room for them.
+fn give_items<L: RecordLanguage>(
+    bytes: &[u8],
+    limits: Limits,
+    looks: bool,
+    out: &mut NdefChecked,
+    items: &mut [NdefItem],
+) -> u32
+    requires short { length bytes.now < 2 ^ 32 }
+    requires typed { looks ≡ true → AreTyped L.payloads }
+    ensures gives { GivesItems looks L.payloads L.reasons limits bytes.now items.old items.new result out.new }
+    ensures kept { result ≢ OK → items.new ≡ items.old }
+    ensures good { result ≢ BAD_ARGUMENT }
+{
+    let checked = check_in::<L>(bytes, limits, out);
+    if checked != OK {
+        return checked;
+    }
+    if items.len() < out.records as usize {
+        return NO_ROOM;
+    }
+    tell_items::<L>(bytes, limits, looks, out, items);
+    OK
+}
+
+/// Checks the message with which the bytes begin, and gives all its records. `out` becomes what `ndef_check` makes of
+/// it. Each item has what `ndef_record_at` gives at its `at`, and the kind that `ndef_kind` says for a message of its
+/// own; the items are in the order of the records, and those after them are unchanged. Under NDEF_OPAQUE no item has a
+/// form. A call with no items says how many there are.
+///
+/// - `OK`: the first `out->records` items are the records of the message.
+/// - `NO_ROOM`: the message is accepted, and there are fewer than `out->records` items; they are unchanged.
+/// - `REFUSED`: the items are unchanged.
+/// - `BAD_ARGUMENT`: a limit is out of range, an unknown flag is set, or `length` is above 4294967295; nothing is
+///   written.
+#[unsafe(no_mangle)]
+pub extern "C" fn ndef_items(
+    bytes: &[u8],
+    limits: &NdefLimits,
+    out: &mut NdefChecked,
+    items: &mut [NdefItem],
+) -> u32
+    ensures bad { result ≡ BAD_ARGUMENT ↔ ¬ MayHaveItems limits.now bytes.now }
+    ensures kept { result ≡ BAD_ARGUMENT → out.new ≡ out.old }
+    ensures unchanged { result ≢ OK → items.new ≡ items.old }
+    ensures typed { MayHaveItems limits.now bytes.now → ChecksPayloads limits.now
+        → GivesItems true ⟦<Typed as RecordLanguage>⟧.payloads ⟦<Typed as RecordLanguage>⟧.reasons
+        (limits_of limits.now) bytes.now items.old items.new result out.new }
+    ensures opaque { MayHaveItems limits.now bytes.now → LeavesPayloads limits.now
+        → GivesItems false ⟦<Opaque as RecordLanguage>⟧.payloads ⟦<Opaque as RecordLanguage>⟧.reasons
+        (limits_of limits.now) bytes.now items.old items.new result out.new }
+{
+    if bytes.len() > 4294967295 {
+        return BAD_ARGUMENT;
+    }
+    let Some((limits, looks)) = limits_of(limits) else {
+        return BAD_ARGUMENT;
+    };
+    if looks {
+        give_items::<Typed>(bytes, limits, true, out, items)
+    } else {
+        give_items::<Opaque>(bytes, limits, false, out, items)
+    }
+}
