@@ -29,10 +29,10 @@ few = record { payload = 4294967295; records = 64; pieces = 65535; profile = Sta
 
 -- NDEF 1.0, messages: such a message with which the bytes begin; none where there is none
 abbrev pub BeginsWithFew : List ℕ → Option Viewed → Type 0
-BeginsWithFew bytes (Some message) = IsViewOf (λ kind records profile. AreOctets) few bytes message
+BeginsWithFew bytes (Some message) = IsViewOf (λ tnf name records profile. AreOctets) few bytes message
 BeginsWithFew bytes None =
     (refusal : Refusal)
-    × Refuses (λ kind records profile. AreOctets) (λ kind records profile s b. NoReason) few bytes refusal
+    × Refuses (λ tnf name records profile. AreOctets) (λ tnf name records profile s b. NoReason) few bytes refusal
 
 -- ---- ids
 

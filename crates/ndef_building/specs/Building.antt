@@ -1,6 +1,6 @@
 -- Messages within payloads, made record by record (NFC Forum, RTD Smart Poster 1.0 and Connection
 -- Handover 1.2).
-use Rattle.std.specs.Prelude.{◌≡◌, ◌⊎◌, ◌^◌, ◌<◌, ◌≤◌, ◌++◌, ◌∷◌, ℕ, List, [], length, Option, Some, None, Result, Ok, Err}
+use Rattle.std.specs.Prelude.{◌≡◌, ◌⊎◌, ◌^◌, ◌<◌, ◌≤◌, ◌∷◌, ℕ, List, [], length, IsAscii, Option, Some, None, Result, Ok, Err}
 use Rattle.std.specs.Int.{w16, w32, to_be_bytes}
 use Rattle.ndef_format.specs.Kinds.{kind_name}
 use Rattle.ndef_format.specs.Messages.{Item}
@@ -8,15 +8,15 @@ use Rattle.ndef_format.specs.Nested.{HasContents}
 use Rattle.ndef_format.specs.declared.kind.Kind.{Kind}
 use Rattle.ndef_format.specs.declared.kind.Kind.TheVariants as kinds
 use Rattle.ndef_format.specs.declared.profile.Profile.TheVariants.{Strict}
-use Rattle.ndef_format.specs.declared.table.Table.{Table}
 use Rattle.ndef_format.specs.declared.table.Table.TheVariants as tables
 use Rattle.ndef_format.specs.declared.tnf.Tnf.TheVariants.{WellKnown}
 use Rattle.ndef_value.specs.declared.name.NameError.{NameError}
 use Rattle.ndef_value.specs.declared.name.NameError.TheVariants as names
 use Rattle.ndef_types.specs.Contents.{IsFirstWrong}
+use Rattle.ndef_types.specs.Decoding.{IsTooLong}
 use Rattle.ndef_types.specs.Handovers.{RequestValue, SelectValue}
 use Rattle.ndef_types.specs.Posters.{LacksUri}
-use Rattle.ndef_types.specs.Values.{AcValue, ac_payload}
+use Rattle.ndef_types.specs.Values.{AcValue, TextValue, WritesUri, ac_payload, text_payload}
 use Rattle.ndef_types.specs.declared.action.Action.{Action}
 use Rattle.ndef_types.specs.declared.action.Action.TheVariants as actions
 use Rattle.ndef_types.specs.declared.error.EncodeError.{EncodeError}
@@ -69,6 +69,31 @@ abbrev pub FailsToAdd : (length : ℕ) → BuildError → Type 0
 FailsToAdd length errors.TooLong = 2 ^ 32 ≤ length
 FailsToAdd length errors.NoMemory = length < 2 ^ 32
 FailsToAdd length _ = ⊥
+
+-- Connection Handover 1.2, Alternative Carrier record: why a carrier with this reference isn't added
+abbrev pub FailsToCarry : (reference : List ℕ) → BuildError → Type 0
+FailsToCarry reference errors.TooLong = 255 < length reference
+FailsToCarry reference errors.NoMemory = length reference ≤ 255
+FailsToCarry reference _ = ⊥
+
+-- RTD URI 1.0: why a URI isn't added
+abbrev pub FailsToLead : (uri : List ℕ) → BuildError → Type 0
+FailsToLead uri errors.TooLong = IsTooLong WritesUri uri
+FailsToLead uri errors.NoMemory = IsTooLong WritesUri uri → ⊥
+FailsToLead uri _ = ⊥
+
+-- RTD Text 1.0: the language code is too long, or it is ASCII and the payload is too long
+abbrev pub IsLongText : TextValue → Type 0
+IsLongText v =
+    (63 < length v.language) ⊎ (IsAscii v.language × (2 ^ 32 ≤ length (text_payload v)))
+
+-- RTD Text 1.0: why a title isn't added
+abbrev pub FailsToSay : TextValue → BuildError → Type 0
+FailsToSay v errors.TooLong = IsLongText v
+FailsToSay v errors.NotAscii = (length v.language ≤ 63) × (IsAscii v.language → ⊥)
+FailsToSay v errors.NoMemory =
+    (length v.language ≤ 63) × IsAscii v.language × (length (text_payload v) < 2 ^ 32)
+FailsToSay v _ = ⊥
 
 -- ---- values
 

@@ -1,17 +1,20 @@
 //! Records of a message within a payload, added one by one.
-ghost use Rattle.std.specs.Prelude.{◌≡◌, ◌↔◌, ◌<◌, ◌≤◌, ◌^◌, ◌++◌, ◌∷◌, ℕ, List, [], length, chars, IfErr, IfNone, IfOk, IfSome, IsAscii, IsErrOf};
+ghost use Rattle.std.specs.Prelude.{◌≡◌, ◌↔◌, ◌<◌, ◌≤◌, ◌^◌, ◌++◌, ◌∷◌, ℕ, List, [], length, chars, IfErr, IfNone, IfOk, IfSome, IsAscii, IsErrOf, IsTrue, OnErr, vec_capacity, vec_len};
 ghost use Rattle.ndef_format.specs.Kinds.{kind_name};
 ghost use Rattle.ndef_format.specs.declared.kind.Kind.TheVariants as kinds;
 ghost use Rattle.ndef_types.specs.Decoding.{IsTooLong};
 ghost use Rattle.ndef_types.specs.Values.{WritesUri, text_payload};
-ghost use Rattle.ndef_building.specs.Building.{BuildsPoster, BuildsRequest, BuildsSelect, FailsToAdd, IsNoCount};
+ghost use Rattle.ndef_building.specs.Building.{BuildsPoster, BuildsRequest, BuildsSelect, FailsToAdd, FailsToCarry, FailsToLead, FailsToSay, IsLongText, IsNoCount};
 ghost use Rattle.ndef_building.specs.Building.{action_item, action_octet, carrier_item, collision_item, kind_item, size_item};
 ghost use Rattle.ndef_building.specs.declared.error.BuildError.TheVariants as errors;
 
 use crate::BuildError;
 use ndef_format::Kind;
-use ndef_types::{Ac, Action, Encoding, Power, Request, Select, SmartPoster, Text, Uri};
-use ndef_value::{Bytes, Message, MessageError, Name, Record, RecordError, Tnf};
+use ndef_types::{
+    Ac, Action, Encoding, Power, Request, Select, SmartPoster, Text, Uri, split, units_len,
+    uris_are_exact,
+};
+use ndef_value::{Bytes, MOST_PAYLOAD, Message, MessageError, Name, Record, RecordError, Tnf};
 use std::alloc::Global;
 
 /// Builds a smart poster, a handover request or a handover select, record by record. Each call adds a record after the
@@ -33,6 +36,28 @@ fn action_octet(action: Action) -> u8
         Action::Open => 2,
         Action::Other(octet) => octet,
     }
+}
+
+/// Whether the payload of a title has at most 4294967295 bytes.
+fn text_fits(encoding: Encoding, language: &str, text: &str) -> bool
+    requires { length language.now ≤ 63 }
+    ensures { IsTrue result ↔ (length (text_payload
+        (record { encoding = encoding; language = language.now; text = chars text.now })) < 2 ^ 32) }
+{
+    let most = MOST_PAYLOAD as usize - 1 - language.len();
+    match encoding {
+        Encoding::Utf8 => text.len() <= most,
+        Encoding::Utf16 => units_len(text) <= (most as u64 - 2) / 2,
+    }
+}
+
+/// Whether the payload of a URI has at most 4294967295 bytes.
+fn uri_fits(uri: &str) -> bool
+    ensures { ¬ IsTrue result ↔ IsTooLong WritesUri uri.now }
+{
+    // For the proof alone.
+    uris_are_exact();
+    split(uri).1.len() < MOST_PAYLOAD as usize
 }
 
 /// The message of the records; none where there are none, or more than 65535.
@@ -58,10 +83,11 @@ impl Builder {
         }
     }
 
-    /// Adds any record.
+    /// Adds any record. `NoMemory` comes only where a record is added for which there is no room yet.
     pub fn record(self, item: Record) -> Result<Builder, BuildError>
         ensures added { IfOk result (λ b. b.records.items ≡ self.records.items ++ item ∷ []) }
         ensures fault { IfErr result (λ error. error ≡ errors.NoMemory) }
+        ensures full { OnErr result (vec_capacity self.records ≤ vec_len self.records) }
     {
         let mut records = self.records;
         records.push(item)?;
@@ -92,6 +118,7 @@ impl Builder {
         ensures added { IfOk result
             (λ b. b.records.items ≡ self.records.items ++ carrier_item power reference.now ∷ []) }
         ensures too_long { IsErrOf result BuildError.TooLong ↔ (255 < length reference.now) }
+        ensures fault { IfErr result (FailsToCarry reference.now) }
     {
         let reference = Name::from_slice(self.alloc, reference)?;
         match Ac::new(
@@ -122,14 +149,18 @@ impl Builder {
     pub fn uri(self, uri: &str) -> Result<Builder, BuildError>
         ensures added { IfOk result (λ b. (payload : List ℕ) × WritesUri uri.now payload
             × (b.records.items ≡ self.records.items ++ kind_item kinds.Uri payload ∷ [])) }
-        ensures too_long { IsErrOf result BuildError.TooLong → IsTooLong WritesUri uri.now }
+        ensures too_long { IsErrOf result BuildError.TooLong ↔ IsTooLong WritesUri uri.now }
+        ensures fault { IfErr result (FailsToLead uri.now) }
     {
+        if !uri_fits(uri) {
+            return Err(BuildError::TooLong);
+        }
         let payload = Uri::new(self.alloc, uri)?.encode(self.alloc)?;
         self.of_kind(Kind::Uri, payload.as_slice())
     }
 
-    /// Adds a title (RTD Text 1.0). `TooLong` for a language code of more than 63 bytes or a payload that is too long,
-    /// `NotAscii` for a language code that isn't ASCII, else `NoMemory`.
+    /// Adds a title (RTD Text 1.0). `TooLong` for a language code of more than 63 bytes, `NotAscii` for one that isn't
+    /// ASCII, `TooLong` for a payload that is too long, else `NoMemory`.
     pub fn title(
         self,
         encoding: Encoding,
@@ -138,9 +169,22 @@ impl Builder {
     ) -> Result<Builder, BuildError>
         ensures added { IfOk result (λ b. b.records.items ≡ self.records.items ++ kind_item kinds.Text (text_payload
             (record { encoding = encoding; language = language.now; text = chars text.now })) ∷ []) }
+        ensures too_long { IsErrOf result BuildError.TooLong ↔ IsLongText
+            (record { encoding = encoding; language = language.now; text = chars text.now }) }
         ensures not_ascii { IsErrOf result BuildError.NotAscii
             ↔ ((length language.now ≤ 63) × ¬ IsAscii language.now) }
+        ensures fault { IfErr result
+            (FailsToSay (record { encoding = encoding; language = language.now; text = chars text.now })) }
     {
+        if language.len() > 63 {
+            return Err(BuildError::TooLong);
+        }
+        if !language.is_ascii() {
+            return Err(BuildError::NotAscii);
+        }
+        if !text_fits(encoding, language, text) {
+            return Err(BuildError::TooLong);
+        }
         let payload = Text::new(self.alloc, encoding, language, text)?.encode(self.alloc)?;
         self.of_kind(Kind::Text, payload.as_slice())
     }

@@ -35,11 +35,11 @@ impl BufRead for SlowReader<'_> {
     }
 }
 
-/// A reader that shows its bytes once, and fails from then on.
+/// A reader that shows its bytes up to the first call of `consume`, and fails from then on.
 #[derive(Drop)]
 pub struct OnceReader<'a> {
     pub bytes: &'a [u8],
-    pub shown: bool,
+    pub consumed: bool,
 }
 
 impl Read for OnceReader<'_> {
@@ -54,14 +54,14 @@ impl Read for OnceReader<'_> {
 
 impl BufRead for OnceReader<'_> {
     fn fill_buf(&mut self) -> io::Result<&[u8]> {
-        if self.shown {
+        if self.consumed {
             return Err(io::Error::from(io::ErrorKind::Interrupted));
         }
-        self.shown = true;
         Ok(self.bytes)
     }
 
     fn consume(&mut self, amount: usize) {
+        self.consumed = true;
         let count = amount.min(self.bytes.len());
         self.bytes = &self.bytes[count..];
     }

@@ -4,7 +4,7 @@ ghost use Rattle.std.specs.Prelude.{◌<◌};
 
 use ndef_cases::case::Answer;
 use ndef_cases::streams::SlowReader;
-use ndef_lang::OuterLanguage;
+use ndef_lang::RecordLanguage;
 use ndef_message::{
     CheckError, Checker, Decoder, Event, Fed, ReadError, SliceSource, Source, StdSource,
     check_message, read_message, view,
@@ -56,7 +56,7 @@ fn cut_at(bytes: &[u8], place: usize) -> (&[u8], &[u8]) {
 }
 
 /// What a checker answers to one part more, if it answers.
-fn fed<L: OuterLanguage>(checker: &mut Checker<L>, part: &[u8]) -> Option<Answer> {
+fn fed<L: RecordLanguage>(checker: &mut Checker<L>, part: &[u8]) -> Option<Answer> {
     match checker.feed(part) {
         Fed::More => None,
         Fed::Done { .. } => Some(Ok(checker.place())),
@@ -65,7 +65,7 @@ fn fed<L: OuterLanguage>(checker: &mut Checker<L>, part: &[u8]) -> Option<Answer
 }
 
 /// What a checker answers; nothing where it doesn't take what ends to have ended.
-pub(super) fn checked<L: OuterLanguage>(
+pub(super) fn checked<L: RecordLanguage>(
     limits: Limits,
     bytes: &[u8],
     parts: Parts,
@@ -91,7 +91,7 @@ enum Progress {
     Failed,
 }
 
-fn hand<L: OuterLanguage>(decoder: &mut Decoder<L>, part: &[u8]) -> Progress {
+fn hand<L: RecordLanguage>(decoder: &mut Decoder<L>, part: &[u8]) -> Progress {
     let mut rest = part;
     for _ in 0..=part.len() {
         let (count, event) = decoder.feed(rest);
@@ -107,7 +107,7 @@ fn hand<L: OuterLanguage>(decoder: &mut Decoder<L>, part: &[u8]) -> Progress {
     Progress::Failed
 }
 
-fn hand_parts<L: OuterLanguage>(decoder: &mut Decoder<L>, bytes: &[u8], parts: Parts) -> Progress {
+fn hand_parts<L: RecordLanguage>(decoder: &mut Decoder<L>, bytes: &[u8], parts: Parts) -> Progress {
     let (front, rest) = cut_at(bytes, parts.first);
     let mut progress = hand(decoder, front);
     for part in rest.chunks(parts.size) {
@@ -119,7 +119,7 @@ fn hand_parts<L: OuterLanguage>(decoder: &mut Decoder<L>, bytes: &[u8], parts: P
 }
 
 /// What a decoder answers; nothing where memory runs out, or where it says that the message hasn't ended where it ends.
-pub(super) fn decoded<L: OuterLanguage>(
+pub(super) fn decoded<L: RecordLanguage>(
     alloc: Global,
     limits: Limits,
     bytes: &[u8],
@@ -133,7 +133,7 @@ pub(super) fn decoded<L: OuterLanguage>(
     }
 }
 
-fn read_from<L: OuterLanguage, S: Source>(
+fn read_from<L: RecordLanguage, S: Source>(
     alloc: Global,
     limits: Limits,
     source: &mut S,
@@ -145,7 +145,7 @@ fn read_from<L: OuterLanguage, S: Source>(
     }
 }
 
-fn check_from<L: OuterLanguage, S: Source>(limits: Limits, source: &mut S) -> Option<Answer> {
+fn check_from<L: RecordLanguage, S: Source>(limits: Limits, source: &mut S) -> Option<Answer> {
     match check_message::<L, S>(source, limits) {
         Ok(checked) => Some(Ok(checked.taken)),
         Err(CheckError::Refused(refusal)) => Some(Err(refusal)),
@@ -154,7 +154,7 @@ fn check_from<L: OuterLanguage, S: Source>(limits: Limits, source: &mut S) -> Op
 }
 
 /// What reading answers, from a source that shows the bytes whole.
-pub(super) fn read_whole<L: OuterLanguage>(
+pub(super) fn read_whole<L: RecordLanguage>(
     alloc: Global,
     limits: Limits,
     bytes: &[u8],
@@ -163,12 +163,12 @@ pub(super) fn read_whole<L: OuterLanguage>(
 }
 
 /// What a view answers, which looks at the bytes whole.
-pub(super) fn viewed<L: OuterLanguage>(limits: Limits, bytes: &[u8]) -> Option<Answer> {
+pub(super) fn viewed<L: RecordLanguage>(limits: Limits, bytes: &[u8]) -> Option<Answer> {
     Some(view::<L>(bytes, limits).map(|view| view.taken()))
 }
 
 /// Whether the bytes, in two parts, are answered so.
-fn is_answered_in_two<L: OuterLanguage>(
+fn is_answered_in_two<L: RecordLanguage>(
     alloc: Global,
     limits: Limits,
     bytes: &[u8],
@@ -195,7 +195,7 @@ pub(super) fn step_of(length: usize, most: usize) -> usize {
 }
 
 /// Whether the bytes are answered so whole, in each two parts (of long messages in some) and byte by byte.
-pub(super) fn is_answered<L: OuterLanguage>(
+pub(super) fn is_answered<L: RecordLanguage>(
     alloc: Global,
     limits: Limits,
     bytes: &[u8],
@@ -218,7 +218,7 @@ pub(super) fn is_answered<L: OuterLanguage>(
 }
 
 /// Whether checking the bytes whole and byte by byte, reading and viewing them have one answer.
-pub(super) fn is_agreed<L: OuterLanguage>(alloc: Global, limits: Limits, bytes: &[u8]) -> bool {
+pub(super) fn is_agreed<L: RecordLanguage>(alloc: Global, limits: Limits, bytes: &[u8]) -> bool {
     let answer = checked::<L>(limits, bytes, WHOLE);
     answer.is_some()
         && checked::<L>(limits, bytes, BYTES) == answer
@@ -227,7 +227,7 @@ pub(super) fn is_agreed<L: OuterLanguage>(alloc: Global, limits: Limits, bytes: 
 }
 
 /// Whether the bytes can go on, and a decoder holds that many of them.
-pub(super) fn is_held<L: OuterLanguage>(
+pub(super) fn is_held<L: RecordLanguage>(
     alloc: Global,
     limits: Limits,
     bytes: &[u8],

@@ -2,7 +2,7 @@
 use super::doors::{is_agreed, is_answered, is_held, step_of};
 use ndef_cases::case::{Case, case_of, is_in};
 use ndef_cases::records::{are_shown, are_told};
-use ndef_lang::{Kind, Language, Leaf, Opaque, OuterLanguage};
+use ndef_lang::{Kind, Language, Leaf, Opaque, RecordLanguage};
 use ndef_message::{SliceSource, StdSink, read_message, view};
 use ndef_nest::Typed;
 use ndef_tool::run;
@@ -16,14 +16,14 @@ pub(super) type Wrong = Option<&'static str>;
 const MOST_REPLACED: usize = 24;
 
 /// The message that is read.
-fn message_in<L: OuterLanguage>(alloc: Global, case: &Case<'_>) -> Option<Message> {
+fn message_in<L: RecordLanguage>(alloc: Global, case: &Case<'_>) -> Option<Message> {
     let mut source = SliceSource::whole(case.bytes.as_slice());
     let read = read_message::<L, _>(alloc, &mut source, case.limits).ok()?;
     Some(read.message)
 }
 
 /// Whether the records that are read, and those that are viewed, are those of the case.
-fn has_records<L: OuterLanguage>(
+fn has_records<L: RecordLanguage>(
     alloc: Global,
     case: &Case<'_>,
     message: &Message,
@@ -34,10 +34,16 @@ fn has_records<L: OuterLanguage>(
 
 /// Whether the quick test says of each payload that it is one of its type. No contract asks for that: a test
 /// that always says no is right too, but slow.
-fn are_seen_at_once<L: OuterLanguage>(limits: Limits, message: &Message) -> bool {
+fn are_seen_at_once<L: RecordLanguage>(limits: Limits, message: &Message) -> bool {
     for record in message.records() {
-        let kind = Kind::of(record.tnf(), record.kind());
-        if !L::has(kind, limits.records(), limits.profile(), record.payload()) {
+        let (tnf, name) = (record.tnf(), record.kind());
+        if !L::has(
+            tnf,
+            name,
+            limits.records(),
+            limits.profile(),
+            record.payload(),
+        ) {
             return false;
         }
     }
@@ -48,7 +54,7 @@ fn are_seen_at_once<L: OuterLanguage>(limits: Limits, message: &Message) -> bool
 const MOST_FRONTS: usize = 8;
 
 /// Whether each proper front of a message (of a long one some) is refused where it ends.
-fn are_fronts<L: OuterLanguage>(alloc: Global, limits: Limits, message: &[u8]) -> bool {
+fn are_fronts<L: RecordLanguage>(alloc: Global, limits: Limits, message: &[u8]) -> bool {
     let step = step_of(message.len(), MOST_FRONTS);
     for count in 0..message.len() {
         let refusal = Refusal {
@@ -74,7 +80,7 @@ fn replaced(alloc: Global, bytes: &[u8], place: usize, byte: u8) -> Option<Vec<u
 }
 
 /// Whether the doors agree on the bytes with each other byte at this place.
-fn agree_on_each<L: OuterLanguage>(
+fn agree_on_each<L: RecordLanguage>(
     alloc: Global,
     limits: Limits,
     bytes: &[u8],
@@ -90,7 +96,7 @@ fn agree_on_each<L: OuterLanguage>(
 }
 
 /// Whether the doors agree on few bytes with each other byte at each place.
-fn agree_near<L: OuterLanguage>(alloc: Global, limits: Limits, bytes: &[u8]) -> Option<bool> {
+fn agree_near<L: RecordLanguage>(alloc: Global, limits: Limits, bytes: &[u8]) -> Option<bool> {
     if bytes.len() > MOST_REPLACED {
         return Some(true);
     }
@@ -103,7 +109,7 @@ fn agree_near<L: OuterLanguage>(alloc: Global, limits: Limits, bytes: &[u8]) -> 
 }
 
 /// What is wrong with an accepted case, if anything is.
-fn wrong_with_accepted<L: OuterLanguage>(
+fn wrong_with_accepted<L: RecordLanguage>(
     alloc: Global,
     case: &Case<'_>,
     taken: u64,
@@ -127,7 +133,7 @@ fn wrong_with_accepted<L: OuterLanguage>(
 }
 
 /// What is wrong with a case in a language, if anything is.
-fn wrong_in<L: OuterLanguage>(alloc: Global, case: &Case<'_>) -> Option<Wrong> {
+fn wrong_in<L: RecordLanguage>(alloc: Global, case: &Case<'_>) -> Option<Wrong> {
     let bytes = case.bytes.as_slice();
     if !is_answered::<L>(alloc, case.limits, bytes, case.answer) {
         return Some(Some("another answer"));

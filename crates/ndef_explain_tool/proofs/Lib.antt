@@ -1,4 +1,5 @@
 pub mod Asking
+pub mod Digits
 pub mod Dumps
 pub mod EndedRecords
 pub mod Ends

@@ -1,7 +1,7 @@
 -- Hexadecimal text, and the bytes for which it stands.
-use Rattle.std.specs.Prelude.{◌≡◌, ◌+◌, ◌==◌, ◌&&◌, ◌||◌, not, ℕ, Bool, List, [], ◌∷◌, Option, Some, None, Result, Ok, Err, ⊤, codes, drop, nat_eq, nat_le, if◌then◌else◌}
+use Rattle.std.specs.Prelude.{◌≡◌, ◌+◌, ◌==◌, ◌&&◌, ◌||◌, ◌<◌, not, ℕ, Bool, true, false, List, [], ◌∷◌, Option, Some, None, Result, Ok, Err, codes, drop, length, nat_eq, nat_le, if◌then◌else◌}
 use Rattle.std.specs.List.{before_first, flat_map, list_all, list_any, prefix_len, slice_split, starts_with}
-use Rattle.hex.specs.Hex.{decode_of}
+use Rattle.hex.specs.Hex.{decode_of, is_hex_digit}
 use Rattle.hex.specs.declared.error.FromHexError.{FromHexError}
 use Rattle.ndef_program.specs.Endings.{fault_of}
 use Rattle.ndef_program.specs.Quoting.{Text}
@@ -9,6 +9,7 @@ use Rattle.ndef_program.specs.declared.ending.Ending.TheVariants.{Hex, Memory}
 use Rattle.ndef_explain_tool.specs.Lines.{lines_of}
 use Rattle.ndef_explain_tool.specs.declared.inputs.Unread.{Unread}
 use Rattle.ndef_explain_tool.specs.declared.inputs.Unread.TheVariants as unread
+use Rattle.ndef_explain_tool.specs.declared.hexadecimal.Looked.{Looked}
 use Rattle.ndef_explain_tool.specs.declared.hexadecimal.Layout.{Layout}
 use Rattle.ndef_explain_tool.specs.declared.hexadecimal.Layout.TheVariants as layout
 
@@ -82,6 +83,25 @@ line_digits layout.Hexdump line = hexdump_digits line
 abbrev pub digits_of : Text → List ℕ
 digits_of text = flat_map (line_digits (layout_by (first_line text))) (lines_of text)
 
+-- ---- digits for which there is no memory
+
+-- no digits were looked at
+abbrev pub nothing : Looked
+nothing = record { count = 0; bad = None }
+
+-- the place of the first that is no digit, one after others
+abbrev pub bad_after : Option ℕ → Bool → (count : ℕ) → Option ℕ
+bad_after (Some place) good count = Some place
+bad_after None true count = None
+bad_after None false count = Some count
+
+-- one more was looked at
+abbrev pub look : Looked → ℕ → Looked
+look looked byte = record {
+  count = looked.count + 1;
+  bad = bad_after looked.bad (is_hex_digit byte) looked.count;
+}
+
 -- ---- lines of `xxd` without a place
 
 -- a line of a dump by `xxd`: a place, a colon and a space; or a line of separators alone
@@ -106,12 +126,14 @@ unplaced_line text = unplaced_in (layout_by (first_line text)) text
 
 -- ---- the bytes for which a text stands
 
--- the bytes for which the digits of a text stand, or what is wrong with the digits, of which places count
+-- the bytes for which the digits of a text stand, or what is wrong with the digits, of which places count, or that
+-- there was no memory for these bytes
 abbrev pub StandsByDigits : (digits : List ℕ) → Result (List ℕ) Unread → Type 0
 StandsByDigits digits (Ok bytes) = decode_of digits ≡ Ok bytes
 StandsByDigits digits (Err (unread.Ends (Hex fault))) = (error : FromHexError) × (decode_of digits ≡ Err error)
     × (fault ≡ fault_of error)
-StandsByDigits digits (Err (unread.Ends Memory)) = ⊤
+StandsByDigits digits (Err (unread.Ends Memory)) =
+    (bytes : List ℕ) × (decode_of digits ≡ Ok bytes) × (0 < length bytes)
 StandsByDigits digits (Err _) = ⊥
 
 -- the same of a text; or the first line without a place and a colon, where there is one

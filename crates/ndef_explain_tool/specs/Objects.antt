@@ -196,7 +196,8 @@ IsMessageObject file number at input told text =
 abbrev pub IsRefusedByte : (input : List ℕ) → Refusal → Option RefusedByte → Type 0
 IsRefusedByte input refusal None = length input ≤ refusal.at
 IsRefusedByte input refusal (Some byte) =
-    IsFieldOfLast (take (refusal.at + 1) input) byte.field × (byte.octet ≡ slice_index input refusal.at)
+    (refusal.at < length input) × IsFieldOfLast (take (refusal.at + 1) input) byte.field
+    × (byte.octet ≡ slice_index input refusal.at)
 
 -- how deep the field of a refused byte lies, and its name
 abbrev pub place_pairs : Option RefusedByte → List Pair
@@ -299,7 +300,7 @@ line_fault file line =
 abbrev pub fault_object : Option Text → Ending → Data
 fault_object file (endings.Hex fault) = hex_object file fault
 fault_object file endings.Reading = named_fault file (codes "reading")
-fault_object file endings.TooLong = named_fault file (codes "hexadecimal input too long")
+fault_object file endings.TooLong = named_fault file (codes "input too long")
 fault_object file endings.Memory = named_fault file (codes "memory")
 fault_object file endings.Clean = named_fault file (codes "none")
 fault_object file (endings.Refused refusal) = named_fault file (codes "refused")

@@ -39,4 +39,4 @@ help_text =
 -- the text of a page
 abbrev pub page_text : Page → Text
 page_text page.Help = help_text
-page_text page.Version = codes "ndef-explain 0.3.0\n"
+page_text page.Version = codes "ndef-explain 0.4.0.dev\n"

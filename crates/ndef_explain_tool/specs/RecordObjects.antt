@@ -102,10 +102,10 @@ widest = record { payload = 4294967295; records = 65535; pieces = 65535; profile
 abbrev pub AreRecordPairs : (bytes : List ℕ) → List Pair → Type 0
 AreRecordPairs bytes pairs =
     ((message : Viewed) × (objects : List Data)
-    × IsViewOf (λ kind records profile. AreOctets) widest bytes message × AreRecordObjects 1 message.runs objects
+    × IsViewOf (λ tnf name records profile. AreOctets) widest bytes message × AreRecordObjects 1 message.runs objects
     × (pairs ≡ (codes "records", array (items_of objects)) ∷ []))
     ⊎ ((refusal : Refusal)
-    × Refuses (λ kind records profile. AreOctets) (λ kind records profile s b. NoReason) widest bytes refusal
+    × Refuses (λ tnf name records profile. AreOctets) (λ tnf name records profile s b. NoReason) widest bytes refusal
     × (pairs ≡ []))
 
 -- the object of a record is appended, after a comma where others come before

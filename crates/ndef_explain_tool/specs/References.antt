@@ -7,6 +7,7 @@ use Rattle.ndef_program.specs.Quoting.{Text, quoted_bytes}
 use Rattle.ndef_types.specs.Links.{FindsLinks}
 use Rattle.ndef_types.specs.declared.link.Link.{Link}
 use Rattle.ndef_types.specs.declared.link.LinkError.{LinkError}
+use Rattle.ndef_types.specs.declared.link.LinkError.TheVariants as errors
 use Rattle.ndef_types.specs.declared.power.Power.{Power}
 use Rattle.ndef_types.specs.declared.power.Power.TheVariants as powers
 use Rattle.serde_json.specs.Data.{Data, array, string}
@@ -36,17 +37,18 @@ reference_pairs [] = []
 reference_pairs (link ∷ links) =
     (codes "references", array (items_of (map reference_object (link ∷ links)))) ∷ []
 
--- the same, where the handover could be read
-abbrev pub found_pairs : Result (List Link) LinkError → List Pair
-found_pairs (Ok links) = reference_pairs links
-found_pairs (Err error) = []
+-- the same, where the handover could be read, and none where it is refused; a lack of memory isn't left out in silence
+abbrev pub TellsLinks : Result (List Link) LinkError → List Pair → Type 0
+TellsLinks (Ok links) pairs = pairs ≡ reference_pairs links
+TellsLinks (Err (errors.Refused refusal)) pairs = pairs ≡ []
+TellsLinks (Err errors.NoMemory) pairs = ⊥
 
 -- Connection Handover 1.2: the references of the first handover of a message of few records
 abbrev pub AreReferencesIn : Option Viewed → List Pair → Type 0
 AreReferencesIn None pairs = pairs ≡ []
 AreReferencesIn (Some message) pairs =
     (found : Result (List Link) LinkError) × FindsLinks message.profile (map run_record message.runs) found
-    × (pairs ≡ found_pairs found)
+    × TellsLinks found pairs
 
 -- Connection Handover 1.2: those of the message with which the bytes begin
 abbrev pub AreReferencePairs : (bytes : List ℕ) → List Pair → Type 0

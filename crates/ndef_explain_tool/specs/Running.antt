@@ -10,6 +10,8 @@ use Rattle.ndef_program.specs.Quoting.{Text, quoted}
 use Rattle.ndef_program.specs.Statuses.{status_after}
 use Rattle.ndef_program.specs.Outputs.{GoesOut}
 use Rattle.ndef_program.specs.Pages.{page_asked}
+use Rattle.ndef_program.specs.declared.ending.Ending.{Ending}
+use Rattle.ndef_program.specs.declared.ending.Ending.TheVariants as endings
 use Rattle.ndef_program.specs.declared.words_error.WordsError.{WordsError}
 use Rattle.ndef_program.specs.declared.words_error.WordsError.TheVariants.{Usage, NoMemory}
 use Rattle.ndef_program.specs.declared.pages.Page.{Page}
@@ -48,9 +50,14 @@ heading false name = []
 abbrev pub place_line : (line : ℕ) → Text
 place_line line = codes "hex: no place and colon in line " ++ decimal line ++ codes "\n"
 
+-- the line of an ending: any input may be too long, not hexadecimal text alone
+abbrev pub ending_line : Ending → Text
+ending_line endings.TooLong = codes "fault: input too long\n"
+ending_line ending = ending_text 0 ending
+
 -- the line of a fault
 abbrev pub fault_line : Unread → Text
-fault_line (Ends ending) = ending_text 0 ending
+fault_line (Ends ending) = ending_line ending
 fault_line (NoPlace line) = place_line line
 
 -- the line of a fault, or its object

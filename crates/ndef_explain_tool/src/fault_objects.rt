@@ -74,7 +74,7 @@ fn push_fault_object(
     match ending {
         Ending::Hex(fault) => push_hex_fault(alloc, line, file, fault),
         Ending::Reading => push_named_fault(alloc, line, file, b"reading"),
-        Ending::TooLong => push_named_fault(alloc, line, file, b"hexadecimal input too long"),
+        Ending::TooLong => push_named_fault(alloc, line, file, b"input too long"),
         Ending::Memory => push_named_fault(alloc, line, file, b"memory"),
         Ending::Clean => push_named_fault(alloc, line, file, b"none"),
         Ending::Refused(_) => push_named_fault(alloc, line, file, b"refused"),

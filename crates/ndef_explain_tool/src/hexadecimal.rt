@@ -1,12 +1,13 @@
 //! Hexadecimal text as people have it, and the bytes for which it stands.
-ghost use Rattle.std.specs.Prelude.{◌≡◌, ◌∷◌, ◌++◌, ◌<◌, [], length, IfErr, IfOk, IfSome, OnOk, position};
-ghost use Rattle.std.specs.List.{list_all};
+ghost use Rattle.std.specs.Prelude.{◌≡◌, ◌∷◌, ◌++◌, ◌+◌, ◌<◌, ◌^◌, [], length, IfErr, IfOk, IfSome, OnOk, position};
+ghost use Rattle.std.specs.List.{fold, list_all};
 ghost use Rattle.std.specs.Option.{option_map_or};
+ghost use Rattle.hex.specs.Hex.{is_hex_digit};
 ghost use Rattle.ndef_message.specs.Inputs.{bytes_of};
 ghost use Rattle.ndef_program.specs.Endings.{fault_of};
 ghost use Rattle.ndef_explain_tool.specs.Hexadecimal.{StandsByDigits, StandsFor, before_gap, behind_place, digits_of};
 ghost use Rattle.ndef_explain_tool.specs.Hexadecimal.{hexdump_digits, is_digit, is_placed, is_separator, layout_by};
-ghost use Rattle.ndef_explain_tool.specs.Hexadecimal.{line_digits, place_length, unplaced, unplaced_line};
+ghost use Rattle.ndef_explain_tool.specs.Hexadecimal.{line_digits, look, nothing, place_length, unplaced, unplaced_line};
 ghost use Rattle.ndef_explain_tool.specs.Hexadecimal.{without_prefix, word_digits, words_of, xxd_digits};
 ghost use Rattle.ndef_explain_tool.specs.Inputs.{FitsUnread};
 ghost use Rattle.ndef_explain_tool.specs.Lines.{lines_of};
@@ -221,6 +222,119 @@ fn unplaced_line(text: &[u8]) -> Option<u64>
     }
 }
 
+/// What was seen of digits, one by one: their number, and the place of the first that is none.
+#[derive(Clone, Copy, Debug)]
+struct Looked {
+    count: u64,
+    bad: Option<u64>,
+}
+
+/// Whether a byte is a hexadecimal digit, to the decoder.
+fn is_hex_digit(byte: u8) -> bool
+    ensures { result ≡ is_hex_digit byte }
+{
+    byte.is_ascii_hexdigit()
+}
+
+/// Looks at one more.
+fn look(looked: Looked, byte: u8) -> Looked
+    requires { looked.count + 1 < 2 ^ 64 }
+    ensures { result ≡ look looked byte }
+{
+    let bad = match looked.bad {
+        Some(place) => Some(place),
+        None => {
+            if is_hex_digit(byte) {
+                None
+            } else {
+                Some(looked.count)
+            }
+        }
+    };
+    Looked {
+        count: looked.count + 1,
+        bad,
+    }
+}
+
+/// Looks at these too.
+fn look_at(before: Looked, digits: &[u8]) -> Looked
+    requires { before.count + length digits.now < 2 ^ 64 }
+    ensures same { result ≡ fold look before digits.now }
+    ensures count { result.count ≡ before.count + length digits.now }
+{
+    let mut looked = before;
+    for digit in digits.iter() {
+        looked = look(looked, *digit);
+    }
+    looked
+}
+
+/// Looks at the digits of a text too.
+fn look_at_words(before: Looked, text: &[u8]) -> Looked
+    requires { before.count + length (word_digits text.now) < 2 ^ 64 }
+    ensures same { result ≡ fold look before (word_digits text.now) }
+    ensures count { result.count ≡ before.count + length (word_digits text.now) }
+{
+    let (mut word, mut rest) = cut_word(text);
+    let mut looked = before;
+    while let Some(more) = rest {
+        looked = look_at(looked, without_prefix(word));
+        (word, rest) = cut_word(more);
+    }
+    look_at(looked, without_prefix(word))
+}
+
+/// Looks at the digits of a line in this layout too.
+fn look_at_line(before: Looked, layout: Layout, line: &[u8]) -> Looked
+    requires { before.count + length (line_digits layout line.now) < 2 ^ 64 }
+    ensures same { result ≡ fold look before (line_digits layout line.now) }
+    ensures count { result.count ≡ before.count + length (line_digits layout line.now) }
+{
+    match layout {
+        Layout::Words => look_at_words(before, line),
+        Layout::Xxd => look_at_words(before, before_gap(cut(behind_place(line), 2).1)),
+        Layout::Hexdump => look_at_words(before, cut_at(behind_place(line), b'|').0),
+    }
+}
+
+/// Looks at the digits of a text.
+fn look_at_text(text: &[u8]) -> Looked
+    requires { length (digits_of text.now) < 2 ^ 64 }
+    ensures { result ≡ fold look nothing (digits_of text.now) }
+{
+    let (mut line, mut rest) = cut_at(text, b'\n');
+    let layout = layout_by(line);
+    let mut looked = Looked {
+        count: 0,
+        bad: None,
+    };
+    while let Some(more) = rest {
+        looked = look_at_line(looked, layout, line);
+        (line, rest) = cut_at(more, b'\n');
+    }
+    look_at_line(looked, layout, line)
+}
+
+/// What is answered where there was no memory for the digits of a text or for their bytes. What is wrong with the
+/// digits comes first.
+fn without_memory(alloc: Global, text: &[u8]) -> Result<Vec<u8>, Unread>
+    ensures octets { StandsByDigits (digits_of text.now) (bytes_of result) }
+    ensures room { IfErr result FitsUnread }
+{
+    let looked = look_at_text(text);
+    if looked.count == 0 {
+        return Ok(Vec::new(alloc));
+    }
+    if looked.count % 2 == 1 {
+        return Err(Unread::Ends(Ending::Hex(HexFault::Odd)));
+    }
+    match looked.bad {
+        Some(place) => Err(Unread::Ends(Ending::Hex(HexFault::BadDigit(place)))),
+        None => Err(Unread::Ends(Ending::Memory)),
+    }
+}
+
 /// What is wrong with the digits.
 fn fault_of(error: FromHexError) -> HexFault
     ensures { result ≡ fault_of error }
@@ -231,15 +345,17 @@ fn fault_of(error: FromHexError) -> HexFault
     }
 }
 
-/// The bytes for which the digits of a text stand.
+/// The bytes for which the digits of a text stand. What is wrong with them comes before a lack of memory.
 fn decode_digits(alloc: Global, text: &[u8]) -> Result<Vec<u8>, Unread>
     ensures octets { StandsByDigits (digits_of text.now) (bytes_of result) }
     ensures room { IfErr result FitsUnread }
 {
-    let digits = digits_of(alloc, text)?;
+    let Ok(digits) = digits_of(alloc, text) else {
+        return without_memory(alloc, text);
+    };
     match hex::decode(alloc, digits.as_slice()) {
         Ok(bytes) => Ok(bytes),
-        Err(FromHexError::OutOfMemory) => Err(Unread::Ends(Ending::Memory)),
+        Err(FromHexError::OutOfMemory) => without_memory(alloc, text),
         Err(error) => Err(Unread::Ends(Ending::Hex(fault_of(error)))),
     }
 }

@@ -17,7 +17,7 @@ pub(crate) fn page_text(page: Page) -> &'static [u8]
 {
     match page {
         Page::Help => help_text(),
-        Page::Version => b"ndef-explain 0.3.0\n",
+        Page::Version => b"ndef-explain 0.4.0.dev\n",
     }
 }
 

@@ -1,10 +1,10 @@
 //! What is printed of an input.
 ghost use Rattle.std.specs.Prelude.{◌≡◌, ◌++◌, false, IfErr, IfOk, OnOk};
 ghost use Rattle.ndef_message.specs.Inputs.{bytes_of};
-ghost use Rattle.ndef_program.specs.Endings.{status_of};
+ghost use Rattle.ndef_program.specs.Endings.{FitsPlace, status_of};
 ghost use Rattle.ndef_explain_tool.specs.Forms.{form_in, style_form};
 ghost use Rattle.ndef_explain_tool.specs.Inputs.{FitsUnread};
-ghost use Rattle.ndef_explain_tool.specs.Running.{IsInputBody, IsTold, fault_line, unread_status, unread_text, heading};
+ghost use Rattle.ndef_explain_tool.specs.Running.{IsInputBody, IsTold, ending_line, fault_line, unread_status, unread_text, heading};
 ghost use Rattle.ndef_explain_tool.specs.Running.{place_line, sheet, stop_status};
 
 use crate::explained::explain;
@@ -72,13 +72,30 @@ fn push_place_fault(text: &mut Bytes, line: u64) -> Result<(), NoMemory>
     Ok(())
 }
 
+/// Appends the line of an ending.
+fn push_ending_line(text: &mut Bytes, ending: Ending) -> Result<(), NoMemory>
+    requires { FitsPlace 0 ending }
+    ensures { OnOk result (text.new ≡ text.old ++ ending_line ending) }
+{
+    match ending {
+        Ending::TooLong => text.extend(b"fault: input too long\n"),
+        Ending::Clean
+        | Ending::Refused(_)
+        | Ending::Hex(_)
+        | Ending::Reading
+        | Ending::Writing
+        | Ending::Memory
+        | Ending::TooMany => text.extend(ending_text(0, ending).as_slice()),
+    }
+}
+
 /// Appends the line of a fault.
 fn push_fault_line(text: &mut Bytes, unread: Unread) -> Result<(), NoMemory>
     requires { FitsUnread unread }
     ensures { OnOk result (text.new ≡ text.old ++ fault_line unread) }
 {
     match unread {
-        Unread::Ends(ending) => text.extend(ending_text(0, ending).as_slice()),
+        Unread::Ends(ending) => push_ending_line(text, ending),
         Unread::NoPlace(line) => push_place_fault(text, line),
     }
 }

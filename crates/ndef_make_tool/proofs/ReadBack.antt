@@ -12,8 +12,8 @@ use Rattle.ndef_format.specs.declared.profile.Profile.{Profile}
 use Rattle.ndef_format.specs.declared.profile.Profile.TheVariants.{Standard, Strict}
 use Rattle.ndef_format.specs.Kinds.{kind_of}
 use Rattle.ndef_format.specs.Reasons.{Conditions}
-use Rattle.ndef_lang.specs.Language.{SameSets}
-use Rattle.ndef_format.specs.Payloads.{Sets, IsTypedPayload}
+use Rattle.ndef_lang.specs.RecordLanguage.{SameTypes}
+use Rattle.ndef_format.specs.Payloads.{Sets, IsTypedPayload, IsKindPayload}
 use Rattle.ndef_format.specs.Uris.{IsUri}
 use Rattle.ndef_format.specs.declared.kind.Kind.{Kind}
 use Rattle.ndef_format.specs.declared.kind.Kind.TheVariants as kinds
@@ -79,8 +79,8 @@ nested_for strict table records profile s h few = (
 )
 
 -- a payload that a strict reader takes, each reader takes that lets in the records of the message in it
-typed_for : StrictContentsAreRead → (records : ℕ) (profile : Profile) (kind : Kind) (s : List ℕ) → IsTypedPayload kind 65535 Strict s
-    → ((inner : List Item) → Spells Strict inner (message_octets kind s) → length inner ≤ records) → IsTypedPayload kind records profile s
+typed_for : StrictContentsAreRead → (records : ℕ) (profile : Profile) (kind : Kind) (s : List ℕ) → IsKindPayload kind 65535 Strict s
+    → ((inner : List Item) → Spells Strict inner (message_octets kind s) → length inner ≤ records) → IsKindPayload kind records profile s
 typed_for strict records profile kinds.Uri s h few = uri_for profile s h
 typed_for strict records profile kinds.SmartPoster s h few = nested_for strict tables.SmartPoster records profile s h few
 typed_for strict records profile kinds.Request [] h few = absurd h
@@ -119,15 +119,15 @@ are_typed gives (part ∷ parts) before after (i ∷ items) are e =
     let both = neither (is_unchecked part) (list_any is_unchecked parts) e in
     (typed_if part are.1.0 i both.0 are.1.2, are_typed gives parts are.0 after items are.2 both.1)
 
-are_members : StrictContentsAreRead → (set : Sets) → SameSets set IsTypedPayload → (limits : LimitValues) (items : List Item) → AllByRecursion IsOfItsType items
+are_members : StrictContentsAreRead → (set : Sets) → SameTypes set IsTypedPayload → (limits : LimitValues) (items : List Item) → AllByRecursion IsOfItsType items
     → AllByRecursion (HoldsFew limits.records) items → AllByRecursion (IsMember set limits) items
 are_members strict set same limits [] typed few = tt
 are_members strict set same limits (i ∷ items) typed few = (
-  (same (kind_of i.tnf i.kind) limits.records limits.profile i.payload).1 (typed_for strict limits.records limits.profile (kind_of i.tnf i.kind) i.payload typed.0 few.0),
+  (same i.tnf i.kind limits.records limits.profile i.payload).1 (typed_for strict limits.records limits.profile (kind_of i.tnf i.kind) i.payload typed.0 few.0),
   are_members strict set same limits items typed.1 few.1,
 )
 
-pub read_back : StrictContentsAreRead → ShortIsCanonical → (set : Sets) (holds : Conditions) → SameSets set IsTypedPayload → RoundTrips set holds
+pub read_back : StrictContentsAreRead → ShortIsCanonical → (set : Sets) (holds : Conditions) → SameTypes set IsTypedPayload → RoundTrips set holds
     → (items : List Item) → AreItems items → AllByRecursion IsOfItsType items → IsReadBack set holds items
 read_back strict short set holds same trips items are typed limits rest after result admits reads =
     let e = short items in
@@ -141,7 +141,7 @@ pub linked : (o : Option (List ℕ)) (measure : Measure) (shown : Shown) (items 
 linked None measure shown items made is = is
 linked (Some reference) measure shown items made is = absurd is
 
-made_by : {I : Type 0} (gives : GivesInput I) → StrictContentsAreRead → ShortIsCanonical → (set : Sets) (holds : Conditions) → SameSets set IsTypedPayload → RoundTrips set holds
+made_by : {I : Type 0} (gives : GivesInput I) → StrictContentsAreRead → ShortIsCanonical → (set : Sets) (holds : Conditions) → SameTypes set IsTypedPayload → RoundTrips set holds
     → (parts : List AskedPart) (writing : Writing) (many : Bool) (before after : I) (made : Written) → IsMadeIf many gives parts writing before after (Ok made)
     → list_any is_unchecked parts ≡ false → ReadsBack gives set holds parts before after made
 made_by gives strict short set holds same trips parts writing true before after made is none = absurd (search rules)
@@ -153,7 +153,7 @@ made_by gives strict short set holds same trips parts writing false before after
       read_back strict short set holds same trips items is.0 (are_typed gives parts before after items are none),
     )
 
-pub made_is_read : {I : Type 0} (gives : GivesInput I) → StrictContentsAreRead → ShortIsCanonical → (set : Sets) (holds : Conditions) → SameSets set IsTypedPayload → RoundTrips set holds → MadeIsRead gives set holds
+pub made_is_read : {I : Type 0} (gives : GivesInput I) → StrictContentsAreRead → ShortIsCanonical → (set : Sets) (holds : Conditions) → SameTypes set IsTypedPayload → RoundTrips set holds → MadeIsRead gives set holds
 made_is_read {I} gives strict short set holds same trips words records terminal before after made parts is plain asked none = measured (measure_in (drop 1 words)) refl is
   where
     measured : (o : Option (Measure × List Text)) → measure_in (drop 1 words) ≡ o → IsMeasured gives o terminal before after (Ok made) → ReadsBack gives set holds parts before after made

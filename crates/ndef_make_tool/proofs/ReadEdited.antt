@@ -8,7 +8,7 @@ use Rattle.ndef_format.specs.Canonical.{canonical}
 use Rattle.ndef_format.specs.Messages.{Item}
 use Rattle.ndef_format.specs.Payloads.{Sets, IsTypedPayload}
 use Rattle.ndef_format.specs.Reasons.{Conditions}
-use Rattle.ndef_lang.specs.Language.{SameSets}
+use Rattle.ndef_lang.specs.RecordLanguage.{SameTypes}
 use Rattle.ndef_nest.specs.Nested.{StrictContentsAreRead}
 use Rattle.ndef_value.specs.ListLaws.{all_append}
 use Rattle.ndef_message.specs.Readings.{RoundTrips}
@@ -95,7 +95,7 @@ written_all : (parts : List AskedPart) (writing : Writing) (items : List Item) (
 written_all parts writing [] made is = absurd (search rules)
 written_all parts writing (i ∷ items) made is = is
 
-pub edited_by : {I : Type 0} (gives : GivesInput I) → StrictContentsAreRead → ShortIsCanonical → (set : Sets) (holds : Conditions) → SameSets set IsTypedPayload → RoundTrips set holds
+pub edited_by : {I : Type 0} (gives : GivesInput I) → StrictContentsAreRead → ShortIsCanonical → (set : Sets) (holds : Conditions) → SameTypes set IsTypedPayload → RoundTrips set holds
     → (editing : Editing) (writing : Writing) (many : Bool) (before after : I) (made : Written) → IsEditedIf many gives editing writing before after (Ok made)
     → list_any is_unchecked (records_in editing.edits) ≡ false → ReadsEdited gives set holds editing before after made
 edited_by gives strict short set holds same trips editing writing true before after made is checked = absurd (search rules)
@@ -127,7 +127,7 @@ same_edits (x ∷ xs) (y ∷ ys) e =
     let others : map said xs ≡ map said ys = search rules in
     ap (λ z. z ∷ xs) first ∙ ap (λ zs. y ∷ zs) (same_edits xs ys others)
 
-pub edited_is_read : {I : Type 0} (gives : GivesInput I) → StrictContentsAreRead → ShortIsCanonical → (set : Sets) (holds : Conditions) → SameSets set IsTypedPayload → RoundTrips set holds → EditedIsRead gives set holds
+pub edited_is_read : {I : Type 0} (gives : GivesInput I) → StrictContentsAreRead → ShortIsCanonical → (set : Sets) (holds : Conditions) → SameTypes set IsTypedPayload → RoundTrips set holds → EditedIsRead gives set holds
 edited_is_read {I} gives strict short set holds same trips words parts terminal before after made editing is named asked none = measured (measure_in (drop 1 words)) refl is
   where
     measured : (o : Option (Measure × List Text)) → measure_in (drop 1 words) ≡ o → IsMeasured gives o terminal before after (Ok made) → ReadsEdited gives set holds editing before after made

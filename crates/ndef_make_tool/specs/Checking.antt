@@ -6,8 +6,8 @@ use Rattle.ndef_format.specs.declared.profile.Profile.TheVariants.{Strict}
 use Rattle.ndef_format.specs.declared.refusal.Refusal.{Refusal}
 use Rattle.ndef_format.specs.Kinds.{kind_of}
 use Rattle.ndef_lang.specs.Place.{IsRefused}
-use Rattle.ndef_format.specs.Payloads.{IsTypedPayload}
-use Rattle.ndef_format.specs.NestedReasons.{TypedReason}
+use Rattle.ndef_format.specs.Payloads.{IsKindPayload}
+use Rattle.ndef_format.specs.NestedReasons.{KindReason}
 use Rattle.ndef_make_tool.specs.Asked.{AskedPart}
 use Rattle.ndef_program.specs.Options.{flag_of}
 use Rattle.ndef_make_tool.specs.MayBeWritten.{bar_of}
@@ -18,12 +18,12 @@ use Rattle.ndef_make_tool.specs.declared.fault.Refused.TheVariants.{BadPayload}
 -- RTD Text, RTD URI, RTD Smart Poster and Connection Handover 1.2: the payload is one of its type,
 -- for a strict reader
 abbrev pub IsOfItsType : Item → Type 0
-IsOfItsType i = IsTypedPayload (kind_of i.tnf i.kind) 65535 Strict i.payload
+IsOfItsType i = IsKindPayload (kind_of i.tnf i.kind) 65535 Strict i.payload
 
 -- the payload isn't one of its type: where and why a strict reader refuses it
 abbrev pub IsUntyped : Item → Refusal → Type 0
 IsUntyped i refusal = let kind = kind_of i.tnf i.kind in
-    IsRefused (IsTypedPayload kind 65535 Strict) (TypedReason kind 65535 Strict) i.payload refusal.at refusal.reason
+    IsRefused (IsKindPayload kind 65535 Strict) (KindReason kind 65535 Strict) i.payload refusal.at refusal.reason
 
 -- the record, where it may be written, or what is forbidden
 abbrev pub IsAllowed : Item → Answer → Type 0

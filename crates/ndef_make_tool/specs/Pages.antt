@@ -97,7 +97,7 @@ ndef_make_help =
 -- the text of a page
 abbrev pub ndef_make_page : AskedPage → Text
 ndef_make_page page.Help = ndef_make_help
-ndef_make_page page.Version = codes "ndef-make 0.3.0\n"
+ndef_make_page page.Version = codes "ndef-make 0.4.0.dev\n"
 ndef_make_page (page.Kind kind) = kind_page kind
 
 -- whether a word asks for help, or ends options

@@ -1,7 +1,7 @@
 //! What holds of the message that is made.
 ghost use Rattle.ndef_make_tool.specs.Reading.{EditedIsRead, MadeIsRead};
 
-use ndef_lang::Language;
+use ndef_lang::RecordLanguage;
 use ndef_message::{reading_gives_back, short_is_canonical};
 use ndef_nest::{Typed, strict_contents_are_read, typed_payloads};
 use ndef_program::Inputs;
@@ -9,7 +9,7 @@ use ndef_program::Inputs;
 /// What is written is read back: `read_message` with `Typed` gives the records for which the words ask,
 /// whatever follows them, if its limits admit them and no part asks for an unchecked record.
 pub fn made_is_read<I: Inputs>()
-    ensures { MadeIsRead I.gives ⟦<Typed as Language>⟧.payloads ⟦<Typed as Language>⟧.reasons }
+    ensures { MadeIsRead I.gives ⟦<Typed as RecordLanguage>⟧.payloads ⟦<Typed as RecordLanguage>⟧.reasons }
 {
     typed_payloads();
     strict_contents_are_read();
@@ -21,7 +21,7 @@ pub fn made_is_read<I: Inputs>()
 /// words say, and then what they add, whatever follows them, if its limits admit them and no part asks for an
 /// unchecked record.
 pub fn edited_is_read<I: Inputs>()
-    ensures { EditedIsRead I.gives ⟦<Typed as Language>⟧.payloads ⟦<Typed as Language>⟧.reasons }
+    ensures { EditedIsRead I.gives ⟦<Typed as RecordLanguage>⟧.payloads ⟦<Typed as RecordLanguage>⟧.reasons }
 {
     typed_payloads();
     strict_contents_are_read();

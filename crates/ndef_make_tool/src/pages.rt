@@ -33,7 +33,7 @@ pub(crate) fn ndef_make_page(page: AskedPage) -> &'static [u8]
 {
     match page {
         AskedPage::Help => ndef_make_help(),
-        AskedPage::Version => b"ndef-make 0.3.0\n",
+        AskedPage::Version => b"ndef-make 0.4.0.dev\n",
         AskedPage::Kind(kind) => kind_page(kind),
     }
 }

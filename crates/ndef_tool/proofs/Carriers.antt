@@ -12,7 +12,7 @@ use Rattle.ndef_format.specs.declared.kind.Kind.{Kind}
 use Rattle.ndef_format.specs.declared.kind.Kind.TheVariants as kinds
 use Rattle.ndef_format.specs.NestedReasons.{NestReason}
 use Rattle.ndef_format.specs.Nested.{IsNest, table_of}
-use Rattle.ndef_format.specs.Payloads.{IsTypedPayload}
+use Rattle.ndef_format.specs.Payloads.{IsKindPayload}
 use Rattle.ndef_types.specs.Links.{AreLinks, FindsLinks, StandsForLinks, IsIndexOf, alternatives, records_of}
 use Rattle.ndef_types.specs.declared.link.Link.{Link}
 use Rattle.ndef_types.specs.declared.link.LinkError.TheVariants as errors
@@ -30,10 +30,10 @@ all_at P xs k x all e = subst P (get_or_from_slice_get xs k x x e) (all_get P xs
 
 -- ---- the handover isn't refused
 
-nest_of : (kind : Kind) (profile : Profile) (s : List ℕ) → (kind ≡ kinds.Request) ⊎ (kind ≡ kinds.Select) → IsTypedPayload kind 65535 profile s
+nest_of : (kind : Kind) (profile : Profile) (s : List ℕ) → (kind ≡ kinds.Request) ⊎ (kind ≡ kinds.Select) → IsKindPayload kind 65535 profile s
     → IsNest (table_of kind) 65535 profile s
-nest_of kind profile s (inl e) h = subst (λ (k : Kind). IsNest (table_of k) 65535 profile s) (sym e) (subst (λ (k : Kind). IsTypedPayload k 65535 profile s) e h)
-nest_of kind profile s (inr e) h = subst (λ (k : Kind). IsNest (table_of k) 65535 profile s) (sym e) (subst (λ (k : Kind). IsTypedPayload k 65535 profile s) e h)
+nest_of kind profile s (inl e) h = subst (λ (k : Kind). IsNest (table_of k) 65535 profile s) (sym e) (subst (λ (k : Kind). IsKindPayload k 65535 profile s) e h)
+nest_of kind profile s (inr e) h = subst (λ (k : Kind). IsNest (table_of k) 65535 profile s) (sym e) (subst (λ (k : Kind). IsKindPayload k 65535 profile s) e h)
 
 pub links_found : (profile : Profile) (items : List Item) (refusal : Refusal) → AreItems items → AllByRecursion (IsTyped profile) items
     → FindsLinks profile items (Err (errors.Refused refusal)) → ⊥

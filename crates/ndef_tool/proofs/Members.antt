@@ -12,7 +12,7 @@ use Rattle.ndef_lang.specs.Place.{CanEnd}
 use Rattle.ndef_format.specs.declared.kind.Kind.{Kind}
 use Rattle.ndef_format.specs.declared.kind.Kind.TheVariants as kinds
 use Rattle.ndef_format.specs.Nested.{IsNest, Nested}
-use Rattle.ndef_format.specs.Payloads.{IsTypedPayload}
+use Rattle.ndef_format.specs.Payloads.{IsTypedPayload, IsKindPayload}
 use Rattle.ndef_format.specs.declared.table.Table.{Table}
 use Rattle.ndef_format.specs.declared.table.Table.TheVariants as tables
 use Rattle.ndef_format.specs.Accepted.{IsMember}
@@ -56,7 +56,7 @@ nest_on tables.Select n profile [] h d = d
 nest_on tables.Select n profile (v ∷ s) h (v', inl e) = (v', inl e)
 nest_on tables.Select n profile (v ∷ s) h (v', inr d) = (v', inr (nested_on tables.Select n profile s h d))
 
-typed_on : (kind : Kind) (n : ℕ) (profile : Profile) (s : List ℕ) → n ≤ 65535 → IsTypedPayload kind n profile s → IsTypedPayload kind 65535 profile s
+typed_on : (kind : Kind) (n : ℕ) (profile : Profile) (s : List ℕ) → n ≤ 65535 → IsKindPayload kind n profile s → IsKindPayload kind 65535 profile s
 typed_on kinds.SmartPoster n profile s h d = nest_on tables.SmartPoster n profile s h d
 typed_on kinds.Request n profile s h d = nest_on tables.Request n profile s h d
 typed_on kinds.Select n profile s h d = nest_on tables.Select n profile s h d

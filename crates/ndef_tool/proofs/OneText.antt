@@ -9,7 +9,7 @@ use Rattle.ndef_format.specs.Texts.{IsText}
 use Rattle.ndef_format.specs.declared.kind.Kind.{Kind}
 use Rattle.ndef_format.specs.declared.kind.Kind.TheVariants as kinds
 use Rattle.ndef_format.specs.Nested.{IsNest}
-use Rattle.ndef_format.specs.Payloads.{IsTypedPayload}
+use Rattle.ndef_format.specs.Payloads.{IsKindPayload}
 use Rattle.ndef_format.specs.declared.table.Table.TheVariants as tables
 use Rattle.ndef_types.specs.Contents.{IsFirstOf, IsFirstAt, IsOfKind, StandsForMessage}
 use Rattle.ndef_types.specs.Decoding.{OneValue}
@@ -89,7 +89,7 @@ pub record ValuesAreOne : Type 0 where
   pub selects : (profile : Profile) → OneValue (IsNest tables.Select 65535 profile) (StandsForSelect profile)
   pub carriers : OneValue IsCarrier StandsForCarrier
 
-one_told : ValuesAreOne → (kind : Kind) (profile : Profile) (s : List ℕ) (a b : Text) → IsTypedPayload kind 65535 profile s → PrintsValue kind profile s a → PrintsValue kind profile s b → a ≡ b
+one_told : ValuesAreOne → (kind : Kind) (profile : Profile) (s : List ℕ) (a b : Text) → IsKindPayload kind 65535 profile s → PrintsValue kind profile s a → PrintsValue kind profile s b → a ≡ b
 one_told one kinds.Text profile s a b h (v, p, e) (w, q, d) = e ∙ ap told_text (one.texts s v w h p q) ∙ sym d
 one_told one kinds.Uri profile s a b h (v, p, e) (w, q, d) = e ∙ ap told_uri (uri_of_payload s v w p q) ∙ sym d
 one_told one kinds.SmartPoster profile s a b h (v, p, e) (w, q, d) =

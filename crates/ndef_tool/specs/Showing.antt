@@ -7,7 +7,7 @@ use Rattle.ndef_value.specs.declared.limits.TheConstants.{MOST_RECORDS}
 use Rattle.ndef_format.specs.Kinds.{kind_of}
 use Rattle.ndef_format.specs.declared.kind.Kind.{Kind}
 use Rattle.ndef_format.specs.declared.kind.Kind.TheVariants as kinds
-use Rattle.ndef_format.specs.Payloads.{IsTypedPayload}
+use Rattle.ndef_format.specs.Payloads.{IsKindPayload}
 use Rattle.ndef_types.specs.Handovers.{RequestValue, SelectValue, StandsForRequest, StandsForSelect}
 use Rattle.ndef_types.specs.Links.{alternatives}
 use Rattle.ndef_types.specs.Posters.{IsUriOf, Says, StandsForPoster, action_in, size_in, titles}
@@ -130,7 +130,7 @@ PrintsValue kinds.Error profile payload text = text ≡ codes " other"
 
 -- the payload of a record is one of its type
 abbrev pub IsTyped : Profile → Item → Type 0
-IsTyped profile i = IsTypedPayload (kind_of i.tnf i.kind) MOST_RECORDS profile i.payload
+IsTyped profile i = IsKindPayload (kind_of i.tnf i.kind) MOST_RECORDS profile i.payload
 
 -- NDEF 1.0, record layout: the number of a record, its type name format, its type, its id and the
 -- length of its payload

@@ -3,7 +3,7 @@ ghost use Rattle.std.specs.Prelude.{◌≡◌, ◌≤◌, ◌^◌, ℕ, Bool, Li
 ghost use Rattle.ndef_tool.specs.Rules.{rules_of};
 ghost use Rattle.ndef_tool.specs.Sessions.{ChecksNext, HasNext, IsNext, LooksAhead, TakesNext, ViewsNext};
 
-use ndef_lang::OuterLanguage;
+use ndef_lang::RecordLanguage;
 use ndef_message::{
     CheckError, Checked, Read, ReadError, Source, View, check_message, read_message, view,
 };
@@ -15,7 +15,7 @@ use std::alloc::Global;
 pub(crate) const MOST: u64 = 10000;
 
 /// A way to read the messages of an `S`, one after another.
-pub(crate) trait Reading<L: OuterLanguage, S> {
+pub(crate) trait Reading<L: RecordLanguage, S> {
     /// The bytes to come, where they are known.
     ghost coming: { S → Option (List ℕ) };
 
@@ -48,7 +48,7 @@ pub(crate) struct FromSource;
 /// Messages lie in a slice, and are viewed there.
 pub(crate) struct FromBytes;
 
-impl<L: OuterLanguage, S: Source> Reading<L, S> for FromSource {
+impl<L: RecordLanguage, S: Source> Reading<L, S> for FromSource {
     ghost coming = { S.coming };
 
     ghost taken = { S.taken };
@@ -79,7 +79,7 @@ impl<L: OuterLanguage, S: Source> Reading<L, S> for FromSource {
     }
 }
 
-impl<'a, L: OuterLanguage> Reading<L, &'a [u8]> for FromBytes {
+impl<'a, L: RecordLanguage> Reading<L, &'a [u8]> for FromBytes {
     ghost coming = { λ bytes. Some bytes.now };
 
     // It isn't counted.
@@ -134,7 +134,7 @@ fn look_ahead<S: Source>(count: u64, source: &mut S) -> Result<(), Ending>
 }
 
 /// Views the next message of the bytes, after `count`, or says how the messages end here.
-fn view_next<'a, L: OuterLanguage>(
+fn view_next<'a, L: RecordLanguage>(
     limits: Limits,
     count: u64,
     left: &mut &'a [u8],

@@ -1,7 +1,10 @@
 //! Runs whose source or sink fails at every place, and inputs without an end.
 use super::command::words;
 use ndef_cases::samples::SELECT;
-use ndef_message::{EndlessSource, FailingSink, FailingSource, SliceSource, Source, StdSink};
+use ndef_cases::streams::OnceReader;
+use ndef_message::{
+    EndlessSource, FailingSink, FailingSource, SliceSource, Source, StdSink, StdSource,
+};
 use ndef_tool::run;
 use std::alloc::Global;
 use std::test::Fail;
@@ -32,6 +35,24 @@ fn tells_faults_behind_a_message(rt: HostRuntime) -> Result<(), Fail> {
     let (status, out) = run_from(alloc, &["ndef", "check", "--hex"], &mut digits)?;
     assert!(rt; status == 3);
     assert!(rt; out.as_slice() == b"fault: hexadecimal input too long\n".as_slice());
+    Ok(())
+}
+
+// No clause says that the input isn't asked for more after a refused byte.
+#[test]
+fn asks_nothing_after_a_refused_byte(rt: HostRuntime) -> Result<(), Fail> {
+    let alloc = rt.alloc();
+    let line = b"refused at 4: 15 TextBit\n".as_slice();
+    let runs = [("show", line), ("check", line), ("encode", b"")];
+    for (action, wanted) in runs {
+        let bytes = &[0xD1, 0x01, 0x03, 0x54, 0x42, 0x65, 0x6E];
+        let mut source = StdSource::new(OnceReader {
+            bytes,
+            consumed: false,
+        });
+        let (status, out) = run_from(alloc, &["ndef", action], &mut source)?;
+        assert!(rt; status == 1 && out.as_slice() == wanted, "{action}");
+    }
     Ok(())
 }
 

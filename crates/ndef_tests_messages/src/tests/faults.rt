@@ -1,8 +1,9 @@
 //! Sources and sinks that fail at every place, and inputs without an end.
 use ndef_cases::samples::{HELLO, SELECT, at, read, usual};
+use ndef_cases::streams::OnceReader;
 use ndef_message::{
-    CheckError, EndlessSource, FailingSink, FailingSource, Form, ReadError, Source, WriteFault,
-    check_message, encode, read_message, write_message,
+    CheckError, EndlessSource, FailingSink, FailingSource, Form, ReadError, Source, StdSource,
+    WriteFault, check_message, encode, read_message, write_message,
 };
 use ndef_nest::Typed;
 use ndef_value::{Reason, Refusal};
@@ -30,6 +31,37 @@ fn reading_fails_at_each_place(rt: HostRuntime) {
     }
     assert!(rt; are_faults);
     assert!(rt; read_up_to(alloc, 24) == Ok(24));
+}
+
+/// A source of these bytes that fails where it is asked again after the first `take`.
+fn asked_once(bytes: &[u8]) -> StdSource<OnceReader<'_>> {
+    StdSource::new(OnceReader {
+        bytes,
+        consumed: false,
+    })
+}
+
+// No clause says that a source isn't asked again after a refused byte.
+#[test]
+fn asks_nothing_after_a_refused_byte(rt: HostRuntime) {
+    let alloc = rt.alloc();
+    let refused: [(&[u8], u64, Reason); 4] = [
+        (&[0x51, 0x01, 0x00, 0x41], 0, Reason::BeginMissing),
+        (&[0xF5, 0x00, 0x00], 0, Reason::ChunkAtEnd),
+        (
+            &[0xD1, 0x01, 0x03, 0x54, 0x42, 0x65, 0x6E],
+            4,
+            Reason::TextBit,
+        ),
+        (&[0xD1, 0x01, 0x01, 0x55, 0x68], 4, Reason::UriCode),
+    ];
+    for (bytes, place, reason) in refused {
+        let refusal = at::<u64>(place, reason);
+        let read = read_from(alloc, &mut asked_once(bytes));
+        assert!(rt; read == refusal.map_err(ReadError::Refused), "{read:?}");
+        let checked = check_message::<Typed, _>(&mut asked_once(bytes), usual());
+        assert!(rt; checked.map(|checked| checked.taken) == refusal.map_err(CheckError::Refused));
+    }
 }
 
 /// Whether reading and checking a front, and after it a pattern that repeats for ever, both give this answer.

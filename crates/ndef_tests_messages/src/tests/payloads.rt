@@ -4,8 +4,7 @@ ghost use Rattle.std.specs.Prelude.{◌^◌, ◌<◌, length};
 use ndef_cases::case::{answer_of, profile_of};
 use ndef_cases::lines::{bytes_of, fields};
 use ndef_lang::{
-    AcLang, ErrLang, Fixed, HcLang, Kind, KindReader, Leaf, Opaque, TextLang, UriLang, Utf8Lang,
-    refusal_of,
+    AcLang, ErrLang, Fixed, HcLang, Kind, KindReader, Leaf, TextLang, UriLang, Utf8Lang, refusal_of,
 };
 use ndef_value::{Profile, Refusal, Tnf};
 use std::alloc::Global;
@@ -51,7 +50,6 @@ carrier | Hc | strict | 01 01 | refused 1 23
 size | s | strict | 00 00 01 00 | whole
 size | s | strict | 00 00 01 | refused 0 23
 UTF-8 | t | strict | 69 6D 61 67 65 2F 70 6E 67 | whole
-opaque | T | strict | 40 | whole
 leaf | T | strict | 40 | refused 0 15
 leaf | U | strict | 24 | refused 0 19
 leaf | U | standard | 24 | whole
@@ -83,7 +81,6 @@ fn refusal_in(
         "carrier" => Some(refusal_of::<HcLang>(kind, 1, profile, payload)),
         "size" => Some(refusal_of::<Fixed<4>>(kind, 1, profile, payload)),
         "UTF-8" => Some(refusal_of::<Utf8Lang>(kind, 1, profile, payload)),
-        "opaque" => Some(refusal_of::<Opaque>(kind, 1, profile, payload)),
         "leaf" => Some(refusal_of::<Leaf>(kind, 1, profile, payload)),
         _ => None,
     }

@@ -103,7 +103,7 @@ fn gives_the_reader_back_behind_what_was_taken(rt: HostRuntime) -> Result<(), Fa
 fn consumes_at_once_what_is_taken(rt: HostRuntime) -> Result<(), Fail> {
     let mut source = StdSource::new(OnceReader {
         bytes: &BYTES,
-        shown: false,
+        consumed: false,
     });
     let shown = source.fill()?.len();
     assert!(rt; shown == 12);

@@ -7,11 +7,11 @@ use Rattle.ndef_advice.proofs.few.few_records.Goals as goal
 
 pub returns-in-Ok : goal.returns-in-Ok
 returns-in-Ok c =
-    subst (λ limits. IsViewOf (λ kind records profile. AreOctets) limits c.args.bytes.now c.in-Ok.message) c.few.ensures c.in-Ok.ensures.message
+    subst (λ limits. IsViewOf (λ tnf name records profile. AreOctets) limits c.args.bytes.now c.in-Ok.message) c.few.ensures c.in-Ok.ensures.message
 
 pub returns-in-Err : goal.returns-in-Err
 returns-in-Err c =
     let refusal = c.in-Err.field-0 in (
       refusal,
-      subst (λ limits. Refuses (λ kind records profile. AreOctets) (λ kind records profile s b. NoReason) limits c.args.bytes.now refusal) c.few.ensures c.in-Err.ensures.refused,
+      subst (λ limits. Refuses (λ tnf name records profile. AreOctets) (λ tnf name records profile s b. NoReason) limits c.args.bytes.now refusal) c.few.ensures c.in-Err.ensures.refused,
     )

@@ -13,7 +13,7 @@ pub returns-in_ok-push_record_objects-in-Ok : goal.returns-in_ok-push_record_obj
 returns-in_ok-push_record_objects-in-Ok c =
     let adds = c.in_ok-push_record_objects-in-Ok.ensures in
     let message = c.in-Ok.message in
-    let seen = subst (λ limits. IsViewOf (λ kind records profile. AreOctets) limits c.args.bytes.now message) c.widest.ensures c.in-Ok.ensures.message in (
+    let seen = subst (λ limits. IsViewOf (λ tnf name records profile. AreOctets) limits c.args.bytes.now message) c.widest.ensures c.in-Ok.ensures.message in (
       (codes "records", array (items_of adds.0)) ∷ [],
       inl (message, adds.0, seen, adds.1, refl),
       member_done adds.0 c.args.line.now _ _ c.in_ok-push_member_start-in-Ok.ensures adds.2,
@@ -22,5 +22,5 @@ returns-in_ok-push_record_objects-in-Ok c =
 pub returns-in-Err : goal.returns-in-Err
 returns-in-Err c =
     let refusal = c.in-Err.field-0 in
-    let refused = subst (λ limits. Refuses (λ kind records profile. AreOctets) (λ kind records profile s b. NoReason) limits c.args.bytes.now refusal) c.widest.ensures c.in-Err.ensures.refused in
+    let refused = subst (λ limits. Refuses (λ tnf name records profile. AreOctets) (λ tnf name records profile s b. NoReason) limits c.args.bytes.now refusal) c.widest.ensures c.in-Err.ensures.refused in
     ([], inr (refusal, refused, refl), sym (append-nil c.args.line.now))

@@ -9,7 +9,7 @@ returns-in-Ok-clause-next g c =
     let ahead = c.in_ok-look_ahead.ensures.ahead in (
       ahead.0,
       c.in-Ok.ensures.mark,
-      checks_kept g.L.Language.payloads g.L.Language.reasons c.args.limits _ _ _ (Ok c.in-Ok.checked) ahead.2 c.in-Ok.ensures.ok.0,
+      checks_kept g.L.RecordLanguage.payloads g.L.RecordLanguage.reasons c.args.limits _ _ _ (Ok c.in-Ok.checked) ahead.2 c.in-Ok.ensures.ok.0,
     )
 
 pub returns-in-Err-Refused-clause-next : goal.returns-in-Err-Refused-clause-next
@@ -20,7 +20,7 @@ returns-in-Err-Refused-clause-next g c =
         ahead.0,
         refused.mark,
         ahead.3,
-        checks_kept g.L.Language.payloads g.L.Language.reasons c.args.limits _ _ _ (Err (Refused c.in-Err-Refused.refusal)) ahead.2 (refused.refused c.in-Err-Refused.refusal refl).0,
+        checks_kept g.L.RecordLanguage.payloads g.L.RecordLanguage.reasons c.args.limits _ _ _ (Err (Refused c.in-Err-Refused.refusal)) ahead.2 (refused.refused c.in-Err-Refused.refusal refl).0,
       ),
       refl,
     )
@@ -32,7 +32,7 @@ pub returns-in-Err-ReadFault-clause-taken : goal.returns-in-Err-ReadFault-clause
 returns-in-Err-ReadFault-clause-taken g c =
     let ahead = c.in_ok-look_ahead.ensures.ahead in
     let same = c.in_ok-look_ahead.ensures.taken in
-    let set = g.L.Language.payloads in
+    let set = g.L.RecordLanguage.payloads in
     let failed = rw c.in-Err-ReadFault.field-0-is at c.in-Err-ReadFault.ensures in
     let u = (failed.fault refl).0 in (
       length u.0,
