@@ -55,6 +55,9 @@ add() {
     passed=$((passed + good)) failed=$((failed + bad))
 }
 
+# many LONG USUAL SHORT: the number for `make check-all`, for the gate or for `make check`. NDEF_LONG and NDEF_QUICK in the environment say which.
+many() { if [ "${NDEF_LONG-}" ]; then echo "$1"; elif [ "${NDEF_QUICK-}" ]; then echo "$3"; else echo "$2"; fi; }
+
 # has NAME..: whether this machine has these. Otherwise a line says what is left out, and which Debian package brings it.
 has() {
     local name package check

@@ -1,0 +1,78 @@
+"""The verdicts on wrong bodies that test/wrong_bodies/run keeps: verdicts.txt has a line 'CRATE KEY COUNT' for each crate of which each wrong body
+was tried and refused, and how many these are.
+
+A key is the SHA-256 of all on which a verdict rests: the logic (`rt version` names it; kits of one logic differ in a letter), the two scripts,
+the crate's line of crates.txt, its src/, specs/ and proofs/, its wrong bodies and rows of without_answers.txt, and src/ and specs/ of the crates
+below it. Where one of these changes, the key is another, and all wrong bodies of the crate are tried again."""
+import hashlib
+import math
+import os
+import re
+import subprocess
+
+FILE = "test/wrong_bodies/verdicts.txt"
+ONE_IN = 20
+HEAD = """\
+# Verdicts on the wrong bodies of test/wrong_bodies: a line is a crate, the key of what the verdict rests on, and how many wrong bodies the prover
+# refused. `test/wrong_bodies/run --record` and `.ci/run --keep` write the lines of crates of which each was tried; verdicts.py says what a key is. The
+# gate tries one in twenty of a crate whose key stands, and each of another.
+"""
+
+
+def logic():
+    """The number of the logic, without the name of the kit."""
+    said = subprocess.run(["rt", "version"], stdout=subprocess.PIPE, check=True, text=True).stdout
+    return re.search(r"\blogic (\w+)", said)[1]
+
+
+def files_below(folder):
+    return sorted(f"{at}/{name}" for at, _, names in os.walk(folder) for name in names)
+
+
+def lines_of(path, pattern):
+    with open(path, encoding="utf-8") as file:
+        return [it for it in file if re.match(pattern, it)]
+
+
+def key(top, name, below):
+    """The key of a crate; `below` are the crates of the repository that it stands on."""
+    total, scripts = hashlib.sha256(), os.path.dirname(os.path.realpath(__file__))
+    folders = [f"crates/{name}/{part}" for part in ("src", "specs", "proofs")] + [f"test/wrong_bodies/{name}"]
+    folders += [f"crates/{it}/{part}" for it in sorted(below) for part in ("src", "specs")]
+    words = [logic(), *lines_of(f"{top}/crates.txt", rf"{name}[ :]")]
+    if os.path.exists(f"{top}/test/wrong_bodies/without_answers.txt"):
+        words += lines_of(f"{top}/test/wrong_bodies/without_answers.txt", rf"{name}/")
+    paths = {f"script {it}": f"{scripts}/{it}" for it in ("run", "verdicts.py")}
+    paths |= {os.path.relpath(it, top): it for folder in folders for it in files_below(f"{top}/{folder}")}
+    for word in words:
+        total.update(word.encode())
+    for inside, path in paths.items():
+        with open(path, "rb") as file:
+            total.update(f"{inside} {hashlib.sha256(file.read()).hexdigest()}\n".encode())
+    return total.hexdigest()
+
+
+def rows(top):
+    """The key and the count of each crate that the file has."""
+    if not os.path.exists(f"{top}/{FILE}"):
+        return {}
+    found = [re.fullmatch(r"(\w+) ([0-9a-f]{64}) (\d+)\n", it) for it in lines_of(f"{top}/{FILE}", r"[^#\n]")]
+    return {it[1]: (it[2], int(it[3])) for it in found if it}
+
+
+def write(path, found):
+    os.makedirs(os.path.dirname(path), exist_ok=True)
+    with open(path, "w", encoding="utf-8") as file:
+        file.write(HEAD + "".join(f"{name} {key} {count}\n" for name, (key, count) in sorted(found.items())))
+
+
+def seed(top):
+    """The commit, which is the seed of the sample."""
+    said = subprocess.run(["git", "-C", top, "rev-parse", "HEAD"], stdout=subprocess.PIPE, stderr=subprocess.DEVNULL, check=False, text=True).stdout
+    return os.environ.get("WRONG_BODIES_SEED") or said.strip() or "none"
+
+
+def sample(seed_word, names):
+    """One name in twenty, rounded up, by chance."""
+    by_chance = sorted(names, key=lambda it: hashlib.sha256(f"{seed_word} {it}".encode()).digest())
+    return sorted(by_chance[: math.ceil(len(names) / ONE_IN)])
