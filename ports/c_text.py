@@ -8,7 +8,7 @@ of the type, and memory of no bytes is not handed to memcpy.
 
 import re
 
-from module_text import (Array, Fields, Global, Int, Local, Moved, NO_EFFECT, Nothing, Number, Pointer, Struct, Unknown,
+from module_text import (Array, Cast, Fields, Global, Int, Local, Moved, NO_EFFECT, Nothing, Number, Pointer, Struct, Unknown,
                          Void, type_of_result)
 
 PREFIX = 'nd_'
@@ -23,40 +23,47 @@ POINTER = 'unsigned char *'
 WIDTHS = (8, 16, 32, 64)
 
 HELPERS = {
+    'bswap_i16': 'static uint16_t nd_bswap_i16(uint16_t v) { return (uint16_t)(v << 8 | v >> 8); }',
+    'bswap_i32': '''static uint32_t nd_bswap_i32(uint32_t v) {
+    return v << 24 | (v & 0xFF00U) << 8 | (v >> 8 & 0xFF00U) | v >> 24;
+}''',
+    'bswap_i64': '''static uint64_t nd_bswap_i64(uint64_t v) {
+    return (uint64_t)nd_bswap_i32((uint32_t)v) << 32 | nd_bswap_i32((uint32_t)(v >> 32));
+}''',
     'load_ptr': '''#if UINTPTR_MAX == UINT64_MAX
-static unsigned char *nd_load_ptr(const unsigned char *from) { unsigned char *p; memcpy(&p, from, 8); return p; }
+static unsigned char *nd_load_ptr(const unsigned char *from) { unsigned char *p; nd_memcpy(&p, from, 8); return p; }
 #else
 static unsigned char *nd_load_ptr(const unsigned char *from) { return (unsigned char *)(uintptr_t)nd_load_64(from); }
 #endif''',
     'store_ptr': '''#if UINTPTR_MAX == UINT64_MAX
-static void nd_store_ptr(unsigned char *to, const unsigned char *p) { memcpy(to, &p, 8); }
+static void nd_store_ptr(unsigned char *to, const unsigned char *p) { nd_memcpy(to, &p, 8); }
 #else
 static void nd_store_ptr(unsigned char *to, const unsigned char *p) { nd_store_64(to, (uintptr_t)p); }
 #endif''',
     'load_part': '''static uint64_t nd_load_part(const unsigned char *from, size_t size) {
     uint64_t v = 0;
-    memcpy(&v, from, size);
+    nd_memcpy(&v, from, size);
     return v;
 }''',
-    'store_part': '''static void nd_store_part(unsigned char *to, uint64_t v, size_t size) { memcpy(to, &v, size); }''',
+    'store_part': '''static void nd_store_part(unsigned char *to, uint64_t v, size_t size) { nd_memcpy(to, &v, size); }''',
     'copy': '''static void nd_copy(unsigned char *to, const unsigned char *from, uint64_t size) {
-    if (size) memcpy(to, from, (size_t)size);
+    if (size) nd_memcpy(to, from, (size_t)size);
 }''',
     'move': '''static void nd_move(unsigned char *to, const unsigned char *from, uint64_t size) {
-    if (size) memmove(to, from, (size_t)size);
+    if (size) nd_memmove(to, from, (size_t)size);
 }''',
     'fill': '''static void nd_fill(unsigned char *to, uint8_t octet, uint64_t size) {
-    if (size) memset(to, octet, (size_t)size);
+    if (size) nd_memset(to, octet, (size_t)size);
 }''',
 }
 # Helpers for each width, whose number of bits stands for %d.
 FOR_WIDTHS = {
     'load_%d': '''static uint%d_t nd_load_%d(const unsigned char *from) {
     uint%d_t v;
-    memcpy(&v, from, sizeof v);
+    nd_memcpy(&v, from, sizeof v);
     return v;
 }''',
-    'store_%d': 'static void nd_store_%d(unsigned char *to, uint%d_t v) { memcpy(to, &v, sizeof v); }',
+    'store_%d': 'static void nd_store_%d(unsigned char *to, uint%d_t v) { nd_memcpy(to, &v, sizeof v); }',
     'umin_i%d': 'static uint%d_t nd_umin_i%d(uint%d_t a, uint%d_t b) { return a < b ? a : b; }',
     'umax_i%d': 'static uint%d_t nd_umax_i%d(uint%d_t a, uint%d_t b) { return a > b ? a : b; }',
     'smin_i%d': 'static uint%d_t nd_smin_i%d(uint%d_t a, uint%d_t b) { return (int%d_t)a < (int%d_t)b ? a : b; }',
@@ -72,17 +79,11 @@ FOR_WIDTHS = {
     while (!(v & 1)) { v >>= 1; count++; }
     return count;
 }''',
-    'bswap_i%d': '''static uint%d_t nd_bswap_i%d(uint%d_t v) {
-    uint%d_t turned = 0;
-    int i;
-    for (i = 0; i < %d; i += 8) turned = (uint%d_t)(turned << 8 | (v >> i & 255));
-    return turned;
-}''',
 }
 OF_WIDTHS = {name % bits: text.replace('%d', str(bits)) for name, text in FOR_WIDTHS.items() for bits in WIDTHS}
 # Those of pointers call those of numbers, which come first.
 HELPERS = {**OF_WIDTHS, **HELPERS}
-NEEDED = {'load_ptr': ['load_64'], 'store_ptr': ['store_64']}
+NEEDED = {'load_ptr': ['load_64'], 'store_ptr': ['store_64'], 'bswap_i64': ['bswap_i32']}
 
 
 def stop(why):
@@ -131,7 +132,7 @@ class Names:
 
     def __init__(self):
         self.of = {}
-        self.taken = set()
+        self.taken = {PREFIX + name for name in [*HELPERS, 'stop', 'memcpy', 'memmove', 'memset']}
         self.structs = {}
         self.helpers = set()
         self.exact = {}
@@ -160,11 +161,17 @@ class Names:
         if isinstance(type_of, Void):
             return 'void '
         if isinstance(type_of, Struct) and not type_of.is_packed:
-            parts = [self.type(field).replace('unsigned char *', 'ptr').strip() for field in type_of.fields]
-            name = PREFIX + '_'.join(re.sub(r'^uint(\d+)_t$', r'\1', part) for part in parts)
+            name = PREFIX + '_'.join(self.word(field) for field in type_of.fields)
             self.structs[name] = type_of
             return f'struct {name} '
         return stop(f'a value of the type {type_of}')
+
+    def word(self, field):
+        """What the name of a struct has for a field; the structs within it are made known first."""
+        text = self.type(field)
+        if isinstance(field, Struct):
+            return text.strip().replace(f'struct {PREFIX}', 'struct_') + '_end'
+        return 'ptr' if isinstance(field, Pointer) else str(width(field))
 
     def value(self, value, type_of):
         """A value that stands for itself in C."""
@@ -174,9 +181,17 @@ class Names:
             return f'({POINTER}){self.of[value.name]}' if value.name in self.of else stop(f'no {value.name}')
         if isinstance(value, Moved):
             return f'({self.value(value.base, type_of)} + {value.bytes})'
+        if isinstance(value, Cast):
+            return self.cast(value)
         if isinstance(value, Nothing):
             return self.nothing(type_of)
         return stop(f'the value {value}')
+
+    def cast(self, cast):
+        """A constant address as a number of 64 bits, or a number as an address."""
+        if cast.kind == 'inttoptr':
+            return f'({POINTER})(uintptr_t){self.value(cast.value, Int(64))}'
+        return f'(uint64_t)(uintptr_t){self.value(cast.value, Pointer())}'
 
     def nothing(self, type_of):
         if isinstance(type_of, Struct):
@@ -191,7 +206,7 @@ class Body:
     def __init__(self, names, function):
         self.names, self.function = names, function
         self.types = {name: type_of for type_of, name in function.parameters}
-        self.blocks = [(label, [line for line in lines if not has_no_effect(line)]) for label, lines in function.blocks]
+        self.blocks = without_idle(function.blocks)
         self.lines, self.used = [], set()
         self.texts, self.depths, self.rooms, self.parts = {}, {}, {}, {}
         for _, lines in self.blocks:
@@ -268,8 +283,8 @@ class Body:
     def binary(self, line):
         type_of, kind = line.type, line.kind
         first, second = self.values(line)
-        if kind in ('shl', 'lshr', 'ashr') and not isinstance(line.operands[1], Number):
-            second = f'({second} & {width(type_of) - 1})'
+        if kind in ('shl', 'lshr', 'ashr'):
+            second = self.places_to_shift(type_of, line.operands[1], second)
         if kind == 'ashr':
             return cut(type_of, f'({signed(type_of, first)} >> {second})')
         if type_of.bits < 32 and kind in ('mul', 'shl'):
@@ -279,6 +294,12 @@ class Body:
         text = f'({first} {OPERATORS[kind]} {second})'
         is_exact = type_of.bits in (32, 64) or type_of.bits == 1 and kind in ('and', 'or', 'xor')
         return text if is_exact else cut(type_of, text)
+
+    def places_to_shift(self, type_of, count, text):
+        """How far to shift: C has no shift by as many bits as the type has, or more."""
+        if isinstance(count, Number):
+            return str(count.value & (width(type_of) - 1))
+        return f'({text} & {width(type_of) - 1})'
 
     def compare(self, line):
         first, second = self.values(line)
@@ -310,13 +331,16 @@ class Body:
         """An address that may lie outside of the object is counted as a number: C allows no other way."""
         base = self.value(line.operands[0], Pointer())
         size = size_of(line.type)
+        is_within, count_type = line.detail
         if isinstance(line.operands[1], Number):
             count = line.operands[1].value * size
             sign, count = '-' if count < 0 else '+', str(abs(count))
         else:
-            word = 'ptrdiff_t' if line.detail else 'uintptr_t'
-            sign, count = '+', f'({word}){self.value(line.operands[1], Int(64))}' + (f' * {size}' if size != 1 else '')
-        if line.detail:
+            word = 'ptrdiff_t' if is_within else 'uintptr_t'
+            count = self.value(line.operands[1], count_type)
+            count = f'({word}){count if count_type == Int(64) else signed(count_type, count)}'
+            sign, count = '+', count + (f' * {size}' if size != 1 else '')
+        if is_within:
             return f'({base} {sign} {count})'
         return f'((unsigned char *)((uintptr_t){base} {sign} {count}))'
 
@@ -334,6 +358,8 @@ class Body:
     def inserted(self, line):
         """A struct with another value in one field."""
         whole, part = line.operands
+        if not isinstance(line.type, Struct):
+            stop(f'a struct of the type {line.type}')
         count = len(line.type.fields)
         if isinstance(whole, Nothing):
             parts = ['0' if isinstance(field, Int) else self.names.nothing(field) for field in line.type.fields]
@@ -412,6 +438,8 @@ class Body:
     def room_for(self, line):
         if line.detail > 8:
             stop(f'memory aligned to {line.detail}: {line.line}')
+        if all(line is not other for other in self.blocks[0][1]):
+            stop('memory that a block after the first asks for')
         self.rooms[line.result] = f'{self.variables[line.result]}.b'
 
     def stored(self, line):
@@ -437,6 +465,8 @@ class Body:
 
     def callee(self, name, arguments):
         if not name.startswith('llvm.'):
+            if name not in self.names.of:
+                stop(f'no function {name}')
             return f'{self.names.of[name]}({", ".join(arguments)})'
         name = name[5:].replace('.', '_')
         count = 1 if name.startswith(('cttz', 'bswap')) else 2
@@ -450,8 +480,11 @@ class Body:
 
     def memory(self, line, kind, arguments):
         to, other, size = arguments[:3]
+        if line.operands[3] != Number(0):
+            stop('volatile memory')
         if isinstance(line.operands[2], Number):
-            self.say(f'{kind}({to}, {other}, {line.operands[2].value});')
+            if line.operands[2].value:
+                self.say(f'{PREFIX}{kind}({to}, {other}, {line.operands[2].value});')
         else:
             helper = {'memcpy': 'copy', 'memmove': 'move', 'memset': 'fill'}[kind]
             self.say(f'{self.names.help(helper)}({to}, {other}, {size});')
@@ -550,6 +583,18 @@ def has_no_effect(line):
     return line.kind == 'call' and line.detail[0].startswith(NO_EFFECT)
 
 
+def without_idle(blocks):
+    """The blocks without what has no effect, and without values that nothing uses."""
+    blocks = [(label, [line for line in lines if not has_no_effect(line)]) for label, lines in blocks]
+    while True:
+        used = {name for _, lines in blocks for line in lines for name in locals_of(line.operands)}
+        kept = [(label, [line for line in lines if line.result in used or line.kind not in PURE | {'load', 'phi'}])
+                for label, lines in blocks]
+        if kept == blocks:
+            return blocks
+        blocks = kept
+
+
 def has_effect(line):
     return line.kind in ('store', 'call')
 
@@ -570,4 +615,21 @@ def size_of(type_of):
         return width(type_of) // 8
     if isinstance(type_of, Array):
         return type_of.count * size_of(type_of.element)
+    if isinstance(type_of, Struct) and not type_of.is_packed:
+        at = 0
+        for field in type_of.fields:
+            at = rounded(at, alignment_of(field)) + size_of(field)
+        return rounded(at, alignment_of(type_of))
     return stop(f'the size of {type_of}')
+
+
+def alignment_of(type_of):
+    if isinstance(type_of, Array):
+        return alignment_of(type_of.element)
+    if isinstance(type_of, Struct):
+        return max((alignment_of(field) for field in type_of.fields), default=1)
+    return size_of(type_of)
+
+
+def rounded(at, alignment):
+    return -(-at // alignment) * alignment

@@ -77,6 +77,13 @@ class Moved:
 
 
 @dataclass(frozen=True)
+class Cast:
+    """A constant address as a number, or a number as an address."""
+    kind: str
+    value: tuple
+
+
+@dataclass(frozen=True)
 class Instruction:
     """One line of a block. What `detail` holds depends on the kind: Line's methods say it."""
     result: str
@@ -108,13 +115,14 @@ class Function:
 WORD = re.compile(r'c"[^"]*"|[@%]?"[^"]*"|[@%!#]?[\w.$+-]+|<\{|\}>|\S')
 LABEL = re.compile(r'("[^"]*"|[\w.$-]+):(?: |$)')
 METADATA = re.compile(r'(, ![\w.]+ !\d+)+$')
-FLAGS = {'nuw', 'nsw', 'exact', 'disjoint', 'nneg', 'samesign', 'inbounds', 'nusw', 'volatile'}
+FLAGS = {'nuw', 'nsw', 'exact', 'disjoint', 'nneg', 'samesign', 'inbounds', 'nusw'}
 ATTRIBUTES = {'noundef', 'zeroext', 'signext', 'nonnull', 'noalias', 'readonly', 'writeonly', 'readnone', 'nofree', 'immarg',
               'captures', 'range', 'dereferenceable', 'initializes', 'align', 'dead_on_return', 'dead_on_unwind', 'returned',
               'writable'}
 LINKAGE = {'internal', 'private', 'dso_local', 'fastcc', 'unnamed_addr', 'local_unnamed_addr', 'constant'}
 BINARY = {'add', 'sub', 'mul', 'and', 'or', 'xor', 'udiv', 'urem', 'shl', 'lshr', 'ashr'}
-CASTS = {'zext', 'sext', 'trunc', 'ptrtoaddr', 'ptrtoint', 'inttoptr'}
+ADDRESS_CASTS = {'ptrtoaddr', 'ptrtoint', 'inttoptr'}
+CASTS = {'zext', 'sext', 'trunc', *ADDRESS_CASTS}
 NO_EFFECT = ('llvm.lifetime.', 'llvm.assume', 'llvm.experimental.noalias')
 
 
@@ -253,6 +261,8 @@ class Line:
             return Bytes(unescaped(word[2:-1]))
         if word == 'getelementptr':
             return self.moved()
+        if word in ADDRESS_CASTS:
+            return self.constant_cast(word)
         if re.fullmatch(r'-?\d+', word):
             return Number(int(word))
         return self.stop(f'unknown value `{word}`')
@@ -266,6 +276,17 @@ class Line:
         count = self.integer()
         self.expect(')')
         return Moved(base, count)
+
+    def constant_cast(self, kind):
+        """`(TYPE VALUE to TYPE)`; an address as a number is one of 64 bits."""
+        self.expect('(')
+        type_of, value = self.typed()
+        self.expect('to')
+        wanted = self.type()
+        self.expect(')')
+        if {type_of, wanted} != {Int(64), Pointer()}:
+            self.stop('a cast')
+        return Cast(kind, value)
 
     def label(self):
         self.expect('label')
@@ -349,12 +370,14 @@ class Line:
         return type_of, [value, pointer], self.align()
 
     def element(self, is_within):
-        """An address, counted on in elements of the type. The detail is whether it stays within one object."""
+        """An address, counted on in elements of the type. The detail is whether it stays within one object, and the type
+        of the count."""
         type_of = self.type()
         self.expect(',')
         base = self.typed()[1]
         self.expect(',')
-        return type_of, [base, self.typed()[1]], is_within
+        count_type, count = self.typed()
+        return type_of, [base, count], (is_within, count_type)
 
     def alloca(self):
         """The detail is the alignment."""
@@ -395,10 +418,11 @@ class Line:
         function = self.value()
         if not isinstance(function, Global):
             self.stop('a call that names no function')
-        self.expect('(')
-        arguments = self.list_until(')', self.typed)
         if function.name.startswith(NO_EFFECT):
             self.at = len(self.words)
+            return type_of, [], (function.name, [])
+        self.expect('(')
+        arguments = self.list_until(')', self.typed)
         return type_of, [value for _, value in arguments], (function.name, [type_of for type_of, _ in arguments])
 
     def branch(self):
@@ -439,6 +463,8 @@ def type_of_result(instruction):
     if kind in ('getelementptr', 'alloca'):
         return Pointer()
     if kind == 'extractvalue':
+        if not isinstance(type_of, Struct):
+            raise Unknown(f'a part of {type_of}: {instruction.line.strip()[:300]}')
         return type_of.fields[instruction.detail]
     return type_of
 
@@ -473,9 +499,9 @@ def head(line):
     return name, is_static, type_of, words.list_until(')', parameter)
 
 
-def blocks(lines):
-    """The blocks of a function. The first has no label of its own."""
-    found = [('', [])]
+def blocks(lines, parameters):
+    """The blocks of a function. The first may have no label; its name is the number after those of the parameters then."""
+    found = [(str(sum(name.isdigit() for _, name in parameters)), [])]
     lines = iter(lines)
     for line in lines:
         label = LABEL.match(line)
@@ -507,5 +533,6 @@ def module(text):
                 if more == '}':
                     break
                 body.append(more)
-            functions.append(Function(*head(line), blocks(body)))
+            about = head(line)
+            functions.append(Function(*about, blocks(body, about[3])))
     return constants, functions, declared

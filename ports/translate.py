@@ -1,7 +1,7 @@
 #!/usr/bin/env python3
 """ports/translate.py IN.ll INCLUDE TREE OUT.c: writes the LLVM module of the library for C as one C99 file, whose calls are
 those that the headers ndef*.h in the folder INCLUDE declare. TREE is the hash of the crates (packaging/tree_hash). It stops at
-anything it doesn't know, with the line of the module."""
+anything it doesn't know, with the line of the module. test/translate/run tests it."""
 
 import os
 import pathlib
@@ -13,7 +13,8 @@ from module_text import Array, Bytes, Fields, Int, Moved, Nothing, Number, Point
 
 WIDE = 100  # numbers to a line of an array
 HEAD = '''/* The library of Simbegyor for C, in one file of C99: ndef.h documents its calls. Compile it with your program, with
- * ndef.h beside it; of the C library it needs memcpy, memmove and memset alone.
+ * ndef.h and ndef_names.h beside it; of the C library it needs memcpy, memmove and memset alone. ndef.c is the fast form of
+ * the library, and ndef_small.c the small one: take one of the two.
  *
  * Made by `make amalgamation` of the crates with the hash {tree}
  * (packaging/tree_hash prints that of a checkout). The crates are proved. This file is their LLVM module, optimised by
@@ -26,14 +27,14 @@ HEAD = '''/* The library of Simbegyor for C, in one file of C99: ndef.h document
 #include <stdint.h>
 
 #if CHAR_BIT != 8
-#error "ndef.c needs bytes of 8 bits"
+#error "{name} needs bytes of 8 bits"
 #endif
 #if defined(__BYTE_ORDER__) && defined(__ORDER_LITTLE_ENDIAN__)
 #if __BYTE_ORDER__ != __ORDER_LITTLE_ENDIAN__
-#error "ndef.c needs a little-endian machine"
+#error "{name} needs a little-endian machine"
 #endif
 #elif defined(__BIG_ENDIAN__) || defined(_BIG_ENDIAN) || defined(__ARMEB__) || defined(__MIPSEB__) || defined(__s390__)
-#error "ndef.c needs a little-endian machine"
+#error "{name} needs a little-endian machine"
 #endif
 
 #if defined(__STDC_HOSTED__) && __STDC_HOSTED__ == 0
@@ -42,6 +43,16 @@ void *memmove(void *to, const void *from, size_t size);
 void *memset(void *to, int octet, size_t size);
 #else
 #include <string.h>
+#endif
+/* By these names a compiler knows them even where it is told that there is no C library: most calls become a load or a store. */
+#if defined(__GNUC__) && !defined(__TINYC__)
+#define nd_memcpy __builtin_memcpy
+#define nd_memmove __builtin_memmove
+#define nd_memset __builtin_memset
+#else
+#define nd_memcpy memcpy
+#define nd_memmove memmove
+#define nd_memset memset
 #endif
 
 /* What the proofs say is never reached. */
@@ -110,13 +121,17 @@ def parts_of(names, constant):
     return members, held
 
 
+def has_pointers(constant):
+    return isinstance(constant.value, Fields) and any(type_of == Pointer() for type_of, _ in constant.value.parts)
+
+
 def named(names, constant):
     """Gives a constant its name, by which its address is taken."""
     names.add(constant.name, f'data_{constant.name}')
     name = names.of[constant.name]
     if is_octets(constant.type):
         names.of[constant.name] = name if constant.align == 1 else f'{name}.b'
-    elif isinstance(constant.value, Fields) and any(type_of == Pointer() for type_of, _ in constant.value.parts):
+    elif has_pointers(constant):
         names.of[constant.name] = f'&{name}'
     return name
 
@@ -183,8 +198,9 @@ def call_text(names, function, calls):
     return f'\n{result} {function.name}({parameters}) {{\n    {says}{names.of[function.name]}({given});\n}}\n'
 
 
-def translated(text, include, tree):
+def translated(text, include, tree, name):
     constants, functions, _ = module(text)
+    constants.sort(key=has_pointers)  # what a pointer leads to comes before it
     names = Names()
     known = [(named(names, constant), constant) for constant in constants]
     for function in functions:
@@ -196,11 +212,11 @@ def translated(text, include, tree):
     if sorted(function.name for function in exported) != sorted(calls):
         raise Unknown('the module has other calls than the header')
     helpers = [HELPERS[name] + '\n' for name in HELPERS if name in names.helpers]
-    structs = [f'{name} {{ {" ".join(f"{names.type(field)}f{at};" for at, field in enumerate(type_of.fields))} }};\n'
-               for name, type_of in sorted((f'struct {name}', type_of) for name, type_of in names.structs.items())]
+    structs = [f'struct {name} {{ {" ".join(f"{names.type(field)}f{at};" for at, field in enumerate(type_of.fields))} }};\n'
+               for name, type_of in names.structs.items()]
     heads, bodies = [head for head, _ in code], [body for _, body in code]
     exports = [call_text(names, function, calls) for function in exported]
-    return ''.join([HEAD.format(tree=tree), *helpers, '\n', *structs, LAYOUT, '\n', *data, '\n', *heads, *bodies, *exports])
+    return ''.join([HEAD.format(tree=tree, name=name), *helpers, '\n', *structs, LAYOUT, '\n', *data, '\n', *heads, *bodies, *exports])
 
 
 def main(words):
@@ -210,7 +226,7 @@ def main(words):
     with open(source, encoding='utf-8') as file:
         text = file.read()
     try:
-        made = translated(text, include, tree)
+        made = translated(text, include, tree, os.path.basename(to))
     except Unknown as unknown:
         stop(unknown)
     with open(to + '.part', 'w', encoding='utf-8') as file:

@@ -10,7 +10,7 @@ fn write(room: &mut [u8]) -> Result<usize, EncodeError> {
     let (mut first, mut second) = ([0; 32], [0; 32]);
     let text = Text::new_in("en", "Hello", Encoding::Utf16, &mut first)?;
     let uri = Uri::new_in("https://example.com", &mut second)?;
-    let form = Form { chunk: NonZeroU32::new(7), long: false };
+    let form = Form { chunk: NonZeroU32::new(7), ..Form::default() };
     encode(&[NewRecord::from(text).with_id(b"a"), uri.into()], form, room)
 }
 

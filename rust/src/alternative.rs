@@ -1,6 +1,6 @@
 //! Alternative carriers of handovers.
 use crate::bytes::{Bytes, Quoted};
-use crate::ffi::{self, Size};
+use crate::calls;
 use crate::{promised, NumberError, Refusal};
 use core::fmt;
 use core::iter::FusedIterator;
@@ -33,6 +33,7 @@ impl PowerState {
     }
 
     /// Its number.
+    #[must_use]
     pub const fn number(self) -> u32 {
         self as u32
     }
@@ -69,7 +70,7 @@ impl fmt::Display for PowerState {
 #[derive(Clone)]
 pub struct AlternativeCarrier<'a> {
     payload: Bytes<'a>,
-    parts: ffi::AlternativeParts,
+    parts: calls::AlternativeParts,
 }
 
 impl<'a> AlternativeCarrier<'a> {
@@ -83,33 +84,37 @@ impl<'a> AlternativeCarrier<'a> {
     }
 
     pub(crate) fn of(payload: Bytes<'a>) -> Result<Self, Refusal> {
-        let parts = ffi::alternative(&payload).map_err(Refusal::of)?;
+        let parts = calls::alternative(&payload).map_err(Refusal::of)?;
         Ok(Self { payload, parts })
     }
 
     /// The power state of the carrier.
+    #[must_use]
     pub fn power(&self) -> PowerState {
         PowerState::of(self.parts.power)
     }
 
     /// The carrier data reference: the id of the record that describes the carrier, at most 255 bytes.
+    #[must_use]
     pub fn reference(&self) -> &[u8] {
-        promised(ffi::reference(&self.payload, 0).ok_or(()))
+        promised(calls::reference(&self.payload, 0).ok_or(()))
     }
 
     /// The auxiliary data references, at most 255, each of at most 255 bytes.
     pub fn auxiliaries(&self) -> Auxiliaries<'_> {
-        let count = self.parts.references.into();
+        let count = self.parts.references as usize;
         Auxiliaries { payload: &self.payload, told: Told::of(&self.payload, count), next: 1, count }
     }
 
     /// Its payload.
+    #[must_use]
     pub fn payload(&self) -> &[u8] {
         &self.payload
     }
 
     /// The same alternative carrier, which borrows nothing.
     #[cfg(feature = "alloc")]
+    #[must_use]
     pub fn into_owned(self) -> AlternativeCarrier<'static> {
         AlternativeCarrier { payload: self.payload.into_owned(), parts: self.parts }
     }
@@ -146,25 +151,25 @@ enum Told {
 
 impl Told {
     #[cfg(not(feature = "alloc"))]
-    fn of(_payload: &[u8], _count: Size) -> Self {
+    fn of(_payload: &[u8], _count: usize) -> Self {
         Self::OneByOne
     }
 
     #[cfg(feature = "alloc")]
-    fn of(payload: &[u8], count: Size) -> Self {
-        let mut parts = vec![Part::default(); ffi::index(count)];
-        promised(ffi::references(payload, &mut parts));
+    fn of(payload: &[u8], count: usize) -> Self {
+        let mut parts = vec![Part::default(); count];
+        promised(calls::references(payload, &mut parts));
         Self::Before(parts)
     }
 
-    fn reference<'a>(&self, payload: &'a [u8], index: Size) -> Option<&'a [u8]> {
+    fn reference<'a>(&self, payload: &'a [u8], index: usize) -> Option<&'a [u8]> {
         match self {
             #[cfg(not(feature = "alloc"))]
-            Self::OneByOne => ffi::reference(payload, index),
+            Self::OneByOne => calls::reference(payload, index),
             #[cfg(feature = "alloc")]
             Self::Before(parts) => {
-                let part = parts.get(ffi::index(index))?;
-                Some(ffi::part(payload, part.at, part.length))
+                let part = parts.get(index)?;
+                Some(calls::part(payload, part.at, part.length))
             }
         }
     }
@@ -176,8 +181,8 @@ impl Told {
 pub struct Auxiliaries<'a> {
     payload: &'a [u8],
     told: Told,
-    next: Size,
-    count: Size,
+    next: usize,
+    count: usize,
 }
 
 impl<'a> Iterator for Auxiliaries<'a> {
@@ -190,7 +195,7 @@ impl<'a> Iterator for Auxiliaries<'a> {
     }
 
     fn size_hint(&self) -> (usize, Option<usize>) {
-        let left = ffi::index(self.count - self.next);
+        let left = self.count - self.next;
         (left, Some(left))
     }
 }

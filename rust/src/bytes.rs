@@ -1,5 +1,5 @@
 //! Bytes that are borrowed, or owned where there is memory.
-use crate::ffi::{self, Size};
+use crate::calls;
 use core::fmt;
 use core::hash::{Hash, Hasher};
 use core::ops::Deref;
@@ -23,16 +23,17 @@ pub enum Bytes<'a> {
 
 impl<'a> Bytes<'a> {
     /// A part of them that the library gave. It is borrowed if they are.
-    pub(crate) fn part(&self, at: Size, length: Size) -> Bytes<'a> {
+    pub(crate) fn part(&self, at: usize, length: usize) -> Bytes<'a> {
         match self {
-            Self::Borrowed(bytes) => Bytes::Borrowed(ffi::part(bytes, at, length)),
+            Self::Borrowed(bytes) => Bytes::Borrowed(calls::part(bytes, at, length)),
             #[cfg(feature = "alloc")]
-            Self::Owned(bytes) => Bytes::Owned(ffi::part(bytes, at, length).into()),
+            Self::Owned(bytes) => Bytes::Owned(calls::part(bytes, at, length).into()),
         }
     }
 
     /// The same bytes, which borrow nothing.
     #[cfg(feature = "alloc")]
+    #[must_use]
     pub fn into_owned(self) -> Bytes<'static> {
         match self {
             Self::Borrowed(bytes) => Bytes::Owned(bytes.into()),

@@ -1,6 +1,6 @@
 //! Handover carriers.
 use crate::bytes::{Bytes, Quoted};
-use crate::ffi;
+use crate::calls;
 use crate::{promised, EncodeError, NewRecord, Refusal, Tnf};
 use core::fmt;
 
@@ -13,7 +13,7 @@ use alloc::vec::Vec;
 #[derive(Clone)]
 pub struct HandoverCarrier<'a> {
     payload: Bytes<'a>,
-    parts: ffi::CarrierParts,
+    parts: calls::CarrierParts,
 }
 
 impl<'a> HandoverCarrier<'a> {
@@ -27,7 +27,7 @@ impl<'a> HandoverCarrier<'a> {
     }
 
     pub(crate) fn of(payload: Bytes<'a>) -> Result<Self, Refusal> {
-        let parts = ffi::carrier(&payload).map_err(Refusal::of)?;
+        let parts = calls::carrier(&payload).map_err(Refusal::of)?;
         Ok(Self { payload, parts })
     }
 
@@ -39,7 +39,7 @@ impl<'a> HandoverCarrier<'a> {
     #[cfg(feature = "alloc")]
     pub fn new(format: u8, kind: &[u8], data: &[u8]) -> Result<HandoverCarrier<'static>, EncodeError> {
         let mut payload = Vec::with_capacity(2 + kind.len() + data.len());
-        ffi::write_carrier(format.into(), kind, data, &mut payload)
+        calls::write_carrier(format.into(), kind, data, &mut payload)
             .map_err(|unfilled| EncodeError::of(unfilled, EncodeError::Carrier))?;
         Ok(promised(HandoverCarrier::of(Bytes::Owned(payload))))
     }
@@ -50,33 +50,38 @@ impl<'a> HandoverCarrier<'a> {
     ///
     /// [`EncodeError::Carrier`] or [`EncodeError::NoRoom`].
     pub fn new_in(format: u8, kind: &[u8], data: &[u8], room: &'a mut [u8]) -> Result<Self, EncodeError> {
-        let count = ffi::write_carrier(format.into(), kind, data, room)
+        let count = calls::write_carrier(format.into(), kind, data, room)
             .map_err(|unfilled| EncodeError::of(unfilled, EncodeError::Carrier))?;
         Ok(promised(HandoverCarrier::parse(&room[..count])))
     }
 
     /// The carrier type format, 0 to 7: what kind of name the carrier type is.
+    #[must_use]
     pub fn format(&self) -> u8 {
         promised(self.parts.format.try_into())
     }
 
     /// The carrier type, at most 255 bytes.
+    #[must_use]
     pub fn kind(&self) -> &[u8] {
-        ffi::part(&self.payload, self.parts.type_at, self.parts.type_length)
+        calls::part(&self.payload, self.parts.type_at, self.parts.type_length)
     }
 
     /// The carrier data.
+    #[must_use]
     pub fn data(&self) -> &[u8] {
-        ffi::part(&self.payload, self.parts.data_at, self.parts.data_length)
+        calls::part(&self.payload, self.parts.data_at, self.parts.data_length)
     }
 
     /// Its payload.
+    #[must_use]
     pub fn payload(&self) -> &[u8] {
         &self.payload
     }
 
     /// The same handover carrier, which borrows nothing.
     #[cfg(feature = "alloc")]
+    #[must_use]
     pub fn into_owned(self) -> HandoverCarrier<'static> {
         HandoverCarrier { payload: self.payload.into_owned(), parts: self.parts }
     }

@@ -1,5 +1,5 @@
 //! Checks of bytes, all at once or in parts.
-use crate::ffi;
+use crate::calls;
 use crate::{Limits, Refusal};
 use core::fmt;
 
@@ -13,7 +13,7 @@ pub struct Checked {
 }
 
 impl Checked {
-    fn of(checked: ffi::Checked) -> Self {
+    fn of(checked: calls::Checked) -> Self {
         Self { length: checked.place, records: checked.records }
     }
 }
@@ -35,14 +35,15 @@ impl Checked {
 /// ```
 #[inline]
 pub fn check(bytes: &[u8], limits: &Limits) -> Result<Checked, Refusal> {
-    let mut answer = ffi::Checked::default();
-    match ffi::check(bytes, &limits.raw(), &mut answer) {
-        ffi::OK => Ok(Checked { length: answer.place, records: answer.records }),
+    let mut answer = calls::Checked::default();
+    match calls::check(bytes, &limits.raw(), &mut answer) {
+        calls::OK => Ok(Checked { length: answer.place, records: answer.records }),
         _ => Err(Refusal::of(answer)),
     }
 }
 
-/// A check of bytes that arrive in parts. It keeps no byte of the message, and takes no memory.
+/// A check of bytes that arrive in parts. Of the message it keeps the bytes of one type at most, while
+/// that arrives in parts, and it takes no memory.
 ///
 /// ```
 /// use simbegyor_ndef::{Checker, Limits};
@@ -53,12 +54,13 @@ pub fn check(bytes: &[u8], limits: &Limits) -> Result<Checked, Refusal> {
 /// # Ok::<(), simbegyor_ndef::Refusal>(())
 /// ```
 #[derive(Clone)]
-pub struct Checker(ffi::Checker);
+pub struct Checker(calls::Checker);
 
 impl Checker {
     /// Begins a check, before the first byte.
+    #[must_use]
     pub fn new(limits: &Limits) -> Self {
-        Self(ffi::begin(&limits.raw()))
+        Self(calls::begin(&limits.raw()))
     }
 
     /// Checks the next bytes; there may be none. `None`: the bytes so far begin a message, and more must follow.
@@ -69,9 +71,9 @@ impl Checker {
     ///
     /// The refusal is the one that [`check`] gives for all bytes so far. Its place counts from the first of them.
     pub fn feed(&mut self, bytes: &[u8]) -> Result<Option<Checked>, Refusal> {
-        match ffi::feed(&mut self.0, bytes) {
-            (ffi::OK, checked) => Ok(Some(Checked::of(checked))),
-            (ffi::MORE, _) => Ok(None),
+        match calls::feed(&mut self.0, bytes) {
+            (calls::OK, checked) => Ok(Some(Checked::of(checked))),
+            (calls::MORE, _) => Ok(None),
             (_, why) => Err(Refusal::of(why)),
         }
     }
@@ -82,8 +84,8 @@ impl Checker {
     ///
     /// As [`check`](check()). [`Reason::EndOfInput`](crate::Reason::EndOfInput) says that the message is not whole.
     pub fn end(mut self) -> Result<Checked, Refusal> {
-        match ffi::feed(&mut self.0, &[]) {
-            (ffi::OK, checked) => Ok(Checked::of(checked)),
+        match calls::feed(&mut self.0, &[]) {
+            (calls::OK, checked) => Ok(Checked::of(checked)),
             (_, why) => Err(Refusal::of(why)),
         }
     }

@@ -1,6 +1,6 @@
 //! The parts of a payload that lies in several chunks.
 use crate::bytes::Quoted;
-use crate::ffi;
+use crate::calls;
 use crate::Part;
 use core::fmt;
 use core::iter::FusedIterator;
@@ -57,7 +57,7 @@ impl<'a> Chunks<'a> {
             #[cfg(feature = "alloc")]
             Parts::Owned(parts) => parts[index],
         };
-        ffi::part(self.bytes, part.at, part.length)
+        calls::part(self.bytes, part.at, part.length)
     }
 }
 

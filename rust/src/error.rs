@@ -1,5 +1,5 @@
 //! Why a value is not read or written, other than that bytes are refused.
-use crate::ffi::Unfilled;
+use crate::calls::Unfilled;
 use crate::Refusal;
 use core::fmt;
 
@@ -46,10 +46,18 @@ impl core::error::Error for DecodeError {}
 pub enum EncodeError {
     /// A message has at least one record.
     NoRecord,
-    /// The type or the id of a record has more than 255 bytes; its payload has more than 4294967295 bytes; it has a
-    /// type where its type name format allows none, or none where it needs one; or its type name format is
-    /// [`Tnf::Empty`](crate::Tnf::Empty), and it has a type, an id or a payload.
-    Record,
+    /// The record with this index has a type or an id of more than 255 bytes, or a payload of more than 4294967295 bytes;
+    /// it has a type where its type name format allows none, or none where it needs one; or its type name format is
+    /// [`Tnf::Empty`](crate::Tnf::Empty), and it has a type, an id or a payload. The index counts from 0 in the message,
+    /// or in the smart poster or handover that is built.
+    Record(usize),
+    /// A reader refuses the record within the [`limits`](crate::Form::limits) of the form.
+    Refused {
+        /// The index of the record in the message, counted from 0.
+        record: usize,
+        /// Where, counted from the first byte of the record, and why.
+        refusal: Refusal,
+    },
     /// The language code of a text has more than 63 bytes or is not ASCII, or the text is too long.
     Text,
     /// The URI is too long.
@@ -82,7 +90,8 @@ impl fmt::Display for EncodeError {
     fn fmt(&self, to: &mut fmt::Formatter<'_>) -> fmt::Result {
         match self {
             Self::NoRecord => to.write_str("a message has at least one record"),
-            Self::Record => to.write_str("a record cannot have this type, id or payload"),
+            Self::Record(record) => write!(to, "record {record} cannot have this type, id or payload"),
+            Self::Refused { record, refusal } => write!(to, "record {record} is {refusal}: {}", refusal.sentence()),
             Self::Text => to.write_str("a text cannot have this language or length"),
             Self::Uri => to.write_str("a URI cannot be so long"),
             Self::Carrier => to.write_str("a handover carrier cannot have this format, type or length"),

@@ -1,5 +1,5 @@
 //! In which field each byte of a message stands.
-use crate::ffi::{self, Field as FieldPart, Size};
+use crate::calls::{self, Field as FieldPart};
 use crate::{DecodeError, Limits, Payloads, Refusal};
 use core::fmt;
 use core::iter::FusedIterator;
@@ -130,11 +130,11 @@ impl<'a> Fields<'a> {
     /// The fields of the message with which these bytes begin.
     #[cfg(feature = "alloc")]
     pub fn of(bytes: &'a [u8], limits: &Limits) -> Self {
-        let (limits, mut why) = (limits.with_payloads(Payloads::Typed).raw(), ffi::Checked::default());
+        let (limits, mut why) = (limits.with_payloads(Payloads::Typed).raw(), calls::Checked::default());
         let mut told = Vec::new();
-        if let Err(count) = ffi::fields(bytes, &limits, &mut told, &mut why) {
+        if let Err(count) = calls::fields(bytes, &limits, &mut told, &mut why) {
             told.resize(count, FieldPart::default());
-            promised(ffi::fields(bytes, &limits, &mut told, &mut why));
+            promised(calls::fields(bytes, &limits, &mut told, &mut why));
         }
         Self { bytes, told: Told::Owned(told), refusal: refusal_of(why), next: 0 }
     }
@@ -145,19 +145,21 @@ impl<'a> Fields<'a> {
     ///
     /// [`DecodeError::NoRoom`] alone.
     pub fn of_in(bytes: &'a [u8], limits: &Limits, room: &'a mut [FieldPart]) -> Result<Self, DecodeError> {
-        let (limits, mut why) = (limits.with_payloads(Payloads::Typed).raw(), ffi::Checked::default());
-        let count = ffi::fields(bytes, &limits, room, &mut why).map_err(DecodeError::NoRoom)?;
+        let (limits, mut why) = (limits.with_payloads(Payloads::Typed).raw(), calls::Checked::default());
+        let count = calls::fields(bytes, &limits, room, &mut why).map_err(DecodeError::NoRoom)?;
         Ok(Self { bytes, told: Told::Borrowed(&room[..count]), refusal: refusal_of(why), next: 0 })
     }
 
     /// Where and why the bytes are refused; none if they begin with a message.
+    #[must_use]
     pub fn refusal(&self) -> Option<Refusal> {
         self.refusal
     }
 
     /// The field in which the byte at a place stands; none after the message, or from a refused byte on.
+    #[must_use]
     pub fn at(&self, place: usize) -> Option<Field<'a>> {
-        let index = self.all().partition_point(|told| told.at <= place as Size).checked_sub(1)?;
+        let index = self.all().partition_point(|told| told.at <= place).checked_sub(1)?;
         self.field(index).filter(|field| place - field.at < field.bytes.len())
     }
 
@@ -172,8 +174,8 @@ impl<'a> Fields<'a> {
     fn field(&self, index: usize) -> Option<Field<'a>> {
         let told = self.all().get(index)?;
         Some(Field {
-            at: ffi::index(told.at),
-            bytes: ffi::part(self.bytes, told.at, told.length),
+            at: told.at,
+            bytes: calls::part(self.bytes, told.at, told.length),
             depth: told.depth,
             name: FieldName::from_number(told.name).unwrap_or(FieldName::Unlisted),
         })
@@ -181,7 +183,7 @@ impl<'a> Fields<'a> {
 }
 
 /// The refusal, if the library gave one.
-fn refusal_of(why: ffi::Checked) -> Option<Refusal> {
+fn refusal_of(why: calls::Checked) -> Option<Refusal> {
     (why.reason != 0).then(|| Refusal::of(why))
 }
 
@@ -217,10 +219,10 @@ mod tests {
     fn names_are_the_librarys() {
         for number in 0..200 {
             let mut room = [0; 31];
-            let told = ffi::field_name(number, &mut room[..]).map(|count| &room[..count]);
+            let told = calls::field_name(number, &mut room[..]).map(|count| &room[..count]);
             match FieldName::from_number(number) {
                 Some(name) => assert_eq!((told, name as u32), (Ok(name.text().as_bytes()), number)),
-                None => assert_eq!(told, Err(ffi::Unfilled::BadArgument)),
+                None => assert_eq!(told, Err(calls::Unfilled::BadArgument)),
             }
         }
     }

@@ -1,6 +1,6 @@
 //! Handover requests and handover selects.
 use crate::bytes::Bytes;
-use crate::ffi;
+use crate::calls;
 use crate::{promised, AlternativeCarrier, HandoverError, NewRecord, Profile, Records, Refusal, Tnf};
 use core::fmt;
 use core::iter::FusedIterator;
@@ -34,7 +34,7 @@ macro_rules! handovers {
             }
 
             pub(crate) fn of(payload: Bytes<'a>, profile: Profile) -> Result<Self, Refusal> {
-                let parts = ffi::$call(&payload, profile.flags()).map_err(Refusal::of)?;
+                let parts = calls::$call(&payload, profile.flags()).map_err(Refusal::of)?;
                 Ok(Self { payload, parts, profile })
             }
 
@@ -45,7 +45,7 @@ macro_rules! handovers {
 
             /// How many alternative carriers it has.
             pub fn alternative_count(&self) -> usize {
-                ffi::index(self.parts.carriers)
+                self.parts.carriers
             }
 
             /// Its alternative carriers. [`Message::links`](crate::Message::links) gives the record of each.
@@ -97,13 +97,14 @@ macro_rules! handovers {
 
 handovers! {
     /// A handover request (`Hr`, Connection Handover 1.2): the carriers that a device offers.
-    HandoverRequest b"Hr" ffi::RequestParts = request;
+    HandoverRequest b"Hr" calls::RequestParts = request;
     /// A handover select (`Hs`, Connection Handover 1.2): the carriers that a device chose of a request.
-    HandoverSelect b"Hs" ffi::SelectParts = select;
+    HandoverSelect b"Hs" calls::SelectParts = select;
 }
 
 impl HandoverRequest<'_> {
     /// The random number of its Collision Resolution record.
+    #[must_use]
     pub fn collision(&self) -> u16 {
         promised(self.parts.collision.try_into())
     }
@@ -129,6 +130,7 @@ impl HandoverRequest<'_> {
 
 impl HandoverSelect<'_> {
     /// Its error; of several errors the first.
+    #[must_use]
     pub fn error(&self) -> Option<HandoverError<'_>> {
         let record = self.records().find(|record| record.is_well_known(b"err"))?;
         Some(promised(HandoverError::parse(record.payload()?)))

@@ -1,6 +1,6 @@
 //! Handover requests and selects built of their records.
 use crate::bytes::Bytes;
-use crate::ffi::{self, Part, Unfilled};
+use crate::calls::{self, Part, Unfilled};
 use crate::{
     promised, EncodeError, HandoverRequest, HandoverSelect, MessageBuilder, NewRecord, PowerState, Profile, Tnf,
 };
@@ -27,12 +27,12 @@ fn alternative<'a>(records: Records<'a>, power: PowerState, references: &[&[u8]]
     let bytes = references.concat();
     let mut at = 0;
     let part = |reference: &&[u8]| {
-        let part = Part { at, length: reference.len() as ffi::Size };
+        let part = Part { at, length: reference.len() };
         at += part.length;
         part
     };
     let parts: Vec<Part> = references.iter().map(part).collect();
-    let write = |payload: &mut Vec<u8>| ffi::write_alternative(power as u32, &bytes, &parts, payload);
+    let write = |payload: &mut Vec<u8>| calls::write_alternative(power as u32, &bytes, &parts, payload);
     written(records, b"ac", EncodeError::Alternative, write)
 }
 
@@ -41,7 +41,7 @@ fn payload(handover: u32, minor: u8, records: Records<'_>) -> Result<Bytes<'stat
     let records = records?;
     let message = if records.is_empty() { Vec::new() } else { records.build()? };
     let mut payload = Vec::with_capacity(1 + message.len());
-    ffi::write_handover(handover, 1, minor.into(), &message, &mut payload)
+    calls::write_handover(handover, 1, minor.into(), &message, &mut payload)
         .map_err(|unfilled| EncodeError::of(unfilled, EncodeError::Handover))?;
     Ok(Bytes::Owned(payload))
 }
@@ -88,33 +88,33 @@ macro_rules! builders {
 
 builders! {
     /// Builds a handover request. The first error of the records is kept, and [`build`](Self::build) answers it.
-    HandoverRequestBuilder builds HandoverRequest ffi::REQUEST;
+    HandoverRequestBuilder builds HandoverRequest calls::REQUEST;
     /// Builds a handover select. The first error of the records is kept, and [`build`](Self::build) answers it.
-    HandoverSelectBuilder builds HandoverSelect ffi::SELECT;
+    HandoverSelectBuilder builds HandoverSelect calls::SELECT;
 }
 
 impl HandoverRequestBuilder<'_> {
     pub(crate) fn new(minor: u8, collision: u16) -> Self {
-        let write = |payload: &mut Vec<u8>| ffi::write_collision(collision.into(), payload);
-        Self { minor, records: written(Ok(MessageBuilder::new()), b"cr", EncodeError::Record, write) }
+        let write = |payload: &mut Vec<u8>| calls::write_collision(collision.into(), payload);
+        Self { minor, records: written(Ok(MessageBuilder::new().unchecked()), b"cr", EncodeError::Handover, write) }
     }
 }
 
 impl HandoverSelectBuilder<'_> {
     pub(crate) fn new(minor: u8) -> Self {
-        Self { minor, records: Ok(MessageBuilder::new()) }
+        Self { minor, records: Ok(MessageBuilder::new().unchecked()) }
     }
 
     /// Adds an error with a reason from 1 to 3, whose data are a number.
     pub fn error(mut self, reason: u8, number: u32) -> Self {
-        let write = |payload: &mut Vec<u8>| ffi::write_error_number(reason.into(), number, payload);
+        let write = |payload: &mut Vec<u8>| calls::write_error_number(reason.into(), number, payload);
         self.records = written(self.records, b"err", EncodeError::HandoverError, write);
         self
     }
 
     /// Adds an error with any reason and data.
     pub fn error_data(mut self, reason: u8, data: &[u8]) -> Self {
-        let write = |payload: &mut Vec<u8>| ffi::write_error(reason.into(), data, payload);
+        let write = |payload: &mut Vec<u8>| calls::write_error(reason.into(), data, payload);
         self.records = written(self.records, b"err", EncodeError::HandoverError, write);
         self
     }

@@ -1,5 +1,5 @@
 //! Errors of handover selects.
-use crate::ffi;
+use crate::calls;
 use crate::{promised, Refusal};
 
 /// The error of a handover select (`err`, Connection Handover 1.2).
@@ -23,10 +23,10 @@ impl<'a> HandoverError<'a> {
     ///
     /// The payload is not that of an error. The place counts from its first byte.
     pub fn parse(payload: &'a [u8]) -> Result<Self, Refusal> {
-        let parts = ffi::error(payload).map_err(Refusal::of)?;
+        let parts = calls::error(payload).map_err(Refusal::of)?;
         Ok(Self {
             reason: promised(parts.reason.try_into()),
-            data: ffi::part(payload, parts.data_at, parts.data_length),
+            data: calls::part(payload, parts.data_at, parts.data_length),
             number: (parts.has_number != 0).then_some(parts.number),
         })
     }

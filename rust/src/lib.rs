@@ -1,13 +1,12 @@
 #![doc = include_str!("../README.md")]
 #![no_std]
+#![cfg_attr(docsrs, feature(doc_cfg))]
+#![forbid(unsafe_code)]
 
 #[cfg(feature = "alloc")]
 extern crate alloc;
 #[cfg(feature = "std")]
 extern crate std;
-
-// It links the library for C.
-use simbegyor_ndef_sys as _;
 
 /// Compares and hashes values of a type by what its method `value` answers.
 #[cfg(feature = "alloc")]
@@ -32,11 +31,11 @@ macro_rules! compare_by_value {
 
 mod alternative;
 mod bytes;
+mod calls;
 mod carrier;
 mod check;
 mod chunks;
 mod error;
-mod ffi;
 mod field;
 mod handover;
 #[cfg(feature = "alloc")]
@@ -52,6 +51,7 @@ mod payload;
 mod poster;
 #[cfg(feature = "alloc")]
 mod poster_builder;
+mod proved;
 #[cfg(feature = "std")]
 mod reading;
 mod record;
@@ -66,11 +66,16 @@ mod why;
 
 pub use alternative::{AlternativeCarrier, Auxiliaries, PowerState};
 pub use bytes::Bytes;
+/// [`Fields::of_in`] fills an array of them.
+#[doc(inline)]
+pub use calls::Field as FieldPart;
+/// [`Record::chunks_in`] fills an array of them.
+#[doc(inline)]
+pub use calls::Part;
 pub use carrier::HandoverCarrier;
 pub use check::{check, Checked, Checker};
 pub use chunks::Chunks;
 pub use error::{DecodeError, EncodeError, NumberError};
-pub use ffi::{Field as FieldPart, Part};
 pub use field::{Field, FieldName, Fields};
 pub use handover::{Alternatives, HandoverRequest, HandoverSelect};
 #[cfg(feature = "alloc")]
@@ -98,31 +103,11 @@ pub use uri::Uri;
 #[cfg(feature = "alloc")]
 pub use why::{hint, why};
 
-/// The value that a contract of the library promises. It panics only if the library that is linked breaks its contract.
+/// The value that a contract of the proved text promises. It panics only where that contract is broken.
 #[track_caller]
 fn promised<T, E>(answer: Result<T, E>) -> T {
     match answer {
         Ok(value) => value,
-        Err(_) => panic!("the library for C broke its contract"),
-    }
-}
-
-#[cfg(test)]
-mod tests {
-    extern crate std;
-
-    /// The version that a header of the library names.
-    fn named(header: &str) -> u32 {
-        let numbers = header.lines().filter_map(|line| line.strip_prefix("#define NDEF_VERSION_")?.split_once(' '));
-        numbers.filter_map(|(_, number)| number.parse::<u32>().ok()).fold(0, |version, number| 256 * version + number)
-    }
-
-    /// A package of this crate has no header.
-    #[test]
-    fn the_library_has_the_version_of_its_header() {
-        let folder = concat!(env!("CARGO_MANIFEST_DIR"), "/..");
-        let headers = ["include/ndef.h", "dist/ndef.h"]
-            .map(|name| std::fs::read_to_string(std::format!("{folder}/{name}")).ok().map(|header| named(&header)));
-        assert!(headers == [None, None] || headers.contains(&Some(crate::ffi::version())));
+        Err(_) => panic!("a proved function broke its contract"),
     }
 }

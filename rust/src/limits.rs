@@ -1,5 +1,5 @@
 //! How large a message may be, and how it is checked.
-use crate::ffi;
+use crate::calls;
 use core::num::{NonZeroU16, NonZeroU32};
 
 /// What becomes of the type name format 7 and of URI codes above 0x23, which are reserved. The repository's
@@ -18,7 +18,7 @@ impl Profile {
     pub(crate) fn flags(self) -> u32 {
         match self {
             Self::Strict => 0,
-            Self::Standard => ffi::STANDARD,
+            Self::Standard => calls::STANDARD,
         }
     }
 }
@@ -97,37 +97,42 @@ impl Limits {
     }
 
     /// The most bytes of a record's payload, its chunks joined.
+    #[must_use]
     pub const fn payload(&self) -> NonZeroU32 {
         self.payload
     }
 
     /// The most records of a message.
+    #[must_use]
     pub const fn records(&self) -> NonZeroU16 {
         self.records
     }
 
     /// The most chunks of a record.
+    #[must_use]
     pub const fn pieces(&self) -> NonZeroU16 {
         self.pieces
     }
 
     /// What becomes of reserved values.
+    #[must_use]
     pub const fn profile(&self) -> Profile {
         self.profile
     }
 
     /// Which payloads are looked into.
+    #[must_use]
     pub const fn payloads(&self) -> Payloads {
         self.payloads
     }
 
     #[inline]
-    pub(crate) fn raw(&self) -> ffi::Limits {
+    pub(crate) fn raw(&self) -> calls::Limits {
         let opaque = match self.payloads {
             Payloads::Typed => 0,
-            Payloads::Opaque => ffi::OPAQUE,
+            Payloads::Opaque => calls::OPAQUE,
         };
-        ffi::Limits {
+        calls::Limits {
             payload: self.payload.get(),
             records: self.records.get().into(),
             pieces: self.pieces.get().into(),
@@ -146,6 +151,6 @@ impl Default for Limits {
 mod tests {
     #[test]
     fn the_usual_limits_are_the_librarys() {
-        assert_eq!(super::Limits::new().raw(), crate::ffi::usual_limits());
+        assert_eq!(super::Limits::new().raw(), crate::calls::usual_limits());
     }
 }

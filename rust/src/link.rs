@@ -1,6 +1,6 @@
 //! The links of messages.
 use crate::bytes::Bytes;
-use crate::ffi::{self, Size};
+use crate::calls;
 use crate::{promised, AlternativeCarrier, Message, Payload, Record, Refusal};
 use core::fmt;
 use core::iter::FusedIterator;
@@ -28,10 +28,10 @@ pub struct Links<'a> {
     /// The payload of the handover: a version octet, alone or with a message after it.
     handover: Bytes<'a>,
     /// Where the next record of that message begins, if there is one.
-    next: Option<Size>,
+    next: Option<usize>,
     /// Where the first record with each id begins. Without it each id is looked for in the message.
     #[cfg(feature = "alloc")]
-    ids: Option<BTreeMap<&'a [u8], Size>>,
+    ids: Option<BTreeMap<&'a [u8], usize>>,
 }
 
 impl<'a> Links<'a> {
@@ -61,18 +61,18 @@ impl<'a> Links<'a> {
     pub(crate) fn with_ids(mut self) -> Self {
         let mut ids = BTreeMap::new();
         for record in self.message.records().filter(|record| !record.id().is_empty()) {
-            ids.entry(record.id()).or_insert(record.place() as Size);
+            ids.entry(record.id()).or_insert(record.place());
         }
         self.ids = Some(ids);
         self
     }
 
     /// Where the payload of the next alternative carrier lies in the handover, and its length.
-    fn next_carrier(&mut self) -> Option<(Size, Size)> {
+    fn next_carrier(&mut self) -> Option<(usize, usize)> {
         let records = self.handover.get(1..)?;
         loop {
-            let mut told = ffi::Record::default();
-            promised(ffi::record_at(records, self.next?, &mut told));
+            let mut told = calls::Record::default();
+            promised(calls::record_at(records, self.next?, &mut told));
             self.next = (told.last == 0).then_some(told.end);
             if Record::of(records, told, self.message.profile()).is_well_known(b"ac") {
                 return Some((1 + told.payload_at, told.part_length));

@@ -1,5 +1,5 @@
 //! Messages in bytes.
-use crate::ffi::{self, Size};
+use crate::calls;
 use crate::{check, DecodeError, Limits, Links, Profile, Record, Refusal};
 use core::fmt;
 use core::iter::FusedIterator;
@@ -49,7 +49,7 @@ impl<'a> Message<'a> {
     #[inline]
     pub fn parse_within(bytes: &'a [u8], limits: &Limits) -> Result<Self, Refusal> {
         let checked = check(bytes, limits)?;
-        let (bytes, rest) = bytes.split_at(ffi::index(checked.length));
+        let (bytes, rest) = bytes.split_at(checked.length as usize);
         Ok(Self { bytes, rest, records: checked.records, profile: limits.profile() })
     }
 
@@ -60,28 +60,33 @@ impl<'a> Message<'a> {
     }
 
     /// How many records it has, at least 1.
+    #[must_use]
     pub fn record_count(&self) -> usize {
         self.records as usize
     }
 
     /// Its bytes.
+    #[must_use]
     pub fn as_bytes(&self) -> &'a [u8] {
         self.bytes
     }
 
     /// The bytes after it.
+    #[must_use]
     pub fn rest(&self) -> &'a [u8] {
         self.rest
     }
 
     /// What became of reserved values when it was parsed.
+    #[must_use]
     pub fn profile(&self) -> Profile {
         self.profile
     }
 
     /// Its first record with this id. No record has the empty id.
+    #[must_use]
     pub fn record_with_id(&self, id: &[u8]) -> Option<Record<'a>> {
-        ffi::find_id(self.bytes, 0, id).map(|told| Record::of(self.bytes, told, self.profile))
+        calls::find_id(self.bytes, 0, id).map(|told| Record::of(self.bytes, told, self.profile))
     }
 
     /// The links of its first handover request or handover select, or none if it has neither. Each link is an
@@ -117,7 +122,7 @@ impl<'a> Message<'a> {
 
     /// The record that begins at a place.
     #[cfg(feature = "alloc")]
-    pub(crate) fn record_at(&self, at: Size) -> Record<'a> {
+    pub(crate) fn record_at(&self, at: usize) -> Record<'a> {
         Record::at(self.bytes, at, self.profile)
     }
 
@@ -127,8 +132,9 @@ impl<'a> Message<'a> {
 
     /// Its canonical bytes: no record is chunked, and each length is as short as it can be.
     #[cfg(feature = "alloc")]
+    #[must_use]
     pub fn to_canonical(&self) -> Vec<u8> {
-        promised(self.records().collect::<MessageBuilder<'_>>().build())
+        promised(self.records().collect::<MessageBuilder<'_>>().unchecked().build())
     }
 
     #[cfg(feature = "alloc")]
@@ -193,7 +199,7 @@ enum Left {
 #[must_use = "an iterator does nothing unless it is used"]
 pub struct Records<'a> {
     bytes: &'a [u8],
-    at: Size,
+    at: usize,
     left: Left,
     profile: Profile,
 }

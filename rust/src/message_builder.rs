@@ -1,5 +1,5 @@
 //! Messages built of records.
-use crate::{EncodeError, Form, NewRecord};
+use crate::{EncodeError, Form, Limits, NewRecord};
 use alloc::vec::Vec;
 use core::num::NonZeroU32;
 
@@ -52,11 +52,24 @@ impl<'a> MessageBuilder<'a> {
         self
     }
 
+    /// Checks the message within other limits than the usual ones: what is built has to be a message within these.
+    pub fn limits(mut self, limits: Limits) -> Self {
+        self.form.limits = Some(limits);
+        self
+    }
+
+    /// Builds the message without a check, so that readers may refuse it.
+    pub fn unchecked(mut self) -> Self {
+        self.form.limits = None;
+        self
+    }
+
     /// The bytes of the message.
     ///
     /// # Errors
     ///
-    /// [`EncodeError::NoRecord`] or [`EncodeError::Record`].
+    /// [`EncodeError::NoRecord`], [`EncodeError::Record`], or [`EncodeError::Refused`], for which no reader would take it
+    /// within the [`limits`](Self::limits).
     pub fn build(&self) -> Result<Vec<u8>, EncodeError> {
         let mut bytes = Vec::new();
         self.build_into(&mut bytes)?;
@@ -74,11 +87,16 @@ impl<'a> MessageBuilder<'a> {
         }
         let before = bytes.len();
         bytes.reserve(self.records.iter().map(NewRecord::usual_size).sum());
+        let written = self.write(bytes).and_then(|()| self.form.check(&bytes[before..]));
+        if written.is_err() {
+            bytes.truncate(before);
+        }
+        written
+    }
+
+    fn write(&self, bytes: &mut Vec<u8>) -> Result<(), EncodeError> {
         for (index, record) in self.records.iter().enumerate() {
-            if record.write(self.form, (index, self.records.len()), bytes).is_err() {
-                bytes.truncate(before);
-                return Err(EncodeError::Record);
-            }
+            record.write(self.form, (index, self.records.len()), bytes).map_err(|_| EncodeError::Record(index))?;
         }
         Ok(())
     }

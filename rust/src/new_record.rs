@@ -1,26 +1,42 @@
 //! Records to be written.
-use crate::ffi::{self, Room, Unfilled};
-use crate::{Bytes, EncodeError, Tnf};
+use crate::calls::{self, Room, Unfilled};
+use crate::{check, Bytes, EncodeError, Limits, Profile, Record, Records, Refusal, Tnf};
 use core::num::NonZeroU32;
 
-#[cfg(feature = "alloc")]
-use crate::Record;
-
 /// How records are written.
-#[derive(Clone, Copy, Debug, Default, PartialEq, Eq, Hash)]
+#[derive(Clone, Copy, Debug, PartialEq, Eq, Hash)]
 pub struct Form {
     /// The payload bytes of each chunk but the last. `None`: records are not chunked.
     pub chunk: Option<NonZeroU32>,
     /// Whether each payload length takes four bytes, even where one would do.
     pub long: bool,
+    /// The limits within which what is written has to be a message. `None`: it is not checked, and readers may refuse it.
+    pub limits: Option<Limits>,
+}
+
+/// The shortest spelling, checked within the usual limits.
+impl Default for Form {
+    fn default() -> Self {
+        Self { chunk: None, long: false, limits: Some(Limits::new()) }
+    }
 }
 
 impl Form {
+    /// Looks whether a message that was written is one within the limits.
+    pub(crate) fn check(self, message: &[u8]) -> Result<(), EncodeError> {
+        let Some(Err(refusal)) = self.limits.map(|limits| check(message, &limits)) else { return Ok(()) };
+        let mut records = Records::within(message, Profile::Standard).enumerate();
+        let is_there =
+            |(_, record): &(usize, Record<'_>)| refusal.at < (record.place() + record.as_bytes().len()) as u64;
+        let (record, begun) = records.find(is_there).map_or((0, 0), |(index, record)| (index, record.place() as u64));
+        Err(EncodeError::Refused { record, refusal: Refusal { at: refusal.at - begun, ..refusal } })
+    }
+
     /// The flags of the record with an index, out of `count` records.
     fn flags(self, index: usize, count: usize) -> u32 {
-        (if self.long { ffi::WRITE_LONG } else { 0 })
-            | (if index == 0 { ffi::WRITE_FIRST } else { 0 })
-            | (if index + 1 == count { ffi::WRITE_LAST } else { 0 })
+        (if self.long { calls::WRITE_LONG } else { 0 })
+            | (if index == 0 { calls::WRITE_FIRST } else { 0 })
+            | (if index + 1 == count { calls::WRITE_LAST } else { 0 })
     }
 }
 
@@ -79,21 +95,25 @@ impl<'a> NewRecord<'a> {
     }
 
     /// Its type name format: what its type is.
+    #[must_use]
     pub fn tnf(&self) -> Tnf {
         self.tnf
     }
 
     /// Its type.
+    #[must_use]
     pub fn kind(&self) -> &[u8] {
         &self.kind
     }
 
     /// Its id. It is empty if the record has none.
+    #[must_use]
     pub fn id(&self) -> &[u8] {
         &self.id
     }
 
     /// Its payload.
+    #[must_use]
     pub fn payload(&self) -> &[u8] {
         &self.payload
     }
@@ -123,8 +143,8 @@ impl<'a> NewRecord<'a> {
         room: &mut (impl Room + ?Sized),
     ) -> Result<usize, Unfilled> {
         let chunk = form.chunk.map_or(0, NonZeroU32::get);
-        let how = ffi::Writing { tnf: self.tnf.number(), flags: form.flags(index, count), chunk };
-        ffi::write_record(&self.kind, &self.id, &self.payload, &how, room)
+        let how = calls::Writing { tnf: self.tnf.number(), flags: form.flags(index, count), chunk };
+        calls::write_record(&self.kind, &self.id, &self.payload, &how, room)
     }
 }
 
@@ -140,8 +160,9 @@ impl<'a> From<Record<'a>> for NewRecord<'a> {
 ///
 /// # Errors
 ///
-/// [`EncodeError::NoRecord`] or [`EncodeError::Record`]. [`EncodeError::NoRoom`] has the size that the whole message
-/// needs. After an error the room may hold some of the records.
+/// [`EncodeError::NoRecord`], [`EncodeError::Record`], or [`EncodeError::Refused`] by the limits of the form.
+/// [`EncodeError::NoRoom`] has the size that the whole message needs. After an error the room may hold some of the
+/// records.
 ///
 /// ```
 /// use simbegyor_ndef::{encode, Encoding, Form, Text};
@@ -165,13 +186,13 @@ pub fn encode(records: &[NewRecord<'_>], form: Form, room: &mut [u8]) -> Result<
                 fits = false;
                 needed
             }
-            Err(_) => return Err(EncodeError::Record),
+            Err(_) => return Err(EncodeError::Record(index)),
         };
         length = length.saturating_add(count);
     }
-    if fits {
-        Ok(length)
-    } else {
-        Err(EncodeError::NoRoom(length))
+    if !fits {
+        return Err(EncodeError::NoRoom(length));
     }
+    form.check(&room[..length])?;
+    Ok(length)
 }

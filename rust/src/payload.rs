@@ -59,6 +59,7 @@ impl PayloadKind {
     }
 
     /// Its number.
+    #[must_use]
     pub const fn number(self) -> u32 {
         self as u32
     }

@@ -1,6 +1,6 @@
 //! Smart posters.
 use crate::bytes::{Bytes, Quoted};
-use crate::ffi;
+use crate::calls;
 use crate::{promised, NewRecord, Profile, Records, Refusal, Text, Tnf, Uri};
 use core::fmt;
 
@@ -33,6 +33,7 @@ impl Action {
     }
 
     /// Its number.
+    #[must_use]
     pub const fn number(self) -> u8 {
         match self {
             Self::Do => 0,
@@ -61,7 +62,7 @@ impl From<Action> for u8 {
 #[derive(Clone)]
 pub struct SmartPoster<'a> {
     payload: Bytes<'a>,
-    parts: ffi::PosterParts,
+    parts: calls::PosterParts,
     uri_length: usize,
     profile: Profile,
 }
@@ -77,9 +78,9 @@ impl<'a> SmartPoster<'a> {
     }
 
     pub(crate) fn of(payload: Bytes<'a>, profile: Profile) -> Result<Self, Refusal> {
-        let parts = ffi::poster(&payload, profile.flags()).map_err(Refusal::of)?;
-        let uri = ffi::part(&payload, parts.uri_at, parts.uri_length);
-        let uri_length = promised(ffi::uri_length(uri, profile.flags()));
+        let parts = calls::poster(&payload, profile.flags()).map_err(Refusal::of)?;
+        let uri = calls::part(&payload, parts.uri_at, parts.uri_length);
+        let uri_length = promised(calls::uri_length(uri, profile.flags()));
         Ok(Self { payload, parts, uri_length, profile })
     }
 
@@ -101,8 +102,9 @@ impl<'a> SmartPoster<'a> {
     }
 
     /// The URI.
+    #[must_use]
     pub fn uri(&self) -> Uri<'_> {
-        let payload = ffi::part(&self.payload, self.parts.uri_at, self.parts.uri_length);
+        let payload = calls::part(&self.payload, self.parts.uri_at, self.parts.uri_length);
         Uri::within(payload, self.uri_length, self.profile)
     }
 
@@ -112,6 +114,7 @@ impl<'a> SmartPoster<'a> {
     }
 
     /// The first title in a language. Upper and lower case of its code are the same.
+    #[must_use]
     pub fn title(&self, language: &str) -> Option<Text<'_>> {
         self.titles().find(|title| title.language().eq_ignore_ascii_case(language))
     }
@@ -123,16 +126,19 @@ impl<'a> SmartPoster<'a> {
     }
 
     /// What it recommends to do; of several recommendations the first.
+    #[must_use]
     pub fn action(&self) -> Option<Action> {
         (self.parts.has_action != 0).then(|| Action::of(self.parts.action))
     }
 
     /// The size in bytes of what the URI leads to; of several sizes the first.
+    #[must_use]
     pub fn size(&self) -> Option<u32> {
         (self.parts.has_size != 0).then_some(self.parts.size)
     }
 
     /// The media type of what the URI leads to; of several types the first.
+    #[must_use]
     pub fn media_type(&self) -> Option<&str> {
         let record = self.records().find(|record| record.is_well_known(b"t"))?;
         Some(promised(core::str::from_utf8(record.payload()?)))
@@ -144,12 +150,14 @@ impl<'a> SmartPoster<'a> {
     }
 
     /// Its payload.
+    #[must_use]
     pub fn payload(&self) -> &[u8] {
         &self.payload
     }
 
     /// The same poster, which borrows nothing.
     #[cfg(feature = "alloc")]
+    #[must_use]
     pub fn into_owned(self) -> SmartPoster<'static> {
         SmartPoster { payload: self.payload.into_owned(), ..self }
     }

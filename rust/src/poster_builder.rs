@@ -1,7 +1,7 @@
 //! Smart posters built of their records.
 use crate::bytes::Bytes;
-use crate::ffi::{self, Unfilled};
-use crate::{Action, EncodeError, MessageBuilder, NewRecord, Profile, SmartPoster, Text, Tnf, Uri};
+use crate::calls::{self, Unfilled};
+use crate::{promised, Action, EncodeError, MessageBuilder, NewRecord, Profile, SmartPoster, Text, Tnf, Uri};
 use alloc::vec::Vec;
 
 /// Builds a smart poster. The first error of the records is kept, and [`build`](Self::build) answers it.
@@ -13,7 +13,7 @@ pub struct SmartPosterBuilder<'a> {
 
 impl<'a> SmartPosterBuilder<'a> {
     pub(crate) fn new(uri: &str) -> Self {
-        Self { records: Uri::new(uri).map(|uri| MessageBuilder::new().record(uri)) }
+        Self { records: Uri::new(uri).map(|uri| MessageBuilder::new().unchecked().record(uri)) }
     }
 
     /// Adds a title in a language, whose code is ASCII of at most 63 bytes.
@@ -24,12 +24,12 @@ impl<'a> SmartPosterBuilder<'a> {
 
     /// Recommends what to do.
     pub fn action(self, action: Action) -> Self {
-        self.written(b"act", |room| ffi::write_action(action.number().into(), room))
+        self.written(b"act", |room| calls::write_action(action.number().into(), room))
     }
 
     /// Adds the size in bytes of what the URI leads to.
     pub fn size(self, bytes: u32) -> Self {
-        self.written(b"s", |room| ffi::write_size(bytes, room))
+        self.written(b"s", |room| calls::write_size(bytes, room))
     }
 
     /// Adds the media type of what the URI leads to.
@@ -49,13 +49,10 @@ impl<'a> SmartPosterBuilder<'a> {
         self
     }
 
-    fn written(mut self, kind: &'static [u8], write: impl FnOnce(&mut Vec<u8>) -> Result<usize, Unfilled>) -> Self {
-        self.records = self.records.and_then(|records| {
-            let mut payload = Vec::new();
-            write(&mut payload).map_err(|unfilled| EncodeError::of(unfilled, EncodeError::Record))?;
-            Ok(records.record(NewRecord::new(Tnf::WellKnown, kind, Bytes::Owned(payload))))
-        });
-        self
+    fn written(self, kind: &'static [u8], write: impl FnOnce(&mut Vec<u8>) -> Result<usize, Unfilled>) -> Self {
+        let mut payload = Vec::new();
+        promised(write(&mut payload));
+        self.record(NewRecord::new(Tnf::WellKnown, kind, Bytes::Owned(payload)))
     }
 
     /// The smart poster.

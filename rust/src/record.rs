@@ -1,6 +1,6 @@
 //! Records in the bytes of a message.
 use crate::bytes::{Bytes, Quoted};
-use crate::ffi::{self, Size};
+use crate::calls;
 use crate::{promised, Chunks, DecodeError, Part, Payload, PayloadKind, Profile, Tnf};
 use core::fmt;
 
@@ -20,10 +20,10 @@ pub struct Record<'a> {
     id: &'a [u8],
     /// What its first chunk has of the payload.
     first: &'a [u8],
-    at: Size,
-    end: Size,
-    payload_length: Size,
-    pieces: Size,
+    at: usize,
+    end: usize,
+    payload_length: usize,
+    pieces: usize,
     tnf: Tnf,
     is_last: bool,
     profile: Profile,
@@ -33,20 +33,20 @@ impl<'a> Record<'a> {
     /// The record that begins at a place of a message or of one within a payload. It is always inlined, so that parts
     /// which nobody looks at are not made: that halves the time of a walk beyond the library's own.
     #[inline(always)]
-    pub(crate) fn at(message: &'a [u8], at: Size, profile: Profile) -> Self {
-        let mut told = ffi::Record::default();
-        promised(ffi::record_at(message, at, &mut told));
+    pub(crate) fn at(message: &'a [u8], at: usize, profile: Profile) -> Self {
+        let mut told = calls::Record::default();
+        promised(calls::record_at(message, at, &mut told));
         Self::of(message, told, profile)
     }
 
     /// The record of a message whose parts the library gave.
     #[inline(always)]
-    pub(crate) fn of(message: &'a [u8], told: ffi::Record, profile: Profile) -> Self {
+    pub(crate) fn of(message: &'a [u8], told: calls::Record, profile: Profile) -> Self {
         Self {
             message,
-            kind: ffi::part(message, told.type_at, told.type_length),
-            id: ffi::part(message, told.id_at, told.id_length),
-            first: ffi::part(message, told.payload_at, told.part_length),
+            kind: calls::part(message, told.type_at, told.type_length),
+            id: calls::part(message, told.id_at, told.id_length),
+            first: calls::part(message, told.payload_at, told.part_length),
             at: told.at,
             end: told.end,
             payload_length: told.payload_length,
@@ -59,29 +59,33 @@ impl<'a> Record<'a> {
 
     /// Where the next record begins.
     #[inline]
-    pub(crate) fn end(&self) -> Size {
+    pub(crate) fn end(&self) -> usize {
         self.end
     }
 
     /// Its type name format: what its type is.
     #[inline]
+    #[must_use]
     pub fn tnf(&self) -> Tnf {
         self.tnf
     }
 
     /// Its type, at most 255 bytes.
     #[inline]
+    #[must_use]
     pub fn kind(&self) -> &'a [u8] {
         self.kind
     }
 
     /// Its id, at most 255 bytes. It is empty if the record has none.
     #[inline]
+    #[must_use]
     pub fn id(&self) -> &'a [u8] {
         self.id
     }
 
     /// Whether it has this type, and the NFC Forum defines the type.
+    #[must_use]
     pub fn is_well_known(&self, kind: &[u8]) -> bool {
         self.tnf == Tnf::WellKnown && self.kind == kind
     }
@@ -97,31 +101,35 @@ impl<'a> Record<'a> {
     /// assert_eq!(kind, PayloadKind::Text);
     /// # Ok::<(), simbegyor_ndef::Refusal>(())
     /// ```
+    #[must_use]
     pub fn payload_kind(&self, within: PayloadKind) -> PayloadKind {
-        let mut told = ffi::Record::default();
-        promised(ffi::record_at(self.message, self.at, &mut told));
-        PayloadKind::of(ffi::kind(self.message, &told, within.number()))
+        let mut told = calls::Record::default();
+        promised(calls::record_at(self.message, self.at, &mut told));
+        PayloadKind::of(calls::kind(self.message, &told, within.number()))
     }
 
     /// The number of bytes of its payload, its chunks joined.
+    #[must_use]
     pub fn payload_len(&self) -> usize {
-        ffi::index(self.payload_length)
+        self.payload_length
     }
 
     /// Its payload, unless that lies in several chunks.
     #[inline]
+    #[must_use]
     pub fn payload(&self) -> Option<&'a [u8]> {
         (self.pieces == 1).then_some(self.first)
     }
 
     /// Its payload. One that lies in several chunks is joined.
     #[cfg(feature = "alloc")]
+    #[must_use]
     pub fn payload_cow(&self) -> Cow<'a, [u8]> {
         match self.payload() {
             Some(payload) => Cow::Borrowed(payload),
             None => {
                 let mut joined = Vec::with_capacity(self.payload_len());
-                promised(ffi::payload(self.message, self.at, &mut joined));
+                promised(calls::payload(self.message, self.at, &mut joined));
                 Cow::Owned(joined)
             }
         }
@@ -139,7 +147,7 @@ impl<'a> Record<'a> {
         if let Some(payload) = self.payload() {
             return Ok(payload);
         }
-        let count = ffi::payload(self.message, self.at, room).map_err(DecodeError::of)?;
+        let count = calls::payload(self.message, self.at, room).map_err(DecodeError::of)?;
         Ok(&room[..count])
     }
 
@@ -150,7 +158,7 @@ impl<'a> Record<'a> {
             return Chunks::one(payload);
         }
         let mut parts = alloc::vec![Part::default(); self.pieces()];
-        promised(ffi::pieces(self.message, self.at, &mut parts));
+        promised(calls::pieces(self.message, self.at, &mut parts));
         Chunks::owned(self.message, parts)
     }
 
@@ -167,7 +175,7 @@ impl<'a> Record<'a> {
         if let Some(payload) = self.payload() {
             return Ok(Chunks::one(payload));
         }
-        let count = ffi::pieces(self.message, self.at, room).map_err(DecodeError::of)?;
+        let count = calls::pieces(self.message, self.at, room).map_err(DecodeError::of)?;
         Ok(Chunks::borrowed(self.message, &room[..count]))
     }
 
@@ -197,22 +205,26 @@ impl<'a> Record<'a> {
     }
 
     /// The number of its chunks, 1 if it is not chunked.
+    #[must_use]
     pub fn pieces(&self) -> usize {
-        ffi::index(self.pieces)
+        self.pieces
     }
 
     /// Where it begins in the bytes of its message.
+    #[must_use]
     pub fn place(&self) -> usize {
-        ffi::index(self.at)
+        self.at
     }
 
     /// Its bytes in the message, with all of its chunks.
+    #[must_use]
     pub fn as_bytes(&self) -> &'a [u8] {
-        ffi::part(self.message, self.at, self.end - self.at)
+        calls::part(self.message, self.at, self.end - self.at)
     }
 
     /// Whether it is the last record of its message.
     #[inline]
+    #[must_use]
     pub fn is_last(&self) -> bool {
         self.is_last
     }

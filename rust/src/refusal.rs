@@ -1,5 +1,5 @@
 //! Where and why bytes are refused.
-use crate::ffi;
+use crate::calls;
 use core::fmt;
 
 macro_rules! reasons {
@@ -75,6 +75,7 @@ reasons! {
 
 impl Reason {
     /// Its number, as docs/FORMAT.md lists them.
+    #[must_use]
     pub const fn number(self) -> u32 {
         self as u32
     }
@@ -99,16 +100,18 @@ pub struct Refusal {
 }
 
 impl Refusal {
-    pub(crate) fn of(why: ffi::Checked) -> Self {
+    pub(crate) fn of(why: calls::Checked) -> Self {
         Self { at: why.place, reason: Reason::from_number(why.reason).unwrap_or(Reason::Unlisted) }
     }
 
     /// What its reason means, in a sentence of English. The function `why` says what was wanted, of the bytes themselves.
+    #[must_use]
     pub const fn sentence(&self) -> &'static str {
         self.reason.sentence()
     }
 
     /// Whether the bytes begin a message, and only end too early.
+    #[must_use]
     pub fn is_incomplete(&self) -> bool {
         self.reason == Reason::EndOfInput
     }
@@ -130,19 +133,19 @@ mod tests {
     fn names_are_the_librarys() {
         for number in 0..200 {
             let mut room = [0; 16];
-            let told = ffi::reason_name(number, &mut room[..]).map(|count| &room[..count]);
+            let told = calls::reason_name(number, &mut room[..]).map(|count| &room[..count]);
             match Reason::from_number(number) {
                 Some(reason) => assert_eq!((told, reason.number()), (Ok(reason.name().as_bytes()), number)),
-                None => assert_eq!(told, Err(ffi::Unfilled::BadArgument)),
+                None => assert_eq!(told, Err(calls::Unfilled::BadArgument)),
             }
             let mut room = [0; 70];
-            let told = ffi::reason_sentence(number, &mut room[..]).map(|count| &room[..count]);
+            let told = calls::reason_sentence(number, &mut room[..]).map(|count| &room[..count]);
             match Reason::from_number(number) {
                 Some(reason) => {
                     let refusal = Refusal { at: 0, reason };
                     assert_eq!((told, refusal.sentence()), (Ok(refusal.sentence().as_bytes()), reason.sentence()));
                 }
-                None => assert_eq!(told, Err(ffi::Unfilled::BadArgument)),
+                None => assert_eq!(told, Err(calls::Unfilled::BadArgument)),
             }
         }
     }

@@ -1,13 +1,11 @@
 //! What is strange in messages that are accepted, in sentences.
-use crate::ffi;
+use crate::calls;
 use crate::why::said;
 use crate::FieldName;
 use alloc::string::String;
 
 /// What is strange in a field of a message that [`check`](crate::check()) accepts, in a sentence of English, by the name and the
 /// bytes of a [`Field`](crate::Field). `None`: nothing is known to be strange.
-///
-/// It needs a library of version 0.3.0 or later: with an earlier one a program that calls it isn't linked.
 ///
 /// ```
 /// use simbegyor_ndef::{field_remark, FieldName};
@@ -16,8 +14,9 @@ use alloc::string::String;
 /// assert_eq!(field_remark(FieldName::Action, &[0]), None);
 /// ```
 #[inline]
+#[must_use]
 pub fn field_remark(name: FieldName, bytes: &[u8]) -> Option<String> {
-    said(|room| ffi::field_remark(name as u32, bytes, room))
+    said(|room| calls::field_remark(name as u32, bytes, room))
 }
 
 /// What is strange in the record with an index, counted from 0, of the message with which the bytes begin, beside its other
@@ -33,6 +32,7 @@ pub fn field_remark(name: FieldName, bytes: &[u8]) -> Option<String> {
 /// assert_eq!(record_remark(twice, 2), None);
 /// ```
 #[inline]
+#[must_use]
 pub fn record_remark(bytes: &[u8], index: usize) -> Option<String> {
-    said(|room| ffi::record_remark(bytes, index as u64, room))
+    said(|room| calls::record_remark(bytes, index, room))
 }

@@ -1,6 +1,6 @@
 //! Texts.
 use crate::bytes::{Bytes, Quoted};
-use crate::ffi::{self, TextPayload};
+use crate::calls::{self, TextPayload};
 use crate::{promised, DecodeError, EncodeError, NewRecord, Refusal, Tnf};
 use core::fmt;
 
@@ -21,7 +21,7 @@ impl Encoding {
     fn flags(self) -> u32 {
         match self {
             Self::Utf8 => 0,
-            Self::Utf16 => ffi::AS_UTF16,
+            Self::Utf16 => calls::AS_UTF16,
         }
     }
 }
@@ -64,7 +64,7 @@ impl<'a> Text<'a> {
     #[cfg(feature = "alloc")]
     pub fn with_encoding(language: &str, text: &str, encoding: Encoding) -> Result<Text<'static>, EncodeError> {
         let mut payload = Vec::with_capacity(1 + language.len() + text.len());
-        ffi::write_text(language, text, encoding.flags(), &mut payload)
+        calls::write_text(language, text, encoding.flags(), &mut payload)
             .map_err(|unfilled| EncodeError::of(unfilled, EncodeError::Text))?;
         Ok(promised(Text::of(Bytes::Owned(payload))))
     }
@@ -75,17 +75,19 @@ impl<'a> Text<'a> {
     ///
     /// [`EncodeError::Text`] or [`EncodeError::NoRoom`].
     pub fn new_in(language: &str, text: &str, encoding: Encoding, room: &'a mut [u8]) -> Result<Self, EncodeError> {
-        let count = ffi::write_text(language, text, encoding.flags(), room)
+        let count = calls::write_text(language, text, encoding.flags(), room)
             .map_err(|unfilled| EncodeError::of(unfilled, EncodeError::Text))?;
         Ok(promised(Text::parse(&room[..count])))
     }
 
     /// The language code, ASCII of at most 63 bytes.
+    #[must_use]
     pub fn language(&self) -> &str {
         self.0.language()
     }
 
     /// How the payload encodes the text.
+    #[must_use]
     pub fn encoding(&self) -> Encoding {
         if self.0.is_utf16() {
             Encoding::Utf16
@@ -95,12 +97,14 @@ impl<'a> Text<'a> {
     }
 
     /// The text, if the payload has it in UTF-8.
+    #[must_use]
     pub fn as_utf8(&self) -> Option<&str> {
         self.0.utf8()
     }
 
     /// The text. One in UTF-16 is converted, and its byte order mark is left out.
     #[cfg(feature = "alloc")]
+    #[must_use]
     pub fn text(&self) -> Cow<'_, str> {
         match self.0.utf8() {
             Some(text) => Cow::Borrowed(text),
@@ -110,6 +114,7 @@ impl<'a> Text<'a> {
 
     /// The text. It borrows the payload where that has it in UTF-8.
     #[cfg(feature = "alloc")]
+    #[must_use]
     pub fn into_text(self) -> Cow<'a, str> {
         match self.0.borrowed_utf8() {
             Some(text) => Cow::Borrowed(text),
@@ -130,12 +135,14 @@ impl<'a> Text<'a> {
     }
 
     /// Its payload.
+    #[must_use]
     pub fn payload(&self) -> &[u8] {
         self.0.bytes()
     }
 
     /// The same text, which borrows nothing.
     #[cfg(feature = "alloc")]
+    #[must_use]
     pub fn into_owned(self) -> Text<'static> {
         Text(self.0.into_owned())
     }

@@ -27,6 +27,7 @@ impl Tnf {
 
     /// The type name format with a number.
     #[inline]
+    #[must_use]
     pub const fn from_number(number: u32) -> Option<Self> {
         match number {
             0 => Some(Self::Empty),
@@ -45,6 +46,7 @@ impl Tnf {
     }
 
     /// Its number.
+    #[must_use]
     pub const fn number(self) -> u32 {
         self as u32
     }

@@ -1,6 +1,6 @@
 //! URIs.
 use crate::bytes::{Bytes, Quoted};
-use crate::ffi;
+use crate::calls;
 use crate::{DecodeError, EncodeError, NewRecord, Profile, Refusal, Tnf};
 use core::fmt;
 
@@ -28,7 +28,7 @@ impl<'a> Uri<'a> {
     }
 
     pub(crate) fn of(payload: Bytes<'a>, profile: Profile) -> Result<Self, Refusal> {
-        let length = ffi::uri_length(&payload, profile.flags()).map_err(Refusal::of)?;
+        let length = calls::uri_length(&payload, profile.flags()).map_err(Refusal::of)?;
         Ok(Self { payload, length, profile })
     }
 
@@ -45,7 +45,7 @@ impl<'a> Uri<'a> {
     #[cfg(feature = "alloc")]
     pub fn new(uri: &str) -> Result<Uri<'static>, EncodeError> {
         let mut payload = Vec::with_capacity(1 + uri.len());
-        ffi::write_uri(uri, &mut payload).map_err(|unfilled| EncodeError::of(unfilled, EncodeError::Uri))?;
+        calls::write_uri(uri, &mut payload).map_err(|unfilled| EncodeError::of(unfilled, EncodeError::Uri))?;
         Ok(Uri { payload: Bytes::Owned(payload), length: uri.len(), profile: Profile::Strict })
     }
 
@@ -55,19 +55,21 @@ impl<'a> Uri<'a> {
     ///
     /// [`EncodeError::Uri`] or [`EncodeError::NoRoom`].
     pub fn new_in(uri: &str, room: &'a mut [u8]) -> Result<Self, EncodeError> {
-        let count = ffi::write_uri(uri, room).map_err(|unfilled| EncodeError::of(unfilled, EncodeError::Uri))?;
+        let count = calls::write_uri(uri, room).map_err(|unfilled| EncodeError::of(unfilled, EncodeError::Uri))?;
         Ok(Uri { payload: Bytes::Borrowed(&room[..count]), length: uri.len(), profile: Profile::Strict })
     }
 
     /// How many bytes the URI has: the size of the room that [`uri_in`](Self::uri_in) needs.
+    #[must_use]
     pub fn uri_len(&self) -> usize {
         self.length
     }
 
     /// The URI.
     #[cfg(feature = "alloc")]
+    #[must_use]
     pub fn to_uri(&self) -> String {
-        ffi::uri_string(&self.payload, self.profile.flags())
+        calls::uri_string(&self.payload, self.profile.flags())
     }
 
     /// The URI, in the room.
@@ -76,16 +78,18 @@ impl<'a> Uri<'a> {
     ///
     /// [`DecodeError::NoRoom`] alone.
     pub fn uri_in<'r>(&self, room: &'r mut [u8]) -> Result<&'r str, DecodeError> {
-        ffi::uri_in(&self.payload, self.profile.flags(), room).map_err(DecodeError::of)
+        calls::uri_in(&self.payload, self.profile.flags(), room).map_err(DecodeError::of)
     }
 
     /// Its payload.
+    #[must_use]
     pub fn payload(&self) -> &[u8] {
         &self.payload
     }
 
     /// The same URI, which borrows nothing.
     #[cfg(feature = "alloc")]
+    #[must_use]
     pub fn into_owned(self) -> Uri<'static> {
         Uri { payload: self.payload.into_owned(), length: self.length, profile: self.profile }
     }

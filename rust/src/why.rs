@@ -1,13 +1,11 @@
 //! Why bytes are refused, and what may help, in sentences.
-use crate::ffi::{self, Unfilled};
+use crate::calls::{self, Unfilled};
 use crate::{promised, Limits, Payloads};
 use alloc::string::String;
 use alloc::vec::Vec;
 
 /// What was wanted where the bytes are refused, in a sentence of English, or what the reason means where nothing more is
 /// known. `None`: they begin with a message. Payloads are looked into, whatever the limits say.
-///
-/// It needs a library of version 0.3.0 or later: with an earlier one a program that calls it isn't linked.
 ///
 /// ```
 /// use simbegyor_ndef::{why, Limits};
@@ -17,8 +15,9 @@ use alloc::vec::Vec;
 /// assert_eq!(why(b"\xD1\x01\x08T\x02enHello", &Limits::new()), None);
 /// ```
 #[inline]
+#[must_use]
 pub fn why(bytes: &[u8], limits: &Limits) -> Option<String> {
-    said(|room| ffi::why(bytes, &limits.with_payloads(Payloads::Typed).raw(), room))
+    said(|room| calls::why(bytes, &limits.with_payloads(Payloads::Typed).raw(), room))
 }
 
 /// A sentence that may help where the bytes are refused: a message begins at one of the places 1 to 16, the identifier code
@@ -32,8 +31,9 @@ pub fn why(bytes: &[u8], limits: &Limits) -> Option<String> {
 /// assert!(sentence.ends_with("; a message begins at byte 2."));
 /// ```
 #[inline]
+#[must_use]
 pub fn hint(bytes: &[u8], limits: &Limits) -> Option<String> {
-    said(|room| ffi::hint(bytes, &limits.with_payloads(Payloads::Typed).raw(), room))
+    said(|room| calls::hint(bytes, &limits.with_payloads(Payloads::Typed).raw(), room))
 }
 
 /// The sentence that a call writes, if it writes one.

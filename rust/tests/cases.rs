@@ -88,7 +88,9 @@ fn is_message(bytes: &[u8], limits: &Limits, length: u64, records: &str) {
         assert_eq!((record.payload_len(), record.payload_cow()), (payload.len(), payload.clone().into()));
         assert_eq!(record.chunks().len(), record.pieces());
         assert_eq!(record.chunks().collect::<Vec<_>>().concat(), payload);
-        assert_eq!(record.payload_in(&mut vec![0; payload.len()]).unwrap(), payload);
+        for spare in [0, 3] {
+            assert_eq!(record.payload_in(&mut vec![9; payload.len() + spare]).unwrap(), payload);
+        }
         if limits.payloads() == Payloads::Typed {
             assert_eq!(record.decode().unwrap(), record.decode_in(&mut vec![0; payload.len()]).unwrap());
         }

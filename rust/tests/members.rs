@@ -163,7 +163,11 @@ fn errors_print_and_have_a_source() {
     assert_eq!(DecodeError::Refused(refusal).to_string(), refusal.to_string());
     let written = [
         (EncodeError::NoRecord, "a message has at least one record"),
-        (EncodeError::Record, "a record cannot have this type, id or payload"),
+        (EncodeError::Record(3), "record 3 cannot have this type, id or payload"),
+        (
+            EncodeError::Refused { record: 2, refusal },
+            "record 2 is refused at 11: 24 EndOfInput: The input ends within a message.",
+        ),
         (EncodeError::Text, "a text cannot have this language or length"),
         (EncodeError::Uri, "a URI cannot be so long"),
         (EncodeError::Carrier, "a handover carrier cannot have this format, type or length"),
@@ -224,6 +228,13 @@ fn a_profile_is_handed_on() {
             }
             payload => panic!("{payload:?}"),
         }
+    }
+    // A select and a request that hold a URI with a reserved code, which the profile of the record decides.
+    for (profile, is_read) in [(Profile::Standard, true), (Profile::Strict, false)] {
+        let select = HandoverSelect::parse(b"\x12\xD1\x01\x02U\xFFa", profile).unwrap();
+        assert_eq!(select.records().next().unwrap().decode().is_ok(), is_read);
+        let request = HandoverRequest::parse(b"\x12\x91\x02\x02cr\x01\x02\x51\x01\x02U\xFFa", profile).unwrap();
+        assert_eq!(request.records().nth(1).unwrap().decode().is_ok(), is_read);
     }
     let opaque = limits.with_payloads(Payloads::Opaque);
     assert_eq!(Message::parse_within(b"\xD1\x01\x01U\xFF", &opaque).unwrap().profile(), Profile::Standard);

@@ -49,7 +49,7 @@ fn messages_there_and_back() {
     let dice = &mut Dice(0x9E3779B97F4A7C15);
     for round in 0..100_000 {
         let specs: Vec<Spec> = (0..1 + dice.below(4)).map(|_| spec(dice)).collect();
-        let form = Form { chunk: NonZeroU32::new(dice.below(30) as u32), long: dice.below(2) == 0 };
+        let form = Form { chunk: NonZeroU32::new(dice.below(30) as u32), long: dice.below(2) == 0, ..Form::default() };
         let mut builder: MessageBuilder<'_> = specs.iter().map(new_record).collect();
         builder = if form.long { builder.long() } else { builder };
         builder = form.chunk.map_or(builder.clone(), |chunk| builder.chunk(chunk));
@@ -115,7 +115,7 @@ fn icons_are_read() {
     assert!(built.icons().eq(poster.icons()));
     assert_eq!(built.titles().count(), 0);
     assert_eq!(format!("{:?}", built.icons().next().unwrap()), r#"Icon { media_type: b"image/png", data: b"AB" }"#);
-    assert_eq!(SmartPoster::builder("a").icon("", b"AB").build().err(), Some(EncodeError::Record));
+    assert_eq!(SmartPoster::builder("a").icon("", b"AB").build().err(), Some(EncodeError::Record(1)));
 }
 
 #[test]
@@ -200,16 +200,16 @@ fn what_cannot_be_written_is_refused() {
     let build = |record: NewRecord<'_>| MessageBuilder::new().record(record).build().err();
     assert_eq!(MessageBuilder::new().build(), Err(EncodeError::NoRecord));
     assert_eq!(encode(&[], Form::default(), &mut [0; 9]), Err(EncodeError::NoRecord));
-    assert_eq!(build(NewRecord::media(&long, b"")), Some(EncodeError::Record));
-    assert_eq!(build(NewRecord::media("", b"")), Some(EncodeError::Record));
-    assert_eq!(build(NewRecord::new(Tnf::Unknown, b"x", b"")), Some(EncodeError::Record));
-    assert_eq!(build(NewRecord::empty().with_id(b"a")), Some(EncodeError::Record));
+    assert_eq!(build(NewRecord::media(&long, b"")), Some(EncodeError::Record(0)));
+    assert_eq!(build(NewRecord::media("", b"")), Some(EncodeError::Record(0)));
+    assert_eq!(build(NewRecord::new(Tnf::Unknown, b"x", b"")), Some(EncodeError::Record(0)));
+    assert_eq!(build(NewRecord::empty().with_id(b"a")), Some(EncodeError::Record(0)));
     assert_eq!(Text::new(&long, "").err(), Some(EncodeError::Text));
     assert_eq!(Text::new("é", "").err(), Some(EncodeError::Text));
     assert_eq!(HandoverCarrier::new(8, b"", b"").err(), Some(EncodeError::Carrier));
     let mut bytes = b"before".to_vec();
     let builder = MessageBuilder::new().record(NewRecord::unknown(b"x")).record(NewRecord::media("", b""));
-    assert_eq!(builder.build_into(&mut bytes), Err(EncodeError::Record));
+    assert_eq!(builder.build_into(&mut bytes), Err(EncodeError::Record(1)));
     assert_eq!(bytes, b"before");
 }
 

@@ -14,20 +14,23 @@ def tables(text):
     """The rows of the tables by the word of the table and that of the row."""
     found, table = {}, None
     heads = []
-    for line in text.splitlines():
+    lines = text.splitlines()
+    for line, after in zip(lines, lines[1:] + ['']):
         cells = [cell.strip() for cell in line.strip('|').split('|')]
+        if not line:
+            table = None
         if not line.startswith('| ') or len(cells) != 5:
             continue
-        if cells[1] == 'x86-64':
+        if after.startswith('|---'):
             table, heads = cells[0], cells[1:]
-        else:
+        elif table:
             found.update({(table, cells[0], head): cell for head, cell in zip(heads, cells[1:])})
     return found
 
 
 def is_near(table, now, then):
     """Whether two numbers differ by a tenth or less; stacks of the same call differ by up to 64 bytes between two runs."""
-    return then.isdigit() and abs(int(now) - int(then)) <= max(int(then) // 10, 64 if table == 'call' else 0)
+    return then.isdigit() and abs(int(now) - int(then)) <= max(int(then) // 10, 64 if table.split()[0] == 'call' else 0)
 
 
 def structs(text):
@@ -37,8 +40,10 @@ def structs(text):
 
 def main(figures):
     measured, told = pathlib.Path(figures).read_text(), (TOP / 'docs/EMBEDDED.md').read_text()
-    is_now, was = tables(measured), tables(told)
-    count('the document has the rows of both tables', is_now.keys() == was.keys(), *sorted(set(is_now) ^ set(was)), quiet=True)
+    is_now = tables(measured)
+    # The document has another table of as many columns, which test/embedded/stack reads.
+    was = {key: cell for key, cell in tables(told).items() if key[0] in {table for table, _, _ in is_now}}
+    count('the document has the rows of all tables', is_now.keys() == was.keys(), *sorted(set(is_now) ^ set(was)), quiet=True)
     unmeasured = collections.Counter(head for (_, _, head), now in is_now.items() if now == '-')
     for head, calls in sorted(unmeasured.items()):
         left_out(f'no compiler or qemu for {head}: the stack of {calls} calls')

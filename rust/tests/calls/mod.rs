@@ -1,8 +1,5 @@
-//! The calls of `include/ndef.h`, declared anew, so that what the crate answers stands beside what the library tells. It shares
-//! nothing with `src/ffi.rs`.
+//! The calls of `include/ndef.h`, which the library for C makes: so what the crate answers stands beside what that library does.
 #![allow(dead_code, unsafe_code, clippy::undocumented_unsafe_blocks)]
-
-use simbegyor_ndef_sys as _;
 
 /// A struct of the header: its numbers in order, of which those that begin with a 4 have 32 bits.
 macro_rules! structs {

@@ -1,0 +1,110 @@
+// Written by ports/erase of crates/ndef_advice/src/hint.rt, which has the contracts: do not edit.
+//! What may help where bytes are refused.
+
+use crate::proved::ndef_advice::begun::{after, octet_at};
+use crate::proved::ndef_advice::Sentence;
+use crate::proved::ndef_format::{Reason, Refusal};
+use crate::proved::ndef_message::view;
+use crate::proved::ndef_nest::Typed;
+use crate::proved::ndef_value::{Limits, Profile};
+
+/// What may help where bytes are refused. It never changes what is accepted.
+#[derive(Clone, Copy, Debug, PartialEq, Eq, Hash)]
+pub enum Hint {
+    /// A message begins at this place, 1 to 16: the bytes before it may be what surrounds a message on a tag.
+    MessageAt(u64),
+    /// The identifier code of a URI may have been left out.
+    CodeLeftOut,
+    /// The bytes begin with a message for a reader of the standard profile.
+    StandardProfile,
+}
+
+/// Whether the bytes begin with a message.
+fn begins(bytes: &[u8], limits: Limits) -> bool {
+    match view::<Typed>(bytes, limits) {
+        Ok(_) => true,
+        Err(_) => false,
+    }
+}
+
+/// The first place from 1 to 16 where a message begins.
+fn message_near(bytes: &[u8], limits: Limits) -> Option<u64> {
+    for place in 1..17 {
+        if begins(after(bytes, place), limits) {
+            return Some(place as u64);
+        }
+    }
+    None
+}
+
+/// Whether a first byte may be one of what surrounds a message on a tag: of TLV blocks, or of a length.
+fn is_around(octet: u8) -> bool {
+    octet == 0 || octet == 1 || octet == 3
+}
+
+/// Whether the first letter of `http` stands where the identifier code of a URI has to stand.
+fn is_code_left_out(bytes: &[u8], refusal: Refusal) -> bool {
+    refusal.at < bytes.len() as u64 && matches!(refusal.reason, Reason::UriCode) && bytes[refusal.at as usize] == b'h'
+}
+
+/// Whether only a strict reader refuses bytes for this reason.
+fn is_strict_alone(refusal: Refusal) -> bool {
+    matches!(refusal.reason, Reason::ReservedTnf | Reason::UriCode)
+}
+
+/// Whether a first byte that is refused may be one of what surrounds a message on a tag.
+fn is_surrounded(bytes: &[u8], refusal: Refusal) -> bool {
+    refusal.at == 0 && is_around(octet_at(bytes, 0))
+}
+
+/// The first place from 1 to 16 where a message begins, where a first byte that is refused may be one of what
+/// surrounds it.
+fn surrounded_message(bytes: &[u8], limits: Limits, refusal: Refusal) -> Option<u64> {
+    if is_surrounded(bytes, refusal) {
+        message_near(bytes, limits)
+    } else {
+        None
+    }
+}
+
+/// Whether only a strict reader refuses the bytes.
+fn is_for_standard(bytes: &[u8], limits: Limits, refusal: Refusal) -> bool {
+    is_strict_alone(refusal) && begins(bytes, limits.with(Profile::Standard))
+}
+
+/// What may help where the bytes are refused so within the limits; None where nothing is known to (NDEF 1.0 and RTD
+/// URI 1.0). It checks at most 17 times whether a message begins at a place.
+pub fn hint_at(bytes: &[u8], limits: Limits, refusal: Refusal) -> Option<Hint> {
+    if let Some(place) = surrounded_message(bytes, limits, refusal) {
+        return Some(Hint::MessageAt(place));
+    }
+    if is_code_left_out(bytes, refusal) {
+        return Some(Hint::CodeLeftOut);
+    }
+    if is_for_standard(bytes, limits, refusal) {
+        return Some(Hint::StandardProfile);
+    }
+    None
+}
+
+impl Hint {
+    /// The sentence of English for it: at most 192 bytes of ASCII.
+    pub fn sentence(self) -> Sentence {
+        match self {
+            Hint::MessageAt(place) => near_sentence(place),
+            Hint::CodeLeftOut => Sentence::of(b"68 (hexadecimal) is the letter h: was the identifier code left out?"),
+            Hint::StandardProfile => {
+                Sentence::of(b"The standard profile reads this (`--profile standard`, in C NDEF_STANDARD).")
+            }
+        }
+    }
+}
+
+/// The sentence for a message at a place.
+fn near_sentence(place: u64) -> Sentence {
+    let mut sentence = Sentence::new();
+    sentence.push(b"The bytes may begin with what surrounds a message on a tag; a message begins at byte ");
+    sentence.push_number(place);
+    sentence.push(b".");
+    sentence
+}

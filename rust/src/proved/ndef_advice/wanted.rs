@@ -1,0 +1,48 @@
+// Written by ports/erase of crates/ndef_advice/src/wanted.rt, which has the contracts: do not edit.
+//! What was wanted where bytes are refused.
+use crate::proved::ndef_fields::FieldName;
+use crate::proved::ndef_lang::Kind;
+
+/// What was wanted where bytes are refused (NDEF 1.0, RTD Text 1.0, RTD URI 1.0, RTD Smart Poster 1.0 and Connection
+/// Handover 1.2). Numbers count octets where nothing else is said.
+#[derive(Clone, Copy, Debug, PartialEq, Eq, Hash)]
+pub enum Wanted {
+    /// Nothing more can be said than what the reason means.
+    Nothing,
+    /// A message: the input has no bytes.
+    Message,
+    /// Another record: the input ends between records, before one with ME.
+    NextRecord,
+    /// Octets of a field: their number.
+    Missing(FieldName, u64),
+    /// A payload of a kind with a fixed length: that length, and the one that was given.
+    FixedLength(Kind, u64, u64),
+    /// A payload of a kind with a least length: that length, and the one that was given.
+    LeastLength(Kind, u64, u64),
+    /// A handover select of one octet, or of at least four: the length that was given.
+    SelectLength(u64),
+    /// The data of a handover error: its reason, the length of its data, and the one that was given.
+    ErrorLength(u8, u64, u64),
+    /// A shorter field of a payload: the length that was given for it, and what is left in the payload.
+    ShorterField(FieldName, u64, u64),
+    /// A text in UTF-16 with an even number of octets.
+    EvenText,
+    /// A text that ends with a whole character.
+    WholeCharacter,
+    /// The number of auxiliary references of an alternative carrier.
+    AuxiliaryCount,
+    /// Fewer auxiliary references: the number that was given, and what is left in the payload.
+    FewerAuxiliary(u64, u64),
+    /// A shorter record of a nested message: its least length, and what is left in the payload.
+    ShorterRecord(u64, u64),
+    /// A longer last record of a nested message: its length, and what is left in the payload.
+    LongerLast(u64, u64),
+    /// Room for another record of a nested message: what is left in the payload after this one.
+    RoomForNext(u64),
+    /// A URI in a smart poster: the number of its last record, from 1.
+    UriInPoster(u64),
+    /// No other URI in a smart poster: the number of the record that is one, from 1.
+    OneUri(u64),
+    /// A collision record at the front of a request.
+    CollisionFirst,
+}

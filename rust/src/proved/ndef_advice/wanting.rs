@@ -1,0 +1,236 @@
+// Written by ports/erase of crates/ndef_advice/src/wanting.rt, which has the contracts: do not edit.
+//! What was wanted where bytes are refused, by the bytes up to the refused one.
+
+use crate::proved::ndef_advice::begun::{
+    after, before_payload, bytes_before, head_length, id_length, is_kind_whole, is_lengths_whole, is_payload_begun,
+    least_record, octet_at, payload_length, through,
+};
+use crate::proved::ndef_advice::lengths::least_nest;
+use crate::proved::ndef_advice::misfit::{misfit, of_least};
+use crate::proved::ndef_advice::Wanted;
+use crate::proved::ndef_fields::{piece_front, whole_pieces, FieldName};
+use crate::proved::ndef_format::header::{is_set, width, CHUNK, END, ID_THERE};
+use crate::proved::ndef_format::{Reason, Refusal, Table};
+use crate::proved::ndef_lang::Kind;
+use crate::proved::ndef_piece::header_tnf;
+
+/// What is missing of a piece after its first two octets.
+fn after_two(octets: &[u8]) -> Wanted {
+    let size = octets.len();
+    let lengths = 2 + width(octet_at(octets, 0));
+    if size < lengths {
+        return Wanted::Missing(FieldName::PayloadLength, (lengths - size) as u64);
+    }
+    let head = head_length(octets);
+    if size < head {
+        return Wanted::Missing(FieldName::IdLength, 1);
+    }
+    let kind = head + usize::from(octet_at(octets, 1));
+    if size < kind {
+        return Wanted::Missing(FieldName::Kind, (kind - size) as u64);
+    }
+    let id = before_payload(octets);
+    if size < id {
+        return Wanted::Missing(FieldName::Id, (id - size) as u64);
+    }
+    Wanted::Missing(FieldName::Payload, least_record(octets).saturating_sub(size as u64))
+}
+
+/// What is missing of a piece of which these octets have come.
+fn missing(octets: &[u8]) -> Wanted {
+    match octets {
+        [] => Wanted::NextRecord,
+        [_] => Wanted::Missing(FieldName::KindLength, 1),
+        [_, _, ..] => after_two(octets),
+    }
+}
+
+/// What is missing of an input, which ends with these octets of a piece.
+fn missing_after(input: &[u8], come: &[u8]) -> Wanted {
+    match input {
+        [] => Wanted::Message,
+        [_, ..] => missing(come),
+    }
+}
+
+/// The kind of a payload of which a front has come; Other for a payload in several pieces.
+fn kind_begun(octets: &[u8]) -> Kind {
+    let front = piece_front(octets);
+    if is_set(CHUNK, front.header) {
+        Kind::Other
+    } else {
+        Kind::of(header_tnf(front.header), front.head.kind)
+    }
+}
+
+/// A payload of a kind that holds this message has at least its least length; a select is its version alone, or has
+/// four octets and more.
+fn of_nest(table: Table, kind: Kind, given: u64) -> Wanted {
+    match table {
+        Table::Select if given == 2 || given == 3 => Wanted::SelectLength(given),
+        Table::SmartPoster | Table::Request | Table::Select => of_least(kind, least_nest(table), given),
+    }
+}
+
+/// What was wanted where a payload of a kind has this length, and begins with these octets.
+fn outer_misfit(kind: Kind, given: u64, octets: &[u8]) -> Wanted {
+    match kind.table() {
+        Some(table) => of_nest(table, kind, given),
+        None => misfit(kind.outer(), given, octets),
+    }
+}
+
+/// What was wanted after these octets of a piece of the message itself.
+fn in_message(octets: &[u8]) -> Wanted {
+    if is_kind_whole(octets) {
+        outer_misfit(kind_begun(octets), payload_length(octets), piece_front(octets).content)
+    } else {
+        Wanted::Nothing
+    }
+}
+
+/// Whether it is the first record of a request.
+fn is_collision(table: Table, number: u64) -> bool {
+    matches!(table, Table::Request) && number == 1
+}
+
+/// A last record ends with the payload, and any other leaves room for another.
+fn of_end(last: bool, size: u64, left: u64) -> Wanted {
+    if last {
+        return Wanted::LongerLast(size, left);
+    }
+    let room = left.saturating_sub(size);
+    if room < 3 {
+        Wanted::RoomForNext(room)
+    } else {
+        Wanted::Nothing
+    }
+}
+
+/// A record of at least this size, which is known to be its size or not.
+fn of_size(known: bool, last: bool, size: u64, left: u64) -> Wanted {
+    if left < size {
+        Wanted::ShorterRecord(size, left)
+    } else if known {
+        of_end(last, size, left)
+    } else {
+        Wanted::Nothing
+    }
+}
+
+/// What was wanted after these octets of the head of a collision record.
+fn of_collision(left: u64, octets: &[u8]) -> Wanted {
+    let whole = is_lengths_whole(octets);
+    let given = payload_length(octets);
+    if whole && given != 2 {
+        return Wanted::FixedLength(Kind::Collision, 2, given);
+    }
+    let header = octet_at(octets, 0);
+    let size = head_length(octets) + 4 + usize::from(id_length(octets));
+    let known = !is_set(ID_THERE, header) || whole;
+    of_size(known, is_set(END, header), size as u64, left)
+}
+
+/// What was wanted after these octets of a head of a nested message.
+fn in_head(table: Table, number: u64, left: u64, octets: &[u8]) -> Wanted {
+    if is_collision(table, number) {
+        return of_collision(left, octets);
+    }
+    let last = is_set(END, octet_at(octets, 0));
+    of_size(is_lengths_whole(octets), last, least_record(octets), left)
+}
+
+/// What was wanted after these octets of a piece of a nested message.
+fn in_nested(table: Table, number: u64, left: u64, octets: &[u8]) -> Wanted {
+    if !is_kind_whole(octets) {
+        return in_head(table, number, left, octets);
+    }
+    let front = piece_front(octets);
+    let kind = table.kind(header_tnf(front.header), front.head.kind);
+    misfit(kind, payload_length(octets), front.content)
+}
+
+/// The same, by the reason.
+fn nested_wanted(reason: Reason, table: Table, number: u64, left: u64, octets: &[u8]) -> Wanted {
+    match reason {
+        Reason::DoesNotFit => in_nested(table, number, left, octets),
+        Reason::UriMissing => Wanted::UriInPoster(number),
+        Reason::UriAgain => Wanted::OneUri(number),
+        Reason::CollisionMissing => Wanted::CollisionFirst,
+        _ => Wanted::Nothing,
+    }
+}
+
+/// What was wanted after these octets of a piece of the message itself, by the reason.
+fn outer_wanted(reason: Reason, octets: &[u8]) -> Wanted {
+    match reason {
+        Reason::DoesNotFit => in_message(octets),
+        _ => Wanted::Nothing,
+    }
+}
+
+/// The nested message of which octets come next, if a payload holds this message or none, and this number of its octets
+/// has come.
+fn nest_after(table: Option<Table>, count: usize) -> Option<Table> {
+    match table {
+        Some(Table::SmartPoster) => table,
+        Some(Table::Request | Table::Select) if count >= 1 => table,
+        Some(Table::Request | Table::Select) | None => None,
+    }
+}
+
+/// The same, after these octets of a piece.
+fn nest_begun(octets: &[u8]) -> Option<Table> {
+    if is_payload_begun(octets) {
+        nest_after(kind_begun(octets).table(), piece_front(octets).content.len())
+    } else {
+        None
+    }
+}
+
+/// The number of octets of a payload before the message that it holds.
+fn version_length(table: Table) -> usize {
+    match table {
+        Table::SmartPoster => 0,
+        Table::Request | Table::Select => 1,
+    }
+}
+
+/// What was wanted in this nested message, where a byte after these octets of a piece is refused.
+fn in_nest(table: Table, bytes: &[u8], refusal: Refusal, come: &[u8]) -> Wanted {
+    let content = piece_front(come).content;
+    let whole = whole_pieces(after(content, version_length(table)));
+    let left = payload_length(come).saturating_sub(content.len() as u64) + whole.rest.len() as u64;
+    let number = whole.count as u64 + 1;
+    let octets = through(bytes, refusal.at, whole.rest);
+    nested_wanted(refusal.reason, table, number, left, octets)
+}
+
+/// What was wanted where a byte after these octets of a piece is refused.
+fn in_piece(bytes: &[u8], refusal: Refusal, come: &[u8]) -> Wanted {
+    match nest_begun(come) {
+        Some(table) => in_nest(table, bytes, refusal, come),
+        None => outer_wanted(refusal.reason, through(bytes, refusal.at, come)),
+    }
+}
+
+/// Whether the reason is that the input has ended.
+fn is_end(reason: Reason) -> bool {
+    matches!(reason, Reason::EndOfInput)
+}
+
+/// What was wanted where a byte after these octets of a piece is refused, or the input has ended.
+fn wanted_after(bytes: &[u8], refusal: Refusal, come: &[u8]) -> Wanted {
+    if is_end(refusal.reason) {
+        missing_after(bytes_before(bytes, refusal.at), come)
+    } else {
+        in_piece(bytes, refusal, come)
+    }
+}
+
+/// What was wanted where these bytes are refused, by those up to the refused one (NDEF 1.0, RTD Text 1.0, RTD URI 1.0,
+/// RTD Smart Poster 1.0 and Connection Handover 1.2). Where the place is past the last byte, the input has ended there.
+pub fn wanted_at(bytes: &[u8], refusal: Refusal) -> Wanted {
+    let come = whole_pieces(bytes_before(bytes, refusal.at)).rest;
+    wanted_after(bytes, refusal, come)
+}

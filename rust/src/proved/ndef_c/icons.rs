@@ -1,0 +1,69 @@
+// Written by ports/erase of crates/ndef_c/src/icons.rt, which has the contracts: do not edit.
+//! The icons of a smart poster, where they lie (RTD Smart Poster 1.0).
+
+use crate::proved::ndef_c::part::NdefPart;
+use crate::proved::ndef_c::sought::{give_all, Sought, Wanted};
+use crate::proved::ndef_c::status::BAD_ARGUMENT;
+use crate::proved::ndef_c::titles::is_poster;
+use crate::proved::ndef_piece::WholePiece;
+use crate::proved::ndef_value::Tnf;
+
+/// Where an icon of a smart poster lies.
+#[repr(C)]
+#[derive(Clone, Copy, Debug, Default, PartialEq, Eq, Hash)]
+pub struct NdefIcon {
+    /// Its media type.
+    pub(crate) media_type: NdefPart,
+    /// The bytes of the image.
+    pub(crate) octets: NdefPart,
+}
+
+/// Where the type and the payload of a piece lie in the bytes.
+fn icon_in(bytes: &[u8], piece: &WholePiece<'_>) -> NdefIcon {
+    let image_at = bytes.len() - piece.rest.len() - piece.payload.len();
+    NdefIcon {
+        media_type: NdefPart { at: image_at - piece.id.len() - piece.kind.len(), length: piece.kind.len() },
+        octets: NdefPart { at: image_at, length: piece.payload.len() },
+    }
+}
+
+/// The icons of a poster.
+#[derive(Clone, Copy)]
+struct Icons<'a> {
+    payload: &'a [u8],
+}
+
+impl<'a> Wanted for Icons<'a> {
+    fn is_wanted(tnf: Tnf, _kind: &[u8]) -> bool {
+        match tnf {
+            Tnf::Media => true,
+            _ => false,
+        }
+    }
+}
+
+impl<'a> Sought for Icons<'a> {
+    type Given = NdefIcon;
+
+    fn message(&self) -> &[u8] {
+        self.payload
+    }
+
+    fn given(&self, piece: &WholePiece<'_>) -> NdefIcon {
+        icon_in(self.payload, piece)
+    }
+}
+
+/// Gives the place of each icon, where there is room for them, and their number.
+fn give_icons(payload: &[u8], array: &mut [NdefIcon], count: &mut usize) -> u32 {
+    give_all(&Icons { payload }, array, count)
+}
+
+/// Gives the places of the media type and the image of each icon of a smart poster, in the payload
+/// of the poster. Each record of a media type counts, whatever the type.
+pub fn ndef_poster_icons(payload: &[u8], array: &mut [NdefIcon], count: &mut usize) -> u32 {
+    if !is_poster(payload) {
+        return BAD_ARGUMENT;
+    }
+    give_icons(payload, array, count)
+}

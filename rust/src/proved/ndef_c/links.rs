@@ -1,0 +1,51 @@
+// Written by ports/erase of crates/ndef_c/src/links.rt, which has the contracts: do not edit.
+//! All links of a message (Connection Handover 1.2).
+
+use crate::proved::ndef_c::handover::{behind_version, is_handover};
+use crate::proved::ndef_c::link::{link_of, NdefLink};
+use crate::proved::ndef_c::message::has_message;
+use crate::proved::ndef_c::nested::{found_in, is_alternative};
+use crate::proved::ndef_c::sought::{give_all, Sought, Wanted};
+use crate::proved::ndef_c::status::BAD_ARGUMENT;
+use crate::proved::ndef_piece::WholePiece;
+use crate::proved::ndef_value::Tnf;
+
+/// The links of the message with which the bytes begin, by the payload of its handover.
+#[derive(Clone, Copy)]
+struct Links<'a> {
+    bytes: &'a [u8],
+    payload: &'a [u8],
+}
+
+impl<'a> Wanted for Links<'a> {
+    fn is_wanted(tnf: Tnf, kind: &[u8]) -> bool {
+        is_alternative(tnf, kind)
+    }
+}
+
+impl<'a> Sought for Links<'a> {
+    type Given = NdefLink;
+
+    fn message(&self) -> &[u8] {
+        behind_version(self.payload)
+    }
+
+    fn given(&self, piece: &WholePiece<'_>) -> NdefLink {
+        let carrier = found_in(behind_version(self.payload), piece);
+        link_of(self.bytes, carrier.at, carrier.payload)
+    }
+}
+
+/// Gives each link, where there is room for them, and their number.
+fn give_links(bytes: &[u8], payload: &[u8], links: &mut [NdefLink], count: &mut usize) -> u32 {
+    give_all(&Links { bytes, payload }, links, count)
+}
+
+/// Gives the links of the message with which the bytes begin, in the order of the alternative carriers in the payload
+/// of its handover: for each what `ndef_link_at` gives. The handover is read once.
+pub fn ndef_links(bytes: &[u8], payload: &[u8], links: &mut [NdefLink], count: &mut usize) -> u32 {
+    if !is_handover(payload) || !has_message(bytes) {
+        return BAD_ARGUMENT;
+    }
+    give_links(bytes, payload, links, count)
+}

@@ -1,0 +1,94 @@
+// Written by ports/erase of crates/ndef_c/src/text.rt, which has the contracts: do not edit.
+//! The payloads of Text records (RTD Text 1.0).
+
+use crate::proved::ndef_c::checking::NdefChecked;
+use crate::proved::ndef_c::content::{give_content, Content};
+use crate::proved::ndef_c::refusal::refuse;
+use crate::proved::ndef_c::room::give;
+use crate::proved::ndef_c::status::{BAD_ARGUMENT, OK};
+use crate::proved::ndef_c::utf16::give_in_utf8;
+use crate::proved::ndef_lang::{Kind, Leaf};
+use crate::proved::ndef_types::{accept, split_language, unmark};
+use crate::proved::ndef_value::Profile;
+
+/// A text, by places and lengths in its payload.
+#[repr(C)]
+#[derive(Clone, Copy, Debug, Default, PartialEq, Eq, Hash)]
+pub struct NdefText {
+    /// Where the language code begins.
+    pub(crate) language_at: usize,
+    /// The bytes of the language code, at most 63.
+    pub(crate) language_length: usize,
+    /// Where the text begins.
+    pub(crate) text_at: usize,
+    /// The bytes of the text.
+    pub(crate) text_length: usize,
+    /// 1 for UTF-16, after a byte order mark or big-endian without one; 0 for UTF-8.
+    pub(crate) utf16: u32,
+}
+
+/// Where the parts of a text lie in its payload.
+pub(crate) fn text_at(payload: &[u8]) -> NdefText {
+    let language_length = usize::from(payload[0] % 64);
+    let text_at = 1 + language_length;
+    NdefText {
+        language_at: 1,
+        language_length,
+        text_at,
+        text_length: payload.len() - text_at,
+        utf16: u32::from(payload[0] >= 128),
+    }
+}
+
+/// Gives the places of the parts of the text for which the payload of a Text record stands.
+pub fn ndef_text(payload: &[u8], out: &mut NdefText, why: &mut NdefChecked) -> u32 {
+    match accept::<Leaf>(Kind::Text, Profile::Strict, payload) {
+        Ok(()) => {
+            *out = text_at(payload);
+            OK
+        }
+        Err(refusal) => refuse(refusal, why),
+    }
+}
+
+/// Writes the text for which a payload stands to the room in UTF-8.
+fn give_text(payload: &[u8], room: &mut [u8], count: &mut usize) -> u32 {
+    let (_, octets) = split_language(payload);
+    if payload[0] < 128 {
+        return give(octets, room, count);
+    }
+    let (little, octets) = unmark(octets);
+    give_in_utf8(little, octets, room, count)
+}
+
+/// Writes the text for which the payload of a Text record stands to the room in UTF-8, converted where
+/// it is UTF-16, without its byte order mark.
+pub fn ndef_text_in_utf8(payload: &[u8], room: &mut [u8], count: &mut usize, why: &mut NdefChecked) -> u32 {
+    match accept::<Leaf>(Kind::Text, Profile::Strict, payload) {
+        Ok(()) => give_text(payload, room, count),
+        Err(refusal) => refuse(refusal, why),
+    }
+}
+
+/// What is written for a text, which is given in UTF-8, if the numbers and its parts may be so.
+pub(crate) fn text_content<'a>(language: &'a [u8], text: &'a [u8], flags: u32) -> Option<Content<'a>> {
+    if flags > 1 || language.len() > 63 || !language.is_ascii() {
+        return None;
+    }
+    let Ok(text) = crate::proved::shim::simdutf8::basic::from_utf8(text) else {
+        return None;
+    };
+    if flags == 0 {
+        Some(Content::Utf8 { language, text })
+    } else {
+        Some(Content::Utf16 { language, text })
+    }
+}
+
+/// Writes the payload of a Text record to the room. The text is given in UTF-8.
+pub fn ndef_write_text(language: &[u8], text: &[u8], flags: u32, room: &mut [u8], count: &mut usize) -> u32 {
+    let Some(content) = text_content(language, text, flags) else {
+        return BAD_ARGUMENT;
+    };
+    give_content(&content, room, count)
+}

@@ -1,0 +1,51 @@
+// Written by ports/erase of crates/ndef_c/src/uri_view.rt, which has the contracts: do not edit.
+//! URIs where they lie in their payloads (RTD URI 1.0).
+
+use crate::proved::ndef_c::checking::NdefChecked;
+use crate::proved::ndef_c::limits::profile_of;
+use crate::proved::ndef_c::refusal::refuse;
+use crate::proved::ndef_c::room::give;
+use crate::proved::ndef_c::status::{BAD_ARGUMENT, OK};
+use crate::proved::ndef_lang::{Kind, Leaf};
+use crate::proved::ndef_types::{accept, prefix};
+
+/// A URI: the prefix of a code, and the rest, which lies in the payload.
+#[repr(C)]
+#[derive(Clone, Copy, Debug, Default, PartialEq, Eq, Hash)]
+pub struct NdefUri {
+    /// Where the rest begins.
+    pub(crate) rest_at: usize,
+    /// The bytes of the rest.
+    pub(crate) rest_length: usize,
+    /// The code, 0 to 255; the reserved ones have no prefix.
+    pub(crate) code: u32,
+}
+
+/// The code, and where the rest lies.
+pub(crate) fn uri_at(payload: &[u8]) -> NdefUri {
+    let [code, rest @ ..] = payload else { unreachable!() };
+    NdefUri { rest_at: 1, rest_length: rest.len(), code: u32::from(*code) }
+}
+
+/// Gives the code of the prefix and the place of the rest of the URI for which the payload of a URI record stands.
+pub fn ndef_uri_view(payload: &[u8], flags: u32, out: &mut NdefUri, why: &mut NdefChecked) -> u32 {
+    if flags > 1 {
+        return BAD_ARGUMENT;
+    }
+    match accept::<Leaf>(Kind::Uri, profile_of(flags), payload) {
+        Ok(()) => {
+            *out = uri_at(payload);
+            OK
+        }
+        Err(refusal) => refuse(refusal, why),
+    }
+}
+
+/// Writes the prefix for which a code stands (RTD URI 1.0, URI identifier codes) to the room; a reserved
+/// code stands for the empty one.
+pub fn ndef_uri_prefix(code: u32, room: &mut [u8], count: &mut usize) -> u32 {
+    if code > 255 {
+        return BAD_ARGUMENT;
+    }
+    give(prefix(code as u8).as_bytes(), room, count)
+}

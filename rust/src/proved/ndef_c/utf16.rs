@@ -1,0 +1,101 @@
+// Written by ports/erase of crates/ndef_c/src/utf16.rt, which has the contracts: do not edit.
+//! Texts in UTF-16 (RFC 2781), read and written.
+
+use crate::proved::ndef_c::room::put;
+use crate::proved::ndef_c::status::{NO_ROOM, OK};
+
+/// The unit of two octets.
+fn unit_of(little: bool, first: u8, second: u8) -> u32 {
+    if little {
+        u32::from(u16::from_le_bytes([first, second]))
+    } else {
+        u32::from(u16::from_be_bytes([first, second]))
+    }
+}
+
+/// The unit with which the octets begin, and those after it.
+fn first_unit(little: bool, octets: &[u8]) -> (u32, &[u8]) {
+    let [first, second, rest @ ..] = octets else { unreachable!() };
+    (unit_of(little, *first, *second), rest)
+}
+
+/// The character with a number.
+fn character(code: u32) -> char {
+    match char::from_u32(code) {
+        Some(c) => c,
+        None => unreachable!(),
+    }
+}
+
+/// Whether the unit is half of a pair of surrogates.
+fn is_surrogate(unit: u32) -> bool {
+    0xd800 <= unit && unit < 0xe000
+}
+
+/// The character with which the octets begin, and those after it.
+fn first_character(little: bool, octets: &[u8]) -> (char, &[u8]) {
+    let (unit, rest) = first_unit(little, octets);
+    if !is_surrogate(unit) {
+        return (character(unit), rest);
+    }
+    let (low, behind) = first_unit(little, rest);
+    let code = 0x10000 + (unit - 0xd800) * 0x400 + (low - 0xdc00);
+    (character(code), behind)
+}
+
+/// The number of bytes in UTF-8 of the text that the octets spell.
+fn utf8_length(little: bool, octets: &[u8]) -> usize {
+    let mut count = 0;
+    let mut rest = octets;
+    while !rest.is_empty() {
+        let (c, behind) = first_character(little, rest);
+        count += c.len_utf8();
+        rest = behind;
+    }
+    count
+}
+
+/// Writes the text that the octets spell to the front of the room in UTF-8.
+fn put_in_utf8(room: &mut [u8], little: bool, octets: &[u8]) {
+    let mut at = 0;
+    let mut rest = octets;
+    while !rest.is_empty() {
+        let (c, behind) = first_character(little, rest);
+        let mut buffer = [0; 4];
+        at = put(room, at, c.encode_utf8(&mut buffer).as_bytes());
+        rest = behind;
+    }
+}
+
+/// Writes the text that the octets spell to the room in UTF-8 where it is large enough, sets `count` to its number of
+/// bytes, and returns the status.
+pub(crate) fn give_in_utf8(little: bool, octets: &[u8], room: &mut [u8], count: &mut usize) -> u32 {
+    let needed = utf8_length(little, octets);
+    *count = needed;
+    if room.len() < needed {
+        return NO_ROOM;
+    }
+    put_in_utf8(room, little, octets);
+    OK
+}
+
+/// Writes the units of a character, big-endian, at a place of the room, and answers the place after
+/// them.
+fn put_character(room: &mut [u8], at: usize, c: char) -> usize {
+    let mut units = [0; 2];
+    let mut end = at;
+    for unit in c.encode_utf16(&mut units).iter() {
+        end = put(room, end, &unit.to_be_bytes());
+    }
+    end
+}
+
+/// Writes the units of a text, big-endian, at a place of the room, and answers the place after
+/// them.
+pub(crate) fn put_units(room: &mut [u8], at: usize, text: &str) -> usize {
+    let mut end = at;
+    for c in text.chars() {
+        end = put_character(room, end, c);
+    }
+    end
+}

@@ -1,0 +1,15 @@
+// Written by ports/erase of crates/ndef_c/src/version.rt, which has the contracts: do not edit.
+//! The version of the library.
+
+/// The first number of the version that the file VERSION has.
+pub const MAJOR: u32 = 0;
+/// Its second number, 0 to 255.
+pub const MINOR: u32 = 4;
+/// Its third number, 0 to 255.
+pub const PATCH: u32 = 0;
+
+/// The version of the library: the first number in the high 16 bits, the second in the next 8, and the
+/// third in the last 8.
+pub fn ndef_version() -> u32 {
+    65536 * MAJOR + 256 * MINOR + PATCH
+}

@@ -1,0 +1,87 @@
+// Written by ports/erase of crates/ndef_message/src/lib.rt, which has the contracts: do not edit.
+//! NDEF messages (NFC Forum, NDEF 1.0): checked in any parts, viewed where they lie, and encoded; and
+//! where their bytes come from and go.
+//!
+//! Where to look:
+//!
+//! - ndef_format's `crates/ndef_format/specs/Accepted.antt` and `crates/ndef_format/specs/Refusals.antt`: which messages are accepted, and
+//!   where and why other bytes are refused. Start there.
+//! - `checker.rs`, `state.rs`, `accepted.rs`: the checker; whole records at once, else octets of one
+//!   field after another. `crates/ndef_message/specs/Feed.antt` says what it answers.
+//! - `decoder.rs`, `open.rs`: the decoder, and what it keeps of the open record. `crates/ndef_message/specs/Decoding.antt` says
+//!   what it answers.
+//! - `message_reading.rs`, `message_checking.rs`: one message from a source; `crates/ndef_message/specs/Readings.antt` says
+//!   what that means.
+//! - `message_viewing.rs`, `message_view.rs`, `item.rs`, `pieces.rs`: a message viewed where it lies
+//!   (`crates/ndef_message/specs/Views.antt`).
+//! - `encoding.rs`, `writing.rs`: the encoders; `crates/ndef_message/specs/Cut.antt` has the pieces in which a message is
+//!   written.
+//! - `source.rs`, `sink.rs`: what a source and a sink promise. `slice_source.rs`, `crates/ndef_message/src/std_source.rt`,
+//!   `crates/ndef_message/src/std_sink.rt` are such; `failing_source.rs`, `endless_source.rs`, `failing_sink.rs` are for tests.
+//!   `input.rs`: all that a source gives.
+//! - `specs/Machine/`: the states of checker, decoder, views and readers.
+
+mod accepted;
+mod checked_bytes;
+mod checker;
+#[cfg(feature = "alloc")]
+mod decoder;
+mod encoding;
+mod endless_source;
+#[cfg(feature = "alloc")]
+mod event;
+mod failing_sink;
+mod failing_source;
+mod fed;
+mod form;
+mod input;
+mod item;
+mod items;
+mod judging;
+mod message_checking;
+mod message_reading;
+mod message_view;
+mod message_viewing;
+#[cfg(feature = "alloc")]
+mod open;
+mod phase;
+mod pieces;
+mod sending;
+mod sink;
+mod slice_source;
+mod source;
+mod state;
+mod whole_input;
+mod writing;
+
+pub use checker::Checker;
+#[cfg(feature = "alloc")]
+pub use decoder::Decoder;
+#[cfg(feature = "alloc")]
+pub use encoding::{encode, encode_chunked, encoded_length};
+pub use endless_source::EndlessSource;
+#[cfg(feature = "alloc")]
+pub use event::Event;
+pub use failing_sink::FailingSink;
+pub use failing_source::FailingSource;
+pub use fed::Fed;
+pub use form::Form;
+#[cfg(feature = "alloc")]
+pub use input::read_all;
+pub use input::InputError;
+pub use item::Item;
+pub use items::Items;
+pub use message_checking::{check_message, CheckError, Checked};
+pub use message_reading::ReadError;
+#[cfg(feature = "alloc")]
+pub use message_reading::{read_message, Read};
+pub use message_view::View;
+pub use message_viewing::view;
+pub use pieces::Pieces;
+pub use sending::{send, WriteFault};
+pub use sink::{Sink, SinkFault};
+pub use slice_source::SliceSource;
+pub use source::{Source, SourceFault};
+pub use whole_input::check;
+#[cfg(feature = "alloc")]
+pub use writing::write_message;

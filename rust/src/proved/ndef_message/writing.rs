@@ -1,0 +1,165 @@
+// Written by ports/erase of crates/ndef_message/src/writing.rt, which has the contracts: do not edit.
+//! Writes a message to a sink.
+
+use crate::proved::ndef_message::sending::{send, WriteFault};
+use crate::proved::ndef_message::sink::Sink;
+use crate::proved::ndef_message::Form;
+use crate::proved::ndef_piece::{write_head, Head};
+use crate::proved::ndef_value::Tnf;
+#[cfg(feature = "alloc")]
+use crate::proved::ndef_value::{Message, Record};
+
+/// Whether a piece of `length` payload bytes is written in the short form.
+fn is_short(form: Form, length: usize) -> bool {
+    match form {
+        Form::Short => length <= 255,
+        Form::Long => false,
+    }
+}
+
+/// Where the first piece of a record stands.
+#[derive(Clone, Copy)]
+struct Standing {
+    /// Its record is the first of the message.
+    first: bool,
+    /// Its record is the last of the message.
+    last: bool,
+    /// It is the only piece of its record.
+    alone: bool,
+}
+
+/// The head of the first piece of a record, which has this part of the payload.
+#[cfg(feature = "alloc")]
+fn first_head(item: &Record, standing: Standing, form: Form, part: &[u8]) -> Head {
+    let id = item.id();
+    Head {
+        first: standing.first,
+        last: standing.alone && standing.last,
+        chunked: !standing.alone,
+        short: is_short(form, part.len()),
+        tnf: item.tnf(),
+        kind_length: item.kind().len() as u8,
+        payload_length: part.len() as u32,
+        id_length: if id.is_empty() { None } else { Some(id.len() as u8) },
+    }
+}
+
+/// The head of a later piece of a record, which has this part of the payload.
+fn later_head(last: bool, ends: bool, form: Form, part: &[u8]) -> Head {
+    Head {
+        first: false,
+        last: ends && last,
+        chunked: !ends,
+        short: is_short(form, part.len()),
+        tnf: Tnf::Unchanged,
+        kind_length: 0,
+        payload_length: part.len() as u32,
+        id_length: None,
+    }
+}
+
+/// Sends the octets of a head.
+fn send_head<S: Sink>(before: u64, head: &Head, sink: &mut S) -> Result<u64, WriteFault> {
+    let mut octets = [0; 7];
+    let count = write_head(head, &mut octets);
+    send(before, &octets[..count], sink)
+}
+
+/// Writes the first piece of a record.
+#[cfg(feature = "alloc")]
+fn write_first<S: Sink>(
+    before: u64,
+    item: &Record,
+    standing: Standing,
+    form: Form,
+    part: &[u8],
+    sink: &mut S,
+) -> Result<u64, WriteFault> {
+    let head = first_head(item, standing, form, part);
+    let after_head = send_head(before, &head, sink)?;
+    let after_kind = send(after_head, item.kind(), sink)?;
+    let after_id = send(after_kind, item.id(), sink)?;
+    send(after_id, part, sink)
+}
+
+/// Writes a later piece of a record.
+fn write_later<S: Sink>(
+    before: u64,
+    last: bool,
+    ends: bool,
+    form: Form,
+    part: &[u8],
+    sink: &mut S,
+) -> Result<u64, WriteFault> {
+    let head = later_head(last, ends, form, part);
+    let after_head = send_head(before, &head, sink)?;
+    send(after_head, part, sink)
+}
+
+/// The first part of a payload, and what is left of it.
+fn first_part(payload: &[u8], size: usize) -> (&[u8], &[u8]) {
+    payload.split_at(payload.len().min(size))
+}
+
+/// Writes what is left of a record's payload, in parts of the size.
+fn write_parts<S: Sink>(
+    before: u64,
+    rest: &[u8],
+    last: bool,
+    form: Form,
+    size: usize,
+    sink: &mut S,
+) -> Result<u64, WriteFault> {
+    let mut written = before;
+    let mut rest = rest;
+    while !rest.is_empty() {
+        let (part, later) = first_part(rest, size);
+        written = write_later(written, last, later.is_empty(), form, part, sink)?;
+        rest = later;
+    }
+    Ok(written)
+}
+
+/// Writes the pieces of a record.
+#[cfg(feature = "alloc")]
+fn write_record<S: Sink>(
+    before: u64,
+    item: &Record,
+    first: bool,
+    last: bool,
+    form: Form,
+    size: usize,
+    sink: &mut S,
+) -> Result<u64, WriteFault> {
+    let payload = item.payload();
+    let (part, rest) = first_part(payload, size);
+    let standing = Standing { first, last, alone: rest.is_empty() };
+    let written = write_first(before, item, standing, form, part, sink)?;
+    write_parts(written, rest, last, form, size, sink)
+}
+
+/// Writes a message, each record cut into pieces of the size.
+#[cfg(feature = "alloc")]
+fn write_cut<S: Sink>(message: &Message, form: Form, size: usize, sink: &mut S) -> Result<u64, WriteFault> {
+    let count = message.len();
+    let mut written = 0;
+    for i in 0..count {
+        let item = message.get(i).unwrap();
+        written = write_record(written, item, i == 0, i + 1 == count, form, size, sink)?;
+    }
+    Ok(written)
+}
+
+/// Writes the message to a sink, each record in one piece, or cut into pieces of `size` payload bytes and a last one of
+/// what is left (NDEF 1.0, chunked payloads). It writes exactly what `encode` and `encode_chunked` return, allocates no
+/// memory, and returns the number of bytes. `WriteFault` says how many went out to a sink that failed.
+#[cfg(feature = "alloc")]
+pub fn write_message<S: Sink>(
+    message: &Message,
+    form: Form,
+    size: Option<u32>,
+    sink: &mut S,
+) -> Result<u64, WriteFault> {
+    let most = size.unwrap_or(u32::MAX) as usize;
+    write_cut(message, form, most, sink)
+}

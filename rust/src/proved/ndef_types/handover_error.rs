@@ -1,0 +1,98 @@
+// Written by ports/erase of crates/ndef_types/src/handover_error.rt, which has the contracts: do not edit.
+//! Handover errors.
+
+use crate::proved::ndef_lang::{Kind, Leaf};
+use crate::proved::ndef_types::accepting::{accept, MOST};
+use crate::proved::ndef_types::{DecodeError, EncodeError};
+#[cfg(feature = "alloc")]
+use crate::proved::ndef_value::Bytes;
+use crate::proved::ndef_value::{NoMemory, Profile};
+#[cfg(feature = "alloc")]
+use crate::proved::shim::std::alloc::Global;
+
+/// Why a handover fails (Connection Handover 1.2, Error record): a reason and its data, which is one
+/// byte for the reasons 1 and 3, four bytes for 2, and any bytes for all others.
+#[cfg(feature = "alloc")]
+#[derive(Clone, Debug, PartialEq, Eq, Hash)]
+pub struct HandoverError {
+    reason: u8,
+    detail: Bytes,
+}
+
+/// Why a reason and some data make no handover error, in the order in which the reasons are tried.
+#[derive(Clone, Copy, Debug, PartialEq, Eq, Hash)]
+pub enum DetailError {
+    /// The data isn't as long as the reason asks.
+    BadShape,
+    /// An allocation failed.
+    NoMemory,
+}
+
+impl core::fmt::Display for DetailError {
+    fn fmt(&self, f: &mut core::fmt::Formatter<'_>) -> core::fmt::Result {
+        match self {
+            DetailError::BadShape => write!(f, "the data does not go with the reason"),
+            DetailError::NoMemory => write!(f, "no memory"),
+        }
+    }
+}
+
+impl core::error::Error for DetailError {}
+
+impl From<NoMemory> for DetailError {
+    fn from(_: NoMemory) -> DetailError {
+        DetailError::NoMemory
+    }
+}
+
+/// Whether the data goes with the reason.
+fn goes_with(reason: u8, detail: &[u8]) -> bool {
+    match reason {
+        1 | 3 => detail.len() == 1,
+        2 => detail.len() == 4,
+        _ => true,
+    }
+}
+
+#[cfg(feature = "alloc")]
+impl HandoverError {
+    /// An error of the reason with a copy of the data. `BadShape` comes before `NoMemory`.
+    pub fn new(alloc: Global, reason: u8, detail: &[u8]) -> Result<HandoverError, DetailError> {
+        if !goes_with(reason, detail) {
+            return Err(DetailError::BadShape);
+        }
+        let detail = Bytes::from_slice(alloc, detail)?;
+        Ok(HandoverError { reason, detail })
+    }
+
+    /// The error for which the payload of an error record stands. `Refused` where the payload isn't in
+    /// the set of its type or is longer than a payload may be, else `NoMemory`.
+    pub fn decode(alloc: Global, payload: &[u8]) -> Result<HandoverError, DecodeError> {
+        accept::<Leaf>(Kind::Error, Profile::Strict, payload)?;
+        let [reason, detail @ ..] = payload else { unreachable!() };
+        let detail = Bytes::from_slice(alloc, detail)?;
+        Ok(HandoverError { reason: *reason, detail })
+    }
+
+    /// The payload of an error record. `TooLong` comes before `NoMemory`.
+    pub fn encode(&self, alloc: Global) -> Result<Bytes, EncodeError> {
+        let detail = self.detail.as_slice();
+        if detail.len() >= MOST {
+            return Err(EncodeError::TooLong);
+        }
+        let mut payload = Bytes::new(alloc);
+        payload.extend(&[self.reason])?;
+        payload.extend(detail)?;
+        Ok(payload)
+    }
+
+    /// The reason, any byte; 1 to 3 are those that the standard defines.
+    pub fn reason(&self) -> u8 {
+        self.reason
+    }
+
+    /// The data, as long as the reason asks.
+    pub fn detail(&self) -> &[u8] {
+        self.detail.as_slice()
+    }
+}

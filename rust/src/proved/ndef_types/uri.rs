@@ -1,0 +1,80 @@
+// Written by ports/erase of crates/ndef_types/src/uri.rt, which has the contracts: do not edit.
+//! URIs.
+
+use crate::proved::ndef_lang::{Kind, Leaf};
+use crate::proved::ndef_types::accepting::{accept, MOST};
+use crate::proved::ndef_types::prefixes::{prefix, split};
+use crate::proved::ndef_types::{DecodeError, EncodeError};
+use crate::proved::ndef_value::{Bytes, NoMemory, Profile};
+use crate::proved::shim::std::alloc::Global;
+#[cfg(feature = "alloc")]
+use crate::proved::shim::String;
+use core::hash::{Hash, Hasher};
+
+/// A URI (RTD URI 1.0; RFC 3986 says what one is), as one whole text in UTF-8, its prefix written out.
+#[derive(Clone, Debug)]
+pub struct Uri {
+    text: String,
+}
+
+/// The URI for which a payload of a URI record stands, or `NoMemory`. The payload is not checked again.
+pub fn read_uri(alloc: Global, payload: &[u8], profile: Profile) -> Result<Uri, NoMemory> {
+    // What is after the code of a URI is UTF-8.
+    let rest = core::str::from_utf8(&payload[1..]).unwrap();
+    let mut text = String::from_str(alloc, prefix(payload[0]))?;
+    text.push_str(rest)?;
+    Ok(Uri { text })
+}
+
+impl Uri {
+    /// A URI of a copy of the text, or `NoMemory`. What the text means isn't looked at.
+    pub fn new(alloc: Global, text: &str) -> Result<Uri, NoMemory> {
+        Ok(Uri { text: String::from_str(alloc, text)? })
+    }
+
+    /// The URI for which the payload of a URI record stands, as a strict reader takes it: the prefix of
+    /// the code and the rest. `Refused` where the payload isn't in the set of its type or is longer than
+    /// a payload may be, else `NoMemory`.
+    pub fn decode(alloc: Global, payload: &[u8]) -> Result<Uri, DecodeError> {
+        Uri::decode_as(alloc, payload, Profile::Strict)
+    }
+
+    /// The URI for which the payload of a URI record stands, as a reader of the profile takes it: under
+    /// `Standard` a reserved code is read as 0, which stands for no prefix. Refusals as for `decode`.
+    pub fn decode_as(alloc: Global, payload: &[u8], profile: Profile) -> Result<Uri, DecodeError> {
+        accept::<Leaf>(Kind::Uri, profile, payload)?;
+        Ok(read_uri(alloc, payload, profile)?)
+    }
+
+    /// The payload of a URI record: the code of the longest prefix that begins the URI, and the rest.
+    /// `TooLong` comes before `NoMemory`.
+    pub fn encode(&self, alloc: Global) -> Result<Bytes, EncodeError> {
+        let (code, rest) = split(&self.text);
+        if rest.len() >= MOST {
+            return Err(EncodeError::TooLong);
+        }
+        let mut payload = Bytes::new(alloc);
+        payload.extend(&[code])?;
+        payload.extend(rest)?;
+        Ok(payload)
+    }
+
+    /// The whole URI.
+    pub fn text(&self) -> &str {
+        self.text.as_str()
+    }
+}
+
+impl PartialEq for Uri {
+    fn eq(&self, other: &Uri) -> bool {
+        self.text == other.text
+    }
+}
+
+impl Eq for Uri {}
+
+impl Hash for Uri {
+    fn hash<H: Hasher>(&self, state: &mut H) {
+        self.text.hash(state);
+    }
+}
