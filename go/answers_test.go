@@ -69,7 +69,7 @@ func recordsText(message *Message, options Options) string {
 			}
 		}
 	}
-	written, err := message.Encode()
+	written, err := message.EncodeAs(Form{Options: options})
 	if err != nil {
 		return err.Error()
 	}

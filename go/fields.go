@@ -52,7 +52,7 @@ func (message *Message) Links(handover int) ([]Link, error) {
 	if handover < 0 || handover >= len(message.Records) || !message.Records[handover].Kind().isHandover() {
 		return nil, ErrPlace
 	}
-	bytes, err := message.Encode()
+	bytes, err := message.EncodeAs(Form{Unchecked: true})
 	if err != nil {
 		return nil, err
 	}

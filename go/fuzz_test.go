@@ -27,7 +27,7 @@ func FuzzParse(f *testing.F) {
 		if end != length {
 			t.Fatalf("the fields end at %d, and the message at %d", end, length)
 		}
-		encoded, err := message.Encode()
+		encoded, err := message.EncodeAs(Form{Options: options})
 		if err != nil || len(encoded) > length {
 			t.Fatalf("%d bytes are written of %d: %v", len(encoded), length, err)
 		}

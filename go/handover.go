@@ -14,6 +14,11 @@ const (
 	UnknownPower Power = 3
 )
 
+// String returns the power state in a word, such as "active", or "Power(4)" where it has none.
+func (power Power) String() string {
+	return named("Power", int(power), "inactive", "active", "activating", "unknown")
+}
+
 // AlternativeCarrier is an alternative carrier of a handover: how it is powered, and the ids of the records that
 // describe it.
 type AlternativeCarrier struct {

@@ -20,6 +20,12 @@ const (
 	kindError       Kind = C.NDEF_KIND_ERROR
 )
 
+// String returns what the payload is in words, such as "smart poster", or "Kind(99)" where there is no such kind.
+func (kind Kind) String() string {
+	return named("Kind", int(kind), "other", "text", "URI", "smart poster", "handover request", "handover select", "handover carrier",
+		"action", "size", "media type", "alternative carrier", "collision resolution", "error")
+}
+
 func (kind Kind) isHandover() bool { return kind == KindRequest || kind == KindSelect }
 
 // Kind returns what the payload of a record of a message is.

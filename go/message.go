@@ -8,7 +8,10 @@ package ndef
 // #include "ndef.h"
 import "C"
 
-import "fmt"
+import (
+	"fmt"
+	"sync"
+)
 
 // TNF is a type name format (NDEF 1.0, 3.2.6).
 type TNF uint8
@@ -22,6 +25,19 @@ const (
 	External    TNF = C.NDEF_TNF_EXTERNAL
 	Unknown     TNF = C.NDEF_TNF_UNKNOWN
 )
+
+// String returns the name of the type name format, such as "well-known", or "TNF(6)" where it has none.
+func (tnf TNF) String() string {
+	return named("TNF", int(tnf), "empty", "well-known", "media", "absolute URI", "external", "unknown")
+}
+
+// named returns the name of a number of a type, or the type and the number where it has none.
+func named(kind string, number int, names ...string) string {
+	if number < len(names) {
+		return names[number]
+	}
+	return fmt.Sprintf("%s(%d)", kind, number)
+}
 
 // Record is a record of a message, its chunks joined. Type and ID hold bytes, whether they are UTF-8 or not.
 type Record struct {
@@ -38,8 +54,8 @@ type Message struct {
 
 // Limits are the most that is read. Longer messages are refused.
 type Limits struct {
-	Payload uint32 // bytes of payload of one record, at most 4294967294
-	Records uint32 // records of the message, 1 to 4294967295
+	Payload uint32 // bytes of payload of one record, 1 to 4294967295
+	Records uint32 // records of the message, 1 to 65535
 	Pieces  uint32 // chunks of one record, 1 to 65535
 }
 
@@ -57,11 +73,12 @@ type Options struct {
 	Opaque   bool    // don't look into payloads
 }
 
+var usual = UsualLimits()
+
 // limits are the options as ndef.h has them.
 func (options Options) limits() C.ndef_limits {
 	chosen := options.Limits
 	if chosen == nil {
-		usual := UsualLimits()
 		chosen = &usual
 	}
 	return C.ndef_limits{payload: C.uint32_t(chosen.Payload), records: C.uint32_t(chosen.Records),
@@ -96,16 +113,25 @@ func (options Options) ParsePrefix(bytes []byte) (*Message, int, error) {
 	return &Message{Records: recordsOf(append([]byte(nil), bytes[:length]...))}, length, nil
 }
 
+// A desk is what a check is given and what it finds. A call of C makes what it is given escape, so desks are kept.
+type desk struct {
+	limits C.ndef_limits
+	found  C.ndef_checked
+}
+
+var desks = sync.Pool{New: func() any { return new(desk) }}
+
 // Check returns the length of the message that the bytes begin with, and the number of its records. It allocates
 // nothing where they do. The error is a *Refusal or ErrLimits.
 func (options Options) Check(bytes []byte) (length, records int, err error) {
-	var found C.ndef_checked
-	limits := options.limits()
-	switch C.ndef_check(first(bytes), size(bytes), &limits, &found) {
+	desk := desks.Get().(*desk)
+	defer desks.Put(desk)
+	desk.limits = options.limits()
+	switch C.ndef_check(first(bytes), size(bytes), &desk.limits, &desk.found) {
 	case C.NDEF_OK:
-		return int(found.place), int(found.records), nil
+		return int(desk.found.place), int(desk.found.records), nil
 	case C.NDEF_REFUSED:
-		return 0, 0, refused(&found)
+		return 0, 0, refused(&desk.found)
 	default:
 		return 0, 0, ErrLimits
 	}
@@ -131,39 +157,4 @@ func payloadOf(message []byte, parts *C.ndef_record) []byte {
 		return C.ndef_payload(first(message), size(message), parts.at, room, most, count)
 	})
 	return payload
-}
-
-// Form says how records are written. The zero value writes the shortest spelling.
-type Form struct {
-	Long  bool   // write payload lengths in four bytes even where one would do
-	Chunk uint32 // the bytes of payload of each chunk but the last; 0 to write each record in one piece
-}
-
-// Encode writes the message in its shortest spelling.
-func (message *Message) Encode() ([]byte, error) { return message.EncodeAs(Form{}) }
-
-// EncodeAs writes the message in a form. The error says which record can't be written, and why.
-func (message *Message) EncodeAs(form Form) ([]byte, error) {
-	if len(message.Records) == 0 {
-		return nil, unwritable("a message", "it has no record")
-	}
-	var bytes []byte
-	for index, record := range message.Records {
-		how := C.ndef_writing{tnf: C.uint32_t(record.TNF), chunk: C.uint32_t(form.Chunk), flags: flag(form.Long)*C.NDEF_WRITE_LONG |
-			flag(index == 0)*C.NDEF_WRITE_FIRST | flag(index == len(message.Records)-1)*C.NDEF_WRITE_LAST}
-		var status C.uint32_t
-		if bytes, status = record.appendTo(bytes, &how); status != C.NDEF_OK {
-			return nil, unwritable(fmt.Sprintf("record %d", index), "its type doesn't fit its type name format, or a part is too long")
-		}
-	}
-	return bytes, nil
-}
-
-// appendTo appends the record to bytes.
-func (record *Record) appendTo(bytes []byte, how *C.ndef_writing) ([]byte, C.uint32_t) {
-	name, id := []byte(record.Type), []byte(record.ID)
-	return filled(bytes, func(room *C.uint8_t, most C.ndef_size, count *C.ndef_size) C.uint32_t {
-		return C.ndef_write_record(first(name), size(name), first(id), size(id), first(record.Payload), size(record.Payload),
-			how, room, most, count)
-	})
 }

@@ -9,25 +9,36 @@ import (
 	"io"
 )
 
-// Checker checks a message that arrives in parts. It holds none of its bytes.
+// Checker checks a message that arrives in parts. Of its bytes it holds those of one type at most, while that arrives in
+// parts. The zero value is that of NewChecker with the zero Options.
 type Checker struct {
-	state C.ndef_checker
-	fed   C.ndef_checked
+	state    C.ndef_checker
+	fed      C.ndef_checked
+	hasBegun bool
 }
 
 // NewChecker begins a check. The error is ErrLimits.
 func NewChecker(options Options) (*Checker, error) {
 	checker := new(Checker)
-	limits := options.limits()
-	if C.ndef_begin(&limits, &checker.state) != C.NDEF_OK {
+	if !checker.begin(options) {
 		return nil, ErrLimits
 	}
 	return checker, nil
 }
 
+// begin begins the check, and returns whether the limits are in range.
+func (checker *Checker) begin(options Options) bool {
+	limits := options.limits()
+	checker.hasBegun = true
+	return C.ndef_begin(&limits, &checker.state) == C.NDEF_OK
+}
+
 // Feed checks the next bytes, of which there may be none. It returns whether the bytes fed so far hold a whole message,
 // whose length Place returns. The error is a *Refusal. After either, every later call returns the same.
 func (checker *Checker) Feed(bytes []byte) (whole bool, err error) {
+	if !checker.hasBegun {
+		checker.begin(Options{})
+	}
 	switch C.ndef_feed(&checker.state, first(bytes), size(bytes), &checker.fed) {
 	case C.NDEF_OK:
 		return true, nil
@@ -41,7 +52,7 @@ func (checker *Checker) Feed(bytes []byte) (whole bool, err error) {
 // Place returns the length of the whole message, the place of the refused byte, or else the number of bytes fed.
 func (checker *Checker) Place() int { return int(checker.fed.place) }
 
-// Reader reads messages that follow one another in a source.
+// Reader reads messages that follow one another in a source. The zero value has no source: its Next returns io.EOF.
 type Reader struct {
 	source  *bufio.Reader
 	options Options
@@ -62,6 +73,9 @@ func NewReader(source io.Reader, options Options) *Reader {
 // the source ends within a message, the error is a *Refusal whose place counts from the first byte of the message; the
 // bytes before the refused one are consumed.
 func (reader *Reader) Next() (*Message, error) {
+	if reader.source == nil {
+		return nil, io.EOF
+	}
 	checker, err := NewChecker(reader.options)
 	if err != nil {
 		return nil, err

@@ -6,13 +6,43 @@ import "C"
 import (
 	"errors"
 	"fmt"
+	"io"
 )
 
 // Reason says why bytes are refused: an ndef_reason of ndef.h. docs/FORMAT.md has a rule for each.
 type Reason uint32
 
-// EndOfInput is the reason where the input ends within a message.
-const EndOfInput Reason = C.NDEF_REASON_END_OF_INPUT
+// The reasons. The method Sentence says what each means.
+const (
+	ReasonReservedTNF      Reason = C.NDEF_REASON_RESERVED_TNF
+	ReasonBeginMissing     Reason = C.NDEF_REASON_BEGIN_MISSING
+	ReasonBeginAgain       Reason = C.NDEF_REASON_BEGIN_AGAIN
+	ReasonUnchangedOutside Reason = C.NDEF_REASON_UNCHANGED_OUTSIDE
+	ReasonChangedInside    Reason = C.NDEF_REASON_CHANGED_INSIDE
+	ReasonIDInside         Reason = C.NDEF_REASON_ID_INSIDE
+	ReasonChunkAtEnd       Reason = C.NDEF_REASON_CHUNK_AT_END
+	ReasonChunkOfEmpty     Reason = C.NDEF_REASON_CHUNK_OF_EMPTY
+	ReasonTooManyPieces    Reason = C.NDEF_REASON_TOO_MANY_PIECES
+	ReasonTooManyRecords   Reason = C.NDEF_REASON_TOO_MANY_RECORDS
+	ReasonTypeNotEmpty     Reason = C.NDEF_REASON_TYPE_NOT_EMPTY
+	ReasonTypeEmpty        Reason = C.NDEF_REASON_TYPE_EMPTY
+	ReasonEmptyNotEmpty    Reason = C.NDEF_REASON_EMPTY_NOT_EMPTY
+	ReasonPayloadTooLarge  Reason = C.NDEF_REASON_PAYLOAD_TOO_LARGE
+	ReasonTextBit          Reason = C.NDEF_REASON_TEXT_BIT
+	ReasonLanguage         Reason = C.NDEF_REASON_LANGUAGE
+	ReasonUTF8             Reason = C.NDEF_REASON_UTF8
+	ReasonUTF16            Reason = C.NDEF_REASON_UTF16
+	ReasonURICode          Reason = C.NDEF_REASON_URI_CODE
+	ReasonURIMissing       Reason = C.NDEF_REASON_URI_MISSING
+	ReasonURIAgain         Reason = C.NDEF_REASON_URI_AGAIN
+	ReasonVersion          Reason = C.NDEF_REASON_VERSION
+	ReasonDoesNotFit       Reason = C.NDEF_REASON_DOES_NOT_FIT
+	ReasonEndOfInput       Reason = C.NDEF_REASON_END_OF_INPUT
+	ReasonCollisionMissing Reason = C.NDEF_REASON_COLLISION_MISSING
+)
+
+// EndOfInput is ReasonEndOfInput: the input ends within a message.
+const EndOfInput = ReasonEndOfInput
 
 // String returns the name of the reason, such as "TextBit".
 func (reason Reason) String() string { return C.GoString(C.ndef_reason_text(C.uint32_t(reason))) }
@@ -29,6 +59,11 @@ type Refusal struct {
 
 func (refusal *Refusal) Error() string {
 	return fmt.Sprintf("ndef: refused at byte %d: %s: %s", refusal.Place, refusal.Reason, refusal.Reason.Sentence())
+}
+
+// Is says that a refusal where the input ends within a message is io.ErrUnexpectedEOF.
+func (refusal *Refusal) Is(target error) bool {
+	return target == io.ErrUnexpectedEOF && refusal.Reason == ReasonEndOfInput
 }
 
 // Trailing is the error of Parse where other bytes follow the message.

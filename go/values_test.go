@@ -26,6 +26,7 @@ func values() []Value {
 		&SmartPoster{URI: "tel:+1", Titles: []Text{{Language: "en", Text: "Call"}, {Language: "de", Text: "Anruf", UTF16: true}},
 			Action: pointerTo(Save), Size: pointerTo(uint32(258)), MediaType: pointerTo("text/html"),
 			Icons: []Icon{{MediaType: "image/png", Data: []byte{1, 2}}, {MediaType: "image/gif", Data: []byte{3}}}},
+		&SmartPoster{Action: pointerTo(Do), Size: pointerTo(uint32(0)), MediaType: pointerTo("")},
 		&HandoverRequest{Minor: 2, Collision: 0x1234, Carriers: carriers},
 		&HandoverSelect{Minor: 15, Carriers: carriers, Error: &HandoverError{Reason: 2, Data: []byte{0, 0, 1, 2}, Number: pointerTo(uint32(258))}},
 		&HandoverCarrier{Format: 1, Type: "a/b", Data: []byte{5, 6}},
@@ -78,13 +79,21 @@ func TestNothingIsShared(t *testing.T) {
 	if value, err := message.Records[0].Value(); err != nil || value != (Text{Language: "en", Text: "Hello"}) {
 		t.Errorf("%v, %v", value, err)
 	}
-	two := append(append([]byte{}, 0x91, 1, 1, 'x', 'a'), 0x51, 1, 1, 'y', 'b')
+	long := strings.Repeat("b", 20)
+	two := append([]byte{0x91, 1, 1, 'x', 'a', 0x51, 1, 20, 'y'}, long...)
 	if message, err = Parse(two); err != nil {
 		t.Fatal(err)
 	}
-	_ = append(message.Records[0].Payload, 0)
-	if message.Records[1].TNF != WellKnown || string(message.Records[1].Payload) != "b" {
-		t.Errorf("%v", message.Records[1])
+	_ = append(message.Records[0].Payload, make([]byte, 10)...)
+	if string(message.Records[1].Payload) != long {
+		t.Errorf("what is appended to a payload is in the next one: %q", message.Records[1].Payload)
+	}
+}
+
+// TestNumbers holds the constants to the numbers of Connection Handover 1.2 and RTD Smart Poster 1.0.
+func TestNumbers(t *testing.T) {
+	if Inactive != 0 || Active != 1 || Activating != 2 || UnknownPower != 3 || Do != 0 || Save != 1 || Open != 2 {
+		t.Error("a power state or an action has another number")
 	}
 }
 
@@ -111,7 +120,7 @@ func TestErrors(t *testing.T) {
 		t.Error("a message without records is written")
 	}
 	for _, value := range []Value{Text{Language: "é"}, Text{Text: "\xff"}, URI("\xff"), &SmartPoster{URI: "\xff"},
-		&HandoverRequest{Minor: 16}, &HandoverSelect{Error: &HandoverError{Reason: 1}}, &HandoverCarrier{Format: 8},
+		&HandoverRequest{Minor: 16}, &HandoverSelect{Minor: 16}, &HandoverSelect{Error: &HandoverError{Reason: 1}}, &HandoverCarrier{Format: 8},
 		&HandoverSelect{Carriers: []AlternativeCarrier{{Power: 4}}}} {
 		if record, err := value.Record(); err == nil {
 			t.Errorf("%+v is written as %+v", value, record)
@@ -235,7 +244,7 @@ func grows(t *testing.T, run func(options Options, message *Message) error) {
 
 func TestGrowth(t *testing.T) {
 	grows(t, func(options Options, message *Message) error {
-		encoded, err := message.Encode()
+		encoded, err := message.EncodeAs(Form{Options: options})
 		if err != nil {
 			return err
 		}
@@ -253,7 +262,7 @@ func TestGrowth(t *testing.T) {
 // The messages lack their last byte, or follow one byte of what surrounds a message on a tag.
 func TestGrowthOfSentences(t *testing.T) {
 	grows(t, func(options Options, message *Message) error {
-		encoded, err := message.Encode()
+		encoded, err := message.EncodeAs(Form{Options: options})
 		if err != nil {
 			return err
 		}

@@ -16,6 +16,16 @@
 #include <variant>
 #include <vector>
 
+/// Clang warns where what is made of an argument outlives it.
+#if defined(__has_cpp_attribute)
+#if __has_cpp_attribute(clang::lifetimebound)
+#define NDEF_LIFETIMEBOUND [[clang::lifetimebound]]
+#endif
+#endif
+#ifndef NDEF_LIFETIMEBOUND
+#define NDEF_LIFETIMEBOUND
+#endif
+
 namespace ndef {
 
 // ---- answers
@@ -50,18 +60,26 @@ constexpr std::string_view sentence(reason value) noexcept {
     return "";
 }
 
+/// Which argument of a call that writes a message is wrong: the limits, that there are no records, or of a record its type
+/// name format, its type, its id, its payload or several of them.
+enum class argument { unknown, limits, records, format, type, id, payload, several };
+
 /// Why there is no value.
 struct error {
     status what = NDEF_BAD_ARGUMENT; ///< never NDEF_OK
     reason why = {};                 ///< with NDEF_REFUSED, the reason; else 0
     std::uint64_t place = 0;         ///< with NDEF_REFUSED, the place of the first refused byte; else 0
     ndef_size needed = 0;            ///< with NDEF_NO_ROOM, the size that the room must have; else 0
+    /// Where a record isn't written, its index in the message, from 0; `place` counts from its first byte then.
+    std::optional<std::size_t> record{};
+    argument which = argument::unknown; ///< with NDEF_BAD_ARGUMENT of a call that writes a message, which argument
 
     /// With NDEF_REFUSED, what the reason means, in a sentence; else "". ndef::why says what was wanted, of the bytes.
     constexpr std::string_view sentence() const noexcept { return ndef::sentence(why); }
 };
 
-/// A value, or the error that says why there is none. It is used as std::expected of C++23 is.
+/// A value, or the error that says why there is none. It is used as std::expected of C++23 is, but `->` isn't there for a
+/// temporary whose value owns memory: what is seen by it would be gone.
 template <class T> class [[nodiscard]] result {
 public:
     using value_type = T;
@@ -72,11 +90,17 @@ public:
     constexpr explicit operator bool() const noexcept { return has_value(); }
 
     /// The value. There must be one: ask first.
-    constexpr const T &operator*() const noexcept { return *value_pointer(); }
-    constexpr T &operator*() noexcept { return *const_cast<T *>(value_pointer()); }
-    constexpr const T *operator->() const noexcept { return value_pointer(); }
-    constexpr T *operator->() noexcept { return const_cast<T *>(value_pointer()); }
-    constexpr T value_or(T other) const { return has_value() ? **this : std::move(other); }
+    constexpr const T &operator*() const & noexcept { return *value_pointer(); }
+    constexpr T &operator*() & noexcept { return *const_cast<T *>(value_pointer()); }
+    constexpr T &&operator*() && noexcept { return std::move(*const_cast<T *>(value_pointer())); }
+    constexpr const T *operator->() const & noexcept { return value_pointer(); }
+    constexpr T *operator->() & noexcept { return const_cast<T *>(value_pointer()); }
+    constexpr const T *operator->() const && noexcept {
+        static_assert(std::is_trivially_copyable_v<T>, "keep the result as long as what is seen by it");
+        return value_pointer();
+    }
+    constexpr T value_or(T other) const & { return has_value() ? **this : std::move(other); }
+    constexpr T value_or(T other) && { return has_value() ? *std::move(*this) : std::move(other); }
 
     /// The error. There must be one: ask first.
     constexpr const ndef::error &error() const noexcept {
@@ -85,15 +109,31 @@ public:
     }
 
     /// What a function makes of the value, which is a result; or the error.
-    template <class F> constexpr auto and_then(F &&next) const -> std::invoke_result_t<F, const T &> {
+    template <class F> constexpr auto and_then(F &&next) const & -> std::invoke_result_t<F, const T &> {
         if (has_value()) return std::forward<F>(next)(**this);
+        return error();
+    }
+    template <class F> constexpr auto and_then(F &&next) && -> std::invoke_result_t<F, T &&> {
+        if (has_value()) return std::forward<F>(next)(*std::move(*this));
         return error();
     }
 
     /// What a function makes of the value, as a result; or the error.
-    template <class F> constexpr auto transform(F &&next) const -> result<std::invoke_result_t<F, const T &>> {
+    template <class F> constexpr auto transform(F &&next) const & -> result<std::invoke_result_t<F, const T &>> {
         if (has_value()) return std::forward<F>(next)(**this);
         return error();
+    }
+    template <class F> constexpr auto transform(F &&next) && -> result<std::invoke_result_t<F, T &&>> {
+        if (has_value()) return std::forward<F>(next)(*std::move(*this));
+        return error();
+    }
+
+    /// The value; or what a function makes of the error, which is a result of the same type.
+    template <class F> constexpr result or_else(F &&next) const & {
+        return has_value() ? *this : std::forward<F>(next)(error());
+    }
+    template <class F> constexpr result or_else(F &&next) && {
+        return has_value() ? std::move(*this) : std::forward<F>(next)(error());
     }
 
 private:
@@ -112,6 +152,17 @@ namespace detail {
 template <class T, class = std::enable_if_t<sizeof(T) == 1 && std::is_trivial_v<T>>> auto octets(T *data) noexcept {
     return reinterpret_cast<std::conditional_t<std::is_const_v<T>, const std::uint8_t *, std::uint8_t *>>(data);
 }
+
+/// Whether a type gives bytes that live in it, as a container does and a view doesn't: one that is const gives others.
+template <class T> using data_of = decltype(std::data(std::declval<T &>()));
+template <class T, class = void> inline constexpr bool owns = false;
+template <class T>
+inline constexpr bool owns<T, std::void_t<decltype(octets(std::declval<data_of<T>>()))>> =
+    !std::is_array_v<T> && !std::is_same_v<data_of<T>, data_of<const T>>;
+template <class T, std::size_t Count> inline constexpr bool owns<T[Count], void> = !std::is_same_v<T, char>;
+template <class T> using if_owner = std::enable_if_t<owns<std::remove_cv_t<std::remove_reference_t<T>>>>;
+template <class T> using if_view =
+    std::enable_if_t<!owns<T>, decltype(octets(std::data(std::declval<const T &>())))>;
 } // namespace detail
 
 /// A view of bytes: of a std::vector, std::array, std::span, std::string or array of std::uint8_t, std::byte or char.
@@ -119,8 +170,10 @@ class bytes {
 public:
     constexpr bytes() noexcept = default;
     constexpr bytes(const std::uint8_t *data, std::size_t size) noexcept : first(data), length(size) {}
-    template <class Container, class = decltype(detail::octets(std::data(std::declval<const Container &>())))>
-    bytes(const Container &of) noexcept : first(detail::octets(std::data(of))), length(std::size(of)) {}
+    template <class View, class = detail::if_view<View>>
+    bytes(const View &of) noexcept : first(detail::octets(std::data(of))), length(std::size(of)) {}
+    template <class Owner, class = detail::if_owner<Owner>, class = void>
+    bytes(Owner &&of NDEF_LIFETIMEBOUND) noexcept : first(detail::octets(std::data(of))), length(std::size(of)) {}
     /// It isn't clear whether the NUL of a literal counts: give a std::string_view.
     template <std::size_t Count> bytes(const char (&)[Count]) = delete;
 
@@ -153,6 +206,17 @@ public:
 private:
     const std::uint8_t *first = nullptr;
     std::size_t length = 0;
+};
+
+/// Bytes that a view is made of. They have to outlive it, so a temporary that owns them isn't taken.
+class kept : public bytes {
+public:
+    using bytes::bytes;
+    constexpr kept(bytes of) noexcept : bytes(of) {}
+    template <class Owner, class = detail::if_owner<Owner>, class = void>
+    kept(Owner &of NDEF_LIFETIMEBOUND) noexcept : bytes(of) {}
+    template <class Owner, class = detail::if_owner<Owner>, class = std::enable_if_t<!std::is_reference_v<Owner>>>
+    kept(Owner &&) = delete;
 };
 
 /// Memory of the caller to which calls write, one after the other. A call that succeeds takes what it wrote from the

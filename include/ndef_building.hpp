@@ -169,24 +169,24 @@ public:
 
     /// A copy of the message with which the bytes begin, as message::check finds it.
     static result<owned_message> check(bytes input, const ndef_limits &within = limits()) {
-        const auto found = message::check(input, within);
-        if (!found) return found.error();
-        return owned_message(*found);
+        return message::check(input, within).transform([](const message &found) { return owned_message(found); });
     }
     /// The message of some records, as write_message writes it.
-    template <class Records> static result<owned_message> write(const Records &records) {
-        auto made = detail::in_memory([&](room &to) { return octets_of(write_message(to, records)); });
-        if (!made) return made.error();
-        return owned_message(std::move(*made));
+    template <class Records> static result<owned_message> write(const Records &records, const checking &how = {}) {
+        auto made = detail::in_memory([&](room &to) { return octets_of(write_message(to, records, how)); });
+        return std::move(made).transform([](std::vector<std::uint8_t> &&all) { return owned_message(std::move(all)); });
     }
-    static result<owned_message> write(std::initializer_list<new_record> records) {
-        return write<std::initializer_list<new_record>>(records);
+    static result<owned_message> write(std::initializer_list<new_record> records, const checking &how = {}) {
+        return write<std::initializer_list<new_record>>(records, how);
     }
 
-    /// A view of the message, valid as long as this one lives and stays as it is.
-    message view() const noexcept { return message::unchecked(held); }
-    bytes octets() const noexcept { return held; }
-    iterator begin() const noexcept { return view().begin(); }
+    /// A view of the message, valid as long as this one lives and stays as it is: so there is none of a temporary.
+    message view() const & noexcept NDEF_LIFETIMEBOUND { return message::unchecked(held); }
+    bytes octets() const & noexcept NDEF_LIFETIMEBOUND { return held; }
+    iterator begin() const & noexcept NDEF_LIFETIMEBOUND { return view().begin(); }
+    message view() && = delete;
+    bytes octets() && = delete;
+    iterator begin() && = delete;
     iterator end() const noexcept { return {}; }
     friend bool operator==(const owned_message &left, const owned_message &right) noexcept {
         return left.held == right.held;
@@ -261,12 +261,21 @@ private:
 
 // ---- printing
 
-/// Prints an error: "refused at 4: 15 TextBit" as the commands do, or the name of the status.
+/// The name of an argument, as "id"; "" for one that isn't known.
+constexpr std::string_view to_string(argument value) noexcept {
+    constexpr std::string_view names[] = {"", "limits", "records", "format", "type", "id", "payload", "several"};
+    return names[static_cast<std::size_t>(value)];
+}
+
+/// Prints an error: "refused at 4: 15 TextBit" as the commands do, or the name of the status; of a record that isn't written
+/// "record 1: refused at 4: 19 UriCode" or "record 0: BadArgument: id".
 inline std::string to_string(const error &why) {
-    if (why.what != NDEF_REFUSED) return std::string(to_string(why.what));
-    const auto number = static_cast<std::uint32_t>(why.why);
-    return "refused at " + std::to_string(why.place) + ": " + std::to_string(number) + " " +
-        std::string(to_string(why.why));
+    std::string text = why.record ? "record " + std::to_string(*why.record) + ": " : std::string();
+    if (why.what == NDEF_REFUSED)
+        return text + "refused at " + std::to_string(why.place) + ": " + std::to_string(static_cast<std::uint32_t>(why.why)) +
+            " " + std::string(to_string(why.why));
+    text += to_string(why.what);
+    return why.which == argument::unknown ? text : text + ": " + std::string(to_string(why.which));
 }
 inline std::ostream &operator<<(std::ostream &to, const error &why) { return to << to_string(why); }
 

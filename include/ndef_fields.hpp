@@ -66,7 +66,7 @@ public:
     fields() noexcept = default;
 
     /// The fields, in memory that they own.
-    explicit fields(bytes of, const ndef_limits &within = limits()) {
+    explicit fields(kept of NDEF_LIFETIMEBOUND, const ndef_limits &within = limits()) {
         ndef_size count = 0;
         if (tell(nullptr, 0, of, within, &count) != NDEF_NO_ROOM) return;
         own.resize(static_cast<std::size_t>(count));
@@ -75,19 +75,21 @@ public:
 
     /// The same in an array of the caller. NDEF_NO_ROOM says how many elements it must have; NDEF_BAD_ARGUMENT: a limit is
     /// out of range, or NDEF_OPAQUE or an unknown flag is set.
-    static result<fields> in(ndef_field *array, std::size_t size, bytes of, const ndef_limits &within = limits()) {
+    static result<fields> in(ndef_field *array, std::size_t size, kept of, const ndef_limits &within = limits()) {
         fields found;
         ndef_size count = 0;
         const std::uint32_t answer = found.tell(array, size, of, within, &count);
         if (answer != NDEF_OK && answer != NDEF_REFUSED) return detail::failure(answer, {}, count);
         found.told.first = array;
+        found.told.count = static_cast<std::size_t>(count);
         return found;
     }
 
-    /// Iterators are valid as long as these fields and the array exist.
-    iterator begin() const noexcept { return iterator(range()); }
+    /// Iterators are valid as long as these fields and the array exist. A copy has memory of its own, or the same array.
+    iterator begin() const & noexcept NDEF_LIFETIMEBOUND { return iterator(range()); }
+    iterator begin() && = delete;
     iterator end() const noexcept { return {}; }
-    std::size_t size() const noexcept { return told.count; }
+    std::size_t size() const noexcept { return range().count; }
 
     /// Why no field follows the last one: NDEF_END after a message, NDEF_REFUSED with the place and the reason, or
     /// NDEF_BAD_ARGUMENT.
@@ -106,18 +108,13 @@ private:
     std::uint32_t tell(ndef_field *array, std::size_t size, bytes of, const ndef_limits &within, ndef_size *count) noexcept {
         ndef_checked why = {};
         const std::uint32_t answer = ndef_fields(of.data(), of.size(), &within, array, size, count, &why);
-        const bool is_told = answer == NDEF_OK || answer == NDEF_REFUSED;
-        told = {of, nullptr, is_told ? static_cast<std::size_t>(*count) : 0};
+        told = {of, nullptr, 0};
         end_of = detail::failure(answer == NDEF_OK ? static_cast<std::uint32_t>(NDEF_END) : answer, why);
         return answer;
     }
 
     /// The fields where they lie now: those in memory that it owns move with it.
-    told_fields range() const noexcept {
-        told_fields all = told;
-        if (!all.first) all.first = own.data();
-        return all;
-    }
+    told_fields range() const noexcept { return told.first ? told : told_fields{told.whole, own.data(), own.size()}; }
 
     told_fields told;
     std::vector<ndef_field> own;

@@ -28,7 +28,7 @@ public:
     record() noexcept = default;
 
     /// The record that begins at a place of some bytes, as ndef_record_at gives it.
-    static result<record> at(bytes message, ndef_size place) noexcept {
+    static result<record> at(kept message NDEF_LIFETIMEBOUND, ndef_size place) noexcept {
         return told_by(ndef_record_at, message, place);
     }
 
@@ -110,7 +110,7 @@ public:
     message() noexcept = default;
 
     /// The message with which the bytes begin. Other bytes may follow: `octets().size()` says where it ends.
-    static result<message> check(bytes input, const ndef_limits &within = limits()) noexcept {
+    static result<message> check(kept input NDEF_LIFETIMEBOUND, const ndef_limits &within = limits()) noexcept {
         ndef_checked checked = {};
         const std::uint32_t answer = ndef_check(input.data(), input.size(), &within, &checked);
         if (answer != NDEF_OK) return detail::failure(answer, checked);
@@ -119,7 +119,7 @@ public:
 
     /// The records with which the bytes begin, unchecked: they go on until one is the last, or no whole record follows.
     /// Use it for bytes that a checker has taken. It is safe for any bytes.
-    static message unchecked(bytes input) noexcept { return message(input); }
+    static message unchecked(kept input NDEF_LIFETIMEBOUND) noexcept { return message(input); }
 
     bytes octets() const noexcept { return whole; }
     iterator begin() const noexcept { return iterator(*this); }
@@ -194,7 +194,7 @@ inline std::optional<std::string> record_remark(bytes of, ndef_size index) {
 
 // ---- bytes that arrive in parts
 
-/// Checks a message that arrives in parts. It holds none of its bytes.
+/// Checks a message that arrives in parts. Of its bytes it holds those of one type at most.
 class checker {
 public:
     /// What is known once the message has ended.

@@ -15,7 +15,7 @@ namespace ndef {
 class text : public detail::payload_view<ndef_text_parts> {
 public:
     static constexpr std::string_view type_name = "T";
-    static result<text> read(bytes payload, profile = profile::strict) noexcept {
+    static result<text> read(kept payload NDEF_LIFETIMEBOUND, profile = profile::strict) noexcept {
         return read_by<text>(payload, ndef_text);
     }
 
@@ -48,7 +48,7 @@ private:
 class uri : public detail::payload_view<ndef_uri_parts> {
 public:
     static constexpr std::string_view type_name = "U";
-    static result<uri> read(bytes payload, profile how = profile::strict) noexcept {
+    static result<uri> read(kept payload NDEF_LIFETIMEBOUND, profile how = profile::strict) noexcept {
         auto found = read_by<uri>(payload, ndef_uri_view, static_cast<std::uint32_t>(how));
         if (found) found->reading = how;
         return found;
@@ -133,7 +133,7 @@ enum class action : std::uint32_t { do_it = 0, save = 1, open = 2 };
 class poster : public detail::payload_view<ndef_poster_parts> {
 public:
     static constexpr std::string_view type_name = "Sp";
-    static result<poster> read(bytes payload, profile how = profile::strict) noexcept {
+    static result<poster> read(kept payload NDEF_LIFETIMEBOUND, profile how = profile::strict) noexcept {
         auto found = read_by<poster>(payload, ndef_poster, static_cast<std::uint32_t>(how));
         if (found) found->reading = how;
         return found;
@@ -187,7 +187,7 @@ private:
 class carrier : public detail::payload_view<ndef_carrier_parts> {
 public:
     static constexpr std::string_view type_name = "Hc";
-    static result<carrier> read(bytes payload, profile = profile::strict) noexcept {
+    static result<carrier> read(kept payload NDEF_LIFETIMEBOUND, profile = profile::strict) noexcept {
         return read_by<carrier>(payload, ndef_carrier);
     }
 
@@ -204,7 +204,7 @@ enum class power : std::uint32_t { inactive = 0, active = 1, activating = 2, unk
 class alternative : public detail::payload_view<ndef_alternative_parts> {
 public:
     static constexpr std::string_view type_name = "ac";
-    static result<alternative> read(bytes payload, profile = profile::strict) noexcept {
+    static result<alternative> read(kept payload NDEF_LIFETIMEBOUND, profile = profile::strict) noexcept {
         return read_by<alternative>(payload, ndef_alternative);
     }
 
@@ -234,7 +234,7 @@ public:
 class handover_error : public detail::payload_view<ndef_error_parts> {
 public:
     static constexpr std::string_view type_name = "err";
-    static result<handover_error> read(bytes payload, profile = profile::strict) noexcept {
+    static result<handover_error> read(kept payload NDEF_LIFETIMEBOUND, profile = profile::strict) noexcept {
         return read_by<handover_error>(payload, ndef_error);
     }
 
@@ -261,12 +261,12 @@ class links {
     struct told_links {
         std::optional<detail::found_at<link>> look(ndef_size index) const noexcept {
             if (index >= count) return std::nullopt;
-            const ndef_link &told = first[index];
-            const auto carrier = alternative::read(payload.part(told.carrier_at, told.carrier_length));
+            const ndef_link &one = first[index];
+            const auto carrier = alternative::read(payload.part(one.carrier_at, one.carrier_length));
             if (!carrier) return std::nullopt;
-            link found = {*carrier, std::nullopt, static_cast<std::size_t>(told.record_index)};
-            if (told.has_record)
-                if (const auto record = record::at(whole, told.record_at)) found.record = *record;
+            link found = {*carrier, std::nullopt, static_cast<std::size_t>(one.record_index)};
+            if (one.has_record)
+                if (const auto record = ndef::record::at(whole, one.record_at)) found.record = *record;
             return detail::found_at<link>{found, index + 1};
         }
 
@@ -280,16 +280,14 @@ public:
     links() noexcept = default;
 
     /// The links of a message by the payload of its handover, in memory that they own. None where it is no handover.
-    links(const message &of, bytes handover)
+    links(const message &of, kept handover NDEF_LIFETIMEBOUND)
         : told{of.octets(), handover, nullptr, 0},
           own(detail::all_of<ndef_link>(ndef_links, told.whole.data(), ndef_size{told.whole.size()}, handover.data(),
-                                        ndef_size{handover.size()})) {
-        told.count = own.size();
-    }
+                                        ndef_size{handover.size()})) {}
 
     /// The same in an array of the caller. NDEF_NO_ROOM says how many elements it must have; NDEF_BAD_ARGUMENT: it is no
     /// handover.
-    static result<links> in(ndef_link *array, std::size_t size, const message &of, bytes handover) {
+    static result<links> in(ndef_link *array, std::size_t size, const message &of, kept handover) {
         const bytes whole = of.octets();
         const auto count = detail::filled(array, size, ndef_links, whole.data(), ndef_size{whole.size()},
                                           handover.data(), ndef_size{handover.size()});
@@ -299,16 +297,18 @@ public:
         return found;
     }
 
-    /// Iterators are valid as long as these links and the array exist.
-    iterator begin() const noexcept {
-        told_links range = told;
-        if (!range.first) range.first = own.data();
-        return iterator(range);
-    }
+    /// Iterators are valid as long as these links and the array exist. A copy has memory of its own, or the same array.
+    iterator begin() const & noexcept NDEF_LIFETIMEBOUND { return iterator(range()); }
+    iterator begin() && = delete;
     iterator end() const noexcept { return {}; }
-    std::size_t size() const noexcept { return told.count; }
+    std::size_t size() const noexcept { return range().count; }
 
 private:
+    /// The links where they lie now: those in memory that it owns move with it.
+    told_links range() const noexcept {
+        return told.first ? told : told_links{told.whole, told.payload, own.data(), own.size()};
+    }
+
     told_links told;
     std::vector<ndef_link> own;
 };
@@ -335,7 +335,7 @@ public:
 class request : public handover_view<ndef_request_parts> {
 public:
     static constexpr std::string_view type_name = "Hr";
-    static result<request> read(bytes payload, profile how = profile::strict) noexcept {
+    static result<request> read(kept payload NDEF_LIFETIMEBOUND, profile how = profile::strict) noexcept {
         return read_by<request>(payload, ndef_request, static_cast<std::uint32_t>(how));
     }
 
@@ -347,7 +347,7 @@ public:
 class select : public handover_view<ndef_select_parts> {
 public:
     static constexpr std::string_view type_name = "Hs";
-    static result<select> read(bytes payload, profile how = profile::strict) noexcept {
+    static result<select> read(kept payload NDEF_LIFETIMEBOUND, profile how = profile::strict) noexcept {
         return read_by<select>(payload, ndef_select, static_cast<std::uint32_t>(how));
     }
 

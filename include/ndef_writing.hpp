@@ -128,29 +128,102 @@ inline new_record external(std::string_view type, bytes payload, std::string_vie
     return {NDEF_TNF_EXTERNAL, type, payload, id};
 }
 
-/// A message of records, one or more, as ndef_write_record writes each. NDEF_BAD_ARGUMENT if there is no record, or one
-/// of them can't be written. NDEF_NO_ROOM gives the size of the whole message; the room holds a part of it then.
-template <class Records> result<message> write_message(room &to, const Records &records) noexcept {
+namespace detail {
+/// Writes a record, as ndef_write_record does.
+inline result<bytes> write_record(room &to, const new_record &one, std::uint32_t flags) noexcept {
+    if (one.is_long) flags |= NDEF_WRITE_LONG;
+    const ndef_writing how = {static_cast<std::uint32_t>(one.format), flags, one.chunk};
+    return put(to, ndef_write_record, octets(one.type.data()), one.type.size(), octets(one.id.data()), one.id.size(),
+               one.payload.data(), one.payload.size(), &how);
+}
+
+/// Which argument of a record without a spelling is wrong: that with another of which the library writes it.
+inline argument wrong_argument(const new_record &one) noexcept {
+    const auto is_written = [&](argument other, tnf format, std::string_view type) {
+        new_record changed = one;
+        if (other == argument::id) changed.id = {};
+        if (other == argument::payload) changed.payload = {};
+        changed.format = format;
+        changed.type = type;
+        room none;
+        const auto made = write_record(none, changed, 0);
+        return made || made.error().what == NDEF_NO_ROOM;
+    };
+    for (const argument other : {argument::id, argument::payload})
+        if (is_written(other, one.format, one.type)) return other;
+    for (const std::string_view type : {std::string_view(), std::string_view("x")})
+        if (is_written(argument::type, one.format, type)) return argument::type;
+    for (const tnf format : {NDEF_TNF_WELL_KNOWN, NDEF_TNF_UNKNOWN})
+        if (is_written(argument::format, format, one.type)) return argument::format;
+    return argument::several;
+}
+
+/// Why the record with an index isn't written: what the call answered, and for which argument.
+inline error of_record(error why, std::size_t index, const new_record &one) noexcept {
+    why.record = index;
+    if (why.what == NDEF_BAD_ARGUMENT) why.which = wrong_argument(one);
+    return why;
+}
+
+/// The message that was written, if it is one within the limits; else which record is refused, where in it and why.
+inline result<message> accepted(const message &written, const ndef_limits &within) noexcept {
+    const auto found = message::check(written.octets(), within);
+    if (found) return found;
+    error why = found.error();
+    if (why.what == NDEF_BAD_ARGUMENT) why.which = argument::limits;
+    if (why.what != NDEF_REFUSED) return why;
+    std::size_t index = 0;
+    ndef_size begun = 0;
+    for (const record &one : written) {
+        if (one.parts().end > why.place) break;
+        begun = one.parts().end;
+        index++;
+    }
+    why.place -= begun;
+    why.record = index;
+    return why;
+}
+} // namespace detail
+
+/// Says that what is written isn't checked: a reader may refuse it.
+struct unchecked_tag {};
+inline constexpr unchecked_tag unchecked{};
+
+/// How what is written is checked: by message::check within limits, or ndef::unchecked.
+struct checking {
+    checking(const ndef_limits &of = limits()) noexcept : within(of), is_done(true) {}
+    checking(unchecked_tag) noexcept : is_done(false) {}
+
+    ndef_limits within = {};
+    bool is_done;
+};
+
+/// A message of records, one or more, as ndef_write_record writes each. NDEF_BAD_ARGUMENT if there is no record, or one of
+/// them can't be written, and NDEF_REFUSED if a check refuses what is written: the error says which record; then which
+/// argument, or where in the record and why. NDEF_NO_ROOM gives the size of the whole message. The room may hold a part of
+/// the message after an error.
+template <class Records>
+result<message> write_message(room &to, const Records &records, const checking &how = {}) noexcept {
     room rest = to;
     ndef_size whole = 0;
+    std::size_t index = 0;
     std::uint32_t place = NDEF_WRITE_FIRST;
-    for (auto at = std::begin(records); at != std::end(records); place = 0) {
+    for (auto at = std::begin(records); at != std::end(records); index++, place = 0) {
         const new_record one = *at;
         if (++at == std::end(records)) place |= NDEF_WRITE_LAST;
-        const std::uint32_t form = one.is_long ? NDEF_WRITE_LONG : 0;
-        const ndef_writing how = {static_cast<std::uint32_t>(one.format), place | form, one.chunk};
-        const auto made =
-            detail::put(rest, ndef_write_record, detail::octets(one.type.data()), one.type.size(),
-                        detail::octets(one.id.data()), one.id.size(), one.payload.data(), one.payload.size(), &how);
-        if (!made && made.error().what != NDEF_NO_ROOM) return made.error();
+        const auto made = detail::write_record(rest, one, place);
+        if (!made && made.error().what != NDEF_NO_ROOM) return detail::of_record(made.error(), index, one);
         whole += made ? made->size() : made.error().needed;
     }
-    if (whole == 0) return error{};
+    if (whole == 0) return error{NDEF_BAD_ARGUMENT, {}, 0, 0, {}, argument::records};
     if (whole > to.size()) return detail::failure(NDEF_NO_ROOM, {}, whole);
-    return message::unchecked(to.take(whole));
+    const message made = message::unchecked(bytes(to.data(), to.size()).part(0, whole));
+    const auto found = how.is_done ? detail::accepted(made, how.within) : made;
+    if (found) to.take(whole);
+    return found;
 }
-inline result<message> write_message(room &to, std::initializer_list<new_record> records) noexcept {
-    return write_message<std::initializer_list<new_record>>(to, records);
+inline result<message> write_message(room &to, std::initializer_list<new_record> records, const checking &how = {}) noexcept {
+    return write_message<std::initializer_list<new_record>>(to, records, how);
 }
 
 /// The message again, each record in one chunk, as ndef_rewrite writes it.
@@ -162,56 +235,75 @@ inline result<message> rewrite(room &to, const message &from, bool is_long = fal
     });
 }
 
-/// A message that is built in memory of the caller, and is whole after each record, as ndef_append leaves it.
+/// A message that is built in memory of the caller, and is whole after each record, as ndef_append leaves it. Each record has
+/// to leave a message that message::check takes within the limits, unless the builder is ndef::unchecked.
 class builder {
 public:
-    explicit builder(room to) noexcept : memory(to) {}
+    explicit builder(room to, const checking &how = {}) noexcept : memory(to), is_checked(how.is_done) {
+        ndef_begin(&how.within, &before_last);
+    }
 
     /// Appends a record, and returns the message. A record that can't be appended leaves the message as it was.
     result<message> add(const new_record &one) noexcept {
         const std::uint32_t form = one.is_long ? NDEF_WRITE_LONG : 0;
         const ndef_writing how = {static_cast<std::uint32_t>(one.format), form, one.chunk};
-        ndef_size count = 0;
-        const std::uint32_t answer =
-            ndef_append(&built, detail::octets(one.type.data()), one.type.size(), detail::octets(one.id.data()),
-                        one.id.size(), one.payload.data(), one.payload.size(), &how, memory.data(), memory.size(),
-                        &count);
-        return after(answer, count);
+        const auto made = append(ndef_append, detail::octets(one.type.data()), one.type.size(), detail::octets(one.id.data()),
+                                 one.id.size(), one.payload.data(), one.payload.size(), &how);
+        if (made || made.error().what != NDEF_BAD_ARGUMENT || made.error().which != argument::unknown) return made;
+        return detail::of_record(made.error(), built.records, one);
     }
 
     /// Appends the record of a text, given in UTF-8, whose payload is written where it belongs.
     result<message> add_text(std::string_view language, std::string_view text, encoding how = encoding::utf8,
                              std::string_view id = {}) noexcept {
-        ndef_size count = 0;
-        const std::uint32_t answer =
-            ndef_append_text(&built, detail::octets(id.data()), id.size(), detail::octets(language.data()),
-                             language.size(), detail::octets(text.data()), text.size(), static_cast<std::uint32_t>(how),
-                             memory.data(), memory.size(), &count);
-        return after(answer, count);
+        return append(ndef_append_text, detail::octets(id.data()), id.size(), detail::octets(language.data()), language.size(),
+                      detail::octets(text.data()), text.size(), static_cast<std::uint32_t>(how));
     }
 
     /// Appends the record of a URI in the same way.
     result<message> add_uri(std::string_view uri, std::string_view id = {}) noexcept {
-        ndef_size count = 0;
-        const std::uint32_t answer =
-            ndef_append_uri(&built, detail::octets(id.data()), id.size(), detail::octets(uri.data()), uri.size(),
-                            memory.data(), memory.size(), &count);
-        return after(answer, count);
+        return append(ndef_append_uri, detail::octets(id.data()), id.size(), detail::octets(uri.data()), uri.size());
     }
 
     /// The message so far.
-    message made() const noexcept {
-        return message::unchecked(bytes(memory.data(), memory.size()).part(0, built.length));
-    }
+    message made() const noexcept { return message::unchecked(bytes(memory.data(), memory.size()).part(0, built.length)); }
 
 private:
-    result<message> after(std::uint32_t answer, ndef_size needed) const noexcept {
-        if (answer != NDEF_OK) return detail::failure(answer, {}, needed);
-        return made();
+    /// Appends a record by a call of ndef.h: call(built, words.., memory, size, count).
+    template <class Call, class... Words> result<message> append(Call call, Words... words) noexcept {
+        const ndef_built before = built;
+        const std::uint8_t header = before.length ? memory.data()[before.last_at] : std::uint8_t{0};
+        ndef_size count = 0;
+        const std::uint32_t answer = call(&built, words..., memory.data(), memory.size(), &count);
+        if (answer != NDEF_OK) return detail::failure(answer, {}, count);
+        const std::uint32_t taken = is_checked ? feed(before) : static_cast<std::uint32_t>(NDEF_OK);
+        if (taken == NDEF_OK) return made();
+        // The call before made this octet that of a last record.
+        if (before.length) memory.data()[before.last_at] = header;
+        error why = detail::failure(taken, refused);
+        why.place -= taken == NDEF_REFUSED ? before.length : 0;
+        if (taken == NDEF_BAD_ARGUMENT) why.which = argument::limits;
+        else why.record = before.records;
+        built = before;
+        return why;
+    }
+
+    /// Checks the new record after all others. The record that was the last says so no longer, and is fed as it is now.
+    std::uint32_t feed(const ndef_built &before) noexcept {
+        ndef_checker now = before_last;
+        if (before.length) ndef_feed(&now, memory.data() + fed, before.length - fed, &refused);
+        ndef_checker after = now;
+        const std::uint32_t answer = ndef_feed(&after, memory.data() + before.length, built.length - before.length, &refused);
+        if (answer == NDEF_OK) before_last = now, fed = before.length;
+        return answer;
     }
 
     room memory;
     ndef_built built = {};
+    bool is_checked;
+    ndef_checker before_last = {}; ///< it was fed the bytes before the last record, of which there are `fed`
+    ndef_size fed = 0;
+    ndef_checked refused = {};
 };
 
 } // namespace ndef

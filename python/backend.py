@@ -3,7 +3,8 @@ package of Python's.
 
 The shared object in the wheel is compiled of dist/ndef.c; or it is linked of the archive libndef.a in the folder that
 NDEF_LIB_DIR names. CC names the compiler, CFLAGS its flags. The same files with the same compiler make the same wheel;
-its times are SOURCE_DATE_EPOCH's.
+its times are SOURCE_DATE_EPOCH's. NDEF_HOME is the address at which others see the files of this repository: the wheel's
+data name it, and links of README.md lead there.
 """
 import base64
 import gzip
@@ -21,6 +22,7 @@ import sysconfig
 import tarfile
 import tempfile
 import time
+import urllib.parse
 import zipfile
 from typing import Any, Dict, Iterator, List, NoReturn, Optional, Tuple
 
@@ -44,11 +46,14 @@ def stop(why: str) -> NoReturn:
 
 
 def version() -> str:
-    """The version as Python writes it."""
+    """The version as Python writes it: that of dist/ where the library is compiled of that."""
     if not (TOP / 'VERSION').exists():
         stop('the repository around the folder python/ is missing: use pip 21.3 or newer, which builds there and not '
              'in a copy of the folder')
     text = (TOP / 'VERSION').read_text().strip()
+    source = TOP / 'dist/SOURCE'
+    if source.exists() and (os.environ.get('NDEF_FROM') == 'dist' or not os.environ.get('NDEF_LIB_DIR')):
+        text = source.read_text().split()[1]
     return text + '0' if text.endswith('.dev') else text
 
 
@@ -60,9 +65,22 @@ def moment() -> int:
     return max(int(os.environ.get('SOURCE_DATE_EPOCH', 0)), 315532800)
 
 
+def absolute(page: str, home: str) -> str:
+    """README.md for readers who have no other file: its links lead to the address, or where there is none, are text."""
+    def link(found: 're.Match[str]') -> str:
+        text, target = found.groups()
+        if re.match('#|[a-z]+:', target):
+            return found.group()
+        return '[%s](%s)' % (text, urllib.parse.urljoin(home + '/python/', target)) if home else text
+    return re.sub(r'\[([^\]]*)\]\(([^)\s]+)\)', link, page)
+
+
 def metadata() -> bytes:
     head = (HERE / 'METADATA.in').read_text(encoding='utf-8').replace('@VERSION@', version())
-    return (head + '\n' + (HERE / 'README.md').read_text(encoding='utf-8')).encode()
+    home = os.environ.get('NDEF_HOME', '').rstrip('/')
+    for label, path in (('Homepage', ''), ('Changelog', '/CHANGELOG.md'), ('Documentation', '/python/README.md')) if home else ():
+        head += 'Project-URL: %s, %s%s\n' % (label, home, path)
+    return (head + '\n' + absolute((HERE / 'README.md').read_text(encoding='utf-8'), home)).encode()
 
 
 def modules() -> Files:
@@ -157,7 +175,19 @@ def build_wheel(wheel_directory: str, config_settings: Settings = None, metadata
         library = pathlib.Path(folder, LIBRARY)
         make_library(library)
         tag, code = platform_tag(library), library.read_bytes()
-    files = dict([*modules(), ('simbegyor_ndef/' + LIBRARY, code), *wheel_data(tag)])
+    return written_wheel(wheel_directory, tag, dict([*modules(), ('simbegyor_ndef/' + LIBRARY, code), *wheel_data(tag)]))
+
+
+def build_editable(wheel_directory: str, config_settings: Settings = None, metadata_directory: Optional[str] = None) -> str:
+    """A wheel that leads to the module where it lies, for `pip install -e`; the shared object is put beside it."""
+    library = HERE / 'simbegyor_ndef' / LIBRARY
+    make_library(library)
+    tag = platform_tag(library)
+    return written_wheel(wheel_directory, tag, {'simbegyor_ndef.pth': (str(HERE) + '\n').encode(), **dict(wheel_data(tag))})
+
+
+def written_wheel(wheel_directory: str, tag: str, files: Dict[str, bytes]) -> str:
+    """Writes a wheel of these files, and returns its name."""
     listed = ''.join(record_line(name, files[name]) for name in sorted(files))
     record = NAME + '.dist-info/RECORD'
     wheel = '%s-py3-none-%s.whl' % (NAME, tag)
@@ -168,6 +198,10 @@ def build_wheel(wheel_directory: str, config_settings: Settings = None, metadata
             entry.external_attr = (0o755 if name.endswith('/' + LIBRARY) else 0o644) << 16
             made.writestr(entry, content)
     return wheel
+
+
+def prepare_metadata_for_build_editable(metadata_directory: str, config_settings: Settings = None) -> str:
+    return prepare_metadata_for_build_wheel(metadata_directory, config_settings)
 
 
 def prepare_metadata_for_build_wheel(metadata_directory: str, config_settings: Settings = None) -> str:

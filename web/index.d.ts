@@ -20,31 +20,42 @@ export interface Options {
     opaque?: boolean;
 }
 
-/** The error for bytes that are refused. */
+/** How `encode` checks what it wrote: by the options with which it will be read. */
+export interface EncodeOptions extends Options {
+    /** Writes a message that no reader may take, too: nothing is checked. */
+    unchecked?: boolean;
+}
+
+/** The error for bytes that are refused, and for a record that `encode` doesn't write since they would be. */
 export class NdefError extends Error {
-    constructor(place: number, reason: number, name: string, sentence: string);
-    /** The first byte after which none that follow make the bytes a message, or the number of the bytes. */
+    constructor(place: number, reason: number, name: string, sentence: string, record?: number | null);
+    /** The first byte after which none that follow make the bytes a message, or the number of the bytes. Of a record it counts from its first byte. */
     readonly place: number;
+    /** The index of the record that `encode` doesn't write, counted from 0; null for bytes that were given. */
+    readonly record: number | null;
     /** The number of the reason, as ndef.h has it; 0 where other bytes follow the message. */
     readonly reason: number;
     /** The name of the reason, such as "Utf8". */
     readonly name: string;
-    /** What the reason means. */
+    /** What the reason means; of a record what was wanted there, where that is known. */
     readonly sentence: string;
 }
+
+/** The type of a record, as Web NFC names it: an external type has a ":", and a local type begins with one. */
+export type RecordType = "empty" | "text" | "url" | "smart-poster" | "absolute-url" | "mime" | "unknown" | `${string}:${string}`;
 
 /** What makes a record: what Web NFC takes, or the parts of a record as NDEF has them where it has a `tnf`. */
 export type NDEFRecordInit = NDEFRecordInitOfWebNfc | RecordParts | NDEFRecord;
 
 export interface NDEFRecordInitOfWebNfc {
-    /** "empty", "text", "url", "smart-poster", "absolute-url", "mime", "unknown", an external type with a ":", or ":" and a local type. */
-    recordType: string;
+    recordType: RecordType;
     mediaType?: string | null;
     id?: string | null;
-    /** Of a text: "utf-8", "utf-16", "utf-16be" or "utf-16le". */
-    encoding?: string | null;
+    /** Of a text: "utf-8", "utf-16", "utf-16be" or "utf-16le"; another is a TypeError. */
+    encoding?: "utf-8" | "utf-16" | "utf-16be" | "utf-16le" | null;
     lang?: string | null;
-    data?: string | Bytes | NDEFMessageInit | null;
+    /** Of a url and an absolute URL a URL object, too. */
+    data?: string | Bytes | { readonly href: string } | NDEFMessageInit | null;
 }
 
 export interface RecordParts {
@@ -56,15 +67,15 @@ export interface RecordParts {
 }
 
 export interface NDEFMessageInit {
-    records: readonly NDEFRecordInit[];
+    records: Iterable<NDEFRecordInit>;
 }
 
 /** What NDEFReader.write of Web NFC takes for a record. */
 export interface WritableRecord {
-    recordType: string;
+    recordType: RecordType;
     mediaType?: string;
     id?: string;
-    encoding?: string;
+    encoding?: "utf-8" | "utf-16be";
     lang?: string;
     data?: string | DataView | Uint8Array | WritableMessage;
 }
@@ -76,14 +87,14 @@ export interface WritableMessage {
 /** A record, with the members that it has in Web NFC, and more. */
 export class NDEFRecord {
     constructor(init: NDEFRecordInit);
-    readonly recordType: string;
+    readonly recordType: RecordType;
     readonly mediaType: string | null;
     readonly id: string | null;
     readonly encoding: "utf-8" | "utf-16be" | null;
     readonly lang: string | null;
     readonly data: DataView | null;
     /** The records of the message within; null where the payload is no message. */
-    toRecords(): NDEFRecord[] | null;
+    toRecords(): TypedRecord[] | null;
     /** What NDEFReader.write of Web NFC takes for this record. */
     toInit(): WritableRecord;
     /** The text of a text. */
@@ -98,16 +109,43 @@ export class NDEFRecord {
     readonly payload: Uint8Array;
     /** What the payload is, a number of KIND. */
     readonly kind: number;
-    /** The bytes of the record; alone they are a message. */
+    /**
+     * The bytes of a message of this record alone. Throws NdefError where `decode` refuses it. With flags, as Ndef.WRITE_FIRST: the bytes
+     * of the record in a message, unchecked.
+     */
     toBytes(flags?: number): Uint8Array;
+    /** What JSON.stringify makes of it: its members that aren't null, and its payload in hexadecimal digits. */
+    toJSON(): RecordJson;
 }
+
+export interface RecordJson {
+    recordType: RecordType;
+    mediaType?: string;
+    id?: string;
+    encoding?: "utf-8" | "utf-16be";
+    lang?: string;
+    text?: string;
+    uri?: string;
+    payload: string;
+}
+
+/** A record of a message. Where its `recordType` is known, so is what its `value` is. */
+export type TypedRecord = NDEFRecord & (
+    | { readonly recordType: "text"; readonly value: Text; readonly text: string; readonly lang: string; readonly encoding: "utf-8" | "utf-16be" }
+    | { readonly recordType: "url"; readonly value: Uri; readonly uri: string }
+    | { readonly recordType: "smart-poster"; readonly value: SmartPoster; readonly uri: string }
+    | { readonly recordType: "absolute-url"; readonly value: null; readonly uri: string }
+    | { readonly recordType: "mime"; readonly value: null; readonly mediaType: string }
+    | { readonly recordType: "empty" | "unknown"; readonly value: null }
+    | { readonly recordType: `${string}:${string}`; readonly value: HandoverRequest | HandoverSelect | HandoverCarrier | Carrier | HandoverError | null });
 
 /** A message: a list of records, at least one. */
 export class NDEFMessage {
     constructor(init: NDEFMessageInit);
-    readonly records: readonly NDEFRecord[];
+    readonly records: readonly TypedRecord[];
     /** What NDEFReader.write of Web NFC takes for this message. */
     toInit(): WritableMessage;
+    toJSON(): { records: RecordJson[] };
 }
 
 export type Value = Text | Uri | SmartPoster | HandoverRequest | HandoverSelect | HandoverCarrier | Carrier | HandoverError;
@@ -186,7 +224,7 @@ export interface Field {
 
 export interface Link extends Carrier {
     /** The record that describes the carrier and its index in the message, or null. */
-    record: NDEFRecord | null;
+    record: TypedRecord | null;
     index: number | null;
 }
 
@@ -196,7 +234,7 @@ export interface Explained {
     length: number;
     fields: Field[];
     /** The records that are whole before the refused byte. */
-    records: NDEFRecord[];
+    records: TypedRecord[];
 }
 
 /** Checks that the bytes begin with a message. Throws NdefError. */
@@ -205,8 +243,12 @@ export function check(bytes: Bytes, options?: Options): { length: number; record
 export function decode(bytes: Bytes, options?: Options): NDEFMessage;
 /** The message with which the bytes begin, and its length in bytes. Throws NdefError. */
 export function decodePrefix(bytes: Bytes, options?: Options): { message: NDEFMessage; length: number };
-/** The bytes of a message. Throws RangeError for a record that can't be written. */
-export function encode(message: NDEFMessageInit): Uint8Array;
+/**
+ * The bytes of a message. A string is a text, and bytes are a record of the media type application/octet-stream. Throws TypeError for what makes no
+ * record, RangeError for a record that can't be written, and NdefError for a smart poster whose data are none, and for a message that `decode` refuses
+ * with the same options: its `record` says which one. `unchecked` writes that, too.
+ */
+export function encode(message: NDEFMessageInit | string | Bytes, options?: EncodeOptions): Uint8Array;
 /** The fields of the message with which the bytes begin. Throws NdefError. */
 export function fields(bytes: Bytes, options?: Options): Field[];
 /** All that can be said of the bytes, refused or not. */
@@ -217,6 +259,12 @@ export function why(bytes: Bytes, options?: Options): string | null;
 export function hint(bytes: Bytes, options?: Options): string | null;
 /** The carriers of the first handover of a message, and their records. */
 export function links(message: NDEFMessageInit): Link[];
+
+declare global {
+    // Those of the browser or of Node, where a program has their declarations.
+    interface ReadableStream<R = any> {}
+    interface WritableStream<W = any> {}
+}
 
 /** Turns bytes that arrive in parts into messages, for pipeThrough. */
 export class NDEFDecoderStream {

@@ -1,8 +1,7 @@
 // NDEF messages for JavaScript, in the shape of Web NFC. The library in ndef_wasm.mjs decides about the format; README.md
 // says what each name is.
-export { check, decode, decodePrefix, explain, fields, hint, links, why } from "./message.js";
-export { NDEFMessage, NDEFRecord, encode } from "./record.js";
-export { ACTION, KIND, POWER, handoverCarrier, handoverRequest, handoverSelect, smartPoster } from "./making.js";
-export { NDEFDecoderStream } from "./stream.js";
-export { NdefError, ready } from "./library.js";
-export { Ndef } from "./ndef.js";
+import code from "./ndef_wasm.mjs";
+import { provide } from "./library.js";
+
+provide(code);
+export * from "./all.js";

@@ -1,6 +1,6 @@
 // Makes records whose payloads have several parts. Each function takes what `value` of such a record is, and answers the record.
 import { Ndef } from "./ndef.js";
-import { library, written } from "./library.js";
+import { firstRefused, library, written } from "./library.js";
 import { NDEFRecord } from "./record.js";
 
 const WELL_KNOWN = 1;
@@ -21,23 +21,38 @@ function minorOf({ major = 1, minor = 2 }, what) {
 
 // A smart poster of { uri, titles, action, size, mediaType, icons }.
 export function smartPoster(poster, id = "") {
-    const why = "a text is not UTF-8, a language is too long or not ASCII, the action is above 255, or a media type is empty or too long";
-    return wellKnown("Sp", written(library().writePoster(poster), "a smart poster", why), id);
+    const calls = library(), { uri, titles = [], action = null, mediaType = null, icons = [] } = poster;
+    return wellKnown("Sp", written(calls.writePoster(poster), "a smart poster",
+        ["its URI is not UTF-8", () => calls.writeUri(uri)],
+        ["the language of a title is too long or not ASCII", () => firstRefused(titles, ({ language }) => calls.writeText(language, ""))],
+        ["the text of a title is not UTF-8", () => firstRefused(titles, ({ text }) => calls.writeText("", text))],
+        ["its action is above 255", () => calls.writePoster({ uri: "", action })],
+        ["its media type is empty or not UTF-8", () => calls.writePoster({ uri: "", mediaType })],
+        ["the media type of an icon is empty or too long", () => calls.writePoster({ uri: "", icons })]), id);
 }
 
-const CARRIERS = "its minor version is above 15, a power state is above 3, or a reference has more than 255 bytes";
+// What may be wrong with the version and the carriers of a handover.
+function causesOf(minor, alternatives) {
+    const calls = library(), references = alternatives.flatMap((one) => one.references);
+    return [
+        ["its minor version is above 15", () => calls.writeSelect({ minor })],
+        ["a power state is above 3", () => firstRefused(alternatives, ({ power }) => calls.writeAlternative(power, [""]))],
+        ["a reference has more than 255 bytes", () => firstRefused(references, (reference) => calls.writeAlternative(0, [reference]))],
+        ["a carrier has more than 255 auxiliary references", () => firstRefused(alternatives, (one) => calls.writeAlternative(0, one.references))],
+    ];
+}
 
 // A handover request of { minor, collision, carriers }, each carrier { power, reference, auxiliary }.
 export function handoverRequest(request, id = "") {
     const minor = minorOf(request, "a handover request"), alternatives = alternativesOf(request.carriers);
     const answer = library().writeRequest({ minor, collision: request.collision, alternatives });
-    return wellKnown("Hr", written(answer, "a handover request", `${CARRIERS}, or its random number is above 65535`), id);
+    return wellKnown("Hr", written(answer, "a handover request", ...causesOf(minor, alternatives), ["its random number is above 65535"]), id);
 }
 
 // The data of an error: its own, or its number as the library writes it.
 function errorOf({ reason, data, number }) {
     if (data !== undefined && data !== null) return { reason, data };
-    const payload = written(library().writeErrorNumber(reason, number), "a handover error", "its number doesn't fit its reason");
+    const payload = written(library().writeErrorNumber(reason, number), "a handover error", ["its number doesn't fit its reason"]);
     const { dataAt, dataLength } = library().error(payload);
     return { reason, data: payload.slice(dataAt, dataAt + dataLength) };
 }
@@ -47,13 +62,13 @@ export function handoverSelect(select, id = "") {
     const minor = minorOf(select, "a handover select"), alternatives = alternativesOf(select.carriers);
     const error = select.error ? errorOf(select.error) : null;
     const answer = library().writeSelect({ minor, alternatives, error });
-    return wellKnown("Hs", written(answer, "a handover select", `${CARRIERS}, or the data of its error don't fit its reason`), id);
+    return wellKnown("Hs", written(answer, "a handover select", ...causesOf(minor, alternatives), ["the data of its error don't fit its reason"]), id);
 }
 
 // A handover carrier of { format, type, data }.
 export function handoverCarrier({ format, type, data }, id = "") {
-    const why = "its format is above 7, or its type has more than 255 bytes";
-    return wellKnown("Hc", written(library().writeCarrier(format, type, data), "a handover carrier", why), id);
+    const calls = library(), answer = calls.writeCarrier(format, type, data);
+    return wellKnown("Hc", written(answer, "a handover carrier", ["its format is above 7", () => calls.writeCarrier(format, "")], ["its type has more than 255 bytes"]), id);
 }
 
 // The numbers that values have: power states of carriers, actions of smart posters, and kinds of payloads.

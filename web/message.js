@@ -2,7 +2,7 @@
 import { octets } from "./given.js";
 import { Ndef } from "./ndef.js";
 import { NdefError, accepted, library, optionsOf } from "./library.js";
-import { NDEFMessage, recordsOf } from "./record.js";
+import { MADE, NDEFMessage, recordsOf } from "./record.js";
 import { alternativesOf } from "./values.js";
 
 const { KIND } = Ndef;
@@ -15,19 +15,19 @@ export function check(bytes, options) {
 
 // The message of bytes that hold it and nothing before them, known to be whole.
 export function messageOf(bytes, flags) {
-    return new NDEFMessage({ records: recordsOf(bytes, KIND.OTHER, flags) });
+    return new NDEFMessage(library().items(bytes, flags), MADE);
 }
 
 // The message with which the bytes begin, and its length in bytes. Throws NdefError.
 export function decodePrefix(bytes, options) {
-    const given = octets(bytes), { flags } = optionsOf(options), { length } = check(given, options);
-    return { message: messageOf(given.subarray(0, length), flags), length };
+    const { items, place } = accepted(library().read(bytes, optionsOf(options)));
+    return { message: new NDEFMessage(items, MADE), length: place };
 }
 
 // The message that the bytes are. Throws NdefError, also where other bytes follow it.
 export function decode(bytes, options) {
-    const { message, length } = decodePrefix(bytes, options);
-    if (length < octets(bytes).length) throw NdefError.trailing(length);
+    const given = octets(bytes), { message, length } = decodePrefix(given, options);
+    if (length < given.length) throw NdefError.trailing(length);
     return message;
 }
 

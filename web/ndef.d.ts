@@ -1,6 +1,11 @@
 // The library for C, call by call. ndef.js says what each method answers; include/ndef.h documents the calls.
 import type { Bytes } from "./index.js";
 
+declare global {
+    // That of the browser or of Node, where a program has its declarations.
+    namespace WebAssembly { interface Memory {} }
+}
+
 /** Bytes, or a string, which is written in UTF-8. */
 export type Characters = string | Bytes;
 

@@ -1,7 +1,8 @@
 // The page: reads the input, asks the library what it holds, and shows that. It knows no rule of the format: which bytes are
 // a record's type, where a text lies and why a byte is refused, all of it comes from the calls of ndef.js.
 import { Ndef } from "./ndef.js";
-import { library, ready } from "./library.js";
+import { library, provide, ready } from "./library.js";
+import { decodePrefix } from "./message.js";
 import { encode } from "./record.js";
 import code from "./ndef_wasm.mjs";
 import { byId, capital, element, plural, refusal, toHex, twoDigits } from "./page_elements.js";
@@ -26,6 +27,7 @@ const SAMPLES = {
 };
 const LIMITS = ["payload", "records", "pieces"];
 const MOST_AT_ONCE = 4096; // bytes; where more were read, their rows are made in the next slice
+const MOST_LINKED = 16384; // bytes that a link has
 const slices = new Slices();
 
 // ---- what is shown
@@ -76,6 +78,7 @@ const sayBusy = (isBusy) => byId("record-part").setAttribute("aria-busy", isBusy
 // Empties what shows bytes, fields and records.
 function clear() {
     sayBusy(false);
+    byId("load").hidden = true;
     ["bytes", "legend", "field-part", "record-part", "remarks"].forEach((id) => byId(id).replaceChildren());
     ["detail", "sound"].forEach((id) => { byId(id).textContent = ""; });
 }
@@ -88,6 +91,7 @@ function* showMessages(ndef, bytes, options) {
     const painting = () => paintMessages(ndef, messages, options, fields, place);
     clear();
     showVerdict(ndef, messages, bytes);
+    byId("load").hidden = messages[0].answer.status !== Ndef.OK || (options.flags & Ndef.OPAQUE) !== 0;
     showRemarks(ndef, bytes, messages, options);
     sayBusy(true);
     if (bytes.length > MOST_AT_ONCE) yield Infinity;
@@ -126,7 +130,8 @@ function* showAnswer(ndef, bytes, options) {
 function show(ndef) {
     const { bytes, form, wrong } = bytesOf(byId("hex").value), options = optionsOf();
     if (wrong) return showFault(wrong);
-    const words = [Array.from(bytes, twoDigits).join("")];
+    const words = [bytes.length > MOST_LINKED ? "" : Array.from(bytes, twoDigits).join("")];
+    byId("link").hidden = bytes.length > MOST_LINKED;
     if (options.flags & Ndef.STANDARD) words.push("standard");
     if (options.flags & Ndef.OPAQUE) words.push("opaque");
     byId("link").setAttribute("href", "#" + words.join("&"));
@@ -181,19 +186,36 @@ function listen(ndef) {
 }
 
 function listenToTags(ndef, composer) {
-    const take = (message) => { composer.take(message.records); showTheseBytes(ndef, encode(message)); };
+    const take = (message) => {
+        showTheseBytes(ndef, encode(message, { unchecked: true }));
+        if (composer.isEmpty) composer.take(message.records);
+    };
     ["scan", "write-tag"].forEach((id) => { byId(id).hidden = !readsTags(); });
     byId("scan").addEventListener("click", () => readTag(take));
 }
 
+// What leads to the composer: a link, and a button that takes the records of the first message.
+function listenToJumps(composer) {
+    const go = () => { byId("write").scrollIntoView(); byId("write-kind").focus(); };
+    byId("jump").addEventListener("click", (event) => { event.preventDefault(); go(); });
+    byId("load").addEventListener("click", () => {
+        const { flags, ...limits } = optionsOf(), options = { ...limits, standard: (flags & Ndef.STANDARD) !== 0 };
+        composer.take(decodePrefix(bytesOf(byId("hex").value).bytes, options).message.records, options);
+        go();
+    });
+}
+
+provide(code);
 await ready();
 const ndef = library(), usual = ndef.usualLimits();
 LIMITS.forEach((name) => { byId(name).value = usual[name]; });
 byId("size").textContent = code.length;
 listen(ndef);
-listenToTags(ndef, new Composer({
+const composer = new Composer({
     look: (bytes) => { showTheseBytes(ndef, bytes); byId("hex").focus(); },
     write: writeTag,
-}));
+});
+listenToTags(ndef, composer);
+listenToJumps(composer);
 if (!takeAddress()) byId("hex").value = SAMPLES["two records"];
 show(ndef);

@@ -5,6 +5,9 @@ export const twoDigits = (byte) => DIGITS[byte];
 export const toHex = (bytes) => Array.from(bytes, twoDigits).join(" ");
 export const ascii = (byte) => (byte >= 0x20 && byte < 0x7f ? String.fromCharCode(byte) : null);
 export const quoted = (bytes) => Array.from(bytes, (byte) => ascii(byte) ?? "\\x" + twoDigits(byte).toLowerCase()).join("");
+// Text with escapes for characters that are not shown, or that change how others are: controls and marks of direction.
+export const visible = (text) => text.replace(/[\u0000-\u0008\u000b-\u001f\u007f-\u009f\u061c\u200b\u200e\u200f\u2028-\u202e\u2060-\u2069\ufeff]/g,
+    (one) => `\\u{${one.charCodeAt(0).toString(16)}}`);
 export const plural = (count, word) => `${count} ${word}${count === 1 ? "" : "s"}`;
 export const capital = (text) => text[0].toUpperCase() + text.slice(1);
 

@@ -1,29 +1,66 @@
-// What is pasted or dropped, as bytes: hexadecimal in many layouts, the output of xxd and `hexdump -C`, base64, or a file of these or
-// of the bytes themselves.
+// What is pasted or dropped, as bytes: hexadecimal in many layouts, the output of xxd, `hexdump` and `od`, lists of decimal numbers, base64, or a file
+// of these or of the bytes themselves.
 
 const LEAST_BASE64 = 8; // characters that are taken for base64, since shorter ones are rather mistyped digits
 
 const isXxd = (line) => /^\s*[0-9a-f]+:\s/i.test(line);
 const isHexdump = (line) => /^\s*[0-9a-f]{6,}\s+([0-9a-f]{2}\s+)+\|.*\|\s*$/i.test(line);
-const isEndOfHexdump = (line) => /^\s*[0-9a-f]{6,}\s*$/i.test(line);
+const isEnd = (line) => /^\s*[0-9a-f]{6,}\s*$/i.test(line);
+// Lines of od and of hexdump without characters: a place, and then bytes, or words of 16 bits.
+const isOfBytes = (line) => /^\s*[0-9a-f]{6,8}(\s+[0-9a-f]{2})+\s*$/i.test(line);
+const isOfWords = (line) => /^\s*[0-9a-f]{6,8}(\s+[0-9a-f]{4})+\s*$/i.test(line);
 
-// The digits of a line of xxd, which end before two spaces, and of a line of hexdump, which end before a bar.
+// The digits of a line of xxd, which end before two spaces, and of a line of the others, which end before a bar.
 const digitsOfXxd = (line) => line.replace(/^\s*[0-9a-f]+:\s/i, "").split(/\s\s/)[0];
-const digitsOfHexdump = (line) => line.replace(/^\s*[0-9a-f]+/i, "").split("|")[0];
+const digitsOfDump = (line) => line.replace(/^\s*[0-9a-f]+/i, "").split("|")[0];
 
-// The text without what stands around digits, by its layout.
-function digitsOf(text) {
-    const lines = text.split(/\r?\n/).filter((line) => line.trim() !== "");
-    if (lines.length > 0 && lines.every(isXxd)) return { form: "output of xxd", digits: lines.map(digitsOfXxd).join("") };
-    const dumped = lines.length > 1 && isEndOfHexdump(lines[lines.length - 1]) ? lines.slice(0, -1) : lines;
-    if (dumped.length > 0 && dumped.every(isHexdump)) return { form: "output of hexdump", digits: dumped.map(digitsOfHexdump).join("") };
-    return { form: "hexadecimal", digits: text };
+// The digits of words of 16 bits, whose lower byte stands first in the memory of the machines that print them so. The last line has the number of the
+// bytes, in hexadecimal or octal digits: an odd one leaves a byte out.
+function digitsOfWords(lines, end) {
+    const bytes = lines.flatMap((line) => digitsOfDump(line).match(/[0-9a-f]{4}/gi)).flatMap((word) => [word.slice(2), word.slice(0, 2)]);
+    const isOdd = [16, 8].some((base) => parseInt(end, base) === bytes.length - 1);
+    return bytes.slice(0, bytes.length - (isOdd ? 1 : 0)).join("");
 }
 
+// The text without what stands around digits, by its layout; or what is wrong with it.
+function digitsOf(text) {
+    const lines = text.split(/\r?\n/).filter((line) => line.trim() !== ""), last = lines[lines.length - 1] ?? "";
+    if (lines.length > 0 && lines.every(isXxd)) return { form: "output of xxd", digits: lines.map(digitsOfXxd).join("") };
+    const ended = lines.length > 1 && isEnd(last), dumped = ended ? lines.slice(0, -1) : lines, rows = dumped.filter((line) => line.trim() !== "*");
+    const isDump = rows.length > 0 && [isHexdump, isOfBytes, isOfWords].some((is) => rows.every(is));
+    if (isDump && rows.length < dumped.length) return { wrong: "The dump leaves out lines that repeat (*): make it anew with the option -v." };
+    if (rows.length > 0 && rows.every(isHexdump)) return { form: "output of hexdump", digits: rows.map(digitsOfDump).join("") };
+    // A place of 7 digits is no row of bytes; others are taken for a place where the last line has one alone.
+    const hasPlaces = ended || rows.every((line) => /^\s*[0-9a-f]{7}\s/i.test(line));
+    if (rows.length > 0 && hasPlaces && rows.every(isOfBytes)) return { form: "output of od", digits: rows.map(digitsOfDump).join("") };
+    if (rows.length > 0 && hasPlaces && rows.every(isOfWords)) return { form: "output of hexdump, in words of 16 bits", digits: digitsOfWords(rows, last.trim()) };
+    return { form: "hexadecimal", digits: text.replace(/^\s*<Buffer\s|>\s*$/g, "") };
+}
+
+// The numbers of a list, as Node and Java print one, or null. Numbers of two digits outside of brackets are hexadecimal ones, and so are those that
+// begin with a 0.
+function numbersOf(text) {
+    const list = text.trim().replace(/^\w+\(\d+\)\s*(?=\[)/, ""), inner = list.replace(/^[[{(]|[\])}]?;?$/g, "").trim().replace(/,$/, "");
+    const numbers = inner.split(",").map((one) => one.trim());
+    if (!numbers.every((one) => /^-?(0|[1-9]\d*)$/.test(one))) return null;
+    const isMarked = /^\[/.test(list) && numbers.length > 1 || numbers.some((one) => !/^\d\d$/.test(one)) && numbers.length > 2;
+    return isMarked ? numbers.map(Number) : null;
+}
+
+// The bytes of a list of numbers, of which those below 0 are bytes of Java; or what is wrong with it.
+function bytesOfNumbers(numbers) {
+    const wrong = numbers.find((number) => number < -128 || number > 255);
+    return wrong === undefined ? { bytes: Uint8Array.from(numbers, (number) => number & 255), form: "decimal numbers" } : { wrong: `${wrong} is no byte.` };
+}
+
+// The bytes of base64, of its alphabet for URLs too, with or without = at its end; or null.
 function ofBase64(text) {
-    const letters = text.replace(/\s*\r?\n\s*/g, "").trim().replaceAll("-", "+").replaceAll("_", "/");
-    if (letters.length < LEAST_BASE64 || letters.length % 4 || !/^[A-Za-z0-9+/]+={0,2}$/.test(letters)) return null;
-    return Uint8Array.from(atob(letters), (letter) => letter.charCodeAt(0));
+    const letters = text.replace(/\s*\r?\n\s*/g, "").trim().replaceAll("-", "+").replaceAll("_", "/"), bare = letters.replace(/=+$/, "");
+    if (letters.length < LEAST_BASE64 || !/^[A-Za-z0-9+/]+={0,2}$/.test(letters)) return null;
+    if (bare.length % 4 === 1 || (bare !== letters && letters.length % 4)) return null;
+    // Digits alone are rather hexadecimal ones, of which one is missing.
+    if (letters.length % 4 && !/[^0-9a-f]/i.test(letters)) return null;
+    return Uint8Array.from(atob(bare), (letter) => letter.charCodeAt(0));
 }
 
 // The number that a hexadecimal digit stands for, by its character code.
@@ -41,7 +78,11 @@ export function bytesOfHex(text) {
 
 // The bytes of a text and the form in which it has them; or what is wrong with it.
 export function bytesOf(text) {
-    const { form, digits } = digitsOf(text), bytes = bytesOfHex(digits);
+    const numbers = numbersOf(text);
+    if (numbers !== null) return bytesOfNumbers(numbers);
+    const { form, digits, wrong } = digitsOf(text);
+    if (wrong) return { wrong };
+    const bytes = bytesOfHex(digits);
     if (typeof bytes !== "string") return { bytes, form };
     const decoded = ofBase64(text);
     return decoded ? { bytes: decoded, form: "base64" } : { wrong: bytes };

@@ -6,6 +6,7 @@ import { meaning } from "./page_meaning.js";
 
 const MOST_ROWS = 500; // records of a message in the table
 const MOST_TABLES = 100; // messages with a table; all of them are checked
+const MOST_OPEN = 8; // messages of which each has its table open; of more the others are closed
 const MOST_READ = 64; // records that are read at once
 const MOST_COMPARED = 64; // records of a message in which the library looks for what is strange in one beside the others
 
@@ -108,12 +109,12 @@ function emptyTable(title, columns) {
 
 // Work that lists the records of a message below a title, with a line that says how many are there so far. Of a refused message
 // each row says how far its record can be trusted; a nested one has the state of the record that holds it.
-function* listRecords(ndef, message, title, options) {
+function* listRecords(ndef, message, title, options, box) {
     const { answer } = message, isWhole = answer.status === Ndef.OK, line = element("p");
     const table = emptyTable(title, isWhole ? COLUMNS : [...COLUMNS, STATE]), body = table.querySelector("tbody");
     let listed = 0, hidden = 0, state;
     for (const row of rowsOf(ndef, message, options, () => listed < MOST_ROWS)) {
-        if (listed === 0) byId("record-part").append(element("h2", { text: title }), table, line);
+        if (listed === 0) box(title).append(table, line);
         if (row.depth === 0 && !isWhole) state = stateOf(row.record, answer.place);
         if (listed < MOST_ROWS) {
             body.append(recordRow({ ...row, state, remark: remarkOnRecord(ndef, message, row) }));
@@ -131,11 +132,24 @@ function* listRecords(ndef, message, title, options) {
     else line.remove();
 }
 
+// Where the records of a message are listed, below a title. Of many messages the first and a refused one are open.
+function boxOf(messages, index, title) {
+    const part = byId("record-part");
+    if (messages.length <= MOST_OPEN) {
+        part.append(element("h2", { text: title }));
+        return part;
+    }
+    const box = element("details", {}, element("summary", { text: title }));
+    box.open = index === 0 || messages[index].answer.status !== Ndef.OK;
+    part.append(box);
+    return box;
+}
+
 // Work that lists the records of the first messages and of a refused one, with a line for those between.
 export function* listMessages(ndef, messages, options) {
     const last = messages.length - 1, isRefused = messages[last].answer.status !== Ndef.OK, whole = isRefused ? last : last + 1;
     const titleOf = (index) => (messages.length > 1 ? `Message ${index + 1}, at byte ${messages[index].at}` : "Records");
-    const list = (index) => listRecords(ndef, messages[index], titleOf(index), options);
+    const list = (index) => listRecords(ndef, messages[index], titleOf(index), options, (title) => boxOf(messages, index, title));
     for (let index = 0; index <= last && index < MOST_TABLES; index++) yield* list(index);
     if (whole > MOST_TABLES) {
         const text = `Messages ${MOST_TABLES + 1} to ${whole} are checked, and their records are not listed.`;

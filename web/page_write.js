@@ -4,7 +4,7 @@ import { NDEFMessage, NDEFRecord, encode, utf16Of } from "./record.js";
 import { handoverRequest, handoverSelect, smartPoster } from "./making.js";
 import { ACTION_NAMES, POWER_NAMES } from "./page_meaning.js";
 import { bytesOf } from "./page_input.js";
-import { byId, capital, element, plural, toHex } from "./page_elements.js";
+import { byId, capital, element, plural, toHex, visible } from "./page_elements.js";
 
 // The bytes of a tag for messages: its user memory, less the 5 bytes that are in use on an NTAG213 as delivered (its lock control),
 // or the last 8 and 16 bytes, which the capability containers of the others leave out.
@@ -149,7 +149,7 @@ function filled() {
 function summary(record) {
     const id = record.id === null ? "" : `, id “${record.id}”`;
     const what = record.text ?? record.uri ?? record.mediaType ?? plural(record.payload.length, "byte");
-    return `${record.recordType}${id}: ${what}`;
+    return visible(`${record.recordType}${id}: ${what}`);
 }
 
 function fitOf(name, room, length) {
@@ -158,9 +158,23 @@ function fitOf(name, room, length) {
     return element("li", { kind: left < 0 ? "bad" : "good", text });
 }
 
+const bytesOfRecords = (records, options) => (records.length === 0 ? new Uint8Array() : encode({ records }, options));
+
+// What is wrong, in a line. Records count from 1 here.
+const faultOf = ({ message, record = null, place, sentence }) =>
+    capital(record === null ? message : `record ${record + 1} is refused at its byte ${place}: ${sentence}`);
+
+// Gives bytes to be kept as a file.
+function save(bytes) {
+    const link = element("a", { href: URL.createObjectURL(new Blob([bytes])), download: "message.ndef" });
+    link.click();
+    setTimeout(() => URL.revokeObjectURL(link.href), 1000);
+}
+
 // The composer: the records so far, and what is done with them. `look` shows bytes in the page, `write` writes a message to a tag.
 export class Composer {
     #records = [];
+    #options = {}; // with which the records were read
 
     constructor({ look, write }) {
         byId("write-kind").append(...Object.keys(KINDS).map((text) => element("option", { text })));
@@ -169,43 +183,64 @@ export class Composer {
         byId("write-look").addEventListener("click", () => look(this.#bytes()));
         byId("write-clear").addEventListener("click", () => { this.#change([]); byId("write-kind").focus(); });
         byId("write-tag").addEventListener("click", () => write(new NDEFMessage({ records: this.#records })));
+        byId("write-copy").addEventListener("click", () => this.#copy());
+        byId("write-save").addEventListener("click", () => save(this.#bytes()));
         this.#showForm();
         this.#change([]);
     }
 
-    // Takes the records of a message in place of those that are there.
-    take(records) { this.#change([...records]); }
+    // Takes the records of a message in place of those that are there; asks before. Options: with which the message was read.
+    take(records, options = {}) {
+        const count = this.#records.length;
+        if (count === 0 || window.confirm(`Replace ${plural(count, "record")} of the new message?`)) this.#try(() => [...records], options);
+    }
+
+    get isEmpty() { return this.#records.length === 0; }
+
+    async #copy() {
+        byId("write-hex").select();
+        try {
+            await navigator.clipboard.writeText(byId("write-hex").value);
+            byId("written").textContent = "The bytes are copied.";
+        } catch (error) {
+            byId("written").textContent = `The bytes can't be copied: ${error.message}`;
+        }
+    }
 
     #showForm() {
         byId("write-fields").replaceChildren(...Object.entries(kindOf().fields).map(([name, field]) => fieldOf(name, field)));
         byId("write-fault").textContent = "";
     }
 
-    #add() {
+    #add() { this.#try(() => [...this.#records, kindOf().make(filled())], this.#options); }
+
+    // Changes the list to what `make` answers, or says why no message has these records.
+    #try(make, options) {
         try {
-            const record = kindOf().make(filled());
-            this.#change([...this.#records, record]);
+            this.#change(make(), options);
             byId("write-fault").textContent = "";
         } catch (error) {
-            byId("write-fault").textContent = capital(error.message);
+            byId("write-fault").textContent = faultOf(error);
         }
     }
 
-    #bytes() { return this.#records.length === 0 ? new Uint8Array() : encode({ records: this.#records }); }
+    #bytes() { return bytesOfRecords(this.#records, this.#options); }
 
-    #change(records) {
+    #change(records, options = this.#options) {
+        const bytes = bytesOfRecords(records, options), isEmpty = records.length === 0;
+        const items = records.map((record, index) => this.#item(record, index, records.length));
         this.#records = records;
-        const bytes = this.#bytes(), isEmpty = records.length === 0;
-        byId("write-list").replaceChildren(...records.map((record, index) => this.#item(record, index)));
+        this.#options = isEmpty ? {} : options;
+        byId("write-list").replaceChildren(...items);
         byId("write-hex").value = toHex(bytes);
         const size = `${plural(records.length, "record")}, ${plural(bytes.length, "byte")}`;
         byId("write-size").textContent = isEmpty ? "No records yet." : size;
         const fits = Object.entries(TAGS).map(([name, room]) => fitOf(name, room, bytes.length));
         byId("write-fit").replaceChildren(...(isEmpty ? [] : fits));
-        ["write-look", "write-clear", "write-tag"].forEach((id) => { byId(id).disabled = isEmpty; });
+        ["write-look", "write-copy", "write-save", "write-clear", "write-tag"].forEach((id) => { byId(id).disabled = isEmpty; });
     }
 
-    #item(record, index) {
+    #item(record, index, count) {
         const button = (text, label, change) => {
             const made = element("button", { type: "button", text, "aria-label": `${label} ${index + 1}` });
             made.addEventListener("click", () => this.#move(change, index, label));
@@ -214,7 +249,7 @@ export class Composer {
         const up = button("\u2191", "Move up record", (records) => records.splice(index - 1, 0, ...records.splice(index, 1)));
         const down = button("\u2193", "Move down record", (records) => records.splice(index + 1, 0, ...records.splice(index, 1)));
         up.disabled = index === 0;
-        down.disabled = index === this.#records.length - 1;
+        down.disabled = index === count - 1;
         const remove = button("Remove", "Remove record", (records) => records.splice(index, 1));
         return element("li", {}, element("span", { text: summary(record) }), " ", up, down, remove);
     }

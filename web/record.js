@@ -1,14 +1,14 @@
 // Records and messages in the shape of Web NFC: NDEFRecord and NDEFMessage have the members that they have there, and a few
 // more. The names of Web NFC stand for types of NDEF; what payloads hold, the library says.
-import { characters, joined, octets } from "./given.js";
+import { characters, joined, octets, strictUtf8, utf8 } from "./given.js";
 import { Ndef } from "./ndef.js";
-import { accepted, library, written } from "./library.js";
-import { messageWithin, utf8, valueOf } from "./values.js";
+import { NdefError, accepted, library, optionsOf, written } from "./library.js";
+import { messageWithin, valueOf } from "./values.js";
 
 const { KIND } = Ndef;
 const TNF = { EMPTY: 0, WELL_KNOWN: 1, MEDIA: 2, ABSOLUTE_URI: 3, EXTERNAL: 4, UNKNOWN: 5 };
 const NAMES = new Map([[KIND.TEXT, "text"], [KIND.URI, "url"], [KIND.SMART_POSTER, "smart-poster"]]);
-const MADE = Symbol("a record that the library has read");
+export const MADE = Symbol("what the library has read");
 
 // Bytes as a DataView over a copy of them.
 const viewOf = (bytes) => new DataView(bytes.slice().buffer);
@@ -40,40 +40,50 @@ function orderOf(bytes, name) {
     return bytes[0] === 0xfe && bytes[1] === 0xff || name === "utf-16" ? "utf-16be" : name;
 }
 
+// The encodings of Web NFC, by their names there.
+const ENCODINGS = new Set(["utf-8", "utf-16", "utf-16be", "utf-16le"]);
+
 // Data as a string, from bytes in an encoding of Web NFC.
 function textOf(data, encoding) {
+    if (!ENCODINGS.has(encoding)) throw new TypeError(`the encoding of a text is utf-8, utf-16, utf-16be or utf-16le, not ${encoding}`);
     if (typeof data === "string") return data;
     const bytes = dataOf(data, "a text");
-    switch (encoding) {
-        case "utf-8": return new TextDecoder("utf-8", { fatal: true, ignoreBOM: true }).decode(bytes);
-        case "utf-16":
-        case "utf-16be":
-        case "utf-16le": return new TextDecoder(orderOf(bytes, encoding), { fatal: true }).decode(bytes);
-        default: throw new TypeError(`the encoding of a text is utf-8, utf-16, utf-16be or utf-16le, not ${encoding}`);
-    }
+    return encoding === "utf-8" ? strictUtf8(bytes) : new TextDecoder(orderOf(bytes, encoding), { fatal: true }).decode(bytes);
 }
 
 function textParts({ data, encoding, lang }) {
-    const name = given(encoding) ?? "utf-8", flags = name === "utf-8" ? 0 : Ndef.AS_UTF16;
-    const answer = library().writeText(given(lang) ?? "en", textOf(data, name), flags);
-    return { tnf: TNF.WELL_KNOWN, type: "T", payload: written(answer, "a text", "its language is too long or not ASCII") };
+    const calls = library(), name = given(encoding) ?? "utf-8", flags = name === "utf-8" ? 0 : Ndef.AS_UTF16, language = given(lang) ?? "en";
+    const answer = calls.writeText(language, textOf(data, name), flags);
+    const payload = written(answer, "a text", ["its language is too long", () => calls.writeText("a".repeat(characters(language).length), "")],
+        ["its language is not ASCII"]);
+    return { tnf: TNF.WELL_KNOWN, type: "T", payload };
 }
 
+// A URL as a string, and other data as they are.
+const addressOf = (data) => (data instanceof URL ? data.href : data);
+
 function urlParts({ data }) {
-    return { tnf: TNF.WELL_KNOWN, type: "U", payload: written(library().writeUri(dataOf(data, "a url")), "a url", "it is not UTF-8") };
+    const answer = library().writeUri(dataOf(addressOf(data), "a url"));
+    return { tnf: TNF.WELL_KNOWN, type: "U", payload: written(answer, "a url", ["it is not UTF-8"]) };
 }
+
+// How a message within a payload is encoded: what may stand there the payload around it says.
+const WITHIN = { unchecked: true };
 
 // A smart poster of records, or of the bytes of its message.
 function posterParts({ data }) {
-    const isBytes = ArrayBuffer.isView(data) || data instanceof ArrayBuffer, payload = isBytes ? octets(data).slice() : encode(data);
+    const isBytes = ArrayBuffer.isView(data) || data instanceof ArrayBuffer, payload = isBytes ? octets(data).slice() : encode(new NDEFMessage(data), WITHIN);
     accepted(library().poster(payload, Ndef.STANDARD));
     return { tnf: TNF.WELL_KNOWN, type: "Sp", payload };
 }
 
+// Whether this has records, as what makes a message does: Web NFC takes anything of which one can be asked after the other.
+const isMessage = (init) => init !== null && typeof init === "object" && typeof init.records === "object" && typeof init.records?.[Symbol.iterator] === "function";
+
 // Bytes, or the message that Web NFC takes in their place.
 function bytesOrMessage(data) {
     if (data === undefined || data === null) return "";
-    return Array.isArray(data.records) ? encode(data) : characters(data);
+    return isMessage(data) ? encode(data, WITHIN) : characters(data);
 }
 
 const MAKERS = new Map(Object.entries({
@@ -81,7 +91,7 @@ const MAKERS = new Map(Object.entries({
     "text": textParts,
     "url": urlParts,
     "smart-poster": posterParts,
-    "absolute-url": ({ data }) => ({ tnf: TNF.ABSOLUTE_URI, type: dataOf(data, "an absolute URL") }),
+    "absolute-url": ({ data }) => ({ tnf: TNF.ABSOLUTE_URI, type: dataOf(addressOf(data), "an absolute URL") }),
     "mime": ({ mediaType, data }) => ({
         tnf: TNF.MEDIA, type: stringOf(given(mediaType) ?? "application/octet-stream", "mediaType"),
         payload: dataOf(data, "a mime record"),
@@ -101,16 +111,26 @@ function partsOf(init) {
     return { tnf, type: isLocal ? recordType.slice(1) : recordType, id, payload: bytesOrMessage(init.data) };
 }
 
-const UNFIT = "its type doesn't fit its type name format, or a part is too long";
+// What may be wrong with the parts of a record.
+function causesOf({ tnf, type = "", id = "" }) {
+    const calls = library(), takes = (parts) => calls.writeRecord(parts), isTyped = characters(type).length > 0;
+    return [
+        ["its id has more than 255 bytes", () => takes({ tnf: TNF.UNKNOWN, id })],
+        ["its type has more than 255 bytes", () => (isTyped ? takes({ tnf: TNF.MEDIA, type }) : { status: Ndef.OK })],
+        ["there is no such type name format", () => ["", "a"].map((other) => takes({ tnf, type: other })).find(({ status }) => status === Ndef.OK) ?? takes({ tnf })],
+        [isTyped ? "a record of its type name format has no type" : "a record of its type name format needs a type", () => takes({ tnf, type })],
+        [tnf === TNF.EMPTY ? "an empty record has no id and no payload" : "it is too long"],
+    ];
+}
 
 // What the library reads of a record that it writes of these parts.
-function readOf(parts) {
-    const bytes = written(library().writeRecord({ ...parts, flags: Ndef.WRITE_FIRST | Ndef.WRITE_LAST }), "a record", UNFIT);
-    return { ...library().recordAt(bytes, 0), flags: 0 };
+function readOf({ tnf, type, id, payload }) {
+    const flags = Ndef.WRITE_FIRST | Ndef.WRITE_LAST, bytes = written(library().writeRecord({ tnf, type, id, payload, flags }), "a record", ...causesOf({ tnf, type, id }));
+    return library().items(bytes)[0];
 }
 
 export class NDEFRecord {
-    #read; // what recordAt of ndef.js answers, and the flags with which it was checked
+    #read; // an item of ndef.js
     #value;
 
     constructor(init, made) {
@@ -182,7 +202,7 @@ export class NDEFRecord {
 
     // What the payload means, as an object that the README lists by record types, or null.
     get value() {
-        if (this.#value === undefined) this.#value = valueOf(this.#read.kind, this.#read.payload, this.#read.flags & Ndef.STANDARD);
+        if (this.#value === undefined) this.#value = valueOf(this.#read);
         return this.#value;
     }
 
@@ -195,35 +215,85 @@ export class NDEFRecord {
     // What the payload is, a number of Ndef.KIND.
     get kind() { return this.#read.kind; }
 
-    // The bytes of the record, in one chunk.
-    toBytes(flags = Ndef.WRITE_FIRST | Ndef.WRITE_LAST) {
+    // What JSON.stringify makes of the record: its members that aren't null, and its payload in hexadecimal digits.
+    toJSON() {
+        const { recordType, mediaType, id, encoding, lang, text, uri } = this, payload = Array.from(this.#read.payload, (octet) => octet.toString(16).padStart(2, "0")).join("");
+        const members = Object.entries({ recordType, mediaType, id, encoding, lang, text, uri, payload });
+        return Object.fromEntries(members.filter(([, value]) => value !== null));
+    }
+
+    // What console.log of Node shows. A payload that is none of its kind has no value.
+    [Symbol.for("nodejs.util.inspect.custom")](depth, options, inspect) {
+        const { tnf, type, id, payload } = this;
+        let members;
+        try {
+            members = { ...this.toJSON(), payload };
+        } catch {
+            members = { tnf, type, id, payload };
+        }
+        return `NDEFRecord ${inspect(members, { ...options, depth: options.depth === null ? null : depth })}`;
+    }
+
+    // The bytes of the record, in one chunk: those of a message of it alone, as `encode` checks it; with flags those of a record of a
+    // message, which aren't checked.
+    toBytes(flags) {
+        if (flags === undefined) return encode({ records: [this] });
         const { tnf, type, id, payload } = this.#read;
-        return written(library().writeRecord({ tnf, type, id, payload, flags }), "a record", UNFIT);
+        return written(library().writeRecord({ tnf, type, id, payload, flags }), "a record", ["its flags are unknown"]);
     }
 }
 
 // The records of the message with which the bytes begin; within a payload, of its kind.
 export function recordsOf(bytes, within, flags) {
-    return library().records(bytes, within).map((read) => new NDEFRecord({ ...read, flags }, MADE));
+    return library().items(bytes, flags, within).map((item) => new NDEFRecord(item, MADE));
 }
 
 export class NDEFMessage {
-    // Takes what the constructor of Web NFC takes, and records of this module.
-    constructor(init) {
-        if (init === null || typeof init !== "object" || !Array.isArray(init.records) || init.records.length === 0)
-            throw new TypeError("a message is an object with a list of records, at least one");
-        this.records = Object.freeze(init.records.map((record) => (record instanceof NDEFRecord ? record : new NDEFRecord(record))));
+    // Takes what the constructor of Web NFC takes, and records of this module. What is MADE is items of ndef.js.
+    constructor(init, made) {
+        if (made === MADE) {
+            for (let index = 0; index < init.length; index++) init[index] = new NDEFRecord(init[index], MADE);
+            this.records = Object.freeze(init);
+            return;
+        }
+        const records = isMessage(init) ? Array.from(init.records) : [];
+        if (records.length === 0) throw new TypeError("a message is an object with a list of records, at least one");
+        this.records = Object.freeze(records.map((record) => (record instanceof NDEFRecord ? record : new NDEFRecord(record))));
     }
 
     // What NDEFReader.write of Web NFC takes for this message.
     toInit() {
         return { records: this.records.map((record) => record.toInit()) };
     }
+
+    // What JSON.stringify makes of the message.
+    toJSON() {
+        return { records: this.records.map((record) => record.toJSON()) };
+    }
 }
 
-// The bytes of a message: of a NDEFMessage, of Web NFC's, or of what makes one. Each record has one chunk.
-export function encode(message) {
-    const { records } = message instanceof NDEFMessage ? message : new NDEFMessage(message), last = records.length - 1;
-    return joined(records.map((record, index) =>
-        record.toBytes((index === 0 ? Ndef.WRITE_FIRST : 0) | (index === last ? Ndef.WRITE_LAST : 0))));
+// What `write` of Web NFC takes as a message: a string is a text, and bytes are a record of a media type.
+function messageFor(source) {
+    if (source instanceof NDEFMessage) return source;
+    if (typeof source === "string") return new NDEFMessage({ records: [{ recordType: "text", data: source }] });
+    const isBytes = ArrayBuffer.isView(source) || source instanceof ArrayBuffer;
+    return new NDEFMessage(isBytes ? { records: [{ recordType: "mime", data: source }] } : source);
+}
+
+// The error for a message that was written, of the answer of the check that refuses it. `parts` are the bytes of its records.
+function refusalOf(bytes, parts, how, { place, reason }) {
+    const calls = library(), wanted = calls.lacks.has("ndef_why") ? null : calls.why(bytes, how);
+    let record = 0, begin = 0;
+    while (record < parts.length - 1 && begin + parts[record].length <= place) begin += parts[record++].length;
+    return new NdefError(place - begin, reason, calls.reasonName(reason), wanted ?? calls.reasonSentence(reason), record);
+}
+
+// The bytes of a message: of a NDEFMessage, of Web NFC's, or of what makes one there. Each record has one chunk. Throws NdefError where
+// `decode` refuses them with the same options, unless these have `unchecked`.
+export function encode(message, options) {
+    const how = optionsOf(options), { records } = messageFor(message), last = records.length - 1;
+    const parts = records.map((record, index) => record.toBytes((index === 0 ? Ndef.WRITE_FIRST : 0) | (index === last ? Ndef.WRITE_LAST : 0)));
+    const bytes = joined(parts), answer = options?.unchecked ? null : library().check(bytes, how);
+    if (answer?.status === Ndef.REFUSED) throw refusalOf(bytes, parts, how, answer);
+    return bytes;
 }

@@ -1,18 +1,14 @@
 // What the payloads of records mean, each as a plain object. The library says where the parts of a payload lie.
+import { strictUtf8, utf8 } from "./given.js";
 import { Ndef } from "./ndef.js";
 import { accepted, library } from "./library.js";
 
 const { KIND } = Ndef;
 
-// The characters of bytes in UTF-8, a byte order mark among them.
-export function utf8(bytes) {
-    return new TextDecoder("utf-8", { ignoreBOM: true }).decode(bytes);
-}
-
 // A name that should be text: a string where the bytes are UTF-8, else the bytes.
 function nameOf(bytes) {
     try {
-        return new TextDecoder("utf-8", { ignoreBOM: true, fatal: true }).decode(bytes);
+        return strictUtf8(bytes);
     } catch {
         return bytes;
     }
@@ -20,18 +16,18 @@ function nameOf(bytes) {
 
 const part = (payload, at, length) => payload.slice(at, at + length);
 
-function textOf(payload) {
-    const { text, language, utf16 } = accepted(library().text(payload));
+function textOf(item) {
+    const { text, language, utf16 } = accepted(library().textOf(item));
     return { text, language, utf16 };
 }
 
-function uriOf(payload, flags) {
-    return { uri: accepted(library().uri(payload, flags)).text };
+function uriOf(item, flags) {
+    return { uri: accepted(library().uriOf(item, flags)).text };
 }
 
 // A title is a text within the poster: the library reads it as the payload of its own record.
 function titlesOf(payload) {
-    return library().records(payload, KIND.SMART_POSTER).filter(({ kind }) => kind === KIND.TEXT).map((record) => textOf(record.payload));
+    return library().items(payload, 0, KIND.SMART_POSTER).filter(({ kind }) => kind === KIND.TEXT).map(textOf);
 }
 
 function iconsOf(payload) {
@@ -65,7 +61,7 @@ function referencesOf(payload) {
 // The alternative carriers of a handover: the power state of each, and its references as bytes, the carrier data reference
 // first.
 export function alternativesOf(kind, payload) {
-    const records = library().records(messageWithin(kind, payload), kind);
+    const records = library().items(messageWithin(kind, payload), 0, kind);
     return records.filter((record) => record.kind === KIND.ALTERNATIVE).map((record) => referencesOf(record.payload));
 }
 
@@ -87,7 +83,7 @@ function errorOf(payload) {
 function selectOf(payload, flags) {
     const { major, minor, error } = accepted(library().select(payload, flags));
     const found = error === null ? undefined
-        : library().records(messageWithin(KIND.SELECT, payload), KIND.SELECT).find(({ kind }) => kind === KIND.ERROR);
+        : library().items(messageWithin(KIND.SELECT, payload), 0, KIND.SELECT).find(({ kind }) => kind === KIND.ERROR);
     return { major, minor, carriers: alternativesOf(KIND.SELECT, payload).map(carrierOf), error: found ? errorOf(found.payload) : null };
 }
 
@@ -97,12 +93,14 @@ function handoverCarrierOf(payload) {
 }
 
 const READERS = new Map([
-    [KIND.TEXT, textOf], [KIND.URI, uriOf], [KIND.SMART_POSTER, posterOf], [KIND.REQUEST, requestOf], [KIND.SELECT, selectOf],
+    [KIND.SMART_POSTER, posterOf], [KIND.REQUEST, requestOf], [KIND.SELECT, selectOf],
     [KIND.CARRIER, handoverCarrierOf], [KIND.ALTERNATIVE, (payload) => carrierOf(referencesOf(payload))], [KIND.ERROR, errorOf],
 ]);
 
-// What a payload of a kind means, or null where the kind has no value of its own. Throws NdefError for a payload that is none of
-// its kind, which only messages have whose payloads weren't checked.
-export function valueOf(kind, payload, flags) {
-    return READERS.get(kind)?.(payload, flags) ?? null;
+// What the payload of an item of ndef.js means, or null where its kind has no value of its own. Throws NdefError for a payload that is
+// none of its kind, which only messages have whose payloads weren't checked.
+export function valueOf(item) {
+    const { kind } = item, flags = item.flags & Ndef.STANDARD;
+    if (kind === KIND.TEXT) return textOf(item);
+    return kind === KIND.URI ? uriOf(item, flags) : READERS.get(kind)?.(item.payload, flags) ?? null;
 }

@@ -4,6 +4,7 @@
     octets = b''.join(message_encoder(records))
 """
 from . import handover, message, record, smartposter, text, uri
+from ._checker import Checked, Checker
 from ._fields import Field, fields
 from ._many import decode_many
 from ._ndeflib import install_as_ndef
@@ -17,7 +18,10 @@ from .text import TextRecord
 from .uri import UriRecord
 
 __version__ = '@VERSION@'
+if __version__.startswith('@'):  # The folder of the repository, as `pip install -e` uses it.
+    from importlib.metadata import version
+    __version__ = version('simbegyor-ndef')
 
-__all__ = ['DecodeError', 'EncodeError', 'Field', 'GlobalRecord', 'HandoverCarrierRecord', 'HandoverRequestRecord',
+__all__ = ['Checked', 'Checker', 'DecodeError', 'EncodeError', 'Field', 'GlobalRecord', 'HandoverCarrierRecord', 'HandoverRequestRecord',
            'HandoverSelectRecord', 'LocalRecord', 'Record', 'SmartposterRecord', 'TextRecord', 'UriRecord', 'decode_many',
            'field_remark', 'fields', 'hint', 'install_as_ndef', 'message_decoder', 'message_encoder', 'record_remark', 'why']

@@ -132,8 +132,8 @@ class Checked(ctypes.Structure):
 
 
 class Checker(ctypes.Structure):
-    """A checker in the caller's memory, which keeps no bytes."""
-    _fields_ = [('words', u64 * 29)]
+    """A checker in the caller's memory, which keeps no bytes but those of a type that comes in parts."""
+    _fields_ = [('words', u64 * 61)]
 
 
 class Record(ctypes.Structure):
@@ -240,6 +240,13 @@ class AlternativeWriting(ctypes.Structure):
 class SelectWriting(ctypes.Structure):
     """What a handover select that is written says, but for its alternative carriers."""
     _fields_ = [('data', Part), ('minor', u32), ('has_error', u32), ('reason', u32)]
+
+
+class Item(ctypes.Structure):
+    """A record, by places and lengths in the bytes."""
+    _fields_ = [('at', u32), ('end', u32), ('tnf', u32), ('kind', u32), ('type_at', u32), ('type_length', u32),
+                ('id_length', u32), ('payload_at', u32), ('payload_length', u32), ('pieces', u32), ('form', u32),
+                ('number', u32), ('language_at', u32), ('language_length', u32), ('text_at', u32), ('text_length', u32)]
 
 
 # The calls that return nothing; the others return a number.
@@ -501,3 +508,7 @@ class Calls(Protocol):
                      count: Reference) -> int:
         """Writes the payload of a Handover Select record to the room: the alternative carriers, whose references are
         parts of the bytes, and then the error."""
+
+    def items(self, bytes: Octets, length: Size, limits: Reference, out: Reference, items: Reference,
+              size: Size) -> int:
+        """Checks the message with which the bytes begin, and gives all its records."""

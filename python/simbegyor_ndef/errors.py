@@ -48,19 +48,24 @@ class DecodeError(Exception):
 
 
 class EncodeError(Exception):
-    """A record can't be written.
+    """A record can't be written, or no decoder would take it.
 
-    what: what is wrong with it.
+    what: what is wrong with it; of a record that a decoder refuses what is wanted at `at`, in a sentence of English.
     place: the place in the message at which its octets would begin, counted from 0.
-    reason: 'PayloadTooLarge' where the payload is longer than MAX_PAYLOAD_SIZE, else 'BadArgument'.
+    reason: the name of the reason for which a decoder refuses it, as 'PayloadTooLarge'; 'BadArgument' where it has no octets.
     number: the number of that reason in ndef.h; 0 for 'BadArgument'.
+    record: its index in the message, counted from 0; None where it was no part of one.
+    at: the place of the first octet of it that a decoder refuses, counted from its first; None where it has no octets.
     """
 
-    def __init__(self, what: str = '', place: int = 0, reason: str = 'BadArgument', number: int = 0) -> None:
-        super().__init__(what, place, reason, number)
-        self.what, self.place, self.reason, self.number = what, place, reason, number
+    def __init__(self, what: str = '', place: int = 0, reason: str = 'BadArgument', number: int = 0, record: Optional[int] = None,
+                 at: Optional[int] = None) -> None:
+        super().__init__(what, place, reason, number, record, at)
+        self.what, self.place, self.reason, self.number, self.record, self.at = what, place, reason, number, record, at
 
     def __str__(self) -> str:
+        if self.at is not None:
+            return 'record %s refused at its octet %d: %s: %s' % (self.record, self.at, self.reason, _one_line(self.what))
         return '%s, at %d: %s' % (_one_line(self.what), self.place, self.reason)
 
 

@@ -292,7 +292,7 @@ class _Handover(GlobalRecord):
         self._records.insert(self._place_of_error(), AlternativeCarrierRecord(cps, cdr, adr))
 
     def _encode_payload(self) -> bytes:
-        message = b''.join(message_encoder(self._records))
+        message = b''.join(message_encoder(self._records, unchecked=True))
         return library.written('no handover has these parts', library.write_handover, self._number, *self._version, message,
                                library.size_of(len(message)), given=len(message), raised=EncodeError)
 

@@ -7,7 +7,7 @@ from typing import Any, BinaryIO, Dict, Generator, Iterable, Iterator, Mapping, 
 from . import _library as library
 from ._library import OK, SIZES, USUAL_SIZES, Desk, check_short, lone_fields, new_desk, pop_desk, push_desk, record_at, record_fields
 from ._library import record_there, size_of, taken_desk
-from .errors import DecodeError, left_out
+from .errors import DecodeError, EncodeError, left_out
 from .record import READ_LATE, Parts, Record, parts_of
 
 __all__ = ['message_decoder', 'message_encoder']
@@ -29,11 +29,38 @@ _usual: Dict[int, Reading] = {}
 _MOST_USUAL = 64
 
 
-def known_of(known_types: Optional[Mapping[str, Type[Record]]]) -> Reading:
+class _Relaxed:
+    """A class of records as errors='relax' has it: a payload that it refuses is that of a plain record, which has the refusal."""
+
+    def __init__(self, kind: Parts, record_class: Type[Record]) -> None:
+        self.kind, self.record_class = kind, record_class
+
+    def _from_payload(self, octets: bytes) -> Record:
+        try:
+            return self.record_class._from_payload(octets)
+        except DecodeError as error:
+            made = Record._made(self.kind, octets)
+            made.refusal = DecodeError(error.reason, error.place, error.number)
+            return made
+
+
+def _known_class(spelled: Any, record_class: Any) -> Tuple[Parts, Type[Record]]:
+    """A type and its class, as `known_types` has them."""
+    if not isinstance(spelled, str) or not (isinstance(record_class, type) and issubclass(record_class, Record)):
+        raise TypeError('known_types has record classes by the spelling of their types, not %r: %r' % (spelled, record_class))
+    return parts_of(spelled), record_class
+
+
+def known_of(known_types: Optional[Mapping[str, Type[Record]]], relaxed: bool = False) -> Reading:
     """How messages are read where these types are known."""
     most = Record.MAX_PAYLOAD_SIZE
-    if known_types is not None:
-        known = {parts_of(spelled): record_class for spelled, record_class in known_types.items()}
+    if known_types is not None and not isinstance(known_types, Mapping):
+        raise TypeError('known_types has record classes by the spelling of their types, and is no %s' % type(known_types).__name__)
+    if known_types is not None or relaxed:
+        known: Known = Record._known_parts if known_types is None else dict(_known_class(*one) for one in known_types.items())
+        if relaxed:
+            relaxing: Any = {kind: _Relaxed(kind, record_class) for kind, record_class in known.items()}
+            known = relaxing
         return library.limits(most, library.OPAQUE), known, None
     usual = _usual.get(most)
     if usual is None:
@@ -53,11 +80,12 @@ def message_decoder(stream_or_bytes: Union[bytes, bytearray, memoryview, BinaryI
     `whole` no record is given before the message is known to be right.
 
     `known_types` are classes by the spelling of their type, in place of those that are registered; with {} every payload is
-    data. `errors` is 'strict'.
+    data. With `errors='relax'` a payload that is none of its type doesn't end the message: it is given as a plain record of that
+    type, whose `refusal` says where in the payload, and why. All else is refused as with 'strict'.
     """
-    if errors != 'strict':
-        raise left_out('errors=%r' % errors) if errors in ('relax', 'ignore') else ValueError("errors is 'strict', not %r" % (errors,))
-    limits, known, told = known_of(known_types)
+    if errors not in ('strict', 'relax'):
+        raise left_out('errors=%r' % errors) if errors == 'ignore' else ValueError("errors is 'strict' or 'relax', not %r" % (errors,))
+    limits, known, told = known_of(known_types, errors == 'relax')
     records: Iterable[Record]
     given: Any = stream_or_bytes
     octets = given if type(given) is bytes else _octets_of(given)
@@ -288,36 +316,42 @@ def _place_in_pieces(octets: bytes, is_first: bool, error: DecodeError, payload_
 
 
 @overload
-def message_encoder(message: Iterable[Record], stream: None = None) -> Generator[bytes, None, None]: ...
+def message_encoder(message: Iterable[Record], stream: None = None, *, unchecked: bool = False) -> Generator[bytes, None, None]: ...
 
 
 @overload
-def message_encoder(message: Iterable[Record], stream: BinaryIO) -> Generator[int, None, None]: ...
+def message_encoder(message: Iterable[Record], stream: BinaryIO, *, unchecked: bool = False) -> Generator[int, None, None]: ...
 
 
 @overload
-def message_encoder(message: None = None, stream: None = None) -> Generator[Optional[bytes], Optional[Record], None]: ...
+def message_encoder(message: None = None, stream: None = None, *,
+                    unchecked: bool = False) -> Generator[Optional[bytes], Optional[Record], None]: ...
 
 
 @overload
-def message_encoder(message: None = None, *, stream: BinaryIO) -> Generator[Optional[int], Optional[Record], None]: ...
+def message_encoder(message: None = None, *, stream: BinaryIO,
+                    unchecked: bool = False) -> Generator[Optional[int], Optional[Record], None]: ...
 
 
-def message_encoder(message: Optional[Iterable[Record]] = None, stream: Optional[BinaryIO] = None) -> Generator[Any, Any, None]:
+def message_encoder(message: Optional[Iterable[Record]] = None, stream: Optional[BinaryIO] = None, *,
+                    unchecked: bool = False) -> Generator[Any, Any, None]:
     """A generator of the octets of each record of the message in turn, or, where a stream is given that they are written
     to, of their numbers. With no message, a generator to which the records are sent, and None after the last: each
-    gives the octets of the record before it."""
+    gives the octets of the record before it.
+
+    EncodeError is raised in place of the octets of a record with which `message_decoder` would refuse the message. `unchecked`
+    writes it, too."""
     if message is None:
-        return _sent(stream)
-    return _encoded(message, stream)
+        return _sent(stream, unchecked)
+    return _encoded(message, stream, unchecked)
 
 
-def _encoded(message: Iterable[Record], stream: Optional[BinaryIO]) -> Generator[Any, None, None]:
-    encoder = _sent(stream)
+def _encoded(message: Iterable[Record], stream: Optional[BinaryIO], unchecked: bool) -> Generator[Any, None, None]:
+    encoder = _sent(stream, unchecked)
     encoder.send(None)
     begun = False
     for record in message:
-        octets = encoder.send(record)
+        octets = encoder.send(_record(record))
         if begun:
             yield octets
         begun = True
@@ -325,14 +359,52 @@ def _encoded(message: Iterable[Record], stream: Optional[BinaryIO]) -> Generator
         yield encoder.send(None)
 
 
-def _sent(stream: Optional[BinaryIO]) -> Generator[Any, Optional[Record], None]:
-    place, flags, octets = 0, library.FIRST, None
+def _record(given: Any) -> Record:
+    """What is given, if it is a record."""
+    if not isinstance(given, Record):
+        raise TypeError('a Record is needed, not %s' % type(given).__name__)
+    return given
+
+
+def _sent(stream: Optional[BinaryIO], unchecked: bool) -> Generator[Any, Optional[Record], None]:
+    outgoing, flags, octets = _Outgoing(unchecked), library.FIRST, None
     record: Any = yield
     while record is not None:
-        if not isinstance(record, Record):
-            raise TypeError('a Record is needed, not %s' % type(record).__name__)
+        _record(record)
         following = yield octets
-        written = record._written(flags | (library.LAST if following is None else 0), place)
-        place, flags, octets = place + len(written), 0, written if stream is None else stream.write(written)
+        written = outgoing.written(record, flags | (library.LAST if following is None else 0))
+        flags, octets = 0, written if stream is None else stream.write(written)
         record = following
     yield octets
+
+
+class _Outgoing:
+    """A message that is written record by record: how much of it there is, and whether a decoder would take it so far."""
+
+    def __init__(self, unchecked: bool) -> None:
+        self.place = self.count = 0
+        self.limits = None if unchecked else library.limits(Record.MAX_PAYLOAD_SIZE, 0)
+        self.checker, self.checked = library.Checker(), library.Checked()
+        if self.limits is not None:
+            library.begin(self.limits, library.byref(self.checker))
+
+    def written(self, record: Record, flags: int) -> bytes:
+        """The octets of the next record."""
+        try:
+            octets = record._written(flags, self.place)
+        except EncodeError as error:
+            raise EncodeError(error.what, error.place, error.reason, error.number, self.count, error.at) from None
+        if self.limits is not None:
+            size = library.size_of(len(octets))
+            if library.feed(library.byref(self.checker), octets, size, library.byref(self.checked)) == library.REFUSED:
+                raise self._refusal(record)
+        self.place, self.count = self.place + len(octets), self.count + 1
+        return octets
+
+    def _refusal(self, record: Record) -> EncodeError:
+        """Why a decoder refuses the message with this record. The sentence is that of the record alone, where it is refused alone."""
+        number, alone, checked = self.checked.reason, record._written(library.FIRST | library.LAST, 0), library.Checked()
+        library.check(alone, library.size_of(len(alone)), self.limits, library.byref(checked))
+        wanted = library.why(alone, self.limits) if library.has_sentences and checked.reason == number else None
+        return EncodeError(wanted or library.reason_sentence(number), self.place, library.reason_name(number), number, self.count,
+                           self.checked.place - self.place)

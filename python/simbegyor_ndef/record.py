@@ -99,6 +99,8 @@ class Record:
         else's), the URI itself (an absolute URI), 'unknown', or '' (an empty record). ValueError where no record has it.
     name: the id, a str of up to 255 characters of Latin-1.
     data: the payload, octets.
+    refusal: None; of a record that `message_decoder` gave with errors='relax', the DecodeError for a payload that is none of its
+        type, whose place counts from the first octet of the payload.
 
     MAX_PAYLOAD_SIZE, 1048576, is the greatest payload that is decoded and encoded. Assign 1 to 4294967295 to change it.
     """
@@ -111,6 +113,8 @@ class Record:
     _name: bytes = b''
     # A checked payload that wasn't looked at yet, of a class in `READ_LATE`.
     _unread: Optional[bytes] = None
+    # Where and why the payload is none of the type, counted from its first octet: of a record that errors='relax' gave.
+    refusal: Optional[DecodeError] = None
     _parts: Parts
     _data: Octets
 
@@ -143,6 +147,8 @@ class Record:
                                     cls._decode_max_payload_length, len(octets))
         try:
             made: Record = cls._decode_payload(octets, 'strict')
+            if not isinstance(made, Record):
+                raise TypeError('%s._decode_payload gives a %s, and no Record' % (cls.__name__, type(made).__name__))
             return made
         except struct.error as error:
             raise cls._decode_error('{}', error) from None

@@ -26,7 +26,7 @@ def _parts_of(octets: bytes) -> library.PosterParts:
 
 def _parts_within(spelled: str, octets: bytes) -> library.PosterParts:
     """What the library gives for a poster of a URI and a record with this payload. A refusal has its place in the payload."""
-    message = list(message_encoder([UriRecord(), Record(spelled, '', octets)]))
+    message = list(message_encoder([UriRecord(), Record(spelled, '', octets)], unchecked=True))
     try:
         return _parts_of(b''.join(message))
     except DecodeError as error:
@@ -301,7 +301,7 @@ class SmartposterRecord(GlobalRecord):
         self._set(TypeRecord, 'resource_type', value)
 
     def _encode_payload(self) -> bytes:
-        return b''.join(message_encoder(self._records))
+        return b''.join(message_encoder(self._records, unchecked=True))
 
     @classmethod
     def _decode_payload(cls, octets: bytes, errors: str) -> SmartposterRecord:

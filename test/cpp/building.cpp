@@ -95,6 +95,8 @@ static ndef::owned_message of(std::string_view letters) {
     return *ndef::owned_message::write(records);
 }
 
+static bool matches(const ndef::filter &filter, const ndef::owned_message &message) { return filter.matches(message.view()); }
+
 static void filters() {
     const auto text = [](ndef::filter &to, std::size_t least, std::size_t most) {
         to.record(NDEF_TNF_WELL_KNOWN, "T", least, most);
@@ -124,12 +126,12 @@ static void filters() {
     text(row, 0, 1);
     text(row, 1, 1);
     test("a type that is added twice in a row",
-         row.matches(of("T").view()) && row.matches(of("TT").view()) && !row.matches(of("TTT").view()));
-    test("a filter of nothing", none.matches(ndef::message()) && !none.matches(of("T").view()));
+         matches(row, of("T")) && matches(row, of("TT")) && !matches(row, of("TTT")));
+    test("a filter of nothing", none.matches(ndef::message()) && !matches(none, of("T")));
     test("a message of nothing", !any.matches(ndef::message()));
     ndef::filter external;
     external.record(NDEF_TNF_EXTERNAL, "T");
-    test("another type name format", !external.matches(of("T").view()));
+    test("another type name format", !matches(external, of("T")));
 }
 
 int main() {

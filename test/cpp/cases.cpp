@@ -60,18 +60,18 @@ static answer in_parts(ndef::bytes input, const ndef_limits &limits, std::size_t
 }
 
 /// Writes the records again, exactly as long as they are and with a room that is one byte short.
-static bool is_written_again(ndef::message message, std::size_t count) {
+static bool is_written_again(ndef::message message, std::size_t count, const ndef_limits &limits) {
     struct { const ndef::new_record *begin_at, *end_at;
         const ndef::new_record *begin() const { return begin_at; }
         const ndef::new_record *end() const { return end_at; } } all = {records, records + count};
     ndef::room none;
-    const auto asked = ndef::write_message(none, all);
+    const auto asked = ndef::write_message(none, all, limits);
     if (asked || asked.error().what != NDEF_NO_ROOM) return false;
     const std::size_t needed = static_cast<std::size_t>(asked.error().needed);
     ndef::room exact(again, needed), shorter(again, needed - 1);
-    const auto failed = ndef::write_message(shorter, all);
+    const auto failed = ndef::write_message(shorter, all, limits);
     if (failed || failed.error().needed != needed || shorter.size() != needed - 1) return false;
-    const auto written = ndef::write_message(exact, all);
+    const auto written = ndef::write_message(exact, all, limits);
     if (!written || written->octets().size() != needed || exact.size() != 0) return false;
     auto one = message.begin();
     for (ndef::record other : *written) {
@@ -83,7 +83,7 @@ static bool is_written_again(ndef::message message, std::size_t count) {
 }
 
 /// Whether the records are those of the words `TNF TYPE ID PAYLOAD`, their payloads joined one behind the other.
-static bool are_records(ndef::message message, const std::vector<std::string> &words) {
+static bool are_records(ndef::message message, const std::vector<std::string> &words, const ndef_limits &limits) {
     ndef::room room(joined);
     std::size_t count = 0;
     for (ndef::record record : message) {
@@ -98,7 +98,7 @@ static bool are_records(ndef::message message, const std::vector<std::string> &w
         if (record.is_last() != (count + 1 == words.size())) return false;
         records[count++] = {record.format(), record.type(), *payload, record.id()};
     }
-    return count == words.size() && is_written_again(message, count);
+    return count == words.size() && is_written_again(message, count, limits);
 }
 
 static ndef_field told[1 << 20];
@@ -175,7 +175,7 @@ static bool is_answered(const std::vector<std::string> &fields, bool is_standard
         holds = holds && in_parts(input, limits, cut) == wanted;
     if (allocations != before) return false;
     holds = holds && has_fields(input, limits, wanted);
-    return holds && (!is_accepted || are_records(*ndef::message::check(input, limits), rows));
+    return holds && (!is_accepted || are_records(*ndef::message::check(input, limits), rows, limits));
 }
 
 int main() {

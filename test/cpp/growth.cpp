@@ -14,7 +14,7 @@ static bool is_steep;
 
 /// A message of records with these payloads, written to the front of a room.
 static ndef::message message_of(ndef::room &room, const std::vector<ndef::new_record> &records) {
-    return *ndef::write_message(room, records);
+    return *ndef::write_message(room, records, ndef::unchecked);
 }
 
 /// The microseconds of processor time of a walk: of five the fewest.

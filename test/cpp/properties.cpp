@@ -56,6 +56,8 @@ static void ranges() {
     walk(ndef::views<ndef::uri>(read.records()), {"a"}, [](const ndef::uri &one) { return one.str(); });
     walk(ndef::views<ndef::text>(), {}, [](const ndef::text &one) { return one.str(); });
     walk(ndef::icons(), {}, [](const ndef::icon &) { return std::string(); });
+    const auto type_of = [](const ndef::icon &one) { return std::string(one.media_type) + std::string(one.data.text()); };
+    walk(ndef::icons(message), {"a/bx", "a/b"}, type_of);
     LOOK(read.title("en")->str() == "A" && read.title("EN")->str() == "A" && read.title("De")->str() == "C" &&
          read.title("fr").error().what == NDEF_END);
     const octets empty = {0xd1, 1, 3, 'T', 2, 'e', 'n'};
@@ -97,9 +99,19 @@ static void copies() {
     LOOK(request.links(array, 2, message).error().needed == 3 &&
          request.links(array, 0, message).error().what == NDEF_NO_ROOM);
     LOOK(request.links(message).size() == 3 && request.carrier_count() == 3 && request.records().record_count() == 4);
-    LOOK(std::next(request.links(message).begin())->record_index == 0 &&
-         request.links(message).begin()->record_index == 1);
+    const ndef::links both = request.links(message);
+    LOOK(std::next(both.begin())->record_index == 0 && both.begin()->record_index == 1);
     LOOK(ndef::links::in(array, 3, message, ndef::bytes()).error().what == NDEF_BAD_ARGUMENT);
+    // A copy holds after what it was made of is gone and its memory is used again; so does what was moved.
+    auto source = std::make_unique<ndef::links>(request.links(message));
+    const ndef::links kept = *source;
+    source.reset();
+    const std::vector<ndef_link> used(3);
+    walk(kept, wanted, key);
+    auto left = std::make_unique<ndef::links>(request.links(message));
+    const ndef::links taken_over = std::move(*left);
+    left.reset();
+    walk(taken_over, wanted, key);
     auto fields = std::make_unique<ndef::fields>(linked);
     const ndef::fields again = *fields, taken = std::move(*fields);
     fields.reset();
@@ -158,7 +170,8 @@ static void results() {
     const ndef::error none;
     LOOK(none.what == NDEF_BAD_ARGUMENT && none.why == 0 && none.place == 0 && none.needed == 0 &&
          none.sentence().empty());
-    LOOK(ndef::message::check(octets{0xd7}).error().sentence() == "The type name format 7 is reserved.");
+    const octets reserved{0xd7};
+    LOOK(ndef::message::check(reserved).error().sentence() == "The type name format 7 is reserved.");
     const ndef::result<std::string> text = std::string("kept");
     LOOK(text->size() == 4 && *text == "kept");
 }

@@ -115,7 +115,7 @@ static ndef::result<ndef::bytes> written(ndef::room &room, ndef::message records
         all.push_back({one.format(), one.type(), *payload, one.id()});
     }
     if (all.empty()) return ndef::bytes();
-    return ndef::write_message(room, all).transform([](const ndef::message &made) { return made.octets(); });
+    return ndef::write_message(room, all, ndef::unchecked).transform([](const ndef::message &made) { return made.octets(); });
 }
 static ndef::result<ndef::bytes> written(ndef::room &room, const ndef::poster &poster) {
     return written(room, poster.records());
@@ -203,7 +203,7 @@ static bool are_linked() {
     const auto found = message->find_id("a"), typed = message->find(NDEF_TNF_MEDIA, "a/b");
     return are_two_links(made) && are_two_links(copied) && found && typed && found->place() == typed->place() &&
         !message->find_id("") && !message->find("T") && !message->begin()->as<ndef::select>() &&
-        ndef::links(*message, ndef::bytes()).begin() == ndef::links().end();
+        ndef::links(*message, ndef::bytes()).size() == 0;
 }
 
 /// A poster and a select, each written in one call.

@@ -88,18 +88,27 @@ final class Load {
         return ManagementFactory.getMemoryMXBean().getHeapMemoryUsage().getUsed();
     }
 
-    /** Neither the heap nor the process grows from the first half of the rounds to the second. */
+    /**
+     * Neither the heap nor the process grows in the middle one of five parts of the rounds, by what they grow: by more than 32
+     * and 64 KB. What the JVM or a sanitizer takes for itself comes in some of them, and counts in few rounds for more.
+     */
     private static void memoryIsFlat(int rounds) throws Exception {
         byte[] good = select(40).toByteArray(true, 7);
         byte[] bad = Arrays.copyOf(good, good.length - 1);
-        readOften(good, bad, rounds / 2);
-        long heapBefore = heap();
-        long before = resident();
-        readOften(good, bad, rounds / 2);
-        long heapGrown = heap() - heapBefore;
-        long grown = resident() - before;
-        if (heapGrown > 1 << 20 || grown > 8 << 20) {
-            throw new AssertionError("the heap has grown by " + heapGrown + " bytes, and the process by " + grown);
+        long[] heapGrown = new long[5];
+        long[] grown = new long[5];
+        for (int part = 0; part < 5; part++) {
+            long heapBefore = heap();
+            long before = resident();
+            readOften(good, bad, rounds / 5);
+            heapGrown[part] = heap() - heapBefore;
+            grown[part] = resident() - before;
+        }
+        Arrays.sort(heapGrown);
+        Arrays.sort(grown);
+        if (heapGrown[2] > 1 << 15 || grown[2] > (rounds < 10000 ? 1 << 23 : 1 << 16)) {
+            throw new AssertionError("in " + rounds / 5 + " rounds the heap has grown by " + Arrays.toString(heapGrown)
+                    + " bytes, and the process by " + Arrays.toString(grown));
         }
     }
 
@@ -146,7 +155,7 @@ final class Load {
         for (int i = 0; i < count; i++) {
             records[i] = NdefRecord.createUri("tel:" + i);
         }
-        return new NdefMessage(records);
+        return NdefMessage.of(records, Limits.usual().withRecords(count), Profile.STRICT);
     }
 
     private static void manyRecords(int count) throws FormatException {
@@ -193,7 +202,7 @@ final class Load {
     private static void timeGrows() throws Exception {
         int[] counts = {100, 1000, 10000};
         Limits limits = Limits.usual().withRecords(30000);
-        double[][] times = new double[4][counts.length];
+        double[][] times = new double[5][counts.length];
         for (int i = 0; i < counts.length; i++) {
             NdefMessage message = short_(counts[i]);
             byte[] bytes = message.toByteArray();
@@ -202,8 +211,9 @@ final class Load {
             times[1][i] = least(message::toByteArray);
             times[2][i] = least(() -> Fields.of(bytes, limits, Profile.STRICT).size());
             times[3][i] = least(() -> ((SmartPoster) poster.decode()).icons());
+            times[4][i] = least(() -> NdefMessage.of(message.getRecords(), limits, Profile.STRICT));
         }
-        String[] names = {"parse", "toByteArray", "fields", "poster"};
+        String[] names = {"parse", "toByteArray", "fields", "poster", "of"};
         for (int walk = 0; walk < names.length; walk++) {
             double[] row = times[walk];
             System.out.printf("%s: %.0f, %.0f, %.0f us%n", names[walk], row[0], row[1], row[2]);

@@ -109,6 +109,13 @@ class RecordTest {
     void mediaTypesAndOthers() {
         is(NdefRecord.createMime("Text/Plain; charset=utf-8", bytes("x")), 2, "text/plain", "x");
         is(NdefRecord.createMime(" a/b ", null), 2, "a/b", "");
+        Locale before = Locale.getDefault();
+        try {
+            Locale.setDefault(new Locale("tr", "TR"));
+            is(NdefRecord.createMime("IMAGE/GIF", NONE), 2, "image/gif", "");
+        } finally {
+            Locale.setDefault(before);
+        }
         is(NdefRecord.createMime("noslash", NONE), 2, "noslash", "");
         for (String wrong : new String[] {"", " ", ";", "/b", "a/", "ä/b"}) {
             refuses(() -> NdefRecord.createMime(wrong, NONE));
@@ -277,6 +284,87 @@ class RecordTest {
 
     // ---- messages, limits and checks
 
+    private static NdefRecord[] times(int count, NdefRecord record) {
+        NdefRecord[] records = new NdefRecord[count];
+        Arrays.fill(records, record);
+        return records;
+    }
+
+    private static NdefRecord wellKnown(String type, String payload) {
+        return new NdefRecord(NdefRecord.TNF_WELL_KNOWN, bytes(type), null, Cases.unhex(payload));
+    }
+
+    /** Which record is refused, where and why, both where the message is made and where its bytes are read. */
+    private static RecordException isRefused(int record, int place, Reason reason, NdefRecord... records) {
+        RecordException refusal = assertThrows(RecordException.class, () -> new NdefMessage(records));
+        byte[] written = NdefMessage.unchecked(records).toByteArray();
+        FormatException read = assertThrows(FormatException.class, () -> new NdefMessage(written));
+        assertEquals(List.of(record, (long) place, reason, reason),
+                List.of(refusal.record(), refusal.place(), refusal.reason(), read.reason()));
+        int begin = record == 0 ? 0 : NdefMessage.unchecked(Arrays.copyOf(records, record)).getByteArrayLength();
+        assertEquals(read.place(), begin + place);
+        assertEquals("record " + record + " is refused at " + place + ": " + reason.number() + " " + reason + ": "
+                + refusal.sentence(), refusal.getMessage());
+        return refusal;
+    }
+
+    @Test
+    void messagesThatNoReaderTakes() {
+        NdefRecord uri = NdefRecord.createUri("tel:1");
+        NdefRecord text = wellKnown("T", "");
+        isRefused(0, 3, Reason.DOES_NOT_FIT, text);
+        isRefused(1, 4, Reason.URI_CODE, uri, wellKnown("U", "24"), uri);
+        isRefused(2, 5, Reason.PAYLOAD_TOO_LARGE, uri, uri, new NdefRecord((short) 5, null, null, new byte[(1 << 20) + 1]));
+        // The last that there may be: its first octet says that another follows.
+        isRefused(1023, 0, Reason.TOO_MANY_RECORDS, times(1025, uri));
+        refuses(() -> new NdefMessage(uri, text));
+        refuses(text::toByteArray);
+        assertEquals(1024, new NdefMessage(times(1024, uri)).getRecords().length);
+    }
+
+    @Test
+    void aRefusedRecordHasASentence() {
+        NdefRecord uri = NdefRecord.createUri("tel:1");
+        Limits limits = Limits.usual().withRecords(1).withOpaque(true);
+        assertEquals(Reason.TOO_MANY_RECORDS.sentence(), assertThrows(RecordException.class,
+                () -> NdefMessage.of(times(2, uri), limits, Profile.STRICT)).sentence());
+        Assumptions.assumeTrue(hasSentences());
+        assertEquals("A text (`T`) has at least 1 octet; 0 were given.",
+                isRefused(1, 3, Reason.DOES_NOT_FIT, uri, wellKnown("T", "")).sentence());
+    }
+
+    @Test
+    void messagesForOtherReaders() throws FormatException {
+        NdefRecord uri = NdefRecord.createUri("tel:1");
+        NdefRecord[] code = {wellKnown("U", "24"), uri};
+        NdefMessage standard = NdefMessage.of(code, Limits.usual(), Profile.STANDARD);
+        byte[] written = standard.toByteArray();
+        assertEquals(standard, NdefMessage.parse(written, Limits.usual(), Profile.STANDARD));
+        assertArrayEquals(written, NdefMessage.parse(written, Limits.usual(), Profile.STANDARD).toByteArray(false, 0));
+        assertEquals(standard, NdefMessage.of(code, Limits.usual().withOpaque(true), Profile.STRICT));
+        assertEquals(1025, NdefMessage.of(times(1025, uri), Limits.usual().withRecords(1025), Profile.STRICT).getRecords().length);
+        assertThrows(RecordException.class, () -> NdefMessage.of(times(2, uri), Limits.usual().withRecords(1), Profile.STRICT));
+        refuses(() -> NdefMessage.unchecked());
+        refuses(() -> NdefMessage.of(new NdefRecord[0], Limits.usual(), Profile.STRICT));
+        isNull(() -> NdefMessage.of(null, Limits.usual(), Profile.STRICT), () -> NdefMessage.of(code, null, Profile.STRICT),
+                () -> NdefMessage.of(code, Limits.usual(), null), () -> NdefMessage.unchecked((NdefRecord) null));
+    }
+
+    @Test
+    void moreChunksThanAReaderTakes() throws FormatException {
+        NdefRecord record = new NdefRecord((short) 5, null, null, new byte[4097]);
+        NdefMessage message = new NdefMessage(record);
+        assertEquals(message, new NdefMessage(message.toByteArray(false, 2)));
+        RecordException refusal = assertThrows(RecordException.class, () -> message.toByteArray(false, 1));
+        assertEquals(Reason.TOO_MANY_PIECES, refusal.reason());
+        assertEquals(0, refusal.record());
+        byte[] bytes = NdefMessage.unchecked(record).toByteArray(false, 1);
+        assertEquals(refusal.place(), assertThrows(FormatException.class, () -> new NdefMessage(bytes)).place());
+        Limits limits = Limits.usual().withPieces(4097);
+        assertArrayEquals(bytes, NdefMessage.of(new NdefRecord[] {record}, limits, Profile.STRICT).toByteArray(false, 1));
+        assertArrayEquals(bytes, NdefMessage.parse(bytes, limits, Profile.STRICT).toByteArray(false, 1));
+    }
+
     @Test
     void messagesThatThereAreNot() {
         NdefRecord record = NdefRecord.createUri("tel:1");
@@ -416,6 +504,11 @@ class RecordTest {
         assertEquals("12 1 12", checker.length() + " " + checker.records() + " " + buffer.position());
         assertEquals(true, checker.feed(buffer));
         assertEquals(12, buffer.position());
+        Checker mixed = new Checker();
+        ByteBuffer rest = ByteBuffer.wrap(Cases.unhex("085402656e48656c6c6f ffff"));
+        assertEquals(false, mixed.feed(Cases.unhex("d101")));
+        assertEquals(true, mixed.feed(rest));
+        assertEquals("12 10", mixed.length() + " " + rest.position());
         Checker refused = new Checker(Limits.usual().withPayload(7), Profile.STRICT);
         for (int i = 0; i < 2; i++) {
             assertEquals(2, assertThrows(FormatException.class, () -> refused.feed(hello())).place());

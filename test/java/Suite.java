@@ -146,7 +146,8 @@ final class Suite {
         ByteBuffer direct = ByteBuffer.allocateDirect(bytes.length + 3).position(3).slice().put(bytes).position(0);
         ByteBuffer within = ByteBuffer.wrap(Arrays.copyOf(bytes, bytes.length + 7), 0, bytes.length);
         ByteBuffer readOnly = ByteBuffer.wrap(bytes).asReadOnlyBuffer();
-        for (ByteBuffer buffer : List.of(direct, within, readOnly)) {
+        ByteBuffer sliced = ByteBuffer.allocate(bytes.length + 3).position(3).slice().put(bytes).position(0);
+        for (ByteBuffer buffer : List.of(direct, within, readOnly, sliced)) {
             Cases.same("feed", expected, fed(buffer, bytes.length, limits, profile));
             Cases.same("feed in parts", expected, fed(buffer, 1 + bytes.length / 7, limits, profile));
         }
@@ -204,7 +205,7 @@ final class Suite {
             records.add(new NdefRecord(Short.parseShort(parts[0]), Cases.unhex(parts[1]), Cases.unhex(parts[2]),
                     Cases.unhex(parts[3])));
         }
-        NdefMessage message = new NdefMessage(records.toArray(new NdefRecord[0]));
+        NdefMessage message = NdefMessage.unchecked(records.toArray(new NdefRecord[0]));
         long chunk = line[6].equals("-") ? 0 : Long.parseLong(line[6]);
         Cases.same("bytes", line[7].replace(" ", ""), Cases.hex(message.toByteArray(line[5].equals("long"), chunk)));
     }

@@ -71,7 +71,7 @@ final class Values {
                 records[i] = UriRecord.of(poster.uri()).toRecord();
             }
         }
-        byte[] written = new NdefMessage(records).toByteArray();
+        byte[] written = NdefMessage.unchecked(records).toByteArray();
         List<byte[]> titles = poster.titles().stream().map(it -> Suite.bytes(it.text())).collect(Collectors.toList());
         return new Told("records=" + poster.records().size() + " uri=" + Cases.hex(Suite.bytes(poster.uri()))
                 + " titles=" + listed(titles)

@@ -337,7 +337,7 @@ class Calls(unittest.TestCase):
     def same_written(self, decoded, told, known):
         """What is written of the records is what the calls write of what they answer."""
         wanted = message_of([part for part, _ in told], {} if known == {} else WRITTEN)
-        self.assertEqual(b''.join(ndef.message_encoder(decoded)), wanted)
+        self.assertEqual(b''.join(ndef.message_encoder(decoded, unchecked=known is not None)), wanted)
 
     def decoded(self, given, known, whole):
         """The records that are given, and the error after them."""

@@ -8,7 +8,7 @@ from unittest import mock
 
 import counted
 import simbegyor_ndef as ndef
-from simbegyor_ndef import _library as library
+from simbegyor_ndef import _library as library, message
 from simbegyor_ndef.handover import AlternativeCarrierRecord, CollisionResolutionRecord, ErrorRecord
 from simbegyor_ndef.smartposter import ActionRecord, SizeRecord, TypeRecord
 from cases import sentences
@@ -73,6 +73,11 @@ class Posters(unittest.TestCase):
             setattr(poster, name, None)
             setattr(poster, name, value)
             self.assertEqual((getattr(back(poster), name), len(poster.records)), (value, 2))
+
+    def test_a_media_type_that_is_no_unicode(self):
+        inner = octets(ndef.Record('urn:nfc:wkt:t', '', b'a/\xff'))
+        (record,) = decoded(inner, known_types={TypeRecord._type: TypeRecord})
+        self.assertEqual((record.resource_type, record.data, TypeRecord('a/\udcff').data), ('a/\udcff', b'a/\xff', b'a/\xff'))
 
     def test_places_within(self):
         """The action of two octets is refused where its own octets begin, since its length says so."""
@@ -303,7 +308,7 @@ class Texts(unittest.TestCase):
                            ('a resource is 0 to 4294967295, not -1', lambda: setattr(poster, 'resource_size', -1)),
                            ('a type image/.. or video/.., not text/plain', lambda: poster.add_icon('text/plain', b'')),
                            ("profile is 'strict' or 'standard', not 'lax'", lambda: ndef.fields(b'a', 'lax')),
-                           ("errors is 'strict', not 'lenient'", lambda: decoded(b'a', errors='lenient'))):
+                           ("errors is 'strict' or 'relax', not 'lenient'", lambda: decoded(b'a', errors='lenient'))):
             with self.subTest(text):
                 self.assertRaisesRegex(ValueError, text.replace('..', r'\.\.').replace('text/plain', "'text/plain'"), make)
 
@@ -404,6 +409,17 @@ class Rooms(unittest.TestCase):
             with self.subTest(name):
                 self.assertEqual(self.calls_of(name, work), 1)
 
+    def test_few_limits_are_kept(self):
+        """A program that sets a limit of its own for each message keeps no more of them than before."""
+        before = ndef.Record.MAX_PAYLOAD_SIZE
+        try:
+            for most in range(100, 1100):
+                ndef.Record.MAX_PAYLOAD_SIZE = most
+                self.assertEqual(decoded(b'\xd0\0\0'), [ndef.Record()])
+        finally:
+            ndef.Record.MAX_PAYLOAD_SIZE = before
+        self.assertLessEqual(len(message._usual), 64)
+
     def test_rooms_are_used_again(self):
         text = ndef.TextRecord('a')
         self.assertEqual(text.data, b'\2ena')
@@ -462,6 +478,12 @@ class Fields(unittest.TestCase):
                     ndef.fields(given[:end])
                 self.assertEqual((caught.exception.fields, caught.exception.place), (listed, checked.place))
                 self.assertEqual(sum(field.length for field in listed and caught.exception.fields), end)
+
+    def test_more_than_any_room_has(self):
+        given = octets(*(ndef.UriRecord('tel:%d' % number) for number in range(1000)))
+        told = ndef.fields(given)
+        self.assertEqual(sum(field.length for field in told), len(given))
+        self.assertGreater(len(told), 4 * 1024)
 
     def test_the_greatest_payload(self):
         before = ndef.Record.MAX_PAYLOAD_SIZE
@@ -536,6 +558,16 @@ class Streams(unittest.TestCase):
                 with self.assertRaises(ndef.DecodeError) as caught:
                     decoded(stream)
                 self.assertTrue(12 <= stream.tell() <= caught.exception.place)
+
+    def test_a_stream_that_has_nothing_yet(self):
+        """Where a stream that doesn't wait gives None, its octets end."""
+        for count in (0, 1, 5):
+            stream = mock.Mock(spec=['read'])
+            stream.read.side_effect = lambda size, source=io.BytesIO(HELLO[:count]): source.read(size) or None
+            if count:
+                self.assertRaisesRegex(ndef.DecodeError, 'EndOfInput', decoded, stream)
+            else:
+                self.assertEqual(decoded(stream), [])
 
     def test_streams_of_text(self):
         class Text:

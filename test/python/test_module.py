@@ -18,8 +18,8 @@ REASONS = reasons()
 SPELLED = ('', 'urn:nfc:wkt:', '', '', 'urn:nfc:ext:', 'unknown', 'unchanged', 'reserved')
 
 
-def octets(*records):
-    return b''.join(ndef.message_encoder(records))
+def octets(*records, unchecked=False):
+    return b''.join(ndef.message_encoder(records, unchecked=unchecked))
 
 
 ACTIONS = {0: 'exec', 1: 'save', 2: 'edit'}
@@ -55,7 +55,8 @@ class Suite(unittest.TestCase):
                     self.assertEqual([(record.type, record.name) for record in decoded], [part[:2] for part in told])
                     if not typed:
                         self.assertEqual([record.data for record in decoded], [part[2] for part in told])
-                    self.assertEqual(list(ndef.message_decoder(octets(*decoded), known_types=None if typed else {})), decoded)
+                    written = b''.join(ndef.message_encoder(decoded, unchecked=not typed))
+                    self.assertEqual(list(ndef.message_decoder(written, known_types=None if typed else {})), decoded)
                 else:
                     with self.assertRaises(ndef.DecodeError) as caught:
                         list(ndef.message_decoder(given, known_types=None if typed else {}))
@@ -67,7 +68,7 @@ class Suite(unittest.TestCase):
     def decoded(self, kind):
         """The records for the payloads of a type: the record, the words of its value, and the payload that it has written."""
         for line, payload, refusal, value, written in values(kind):
-            given = octets(ndef.Record('urn:nfc:wkt:' + kind, '', payload))
+            given = octets(ndef.Record('urn:nfc:wkt:' + kind, '', payload), unchecked=True)
             for known in (None, {known._type: known for known in KNOWN}):
                 with self.subTest(line, known=known):
                     if refusal:
@@ -115,9 +116,12 @@ class Suite(unittest.TestCase):
 
     def test_handovers(self):
         for kind in ('Hr', 'Hs'):
-            for handover, _, written in self.decoded(kind):
-                self.assertEqual(handover.data, written)
-                self.assertLessEqual(len(handover.alternative_carriers), 1)
+            for handover, value, written in self.decoded(kind):
+                self.assertEqual((handover.data, handover.version_info), (written, (1, int(value['minor']))))
+                # The alternative carriers of the suite have these four octets each.
+                self.assertEqual(handover.alternative_carriers, written.count(bytes.fromhex('6163 01013000')) * [('active', '0', [])])
+                if kind == 'Hr':
+                    self.assertEqual(handover.collision_resolution_number, int(value['collision']))
 
     def test_alternative_carriers(self):
         for line, payload, refusal, value, written in values('ac'):
@@ -190,7 +194,7 @@ class Records(unittest.TestCase):
     def test_spellings_of_types(self):
         for spelled, given in (('urn:nfc:wkt:T', 'd1010054'), ('text/plain', 'd20a00746578742f706c61696e'), ('a:b', 'd30300613a62'),
                                ('urn:nfc:ext:x', 'd4010078'), ('unknown', 'd50000'), ('', 'd00000')):
-            self.assertEqual(octets(ndef.Record(spelled)).hex(), given)
+            self.assertEqual(octets(ndef.Record(spelled), unchecked=True).hex(), given)
             (record,) = ndef.message_decoder(bytes.fromhex(given), known_types={})
             self.assertEqual((record.type, record.name, record.data), (spelled, '', b''))
         self.assertRaises(ValueError, ndef.Record, 'plain')
@@ -375,7 +379,7 @@ class Refusals(unittest.TestCase):
             self.assertRaises(ValueError, call)
 
     def test_what_is_left_out(self):
-        for call in (lambda: next(ndef.message_decoder(HELLO, 'relax')), lambda: next(ndef.message_decoder(HELLO, 'ignore')),
+        for call in (lambda: next(ndef.message_decoder(HELLO, 'ignore')),
                      lambda: ndef.Record('unchanged')):
             self.assertRaises(NotImplementedError, call)
 

@@ -194,7 +194,9 @@ class Forms(unittest.TestCase):
             for name in names.split():
                 self.assertTrue(hasattr(getattr(ndef, module), name), name)
                 self.assertIn(name, getattr(ndef, module).__all__)
-        self.assertEqual(ndef.__version__, (TOP / 'VERSION').read_text().strip().replace('.dev', '.dev0'))
+        is_of_dist = (TOP / 'out/from').read_text() == 'dist\n'
+        version = (TOP / 'dist/SOURCE').read_text().split()[1] if is_of_dist else (TOP / 'VERSION').read_text().strip()
+        self.assertEqual(ndef.__version__, version.replace('.dev', '.dev0'))
 
     def test_all_is_documented(self):
         for name in ndef.__all__:

@@ -72,7 +72,7 @@ row("links of a handover (carriers times records)", false, (count) => {
     return () => ndef.links(bytes, payload);
 });
 row("decode, and all values", true, (count) => { const bytes = texts(count); return () => decode(bytes, MANY).records.map(({ text }) => text); });
-row("encode", true, (count) => { const message = decode(texts(count), MANY); return () => encode(message); });
+row("encode", true, (count) => { const message = decode(texts(count), MANY); return () => encode(message, MANY); });
 row("explain", true, (count) => { const bytes = texts(count); return () => explain(bytes, MANY); });
 row("titles of a poster", true, (count) => {
     const poster = record(1, "Sp", message([record(1, "U", "\0a"), ...times(count, () => record(1, "T", "\x02enHello"))]));

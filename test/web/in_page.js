@@ -364,10 +364,21 @@ async function readsTags() {
     look("bytes stay", find("hex").value.length, 50);
     window.reader.dispatchEvent(new Event("readingerror"));
     look("a tag that fails", textOf("tag-part"), "The tag can't be read.");
+    window.reader.dispatchEvent(Object.assign(new Event("reading"), { serialNumber: "04:3", message: { records: [] } }));
+    look("an empty tag", textOf("tag-part"), "Tag 04:3The tag is empty: it holds no records.");
+    window.reader.dispatchEvent(Object.assign(new Event("reading"), { serialNumber: "04:3", message: { records: [{ recordType: ":T", data: null }] } }));
+    look("a tag with a text of no bytes", [find("hex").value, find("verdict").className], ["D1 01 00 54", "bad"]);
+    const { reader, signal } = window;
+    find("scan").click();
+    look("a second click makes no second reader", [window.reader === reader, signal.aborted, find("scan-stop").hidden], [true, false, false]);
+    find("scan-stop").click();
+    look("reading is stopped", [signal.aborted, find("scan-stop").hidden, textOf("tag-part")], [true, true, "No more tags are read."]);
+    reader.dispatchEvent(Object.assign(new Event("reading"), { serialNumber: "04:4", message: { records } }));
+    look("a stopped reader reads nothing", textOf("tag-part"), "No more tags are read.");
     window.scanned = new Promise((_, refuse) => { fail = refuse; });
     find("scan").click();
     fail(new Error("not allowed"));
-    await later(() => textOf("tag-part").startsWith("No"));
+    await later(() => textOf("tag-part").startsWith("No tag"));
     look("no tag", textOf("tag-part"), "No tag can be read: not allowed");
 }
 

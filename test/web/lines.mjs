@@ -61,14 +61,14 @@ function orRefusal(text, mark = " !") {
     }
 }
 
-function recordsText(message) {
+function recordsText(message, options) {
     let handovers = 0, text = "";
     for (const record of message.records) {
         const isHandover = record.kind === KIND.REQUEST || record.kind === KIND.SELECT, isFirst = isHandover && handovers++ === 0;
         text += ` | ${record.tnf} ${shown(record.type)} ${shown(record.idBytes)} ${shown(record.payload)}`;
         text += orRefusal(() => valueText(record) + (isFirst ? linksText(message) : ""));
     }
-    return `${text} | written ${shown(encode(message))}`;
+    return `${text} | written ${shown(encode(message, options))}`;
 }
 
 function fedText(bytes, flags) {
@@ -90,7 +90,7 @@ function messageText(bytes) {
         const standard = (flags & 1) !== 0, opaque = (flags & 2) !== 0;
         const checked = orRefusal(() => {
             const { message, length } = decodePrefix(bytes, { standard, opaque });
-            return `${length},0${recordsText(message)}`;
+            return `${length},0${recordsText(message, { standard, opaque })}`;
         }, "");
         return `${flags} ${checked}${fedText(bytes, flags)}${opaque ? "" : fieldsText(bytes, standard, flags)}`;
     }).join(" || ");

@@ -1,6 +1,7 @@
 // node test/web/package.mjs <LINES: what the package reads: records in the shape of Web NFC, values, errors, options; also over the cases
 // of the suite, given as lines on standard input. Prints 'N passed, M failed'.
 import { readFileSync } from "node:fs";
+import { inspect } from "node:util";
 import { NDEFMessage, NDEFRecord, Ndef, NdefError, check, decode, decodePrefix, encode, explain, fields, hint, links, ready, why } from "../../out/web/index.js";
 import code from "../../out/web/ndef_wasm.mjs";
 import { bytesOf, cases, finish, hexOf, recordHex, same, test, throws } from "./tests.mjs";
@@ -133,9 +134,40 @@ await test("the messages of the suite go to Web NFC and back", () => all.filter(
     const { message } = decodePrefix(bytes, options);
     if (!hasNames(message.records) || message.records.some(({ text }) => text?.startsWith("\ufeff"))) return;
     gone++;
-    same(meant(decode(encode(message.toInit()), { ...options, standard: true })), meant(message));
+    same(meant(decode(encode(message.toInit(), options), { ...options, standard: true })), meant(message));
 }));
 await test("most of them do", () => gone > 300);
+
+await test("a message keeps its bytes", () => {
+    const given = bytesOf("9101085402656e48656c6c6f510104550161c3bc"), { records: [text, uri] } = decode(given);
+    given.fill(0xff);
+    text.payload.fill(0xff);
+    text.type.fill(0xff);
+    decode(bytesOf("d00000"));
+    same([text.text, text.lang, uri.uri, hexOf(uri.payload)], ["Hello", "en", "http://www.aü", "0161c3bc"]);
+});
+await test("values are those of their records, whatever is read between", () => {
+    const long = "grüß ".repeat(40), records = [{ recordType: "text", data: "one" }, { recordType: "url", data: "https://two" }, { recordType: "text", data: long },
+        { recordType: "text", data: "three", encoding: "utf-16" }, { recordType: "mime", data: "four" }, { recordType: "text", data: "\ufefffive" }];
+    const whole = encode({ records }), one = decode(whole).records, other = [...decode(whole).records].reverse();
+    const values = (list) => list.map(({ text, uri }) => text ?? uri);
+    same(values(one), ["one", "https://two", long, "three", null, "\ufefffive"]);
+    same(values(other), values(one).reverse());
+    const chunks = decode(bytesOf("b101035402656e36000348656c5600026c6f")).records[0];
+    decode(whole);
+    same([chunks.text, hexOf(chunks.payload)], ["Hello", "02656e48656c6c6f"]);
+});
+await test("bytes of other classes are taken", () => {
+    class Own extends Uint8Array { subarray() { throw new Error("its own"); } }
+    const plain = bytesOf("d101085402656e48656c6c6f"), shared = new Uint8Array(new SharedArrayBuffer(12));
+    shared.set(plain);
+    for (const bytes of [Own.from(plain), Buffer.from(plain), shared, plain.buffer, new Uint16Array(plain.buffer)]) same(decode(bytes).records[0].text, "Hello");
+});
+await test("the members of a call's answer don't keep the caller's bytes", () => {
+    const record = calls.recordAt(bytesOf("d101085402656e48656c6c6f"), 0), [walked] = calls.records(bytesOf("d101085402656e48656c6c6f"));
+    calls.check(bytesOf("d0000000000000000000000000"));
+    same([record, walked].map(({ type, payload }) => [hexOf(type), hexOf(payload)]), Array(2).fill(["54", "02656e48656c6c6f"]));
+});
 
 // ---- records that are made
 
@@ -177,8 +209,51 @@ await test("what makes no record is a TypeError", () => {
         { recordType: "smart-poster", data: "a" }, { recordType: "smart-poster" }, { recordType: "a:b", data: 3 }, { tnf: "1" }, { tnf: 1, type: 3 },
         { recordType: "text", data: bytesOf("FF") }])
         throws(TypeError, () => new NDEFRecord(init));
-    for (const message of [null, undefined, 3, "text", [], {}, { records: [] }, { records: 3 }, { records: [null] }])
+    for (const message of [null, undefined, 3, [], {}, { records: [] }, { records: 3 }, { records: "text" }, { records: null }, { records: [null] }])
         for (const call of [(one) => new NDEFMessage(one), encode, links]) throws(TypeError, () => call(message));
+    for (const source of ["text", bytesOf("D00000")]) for (const call of [(one) => new NDEFMessage(one), links]) throws(TypeError, () => call(source));
+});
+await test("an encoding has a name of Web NFC", () => {
+    for (const encoding of ["UTF-8", "utf8", "latin1", "", "utf-16BE"])
+        for (const data of ["Hi", bytesOf("4869")]) throws(TypeError, () => encode({ records: [{ recordType: "text", encoding, data }] }));
+    for (const encoding of ["utf-16", "utf-16be", "utf-16le"]) same(hexOfRecord({ recordType: "text", encoding, data: "H" }), "d101075482656efeff0048");
+    same(hexOfRecord({ recordType: "text", encoding: null, data: "H" }), "d101045402656e48");
+});
+await test("a message is made of what write of Web NFC takes", () => {
+    same(hexOf(encode("Hello")), "d101085402656e48656c6c6f");
+    const octets = `d21802${hexOf(Buffer.from("application/octet-stream"))}0102`;
+    for (const bytes of [bytesOf("0102"), bytesOf("0102").buffer, new DataView(bytesOf("0102").buffer)]) same(hexOf(encode(bytes)), octets);
+    const two = function* () { yield { recordType: "empty" }; yield { recordType: "empty" }; };
+    same([hexOf(encode({ records: two() })), hexOf(encode({ records: new Set(two()) }))], Array(2).fill("900000500000"));
+    same(hexOfRecord({ recordType: "a.b:c", data: { records: two() } }), "d40506612e623a63900000500000");
+    same(hexOfRecord({ recordType: "url", data: new URL("https://a.b/c") }), "d101065504612e622f63");
+    same(hexOfRecord({ recordType: "absolute-url", data: new URL("a:b") }), "d30300613a62");
+});
+await test("a record is shown and told in JSON", () => {
+    const message = decode(encode({ records: [{ recordType: "text", data: "Hi", id: "i" }, { recordType: "mime", mediaType: "a/b", data: bytesOf("00ff") }] }));
+    const records = [{ recordType: "text", id: "i", encoding: "utf-8", lang: "en", text: "Hi", payload: "02656e4869" },
+        { recordType: "mime", mediaType: "a/b", payload: "00ff" }];
+    same([JSON.stringify(message), structuredClone(message.toJSON())], [JSON.stringify({ records }), { records }]);
+    same(inspect(message.records[1]), "NDEFRecord {\n  recordType: 'mime',\n  mediaType: 'a/b',\n  payload: Uint8Array(2) [ 0, 255 ]\n}");
+    same(inspect(message).includes("text: 'Hi'"), true);
+    const wrong = inspect(decode(bytesOf("D101015402"), { opaque: true }).records[0]);
+    same([wrong.startsWith("NDEFRecord {"), wrong.includes("tnf: 1")], [true, true]);
+});
+await test("a poster is what was checked, whatever becomes of the caller's bytes", () => {
+    const { poster } = Ndef.prototype, data = bytesOf("D10102550061");
+    Ndef.prototype.poster = function (...given) {
+        const told = poster.apply(this, given);
+        data.fill(0xff);
+        return told;
+    };
+    const record = new NDEFRecord({ recordType: "smart-poster", data });
+    Ndef.prototype.poster = poster;
+    same(hexOf(record.payload), "d10102550061");
+});
+await test("what is explained is read by the rules it was checked with", () => {
+    const reserved = bytesOf("D101025524 61");
+    same(explain(reserved, { standard: true }).records.map(({ uri, value }) => [uri, value]), [["a", { uri: "a" }]]);
+    throws(NdefError, () => explain(reserved, { standard: true, records: 1 }).refusal ?? decode(reserved));
 });
 await test("what can't be written is a RangeError", () => {
     for (const init of [{ recordType: "text", data: "a", lang: "ä" }, { recordType: "text", data: "a", lang: "a".repeat(64) }, { recordType: "url", data: bytesOf("FF") },
@@ -219,10 +294,10 @@ await test("each option is its own", () => {
 });
 await test("payloads that weren't checked are refused where they are read", () => {
     const record = recordOf("D1010154FF", { opaque: true });
-    same([record.recordType, record.payload, record.toBytes()], ["text", bytesOf("FF"), bytesOf("D1010154FF")]);
+    same([record.recordType, record.payload, record.toBytes(Ndef.WRITE_FIRST | Ndef.WRITE_LAST)], ["text", bytesOf("FF"), bytesOf("D1010154FF")]);
     for (const name of ["value", "text", "data", "lang", "encoding"]) same(throws(NdefError, () => record[name]).name, "TextBit");
     const poster = decode(bytesOf("D102015370D0"), { opaque: true });
-    same(encode(poster), bytesOf("D102015370D0"));
+    same(encode(poster, { opaque: true }), bytesOf("D102015370D0"));
     throws(NdefError, () => poster.records[0].value);
     throws(NdefError, () => links(decode(bytesOf("D10201487200"), { opaque: true })));
 });
@@ -243,7 +318,7 @@ await test("every case of the suite is answered", () => all.forEach(({ bytes, op
     if (isAccepted) {
         const { message, length } = decodePrefix(bytes, options);
         same([length, check(bytes, options), line], [place, { length: place, records: message.records.length }, line]);
-        same(encode(message), calls.rewrite(bytes).bytes);
+        same(encode(message, options), calls.rewrite(bytes).bytes);
         return;
     }
     for (const read of [check, decode, decodePrefix]) {
@@ -277,6 +352,14 @@ await test("links of a handover", () => {
     ]);
     same([links(message)[0].record === message.records[1], links(decode(bytesOf("D00000")))], [true, []]);
 });
+
+await test("the payloads of records that were read unchecked are refused where their values are asked for", () => {
+    const itemOf = (hex) => calls.read(bytesOf(hex), { flags: Ndef.OPAQUE }).items[0];
+    same([calls.textOf(itemOf("D1 01 02 54 42 61")).status, calls.uriOf(itemOf("D1 01 02 55 24 61"), 0).status], [Ndef.REFUSED, Ndef.REFUSED]);
+});
+await test("console.log shows all of a message where no depth is given", () =>
+    same(inspect(decode(bytesOf("D1 01 05 54 02 656E 4869")), { depth: null }).includes("Hi"), true));
+await test("records are read within the usual limits without options", () => same(calls.read(bytesOf("D00000")).items.length, 1));
 
 await test("the library is loaded once, whenever it is needed", async () => { await ready(); await ready(); same(decode(bytesOf("D00000")).records.length, 1); });
 await test("the numbers of kinds and reasons are those of the header", () => {

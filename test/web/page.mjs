@@ -80,7 +80,7 @@ for (const line of readFileSync(0, "utf8").split("\n").filter(Boolean)) {
 // A browser that reads and writes tags; tests say how.
 const READER = `window.NDEFReader = class extends EventTarget {
     constructor() { super(); window.reader = this; }
-    async scan() { await window.scanned; }
+    async scan({ signal }) { window.signal = signal; await window.scanned; }
     async write(message) { window.wanted = message; await window.writing; }
 };`;
 

@@ -18,13 +18,13 @@ function streamOf(bytes, length) {
 }
 
 // What a stream of messages gives, each as its bytes, and the refusal at its end.
-async function readAll(stream) {
+async function readAll(stream, options) {
     const told = [], reader = stream.getReader();
     try {
         for (;;) {
             const { done, value } = await reader.read();
             if (done) return told;
-            told.push(hexOf(encode(value)));
+            told.push(hexOf(encode(value, options)));
         }
     } catch (error) {
         if (!(error instanceof NdefError)) throw error;
@@ -38,7 +38,7 @@ function decodeAll(bytes, options) {
     for (let at = 0; at < bytes.length;) {
         try {
             const { message, length } = decodePrefix(bytes.subarray(at), options);
-            told.push(hexOf(encode(message)));
+            told.push(hexOf(encode(message, options)));
             at += length;
         } catch (error) {
             return [...told, [at + error.place, error.reason]];
@@ -47,7 +47,7 @@ function decodeAll(bytes, options) {
     return told;
 }
 
-const read = (bytes, options, length = () => bytes.length) => readAll(streamOf(bytes, length).pipeThrough(new NDEFDecoderStream(options)));
+const read = (bytes, options, length = () => bytes.length) => readAll(streamOf(bytes, length).pipeThrough(new NDEFDecoderStream(options)), options);
 const joined = (...parts) => Uint8Array.from(parts.flatMap((part) => [...part]));
 const EMPTY = bytesOf("D00000"), TEXT = bytesOf("D101085402656E48656C6C6F");
 

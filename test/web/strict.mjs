@@ -16,7 +16,7 @@ window.told = (async () => {
         const { value } = await parts.pipeThrough(new NDEFDecoderStream()).getReader().read();
         return value.records.map(({ text, uri }) => text ?? uri);
     } catch (error) {
-        return error.name;
+        return error.message;
     }
 })();
 `;
@@ -45,7 +45,8 @@ const told = async (page) => { await browser.open(own + page, "window.told !== u
 try {
     await test("a page decodes, encodes and reads a stream", async () => same(await told("/page"), ["Hello", "http://a"]));
     await test("a page compiles the library first", async () => same(await told("/later"), ["Hello", "http://a"]));
-    await test("a page without wasm-unsafe-eval has no library", async () => same(await told("/closed"), "CompileError"));
+    await test("a page without wasm-unsafe-eval has no library", async () => same(await told("/closed"),
+        "the Content Security Policy forbids WebAssembly: its script-src needs 'wasm-unsafe-eval'"));
     await test("it asks for modules alone", () => same(asked.filter((url) => !/^\/(page|later|closed|favicon\.ico|[a-z_]+\.m?js)$/.test(url)), []));
     await test("nothing is asked of others", () => same(browser.requests.filter((url) => !url.startsWith(own)), []));
     await test("there is no fault", () => same(browser.faults, []));

@@ -15,7 +15,7 @@ const within: NDEFRecord[] | null = record.toRecords();
 const found: Field[] = fields(bytes), told: Explained = explain(bytes), linked: Link[] = links(message);
 const written: Uint8Array = encode({ records: [{ recordType: "text", data: "a", lang: "en" }, record, { tnf: 5, payload: bytes }] });
 encode(message);
-encode(message.toInit());
+encode(message.toInit(), { records: 3, unchecked: true });
 smartPoster({ uri: "a", titles: [{ language: "en", text: "b" }], action: ACTION.SAVE, icons: [{ mediaType: "image/png", data: bytes }] }, "id");
 handoverRequest({ collision: 1, carriers: [{ power: POWER.ACTIVE, reference: bytes, auxiliary: ["x"] }] });
 handoverSelect({ carriers: [], error: { reason: 1, number: 2 } });
@@ -23,7 +23,7 @@ handoverCarrier({ format: 2, type: "a/b", data: "" });
 if (value !== null && "collision" in value) handoverRequest(value);
 if (value !== null && "titles" in value) smartPoster(value);
 new ReadableStream<Uint8Array>().pipeThrough(new NDEFDecoderStream(options)).getReader().read().then(({ value }) => value?.records.length);
-const error = new NdefError(0, 1, "ReservedTnf", "a sentence"), place: number = error.place, sentence: string = error.sentence;
+const error = new NdefError(0, 1, "ReservedTnf", "a sentence"), place: number = error.place, sentence: string = error.sentence, at: number | null = error.record;
 const wanted: string | null = why(bytes, options), helps: string | null = hint(bytes.buffer);
 const isError: Error = error, kind: boolean = record.kind === KIND.TEXT, done: Promise<void> = ready();
 Calls.load(code).then((calls) => {
@@ -37,12 +37,29 @@ Calls.load(code).then((calls) => {
     return poster.status === Ndef.OK ? [poster.bytes, other] : null;
 });
 
+for (const one of message.records) {
+    if (one.recordType === "text") one.value.language.trim();
+    else if (one.recordType === "smart-poster") one.value.titles.map(({ text }) => text);
+    else if (one.recordType === "mime") one.mediaType.trim();
+}
+encode("Hello");
+encode(bytes);
+encode({ records: new Set([{ recordType: "url", data: new URL("https://a.b") }]) });
+JSON.stringify(message.toJSON().records[0].payload.length);
+// @ts-expect-error: a mime record has no value
+message.records.map((one) => (one.recordType === "mime" ? one.value.text : ""));
+// @ts-expect-error: there is no such encoding
+encode({ records: [{ recordType: "text", data: "a", encoding: "latin1" }] });
+// @ts-expect-error: there is no such type
+encode({ records: [{ recordType: "texts", data: "a" }] });
 // @ts-expect-error: a string is no bytes
 decode("d00000");
 // @ts-expect-error: a list is no bytes
 check([0xd0, 0, 0]);
 // @ts-expect-error: there is no such option
 decode(bytes, { limit: 3 });
+// @ts-expect-error: nothing is read unchecked
+decode(bytes, { unchecked: true });
 // @ts-expect-error: the text may be missing
 const missing: string = record.text;
 // @ts-expect-error: a record doesn't change
@@ -62,4 +79,4 @@ smartPoster({ titles: [] });
 // @ts-expect-error: a refused answer has no text
 Calls.load(code).then((calls) => calls.text(bytes).text);
 
-export { done, found, isError, kind, length, linked, missing, place, prefix, records, sentence, text, data, told, within, written };
+export { at, done, found, isError, kind, length, linked, missing, place, prefix, records, sentence, text, data, told, within, written };

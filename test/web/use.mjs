@@ -12,7 +12,14 @@ const READY = 'document.getElementById("verdict").textContent !== ""';
 const pictures = process.argv[2];
 const READER = `window.NDEFReader = class extends EventTarget {
     async scan() {}
-    async write(message) { if (window.refused) throw new Error(window.refused); window.written = message; }
+    async write(message, { overwrite, signal }) {
+        window.writes = (window.writes ?? 0) + 1;
+        if (window.refused) throw new Error(window.refused);
+        if (window.full && !overwrite) throw new DOMException("The tag is full.", "NotAllowedError");
+        await window.held;
+        if (signal.aborted) throw signal.reason;
+        window.written = message;
+    }
 };`;
 
 let passed = 0, failed = 0;
@@ -103,16 +110,15 @@ const KINDS = [
     ["Empty", {}, "D0 00 00"],
 ];
 const FAULTS = [
-    ["Text", { data: "a", lang: "ä" }, "A text can't be written: its language is too long or not ASCII"],
+    ["Text", { data: "a", lang: "ä" }, "A text can't be written: its language is not ASCII"],
     ["Smart poster", { uri: "a", titles: "Hello" }, "A title begins with its language and a colon, as “en: Hello”: “Hello”"],
     ["Smart poster", { uri: "a", size: "x" }, "The size is a whole number, not “x”"],
     ["Handover select", { carriers: "on b" }, "A carrier is inactive, active, activating, unknown, and then an id: “on b”"],
     ["Handover request", { collision: "65536", carriers: "" },
-        "A handover request can't be written: its minor version is above 15, a power state is above 3, or a reference has more than 255 bytes, or its random "
-        + "number is above 65535"],
-    ["Media type", { mediaType: "", payload: "" }, "A record can't be written: its type doesn't fit its type name format, or a part is too long"],
+        "A handover request can't be written: its random number is above 65535"],
+    ["Media type", { mediaType: "", payload: "" }, "A record can't be written: a record of its type name format needs a type"],
     ["Unknown", { payload: "0g", layout: "bytes (hexadecimal or base64)" }, '"g" is no hexadecimal digit.'],
-    ["Text", { data: "a", lang: "en", id: "x".repeat(256) }, "A record can't be written: its type doesn't fit its type name format, or a part is too long"],
+    ["Text", { data: "a", lang: "en", id: "x".repeat(256) }, "A record can't be written: its id has more than 255 bytes"],
 ];
 
 async function writes() {
@@ -178,16 +184,64 @@ async function tags() {
     await browser.until('document.getElementById("written").textContent === "The tag is written."');
     look("what is written to a tag", await browser.evaluate('window.written.records.map(({ data, ...rest }) => ({ ...rest, data: String(data) }))'),
         [{ recordType: "url", id: "i", data: "https://a.b" }, { recordType: "mime", mediaType: "a/b", data: "120" }]);
-    await browser.evaluate('window.refused = "no tag"');
+    await browser.evaluate('window.writes = 0; window.held = new Promise((done) => { window.release = done; }); 0');
+    await click("write-tag");
+    await click("write-tag");
+    look("a second click writes nothing", [await browser.evaluate("window.writes"), await browser.evaluate('document.getElementById("write-stop").hidden')], [1, false]);
+    await click("write-stop");
+    await browser.evaluate("window.release()");
+    await browser.until('document.getElementById("written").textContent === "Nothing is written."');
+    await browser.evaluate('window.held = null; window.full = true; window.asked = []; window.confirm = (text) => { window.asked.push(text); return window.asked.length > 1; }');
+    await click("write-tag");
+    await browser.until('document.getElementById("written").textContent === "The tag isn\'t written: The tag is full."');
+    await browser.evaluate("window.written = null");
+    await click("write-tag");
+    await browser.until('document.getElementById("written").textContent === "The tag is written."');
+    look("a tag is overwritten where that is wanted", await browser.evaluate("[window.asked, window.written !== null]"),
+        [Array(2).fill("The tag is full.\nOverwrite what the tag holds?"), true]);
+    await browser.evaluate('window.full = false; window.refused = "no tag"');
     await click("write-tag");
     await browser.until('document.getElementById("written").textContent.includes("no tag")');
     look("a tag that can't be written", await text("written"), "The tag isn't written: no tag");
 }
 
+// What the page shows goes into the composer, and its records are replaced where that is wanted alone; a record whose payload is none isn't added.
+async function loads() {
+    const listed = () => browser.evaluate('[...document.querySelectorAll("#write-list li span")].map((one) => one.textContent)');
+    await browser.evaluate('window.refused = undefined; window.asked = []; window.confirm = (text) => { window.asked.push(text); return false; }');
+    await click("write-clear");
+    await add("Another well-known type", { type: "T", payload: "x" });
+    look("a text that is none", [(await text("write-fault")).startsWith("Record 1 is refused at its byte 4: "), await listed()], [true, []]);
+    await add("Text", { data: "a\u202eb" });
+    look("another after it", [await text("write-fault"), await listed()], ["", ["text: a\\u{202e}b"]]);
+    await give("hex", "91 01 02 55 00 61 50 00 00");
+    await click("load");
+    look("records stay", [await listed(), await browser.evaluate("window.asked")], [["text: a\\u{202e}b"], ["Replace 1 record of the new message?"]]);
+    await browser.evaluate("window.confirm = () => true");
+    await click("load");
+    look("records are taken", [await listed(), await focused(), await value("write-hex")], [["url: a", "empty: 0 bytes"], "write-kind", "91 01 02 55 00 61 50 00 00"]);
+    await give("hex", "D1");
+    look("what is refused isn't taken", await browser.evaluate('document.getElementById("load").hidden'), true);
+    await click("jump");
+    look("the link to the composer", [await focused(), await value("hex")], ["write-kind", "D1"]);
+    await browser.evaluate('navigator.clipboard.writeText = async (text) => { window.copied = text; }');
+    await click("write-copy");
+    await browser.until('document.getElementById("written").textContent === "The bytes are copied."');
+    look("the bytes are copied", await browser.evaluate("window.copied"), "91 01 02 55 00 61 50 00 00");
+    await browser.evaluate('HTMLAnchorElement.prototype.click = function () { window.saved = this.download; window.blob = this.href.slice(0, 5); }');
+    await click("write-save");
+    look("the bytes are kept", await browser.evaluate("[window.saved, window.blob]"), ["message.ndef", "blob:"]);
+    await give("profile", "standard");
+    await give("hex", "91 01 02 55 24 61 50 00 00");
+    await click("load");
+    await add("Empty", {});
+    look("records that were read by the standards", [await value("write-hex"), await text("write-fault")], ["91 01 02 55 24 61 10 00 00 50 00 00", ""]);
+}
+
 // ---- keys, what is read aloud, colours and widths
 
-const ORDER = ["hex", "file", "scan", "link", "text", "URI", "smart poster", "two records", "chunks", "handover", "not UTF-8", "reserved", "cut off",
-    "Profile and limits", "Byte 0: 91, record 1, header", "Fields", "write-kind", "field-data", "field-lang", "field-utf16", "field-id", "Add this record",
+const ORDER = ["jump", "hex", "file", "scan", "link", "text", "URI", "smart poster", "two records", "chunks", "handover", "not UTF-8", "reserved", "cut off",
+    "Profile and limits", "load", "Byte 0: 91, record 1, header", "Fields", "write-kind", "field-data", "field-lang", "field-utf16", "field-id", "Add this record",
     "write-hex"];
 
 async function keys() {
@@ -239,6 +293,15 @@ const CONTRAST = `(() => {
     return faint;
 })()`;
 
+// Where the system has colours of its own, the fields keep theirs.
+async function forced() {
+    await browser.send("Emulation.setEmulatedMedia", { features: [{ name: "forced-colors", value: "active" }] });
+    await browser.open(`${PAGE}#D101085402656E48656C6C6F`, READY);
+    const colours = await browser.evaluate('[...new Set([...document.querySelectorAll("#bytes [data-at]")].map((one) => getComputedStyle(one).backgroundColor))].length');
+    look("fields have colours where colours are forced", colours > 3, true);
+    await browser.send("Emulation.setEmulatedMedia", { features: [] });
+}
+
 async function looks() {
     const bytes = "91021148721291020263721234510204616301013000110108540265 6E48656C6C6F5101075402656EC3286F6B".replaceAll(" ", "");
     for (const [name, width, colours] of [["page", 1100, "light"], ["page-dark", 1100, "dark"], ["page-narrow", 320, "light"], ["page-narrow-dark", 320, "dark"]]) {
@@ -262,7 +325,7 @@ try {
     await browser.size(1100, 900);
     await browser.open(PAGE, READY);
     await files(await dumps());
-    for (const test of [writes, fits, lists, tags, keys, read, looks]) await test();
+    for (const test of [writes, fits, lists, tags, loads, keys, read, forced, looks]) await test();
     look("requests", [...new Set(browser.requests.map((url) => url.split("#")[0]))], [PAGE]);
     look("faults", browser.faults, []);
 } finally {

@@ -1,7 +1,7 @@
 // node test/web/writing.mjs <LINES: what the package and the calls below it write. The standards say what the bytes are; each value of the
 // suite's messages, given as lines on standard input, is written and read again. Prints 'N passed, M failed'.
 import { readFileSync } from "node:fs";
-import { ACTION, KIND, Ndef, NDEFRecord, POWER, decodePrefix, encode, handoverCarrier, handoverRequest, handoverSelect, smartPoster } from "../../out/web/index.js";
+import { ACTION, KIND, Ndef, NDEFRecord, NdefError, POWER, decode, decodePrefix, encode, handoverCarrier, handoverRequest, handoverSelect, smartPoster } from "../../out/web/index.js";
 import code from "../../out/web/ndef_wasm.mjs";
 import { bytesOf, cases, finish, hexOf, recordHex, same, test, throws } from "./tests.mjs";
 
@@ -95,11 +95,11 @@ await test("bytes in parts are checked as all of them are", () => all.filter(({ 
     same([told, rest.length === 0 || whole.status === Ndef.OK], [{ at: 0, ...wanted }, true]);
 }));
 await test("a state is what begin returned", () => {
-    for (const wrong of [undefined, null, {}, new ArrayBuffer(232)]) throws(TypeError, () => calls.feed(wrong, new Uint8Array()));
+    for (const wrong of [undefined, null, {}, new ArrayBuffer(488)]) throws(TypeError, () => calls.feed(wrong, new Uint8Array()));
     throws(RangeError, () => calls.feed(new Uint8Array(3), new Uint8Array()));
     throws(RangeError, () => calls.begin({ records: 0 }));
     throws(TypeError, () => calls.feed(calls.begin(), "d00000"));
-    const { status } = calls.feed(new Uint8Array(232), bytesOf("D00000"));
+    const { status } = calls.feed(new Uint8Array(488), bytesOf("D00000"));
     same([0, 1, 3, 5].includes(status), true);
 });
 await test("the version is that of the header", () => {
@@ -126,19 +126,50 @@ await test("values are written", () => {
     same(hexOf(handoverCarrier({ format: 2, type: "a/b", data: "x" }, "c").toBytes()), recordHex("D9", "Hc", "02 03 612F62 78", "c"));
     same([POWER, ACTION, KIND === Ndef.KIND], [{ INACTIVE: 0, ACTIVE: 1, ACTIVATING: 2, UNKNOWN: 3 }, { DO: 0, SAVE: 1, OPEN: 2 }, true]);
 });
-const CARRIERS = "its minor version is above 15, a power state is above 3, or a reference has more than 255 bytes";
+const carriersOf = (carrier) => ({ collision: 0, carriers: [{ power: 1, reference: "a", ...carrier }] }), NOT_UTF8 = bytesOf("FF");
+const titlesOf = (language, text) => ({ uri: "a", titles: [{ language: "en", text: "a" }, { language, text }] });
 const UNWRITTEN = {
-    "a smart poster can't be written: a text is not UTF-8, a language is too long or not ASCII, the action is above 255, or a media type is empty or too long":
-        () => smartPoster({ uri: "a", action: 256 }),
-    [`a handover request can't be written: ${CARRIERS}, or its random number is above 65535`]: () => handoverRequest({ collision: 65536 }),
-    [`a handover select can't be written: ${CARRIERS}, or the data of its error don't fit its reason`]: () => handoverSelect({ minor: 16 }),
-    "a handover error can't be written: its number doesn't fit its reason": () => handoverSelect({ error: { reason: 4, number: 1 } }),
-    "a handover carrier can't be written: its format is above 7, or its type has more than 255 bytes": () => handoverCarrier({ format: 8, type: "", data: "" }),
-    "a record can't be written: its type doesn't fit its type name format, or a part is too long": () => smartPoster({ uri: "a" }, LONG),
-    "a handover request can't be written: its major version is not 1": () => handoverRequest({ major: 2, collision: 0 }),
-    "a handover select can't be written: its major version is not 1": () => handoverSelect({ major: 0 }),
+    "a smart poster": {
+        "its URI is not UTF-8": () => smartPoster({ uri: NOT_UTF8 }),
+        "the language of a title is too long or not ASCII": () => smartPoster(titlesOf("ä", "")),
+        "the text of a title is not UTF-8": () => smartPoster(titlesOf("en", NOT_UTF8)),
+        "its action is above 255": () => smartPoster({ uri: "a", action: 256 }),
+        "the media type of an icon is empty or too long": () => smartPoster({ uri: "a", icons: [{ mediaType: "", data: "" }] }),
+    },
+    "a handover request": {
+        "its random number is above 65535": () => handoverRequest({ collision: 65536 }),
+        "its minor version is above 15": () => handoverRequest({ minor: 16, collision: 0 }),
+        "a power state is above 3": () => handoverRequest(carriersOf({ power: 4 })),
+        "a reference has more than 255 bytes": () => handoverRequest(carriersOf({ auxiliary: ["b", LONG] })),
+        "a carrier has more than 255 auxiliary references": () => handoverRequest(carriersOf({ auxiliary: Array(256).fill("b") })),
+        "its major version is not 1": () => handoverRequest({ major: 2, collision: 0 }),
+    },
+    "a handover select": {
+        "its minor version is above 15": () => handoverSelect({ minor: 16 }),
+        "the data of its error don't fit its reason": () => handoverSelect({ error: { reason: 1, data: "" } }),
+        "its major version is not 1": () => handoverSelect({ major: 0 }),
+    },
+    "a handover error": { "its number doesn't fit its reason": () => handoverSelect({ error: { reason: 4, number: 1 } }) },
+    "a handover carrier": {
+        "its format is above 7": () => handoverCarrier({ format: 8, type: "", data: "" }),
+        "its type has more than 255 bytes": () => handoverCarrier({ format: 0, type: LONG, data: "" }),
+    },
+    "a text": {
+        "its language is too long": () => new NDEFRecord({ recordType: "text", data: "", lang: "a".repeat(64) }),
+        "its language is not ASCII": () => new NDEFRecord({ recordType: "text", data: "", lang: "ä" }),
+    },
+    "a url": { "it is not UTF-8": () => new NDEFRecord({ recordType: "url", data: NOT_UTF8 }) },
+    "a record": {
+        "its id has more than 255 bytes": () => smartPoster({ uri: "a" }, LONG),
+        "its type has more than 255 bytes": () => new NDEFRecord({ tnf: 2, type: LONG }),
+        "there is no such type name format": () => new NDEFRecord({ tnf: 6 }),
+        "a record of its type name format has no type": () => new NDEFRecord({ tnf: 5, type: "x" }),
+        "a record of its type name format needs a type": () => new NDEFRecord({ tnf: 2 }),
+        "an empty record has no id and no payload": () => new NDEFRecord({ recordType: "empty", data: "x" }),
+    },
 };
-await test("what can't be written is a RangeError that says why", () => Object.entries(UNWRITTEN).forEach(([wanted, call]) => same(throws(RangeError, call).message, wanted)));
+await test("what can't be written is a RangeError that says why", () => Object.entries(UNWRITTEN).forEach(([what, causes]) =>
+    Object.entries(causes).forEach(([why, call]) => same(throws(RangeError, call).message, `${what} can't be written: ${why}`))));
 
 const MAKERS = { "smart-poster": smartPoster, ":Hr": handoverRequest, ":Hs": handoverSelect, ":Hc": handoverCarrier };
 const made = { "smart-poster": 0, ":Hr": 0, ":Hs": 0, ":Hc": 0 };
@@ -155,5 +186,44 @@ await test("of each type some", () => Object.values(made).every((count) => count
 await test("records are put together as they are", () => {
     const text = new NDEFRecord({ recordType: "text", data: "a" });
     same(hexOf(encode({ records: [text, text, { recordType: "empty" }] })), recordHex("91", "T", "02656E61") + recordHex("11", "T", "02656E61") + "500000");
+});
+
+// ---- what decode refuses isn't written
+
+const EMPTY = { recordType: "empty" }, CODE = { tnf: 1, type: "U", payload: bytesOf("24") };
+// Records, the index of the one that is refused, where in it, and why. RTD Text 1.0 and RTD URI 1.0 say what their payloads have; the rest are the usual limits.
+const UNREAD = [
+    [[{ tnf: 1, type: "T" }], 0, 3, "DoesNotFit"],
+    [[EMPTY, CODE, EMPTY], 1, 4, "UriCode"],
+    [[EMPTY, EMPTY, { tnf: 5, payload: new Uint8Array(2 ** 20 + 1) }], 2, 5, "PayloadTooLarge"],
+    [Array(1025).fill(EMPTY), 1023, 0, "TooManyRecords"], // the last that there may be, and its octet says that another follows
+    [[smartPoster({ uri: "a" }), { tnf: 1, type: "Sp", payload: bytesOf("D1010255 24 61") }], 1, 9, "UriCode"],
+];
+await test("what decode refuses isn't written, but where that is asked for", () => UNREAD.forEach(([records, record, place, name]) => {
+    const error = throws(NdefError, () => encode({ records })), bytes = encode({ records }, { unchecked: true }), read = throws(NdefError, () => decode(bytes));
+    same([error.record, error.place, error.name, read.name, read.reason, read.record], [record, place, name, name, error.reason, null]);
+    same(error.message, `record ${record} is refused at its byte ${place}: ${error.sentence}`);
+    same(read.place - error.place, encode({ records: [...records.slice(0, record), EMPTY] }, { unchecked: true }).length - 3);
+}));
+await test("a message is written for who reads it with the same options", () => {
+    for (const options of [{ standard: true }, { opaque: true }, { unchecked: true }]) same(hexOf(encode({ records: [CODE] }, options)), "d101015524");
+    same(encode({ records: Array(1025).fill(EMPTY) }, { records: 1025 }).length, 3075);
+    same(throws(NdefError, () => encode({ records: [EMPTY, EMPTY, EMPTY] }, { records: 2 })).record, 1);
+    same(throws(NdefError, () => encode({ records: [{ tnf: 1, type: "Sig" }, { tnf: 5, payload: "ab" }] }, { payload: 1, opaque: true })).name, "PayloadTooLarge");
+    for (const wrong of [null, 3, "unchecked"]) throws(TypeError, () => encode("a", wrong));
+    throws(RangeError, () => encode("a", { records: 0 }));
+});
+await test("a record alone is a message, and one within a payload is checked with it", () => {
+    const record = new NDEFRecord(CODE), text = { tnf: 1, type: "T" };
+    same([throws(NdefError, () => record.toBytes()).record, hexOf(record.toBytes(Ndef.WRITE_FIRST))], [0, "9101015524"]);
+    same(hexOf(encode({ records: [{ recordType: "a.b:c", data: { records: [text] } }] })), recordHex("D4", "a.b:c", "D1010054"));
+    same(throws(NdefError, () => encode({ records: [{ recordType: "smart-poster", data: { records: [EMPTY, text] } }] })).record, null);
+});
+// The library of release 0.2.0 doesn't say what is wanted.
+if (!calls.lacks.has("ndef_why")) await test("an error says what is wanted", () =>
+    same(throws(NdefError, () => encode({ records: [EMPTY, { tnf: 1, type: "T" }] })).sentence, "A text (`T`) has at least 1 octet; 0 were given."));
+await test("an error says what its reason means where payloads aren't checked", () => {
+    const { sentence, reason } = throws(NdefError, () => encode({ records: [EMPTY, EMPTY] }, { records: 1, opaque: true }));
+    same(sentence, calls.reasonSentence(reason));
 });
 finish();

@@ -2,7 +2,10 @@ package org.simbegyor.ndef;
 
 import java.nio.ByteBuffer;
 
-/** Checks a message whose bytes arrive in parts. It keeps none of them, and looks at each once. */
+/**
+ * Checks a message whose bytes arrive in parts. It looks at each once, and keeps those of one type at most, while that
+ * arrives in parts.
+ */
 public final class Checker {
     private final long[] state = new long[Library.CHECKER_WORDS];
     /** What the library answered last: a place, a reason and the number of records. */

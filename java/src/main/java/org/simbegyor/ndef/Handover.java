@@ -116,7 +116,7 @@ public abstract class Handover extends Payload {
         /** The payload; {@code handover} is 0 for a request and 1 for a select. */
         byte[] payload(int handover) {
             NdefRecord[] all = records.toArray(new NdefRecord[0]);
-            byte[] message = all.length == 0 ? new byte[0] : new NdefMessage(all).toByteArray();
+            byte[] message = all.length == 0 ? new byte[0] : NdefMessage.unchecked(all).toByteArray();
             return Library.written("there is no such handover", Library.WRITE_HANDOVER, message, null, handover, minor);
         }
     }

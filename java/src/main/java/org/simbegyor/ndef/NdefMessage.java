@@ -5,9 +5,15 @@ import java.util.Collections;
 import java.util.List;
 import java.util.Objects;
 
-/** A message: at least one record. Its methods are those of {@code android.nfc.NdefMessage}. */
+/**
+ * A message: at least one record. Its methods are those of {@code android.nfc.NdefMessage}. Each message is one that a
+ * reader takes, but for those that {@link #unchecked} makes.
+ */
 public final class NdefMessage {
     private final NdefRecord[] records;
+    /** How the message is read; null where nobody may read it. */
+    private final Limits limits;
+    private final Profile profile;
 
     /**
      * Reads a message within the usual limits. The message has to be all of the bytes, and its payloads are checked.
@@ -16,7 +22,7 @@ public final class NdefMessage {
      * @throws FormatException if they are refused
      */
     public NdefMessage(byte[] data) throws FormatException {
-        records = parse(data, Limits.usual(), Profile.STRICT).records;
+        this(parse(data, Limits.usual(), Profile.STRICT).records, Limits.usual(), Profile.STRICT);
     }
 
     /**
@@ -24,34 +30,103 @@ public final class NdefMessage {
      *
      * @param record the first
      * @param records those after it
+     * @throws RecordException if {@link #NdefMessage(byte[])} would refuse the message
      */
     public NdefMessage(NdefRecord record, NdefRecord... records) {
-        this.records = new NdefRecord[1 + records.length];
-        this.records[0] = Objects.requireNonNull(record, "a record is null");
-        for (int i = 0; i < records.length; i++) {
-            this.records[1 + i] = Objects.requireNonNull(records[i], "a record is null");
-        }
+        this(joined(record, records));
     }
 
     /**
      * Makes a message of records.
      *
      * @param records the records
+     * @throws RecordException if {@link #NdefMessage(byte[])} would refuse the message
      * @throws IllegalArgumentException if there are none
      */
     public NdefMessage(NdefRecord[] records) {
-        this.records = records.clone();
-        if (records.length == 0) {
+        this(listed(records), Limits.usual(), Profile.STRICT);
+        check(0, 0);
+    }
+
+    /** A message of records in an array that nobody else changes. */
+    private NdefMessage(NdefRecord[] records, Limits limits, Profile profile) {
+        this.records = records;
+        this.limits = limits;
+        this.profile = profile;
+    }
+
+    /**
+     * Makes a message of records for a reader with other limits or another profile.
+     *
+     * @param records the records
+     * @param limits how large the message may be, and whether payloads are checked
+     * @param profile what becomes of reserved values
+     * @return the message
+     * @throws RecordException if {@link #parse} would refuse the message with these
+     * @throws IllegalArgumentException if there are no records
+     */
+    public static NdefMessage of(NdefRecord[] records, Limits limits, Profile profile) {
+        Objects.requireNonNull(limits, "the limits are null");
+        Objects.requireNonNull(profile, "the profile is null");
+        NdefMessage message = new NdefMessage(listed(records), limits, profile);
+        message.check(0, 0);
+        return message;
+    }
+
+    /**
+     * Makes a message of records that no reader may take.
+     *
+     * @param records the records
+     * @return the message
+     * @throws IllegalArgumentException if there are none
+     */
+    public static NdefMessage unchecked(NdefRecord... records) {
+        return new NdefMessage(listed(records), null, Profile.STRICT);
+    }
+
+    private static NdefRecord[] joined(NdefRecord record, NdefRecord[] records) {
+        NdefRecord[] all = new NdefRecord[1 + records.length];
+        all[0] = record;
+        System.arraycopy(records, 0, all, 1, records.length);
+        return all;
+    }
+
+    /** A copy of the records of a message. */
+    private static NdefRecord[] listed(NdefRecord[] records) {
+        NdefRecord[] all = records.clone();
+        if (all.length == 0) {
             throw new IllegalArgumentException("a message has at least one record");
         }
-        for (NdefRecord record : this.records) {
+        for (NdefRecord record : all) {
             Objects.requireNonNull(record, "a record is null");
+        }
+        return all;
+    }
+
+    /** Looks whether the message is taken in a form, a record at a time. */
+    private void check(int form, int chunk) {
+        if (limits == null) {
+            return;
+        }
+        Checker checker = new Checker(limits, profile);
+        for (int i = 0; i < records.length; i++) {
+            long begin = checker.length();
+            try {
+                checker.feed(bytes(form, chunk, i, i + 1));
+            } catch (FormatException refusal) {
+                throw new RecordException(i, refusal.place() - begin, refusal.reason(), sentence(form, chunk, i, refusal));
+            }
         }
     }
 
-    /** The message of the records that the library found in the bytes. */
-    private NdefMessage(byte[] bytes, int[] rows, Profile profile) {
-        records = NdefRecord.listOf(bytes, rows, profile);
+    /** What was wanted where a record is refused: the library says so of the bytes up to its end. */
+    private String sentence(int form, int chunk, int index, FormatException refusal) {
+        try {
+            byte[] bytes = bytes(form, chunk, 0, index + 1);
+            return limits.isOpaque() ? refusal.sentence() : Sentences.why(bytes, limits, profile).orElse(refusal.sentence());
+        } catch (UnsupportedOperationException older) {
+            return refusal.sentence();
+        }
     }
 
     /**
@@ -91,7 +166,7 @@ public final class NdefMessage {
         if (rows == null) {
             throw FormatException.of(told);
         }
-        return new Prefix(new NdefMessage(bytes, rows, profile), (int) told[0]);
+        return new Prefix(new NdefMessage(NdefRecord.listOf(bytes, rows, profile), limits, profile), (int) told[0]);
     }
 
     /**
@@ -114,13 +189,14 @@ public final class NdefMessage {
      * @return the number of bytes
      */
     public int getByteArrayLength() {
-        return length(0, 0);
+        return length(0, 0, 0, records.length);
     }
 
-    private int length(int flags, int chunk) {
+    /** The length of some of the records in a form, from an index up to another. */
+    private int length(int form, int chunk, int from, int to) {
         long length = 0;
-        for (NdefRecord record : records) {
-            length += record.write(flags, chunk, null, 0);
+        for (int i = from; i < to; i++) {
+            length += records[i].write(form, chunk, null, 0);
         }
         if (length > Integer.MAX_VALUE) {
             throw new OutOfMemoryError("no array has " + length + " bytes");
@@ -134,7 +210,7 @@ public final class NdefMessage {
      * @return the bytes
      */
     public byte[] toByteArray() {
-        return toByteArray(false, 0);
+        return bytes(0, 0, 0, records.length);
     }
 
     /**
@@ -143,6 +219,7 @@ public final class NdefMessage {
      * @param hasLongLengths true, if each payload length is to be written in four bytes
      * @param chunk the payload bytes of each chunk but the last of a record; 0 writes each record in one chunk
      * @return the bytes
+     * @throws RecordException if a reader of the message refuses it in this form: with too many chunks
      * @throws IllegalArgumentException if {@code chunk} is not 0 to 4294967295
      */
     public byte[] toByteArray(boolean hasLongLengths, long chunk) {
@@ -150,11 +227,17 @@ public final class NdefMessage {
             throw new IllegalArgumentException("a chunk has 1 to 4294967295 bytes");
         }
         int form = hasLongLengths ? Library.LONG : 0;
-        byte[] bytes = new byte[length(form, (int) chunk)];
+        check(form, (int) chunk);
+        return bytes(form, (int) chunk, 0, records.length);
+    }
+
+    /** Some of the records in a form, from an index up to another. */
+    private byte[] bytes(int form, int chunk, int from, int to) {
+        byte[] bytes = new byte[length(form, chunk, from, to)];
         int at = 0;
-        for (int i = 0; i < records.length; i++) {
+        for (int i = from; i < to; i++) {
             int flags = form | (i == 0 ? Library.FIRST : 0) | (i + 1 == records.length ? Library.LAST : 0);
-            at += (int) records[i].write(flags, (int) chunk, bytes, at);
+            at += (int) records[i].write(flags, chunk, bytes, at);
         }
         return bytes;
     }

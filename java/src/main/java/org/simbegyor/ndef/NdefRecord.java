@@ -355,6 +355,7 @@ public final class NdefRecord {
      * The bytes of a message of this record alone.
      *
      * @return the bytes
+     * @throws RecordException if {@link #NdefRecord(byte[])} would refuse them
      */
     public byte[] toByteArray() {
         return new NdefMessage(this).toByteArray();

@@ -245,7 +245,7 @@ public final class SmartPoster extends Payload {
          * @throws IllegalArgumentException if the records that were added are none of a poster
          */
         public SmartPoster build() {
-            byte[] payload = new NdefMessage(records.toArray(new NdefRecord[0])).toByteArray();
+            byte[] payload = NdefMessage.unchecked(records.toArray(new NdefRecord[0])).toByteArray();
             return promised(() -> new SmartPoster(payload, Profile.STRICT));
         }
     }

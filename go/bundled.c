@@ -1,3 +1,0 @@
-//go:build !ndef_installed
-
-#include "../dist/ndef.c"

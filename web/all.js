@@ -1,0 +1,7 @@
+// What both entries of the package export.
+export { check, decode, decodePrefix, explain, fields, hint, links, why } from "./message.js";
+export { NDEFMessage, NDEFRecord, encode } from "./record.js";
+export { ACTION, KIND, POWER, handoverCarrier, handoverRequest, handoverSelect, smartPoster } from "./making.js";
+export { NDEFDecoderStream } from "./stream.js";
+export { NdefError, ready } from "./library.js";
+export { Ndef } from "./ndef.js";
