@@ -6,7 +6,7 @@ and fails where a branch was never taken that LIST doesn't have. The words of a 
     marks TABLE MARKS          the assembly of the commands, by the marks of test/coverage/instrument.py
     headers FOLDER             the headers of C++, by gcov's counts of all programs in the folder
     python FILE                the module for Python, by what `coverage json` writes
-    rust FILE                  the Rust crate, by what `llvm-cov export -format=lcov` writes: lines alone
+    rust FILE                  the Rust crate but for its proved text, by what `llvm-cov export -format=lcov` writes: lines alone
     javascript FOLDER          the modules of the package for JavaScript, by what node writes with NODE_V8_COVERAGE: blocks
 
 The file out/coverage/NAME.missing has each line that LIST lacks."""
@@ -104,7 +104,7 @@ def of_rust(path):
         elif word == 'DA':
             number, count = rest.split(',')[:2]
             counts[name][int(number), None] += int(count)
-    return added(merged(pathlib.Path(name), counts[name]) for name in sorted(counts) if '/rust/src/' in name)
+    return added(merged(pathlib.Path(name), counts[name]) for name in sorted(counts) if '/rust/src/' in name and '/proved/' not in name)
 
 
 def letters_reached(text, runs):

@@ -11,6 +11,8 @@ import { Ndef } from "../../out/web/ndef.js";
 
 // The most blocks that run, and the most bytes that the library is given, for each byte of a message and 64 more.
 const MOST_BLOCKS = 100, MOST_BYTES = 30;
+// The least messages a second; one in twenty at least is taken, and one in twenty refused.
+const LEAST = 10;
 // These calls are given a whole message and look at one record of it, or are given no bytes.
 const ONE_RECORD = new Set(["ndef_record_at", "ndef_kind", "ndef_payload", "ndef_field_name", "ndef_usual_limits"]);
 
@@ -67,7 +69,9 @@ function decoded(bytes, flags) {
     return { checked, records };
 }
 
+// Whether the message is taken by the strict profile.
 function lookAt(bytes) {
+    let isTaken = false;
     for (const flags of [0, STANDARD]) {
         const { checked, records } = decoded(bytes, flags);
         assert([OK, REFUSED].includes(checked.status));
@@ -80,10 +84,12 @@ function lookAt(bytes) {
             end = record.end;
         }
         if (checked.status === OK) assert.equal(end, checked.place);
+        isTaken ||= flags === 0 && checked.status === OK;
         const told = ndef.fields(bytes, { flags });
         assert.equal(told.status, checked.status);
         assert.equal(told.fields.reduce((at, field) => { assert.equal(field.at, at); return at + field.length; }, 0) <= bytes.length, true);
     }
+    return isTaken;
 }
 
 // How often blocks of ndef.js ran since the last call.
@@ -95,14 +101,14 @@ async function blocks(session) {
 
 async function fuzz(seconds) {
     const session = new Session(), end = Date.now() + 1000 * seconds;
-    let seen = 0, mostBlocks = 0, mostBytes = 0;
+    let seen = 0, taken = 0, mostBlocks = 0, mostBytes = 0;
     countBytes();
     session.connect();
     await session.post("Profiler.enable");
     await session.post("Profiler.startPreciseCoverage", { callCount: true, detailed: true });
     for (const message of messages()) {
         given = 0;
-        lookAt(message);
+        taken += lookAt(message);
         const length = message.length + 64, ran = (await blocks(session)) / length, bytes = given / length;
         mostBlocks = Math.max(mostBlocks, ran);
         mostBytes = Math.max(mostBytes, bytes);
@@ -110,8 +116,8 @@ async function fuzz(seconds) {
         seen++;
         if (Date.now() >= end) break;
     }
-    assert(seen > 0 && mostBlocks > 0 && mostBytes > 0);
-    console.log(`${seen} messages, at most ${mostBlocks.toFixed(0)} blocks that ran and ${mostBytes.toFixed(0)} bytes given a byte`);
+    console.log(`${seen} messages, ${taken} of them taken, at most ${mostBlocks.toFixed(0)} blocks that ran and ${mostBytes.toFixed(0)} bytes given a byte`);
+    assert(seen >= LEAST * seconds && seen / 20 < taken && taken < seen - seen / 20 && mostBlocks > 0 && mostBytes > 0);
 }
 
 function live(count) {

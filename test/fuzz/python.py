@@ -16,6 +16,8 @@ from simbegyor_ndef import _library as library
 
 # The most lines of Python, and the most blocks of the library, for each byte of a message and 64 more.
 MOST_LINES, MOST_BLOCKS = 100, 600
+# The least messages a second; one in twenty at least is taken, and one in twenty refused.
+LEAST = 10
 MODULE = str(pathlib.Path(ndef.__file__).parent)
 lines = [0]
 
@@ -62,7 +64,7 @@ def hold(fact, what, octets):
 
 
 def look_at(octets):
-    """Reads a message, and compares it with what the library says."""
+    """Reads a message, and compares it with what the library says. Whether it is taken."""
     checked = library.Checked()
     limits = library.limits(ndef.Record.MAX_PAYLOAD_SIZE, 0)
     status = library.check(octets, library.SIZES[len(octets)], limits, library.byref(checked)) if octets else library.OK
@@ -78,6 +80,7 @@ def look_at(octets):
     if error is None:
         again = b''.join(ndef.message_encoder(records))
         hold(decoded(again) == (records, None), 'what is encoded is the message', octets)
+    return error is None
 
 
 def steps_of_library():
@@ -87,11 +90,11 @@ def steps_of_library():
 
 
 def fuzz(seconds):
-    blocks, end, seen, most_lines, most_blocks = steps_of_library(), time.time() + seconds, 0, 0, 0
+    blocks, end, seen, taken, most_lines, most_blocks = steps_of_library(), time.time() + seconds, 0, 0, 0, 0
     for octets in messages():
         blocks.value = lines[0] = 0
         sys.settrace(count_lines)
-        look_at(octets)
+        taken += look_at(octets)
         sys.settrace(None)
         length = len(octets) + 64
         most_lines, most_blocks = max(most_lines, lines[0] // length), max(most_blocks, blocks.value // length)
@@ -100,8 +103,8 @@ def fuzz(seconds):
         seen += 1
         if time.time() >= end:
             break
-    print('%d messages, at most %d lines and %d steps of the library a byte' % (seen, most_lines, most_blocks))
-    return seen > 0 and most_lines > 0 and (most_blocks > 0 or 'NDEF_STEPS' not in os.environ)
+    print('%d messages, %d of them taken, at most %d lines and %d steps of the library a byte' % (seen, taken, most_lines, most_blocks))
+    return seen >= LEAST * seconds and seen // 20 < taken < seen - seen // 20 and most_lines > 0 and (most_blocks > 0 or 'NDEF_STEPS' not in os.environ)
 
 
 def resident():

@@ -15,7 +15,7 @@ from harness import count  # noqa: E402
 
 COPY = pathlib.Path(sys.argv[1])
 HEADER, NAMES, CRATE = 'include/ndef.h', 'include/ndef_names.h', 'crates/ndef_c/src/'
-WRITTEN = (HEADER, NAMES, 'share/interface.json', 'test/c/layout.c', 'python/simbegyor_ndef/_interface.py', 'rust/src/ffi/calls.rs', 'web/ndef.js',
+WRITTEN = (HEADER, NAMES, 'share/interface.json', 'test/c/layout.c', 'python/simbegyor_ndef/_interface.py', 'web/ndef.js',
            'docs/BINDINGS.md')
 FACES = ('C++', 'Python', 'Rust', 'JavaScript', 'Java', 'Go')
 END = '#include "ndef_names.h"'
@@ -79,9 +79,7 @@ def unreached(name):
 
 def generated():
     """What each generated file has of the call and its struct, and whether compilers take it."""
-    for path, said in (('rust/src/ffi/calls.rs', 'pub(super) fn ndef_octet_sum(bytes: *const u8, length: Size, out: *mut OctetSumParts) -> u32;'),
-                       ('rust/src/ffi/calls.rs', 'lies!(OctetSumParts, 16: added 0, sum 8);'),
-                       ('web/ndef.js', '    octet_sum_parts: { size: 16, members: { added: [0, 8], sum: [8, 4] } },'),
+    for path, said in (('web/ndef.js', '    octet_sum_parts: { size: 16, members: { added: [0, 8], sum: [8, 4] } },'),
                        ('web/ndef.js', '    ndef_octet_sum: "i32 i64 i32", // bytes, length, out'),
                        ('test/c/layout.c', 'AT(ndef_octet_sum_parts, sum, uint32_t, 8);'),
                        ('docs/BINDINGS.md', '| ndef_octet_sum | yes | ? | ? | ? | ? | ? | ? |')):
@@ -198,7 +196,7 @@ def refused():
     for name, edits, words in (
             ('a changed signature', [new_file(), (HEADER, instead('uint32_t ndef_version(void)', 'uint32_t ndef_version(uint32_t which)'))],
              f'{HEADER}: ndef_version has 1 parameters; {CRATE}version.rt makes 0'),
-            ('a changed member', [new_file(), (HEADER, instead('uint64_t words[29]', 'uint64_t words[30]'))], f'{HEADER}: ndef_checker: member 1 is'),
+            ('a changed member', [new_file(), (HEADER, instead('uint64_t words[61]', 'uint64_t words[62]'))], f'{HEADER}: ndef_checker: member 1 is'),
             ('a changed text', [new_file(), (NAMES, instead('"The text is not UTF-8."', '"The text is no UTF-8."'))],
              "NDEF_SENTENCES: no (17, 'UTF8', 'The text is not UTF-8.')"),
             ('a call that the crates no longer have', [new_file(), (CRATE + 'version.rt', instead('#[unsafe(no_mangle)]\n', ''))],

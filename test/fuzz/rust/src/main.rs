@@ -14,7 +14,7 @@ const MOST_LINK_STEPS: u64 = 20;
 
 static STEPS: AtomicU64 = AtomicU64::new(0);
 
-/// What each basic block calls: those of the library, of the crate and of this program.
+/// What each basic block calls: those of the crate and of this program.
 #[no_mangle]
 pub extern "C" fn __sanitizer_cov_trace_pc() {
     STEPS.fetch_add(1, Ordering::Relaxed);
