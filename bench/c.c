@@ -5,20 +5,14 @@
  *   c FOLDER once CALL NAME      makes one call, for its memory; 'nothing' makes none
  *
  * A time is the least of many runs, of processor time. */
-#define _POSIX_C_SOURCE 199309L
+#include "timing.h"
 #include "ndef.h"
-#include <stdio.h>
-#include <stdlib.h>
-#include <string.h>
-#include <time.h>
 #ifdef WITH_CALLGRIND
 #include <valgrind/callgrind.h>
 #else
 #define CALLGRIND_ZERO_STATS
 #define CALLGRIND_DUMP_STATS_AT(name) (void)(name)
 #endif
-
-typedef struct { const char *name; uint8_t *at; size_t length; } message;
 
 static const char *const names[] = {"hello", "umlauts", "uri", "poster", "records-1000", "opaque-1M", "ascii-1M", "wide-1M", "chunks-4000",
                                     "records-100", "records-10000", "records-60000", "cut"};
@@ -81,6 +75,12 @@ static const operation timed[] = {{"check", check}, {"walk", walk}, {"feed", fee
 #define CARRIER "\x02\x04" "ac\x01\x01" "0\x00"
 typedef struct { const char *name; uint32_t (*call)(const message *); message of; } counted;
 static const counted counts[] = {
+    {"ndef_check, refused at the last byte of a text", check, BYTES("\xD1\x01\x08T\x02" "enHell\xFF")},
+    {"ndef_check, refused at the first byte", check, BYTES("\xD7\x01\x08T\x02" "enHello")},
+    {"ndef_check of zeros, refused at the first", check, BYTES("\x00\x00\x00\x00\x00\x00\x00\x00\x00\x00\x00\x00\x00\x00\x00\x00")},
+    {"ndef_check of a poster, refused in its second record", check,
+     BYTES("\xD1\x02\x23Sp\x91\x01\x0CU\x01" "example.com\x11\x01\x08T\x02" "enTitl\xFF\x51\x03\x01" "act\x00")},
+    {"ndef_check of a select, refused in its second carrier", check, BYTES("\xD1\x02\x13Hs\x12\x91" CARRIER "\x51\x02\x04" "ac\x01\x01" "1\x09")},
     {"ndef_text of \"Hello\"", text, BYTES("\x02" "enHello")},
     {"ndef_text_in_utf8 of it", text_in_utf8, BYTES("\x02" "enHello")},
     {"ndef_text, refused at its last byte", text, BYTES("\x02" "enHell\xFF")},
@@ -94,46 +94,11 @@ static const counted counts[] = {
     {"ndef_poster of 2 records", poster, BYTES("\x91\x01\x0CU\x01" "example.com\x51\x01\x08T\x02" "enHello")},
 };
 
-static double now(void) {
-    struct timespec at;
-    clock_gettime(CLOCK_PROCESS_CPUTIME_ID, &at);
-    return at.tv_sec * 1e9 + at.tv_nsec;
-}
-
-static message read_message(const char *folder, const char *name) {
-    message m = {name, NULL, 0};
-    char path[4096];
-    FILE *file;
-    snprintf(path, sizeof path, "%s/%s", folder, name);
-    file = fopen(path, "rb");
-    if (file == NULL || fseek(file, 0, SEEK_END) != 0) { perror(path); exit(1); }
-    m.length = (size_t)ftell(file);
-    m.at = malloc(m.length);
-    rewind(file);
-    if (m.at == NULL || fread(m.at, 1, m.length, file) != m.length) { perror(path); exit(1); }
-    fclose(file);
-    return m;
-}
-
 /* Ends the program where an answer isn't the one that the name of the message says. */
 static void answers(const char *what, uint32_t (*call)(const message *), const message *m, int is_refused) {
     if ((call(m) != NDEF_OK) == is_refused) return;
     fprintf(stderr, "%s of %s: another answer than expected\n", what, m->name);
     exit(1);
-}
-
-/* The nanoseconds of a call: the least of batches of a millisecond or of one call. */
-static double least(uint32_t (*call)(const message *), const message *m, double milliseconds) {
-    double begun = now(), best = 1e18;
-    long batch = 1;
-    do {
-        double from = now(), took;
-        for (long i = 0; i < batch; i++) call(m);
-        took = now() - from;
-        if (took / batch < best) best = took / batch;
-        if (took < 1e6) batch *= 2;
-    } while (now() - begun < milliseconds * 1e6);
-    return best;
 }
 
 static void time_all(const char *folder, double milliseconds) {

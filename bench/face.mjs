@@ -1,10 +1,12 @@
 // node face.mjs WEB FOLDER MILLISECONDS: times the module for JavaScript, which `make web` makes in the folder WEB: a message with its records,
-// and the same with the value of the first one.
+// and the same with the value of the first one; and beside the parser of hand.mjs what its package makes of a message: records, values, an error.
 import { readFileSync } from "node:fs";
 import { pathToFileURL } from "node:url";
+import { parse } from "./hand.mjs";
 
 const [, , web, folder, words] = process.argv;
 const { Ndef } = await import(pathToFileURL(`${web}/ndef.js`));
+const { decode, ready } = await import(pathToFileURL(`${web}/index.js`));
 const ndef = await Ndef.load(readFileSync(`${web}/ndef.wasm`));
 const milliseconds = Number(words);
 
@@ -38,4 +40,31 @@ for (const name of ["hello", "uri", "poster", "records-1000", "ascii-1M", "wide-
     const bytes = new Uint8Array(readFileSync(`${folder}/${name}`));
     time("read", name, () => read(bytes));
     if (values[name]) time("value", name, () => ndef[values[name]](read(bytes)[0].payload));
+}
+
+function refused(call) {
+    try {
+        call();
+    } catch (error) {
+        return error;
+    }
+    throw new Error("not refused");
+}
+
+// The same by the package and by hand, in turn.
+function both(what, name, call) {
+    time(what, name, () => call(decode));
+    time(`hand-${what}`, name, () => call(parse));
+}
+
+await ready();
+const first = { hello: "text", uri: "uri" };
+for (const name of ["hello", "uri", "records-1000", "cut"]) {
+    const bytes = new Uint8Array(readFileSync(`${folder}/${name}`));
+    if (name === "cut") {
+        both("decode", name, (reads) => refused(() => reads(bytes)));
+        continue;
+    }
+    both("decode", name, (reads) => reads(bytes));
+    both("values", name, (reads) => reads(bytes).records.reduce((sum, record) => sum + record[first[name] ?? "text"].length, 0));
 }

@@ -12,11 +12,11 @@ import sys
 HERE = pathlib.Path(__file__).resolve().parent
 TOP = HERE.parent
 # Debian's package of the crate puts its source here.
-SIMDUTF8 = pathlib.Path('/usr/share/cargo/registry')
+SIMDUTF8 = pathlib.Path(os.environ.get('CARGO_REGISTRY', '/usr/share/cargo/registry'))
 
 
 # All programs, by the name of the method that builds each.
-NAMES = ('c', 'c_v2', 'plain', 'utf8', 'qt', 'rust', 'python', 'javascript', 'java', 'go', 'page', 'commands')
+NAMES = ('c', 'c_v2', 'c_gcc', 'c_clang', 'hand', 'plain', 'utf8', 'qt', 'rust', 'rust_lto', 'rust_simd', 'python', 'javascript', 'java', 'go', 'page', 'commands')
 
 
 class Missing(Exception):
@@ -89,6 +89,24 @@ class Bench:
             raise Missing('libndef-v2.a is for x86-64 alone')
         return self.compile_c(faster, 'c-v2')
 
+    def compile_file(self, compiler):
+        """The C file that is made of the same as the archive, by this compiler."""
+        folder = TOP / ('dist' if self.made_of() == 'dist' else 'out/dist-next')
+        if not (folder / 'ndef.c').exists():
+            raise Missing('no C file of the crates: test/dist/next makes it')
+        program = self.bin / ('c-' + compiler)
+        run([needed(compiler, compiler), '-std=c99', '-O2', '-w', '-I%s' % folder, HERE / 'c.c', folder / 'ndef.c', '-o', program])
+        return [program, self.messages]
+
+    def c_gcc(self):
+        return self.compile_file('gcc')
+
+    def c_clang(self):
+        return self.compile_file('clang')
+
+    def hand(self):
+        return [self.compiled('hand'), self.messages]
+
     def counted(self):
         """The program whose instructions are counted."""
         needed('valgrind', 'valgrind')
@@ -103,7 +121,8 @@ class Bench:
     def plain(self):
         return self.rustc('plain')
 
-    def utf8(self):
+    def simdutf8(self):
+        """The crate simdutf8, as a library of Rust."""
         needed('rustc', 'rustc')
         found = sorted(SIMDUTF8.glob('simdutf8-*/src/lib.rs'))
         if not found:
@@ -111,7 +130,10 @@ class Bench:
         library = self.bin / 'libsimdutf8.rlib'
         run(['rustc', '-O', '--edition', '2018', '--crate-type', 'rlib', '--crate-name', 'simdutf8', '--cfg', 'feature="std"', '--cap-lints',
              'allow', '-o', library, found[-1]])
-        return self.rustc('utf8', '--extern', 'simdutf8=%s' % library)
+        return ['--extern', 'simdutf8=%s' % library]
+
+    def utf8(self):
+        return self.rustc('utf8', *self.simdutf8())
 
     def qt(self):
         needed('pkg-config', 'pkg-config')
@@ -123,17 +145,31 @@ class Bench:
         run([os.environ.get('CXX', 'c++'), '-O2', '-fPIC', HERE / 'qt.cpp', *flags, '-o', program])
         return [program, self.messages]
 
-    def rust(self):
+    def rust(self, name='rust', profile=''):
         needed('cargo', 'cargo')
-        crate = self.folder / 'rust'
+        crate = self.folder / name
         (crate / 'src').mkdir(parents=True, exist_ok=True)
         for name, copy in (('face.rs', 'main.rs'), ('clock.rs', 'clock.rs')):
             shutil.copy(HERE / name, crate / 'src' / copy)
         (crate / 'Cargo.toml').write_text('[package]\nname = "face"\nversion = "0.0.0"\nedition = "2021"\n\n[dependencies]\n'
-                                          'simbegyor-ndef = { path = "%s" }\n\n[workspace]\n' % (TOP / 'rust'))
+                                          'simbegyor-ndef = { path = "%s" }\n\n[workspace]\n%s' % (TOP / 'rust', profile))
         run(['cargo', 'build', '--release', '--offline', '--quiet'], cwd=crate,
-            env={**os.environ, 'NDEF_LIB_DIR': str(TOP / 'out/lib'), 'CARGO_TARGET_DIR': str(crate / 'target')})
+            env={**os.environ, 'CARGO_TARGET_DIR': str(crate / 'target')})
         return [crate / 'target/release/face', self.messages]
+
+    def rust_lto(self):
+        return self.rust('rust_lto', '\n[profile.release]\nlto = "fat"\ncodegen-units = 1\n')
+
+    def rust_simd(self):
+        """The crate with its feature `simd`, which the package of it has."""
+        extern = self.simdutf8()
+        library = self.bin / 'libsimbegyor_ndef.rlib'
+        features = [word for name in ('alloc', 'std', 'simd') for word in ('--cfg', 'feature="%s"' % name)]
+        run(['rustc', '-O', '--edition', '2021', '--crate-type', 'rlib', '--crate-name', 'simbegyor_ndef', *features, *extern, '-o', library,
+             TOP / 'rust/src/lib.rs'])
+        program = self.bin / 'rust_simd'
+        run(['rustc', '-O', '--edition', '2021', '--extern', 'simbegyor_ndef=%s' % library, '-L', self.bin, '-o', program, HERE / 'face.rs'])
+        return [program, self.messages]
 
     def python(self):
         self.make('python')

@@ -52,6 +52,15 @@ class Results:
     def time(self, program, call, name):
         return self.all['times'].get(program, {}).get(call + ' ' + name)
 
+    def files(self):
+        rows = []
+        for name, (spoken, count) in WORKLOADS.items():
+            gcc, clang, hand = (self.time(program, 'check', name) for program in ('c_gcc', 'c_clang', 'hand'))
+            rows.append([spoken, str(count), shown(gcc), shown(clang), shown(self.time('c', 'check', name)), shown(self.time('rust', 'read', name)),
+                         shown(hand), ratio(gcc, hand)])
+        return table(['`ndef_check` of', 'bytes', '`ndef.c` by gcc', 'by clang', '`libndef.a`', 'the Rust crate reads', 'by hand in C', 'gcc to by hand'],
+                     rows)
+
     def peers(self):
         rows = []
         for name, (spoken, count) in WORKLOADS.items():
@@ -60,6 +69,15 @@ class Results:
             rows.append([spoken, str(count), shown(check), shown(self.time('c_v2', 'check', name)), shown(hand), ratio(check, hand), shown(walk),
                          shown(qt), ratio(walk, qt), shown(self.time('c', 'memcpy', name))])
         return table(['message', 'bytes', '`ndef_check`', 'for x86-64-v2', 'by hand', 'ratio', 'check and walk', 'Qt reads', 'ratio', '`memcpy`'], rows)
+
+    def rust(self):
+        """The check by the Rust crate, beside the library for C and Rust by hand."""
+        rows = []
+        for name, (spoken, _) in WORKLOADS.items():
+            c, hand, crate = (self.time(program, 'check', name) for program in ('c', 'plain', 'rust'))
+            lto = self.time('rust_lto', 'check', name)
+            rows.append([spoken, shown(c), shown(hand), shown(crate), shown(lto), shown(self.time('rust_simd', 'check', name)), ratio(lto, c), ratio(lto, hand)])
+        return table(['message', '`ndef_check`', 'by hand', 'the crate', 'with LTO', 'with simdutf8', 'LTO / C', 'LTO / by hand'], rows)
 
     def utf8(self):
         rows = []
@@ -79,6 +97,16 @@ class Results:
             if many:
                 rows.append([spoken + ', `decode_many`', *(shown(self.time(program, 'many', name)) for name in READ), NONE])
         return table(['from', *(WORKLOADS[name][0] for name in READ), '"Hello" with its value'], rows)
+
+    def javascript(self):
+        rows = []
+        for call, name, spoken in (('decode', 'hello', 'the text "Hello"'), ('values', 'hello', 'and its value'), ('values', 'uri', 'a URI with its value'),
+                                   ('decode', 'records-1000', '1000 short records'), ('values', 'records-1000', 'and their values'),
+                                   ('decode', 'cut', 'a message that is cut off')):
+            ours, hand = self.time('javascript', call, name), self.time('javascript', 'hand-' + call, name)
+            if ours is not None:
+                rows.append([spoken, shown(ours), shown(hand), ratio(ours, hand)])
+        return table(['message', '`decode`', 'by hand', 'ratio'], rows)
 
     def page(self):
         rows = []
@@ -122,7 +150,7 @@ class Results:
         return 'Made of %s; on %s; %s.' % (what, self.all['machine'], self.all['load'])
 
 
-NAMES = ('made', 'peers', 'utf8', 'faces', 'page', 'commands', 'instructions', 'growth', 'peaks')
+NAMES = ('made', 'files', 'peers', 'rust', 'utf8', 'faces', 'javascript', 'page', 'commands', 'instructions', 'growth', 'peaks')
 
 
 def written(results):
