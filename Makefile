@@ -10,9 +10,10 @@
 #   make python      makes the Python module alone, in out/python
 #   make wheel sdist makes the wheel of what is made here, and the source distribution, in out
 #   make java        makes the module for Java, in out/java; it needs a JDK
-#   make install     puts all of it below PREFIX, and below DESTDIR where that is given
+#   make install     puts all of it below PREFIX, and below DESTDIR where that is given; so do install-programs, install-library and
+#                    install-python with a part of it
 #   make uninstall   takes away what make install puts
-#   make check       runs the gate; it needs rt
+#   make check       tests what make makes, in a few minutes; make check-all tests more of it, for an hour or two
 #   make deb         makes a Debian package of it in out; MAINTAINER names who distributes it
 #   make debian      makes the folder debian/ in FOLDER, or here: dpkg-buildpackage makes four Debian packages of dist/ with it
 #   make web         makes the web page and the modules for JavaScript in out/web
@@ -20,9 +21,11 @@
 #   make amalgamation    makes the library for C as one C file, in out/amalgamation; it needs rt
 #   make dist        makes dist/ anew of what is proved; it needs rt (ports/README.md says what comes first)
 #   make release     makes out/simbegyor-VERSION.tar.xz (CONTRIBUTING.md says how a release is made); it needs rt
+#   make boards      makes the library for ESP-IDF, Zephyr, PlatformIO and Arduino of dist/, in out/boards
 #   make TARGET=aarch64-linux    makes the library for C for AArch64 Linux alone, in out/aarch64-linux
 #
-# NDEF_FROM=crates or NDEF_FROM=dist, in the environment or as a word, says of what each of these makes things.
+# NDEF_FROM=crates or NDEF_FROM=dist, in the environment or as a word, says of what each of these makes things. What is made of
+# dist/ has the version of that release. All of it needs a C compiler; what also needs Python 3 stops at once where there is none.
 #
 # All of it runs on every x86-64 but libndef-v2.a, which needs x86-64-v2 and is made on x86-64 alone: with SSSE3 and
 # SSE4.1 long texts are checked faster. libndef.a holds both, and chooses where a program is loaded (packaging/both); so
@@ -35,11 +38,6 @@ PREFIX ?= /usr/local
 LIBDIR ?= $(PREFIX)/lib
 PYTHON ?= python3
 PYTHONDIR ?= $(shell packaging/python_folder $(PYTHON) $(PREFIX))
-VERSION := $(shell cat VERSION)
-# The same as Python writes it.
-python_version := $(patsubst %.dev,%.dev0,$(VERSION))
-# The same as npm writes it.
-npm_version := $(patsubst %.dev,%-dev,$(VERSION))
 # The interface of the shared library: another number where a program must be linked anew.
 ABI := 0
 MAINTAINER ?= The Simbegyor authors <simbegyor@example.org>
@@ -50,6 +48,27 @@ ifeq ($(filter crates dist,$(NDEF_FROM)),)
 $(error NDEF_FROM is $(NDEF_FROM), and has to be crates or dist)
 endif
 export NDEF_FROM
+released := $(shell packaging/from_dist version 2>/dev/null)
+VERSION := $(or $(if $(filter dist,$(NDEF_FROM)),$(released)),$(shell cat VERSION))
+# The same as Python writes it.
+python_version := $(patsubst %.dev,%.dev0,$(VERSION))
+# The package for JavaScript has the library of dist/; this is its version as npm writes it.
+npm_version := $(patsubst %.dev,%-dev,$(released))
+export MAINTAINER
+
+# Names of folders become words of commands and of files for other tools, so they have no signs that mean something there.
+installing := $(firstword $(filter install install-% uninstall,$(MAKECMDGOALS)))
+signs := ' " ` & ; < > | * ? [ ] { } ( ) ! \ \# $$
+is_strange = $(strip $(filter-out 1,$(words x$($(1))x)) $(filter ~%,$($(1))) $(foreach sign,$(signs),$(findstring $(sign),$($(1)))))
+refuse = $(error $(1) is "$($(1))": make $(installing) takes no space there, no ~ at the front, and none of $(signs))
+$(foreach name,$(if $(installing),DESTDIR PREFIX LIBDIR PYTHONDIR),$(if $(call is_strange,$(name)),$(call refuse,$(name))))
+
+# What a goal needs besides: the goal, the program, and its package in Debian.
+needs = $(if $(filter $(1),$(MAKECMDGOALS)),$(if $(shell command -v $(2) 2>/dev/null),,\
+    $(error make $(1) needs $(2): install it, as by 'apt install $(3)')))
+$(foreach goal,install install-library deb debian web,$(call needs,$(goal),python3,python3))
+$(foreach goal,wheel sdist,$(call needs,$(goal),$(PYTHON),python3))
+$(foreach program,dpkg-deb dpkg-shlibdeps,$(call needs,deb,$(program),dpkg-dev))
 
 commands := ndef ndef-make ndef-explain
 library := out/lib/libsimbegyor-ndef.so.$(VERSION)
@@ -66,7 +85,10 @@ fish_completions := $(wildcard share/fish/*)
 shared := -shared -Wl,-z,defs -Wl,-z,relro -Wl,-z,now
 whole = -Wl,--whole-archive $(1) -Wl,--no-whole-archive
 hwcaps := glibc-hwcaps/x86-64-v2
-fill = packaging/fill PREFIX='$(PREFIX)' LIBDIR='$(LIBDIR)' VERSION=$(VERSION) ABI=$(ABI)
+fill = umask 022 && packaging/fill PREFIX=$(PREFIX) LIBDIR=$(LIBDIR) VERSION=$(VERSION) ABI=$(ABI) PACKAGE_INIT= \
+    INCLUDE=$(shell realpath -m --relative-to=$(LIBDIR) $(PREFIX)/include)
+# The machine of the C compiler.
+machine := $(or $(shell $(CC) -dumpmachine 2>/dev/null),$(shell uname -m))
 CROSS_CC ?= aarch64-linux-gnu-gcc
 
 # What all is made of: the programs, the headers for C with the description of the interface, and the archives, one for
@@ -74,7 +96,7 @@ CROSS_CC ?= aarch64-linux-gnu-gcc
 ifeq ($(NDEF_FROM),dist)
 made_programs := $(addprefix out/dist/,$(commands))
 made_archive := out/dist/libndef.a
-made_faster := $(if $(filter x86_64 amd64,$(shell uname -m)),out/dist/libndef-v2.a)
+made_faster := $(if $(filter-out %x32,$(filter x86_64% amd64%,$(machine))),out/dist/libndef-v2.a)
 header := dist/ndef.h
 description := $(wildcard dist/interface.json)
 else
@@ -198,10 +220,10 @@ web: $(if $(filter crates,$(NDEF_FROM)),$(made_archive))
 	web/build
 
 npm:
-	packaging/make_npm 'out/simbegyor-ndef-$(npm_version).tgz'
-	@echo 'out/simbegyor-ndef-$(npm_version).tgz'
+	packaging/make_npm out/simbegyor-ndef-$(npm_version).tgz
+	@echo out/simbegyor-ndef-$(npm_version).tgz
 
-out/python/%: python/% VERSION
+out/python/%: python/% VERSION $(wildcard dist/SOURCE) out/from
 	mkdir -p $(@D)
 	packaging/fill VERSION=$(python_version) <$< >$@
 
@@ -218,10 +240,10 @@ sdist:
 java: out/java/simbegyor-ndef.jar
 
 out/java/simbegyor-ndef.jar: out/lib/libndef.a java/build VERSION $(shell find java/native java/src -type f)
-	java/build $< $(dir $(header))
+	NDEF_VERSION=$(VERSION) java/build $< $(dir $(header))
 
 # What pip and importlib.metadata know of the module.
-out/python/$(module_data)/METADATA: python/METADATA.in python/README.md VERSION
+out/python/$(module_data)/METADATA: python/METADATA.in python/README.md VERSION $(wildcard dist/SOURCE) out/from
 	rm -rf out/python/simbegyor_ndef-*.dist-info
 	mkdir -p $(@D)/licenses
 	cp LICENSE-MIT LICENSE-APACHE $(@D)/licenses
@@ -232,16 +254,23 @@ out/man3/simbegyor-ndef.3: $(header) packaging/man3 VERSION CHANGELOG.md out/fro
 	rm -rf out/man3
 	packaging/man3 out/man3 $(VERSION) $(header)
 
-install: all out/man3/simbegyor-ndef.3
-	install -d $(addprefix $(DESTDIR),$(PREFIX)/bin $(PREFIX)/include $(LIBDIR)/pkgconfig $(cmake) \
-	    $(PYTHONDIR)/simbegyor_ndef $(PYTHONDIR)/$(module_data)/licenses \
-	    $(PREFIX)/share/man/man1 $(PREFIX)/share/man/man3 $(PREFIX)/share/bash-completion/completions \
-	    $(PREFIX)/share/zsh/site-functions $(PREFIX)/share/fish/vendor_completions.d)
+install: all install-programs install-library install-python
+
+install-programs: programs
+	install -d $(addprefix $(DESTDIR)$(PREFIX)/,bin share/man/man1 share/bash-completion/completions share/zsh/site-functions \
+	    share/fish/vendor_completions.d)
 	install -m 755 out/bin/ndef $(DESTDIR)$(PREFIX)/bin
 	for command in ndef-make ndef-explain; do \
 	    if [ -L out/bin/$$command ]; then ln -sf ndef $(DESTDIR)$(PREFIX)/bin/$$command; \
 	    else install -m 755 out/bin/$$command $(DESTDIR)$(PREFIX)/bin; fi || exit; \
 	done
+	umask 022; for page in $(notdir $(pages)); do packaging/fill VERSION=$(VERSION) <man/$$page >$(DESTDIR)$(PREFIX)/share/man/man1/$$page || exit; done
+	install -m 644 $(completions) $(DESTDIR)$(PREFIX)/share/bash-completion/completions
+	install -m 644 $(zsh_completions) $(DESTDIR)$(PREFIX)/share/zsh/site-functions
+	install -m 644 $(fish_completions) $(DESTDIR)$(PREFIX)/share/fish/vendor_completions.d
+
+install-library: library out/man3/simbegyor-ndef.3
+	install -d $(addprefix $(DESTDIR),$(PREFIX)/include $(LIBDIR)/pkgconfig $(cmake) $(PREFIX)/share/man/man3)
 	install -m 644 $(headers) $(DESTDIR)$(PREFIX)/include
 	$(if $(description),install -D -m 644 $(description) $(DESTDIR)$(PREFIX)/share/simbegyor-ndef/interface.json)
 	install -m 644 out/lib/libndef.a $(faster) $(library) $(DESTDIR)$(LIBDIR)
@@ -251,21 +280,20 @@ install: all out/man3/simbegyor-ndef.3
 	ln -sf $(notdir $(library)) $(DESTDIR)$(LIBDIR)/libsimbegyor-ndef.so.$(ABI)
 	ln -sf libsimbegyor-ndef.so.$(ABI) $(DESTDIR)$(LIBDIR)/libsimbegyor-ndef.so
 	$(fill) <packaging/simbegyor-ndef.pc.in >$(DESTDIR)$(LIBDIR)/pkgconfig/simbegyor-ndef.pc
-	for file in config config-version; do \
-	    $(fill) <packaging/simbegyor-ndef-$$file.cmake.in >$(DESTDIR)$(cmake)/simbegyor-ndef-$$file.cmake; \
+	for file in config config-version targets; do \
+	    $(fill) <packaging/simbegyor-ndef-$$file.cmake.in >$(DESTDIR)$(cmake)/simbegyor-ndef-$$file.cmake || exit; \
 	done
 	$(fill) FOR= LIBRARY=ndef <packaging/ndef.pc.in >$(DESTDIR)$(LIBDIR)/pkgconfig/ndef.pc
 	$(if $(faster),$(fill) FOR=' for x86-64-v2' LIBRARY=ndef-v2 <packaging/ndef.pc.in \
 	    >$(DESTDIR)$(LIBDIR)/pkgconfig/ndef-v2.pc)
+	install -m 644 out/man3/*.3 $(DESTDIR)$(PREFIX)/share/man/man3
+
+install-python: python
+	install -d $(addprefix $(DESTDIR)$(PYTHONDIR)/,simbegyor_ndef $(module_data)/licenses)
 	install -m 644 $(addprefix out/,$(modules)) $(module)/libndef.so $(DESTDIR)$(PYTHONDIR)/simbegyor_ndef
 	install -m 644 $(addprefix out/python/$(module_data)/,METADATA INSTALLER) $(DESTDIR)$(PYTHONDIR)/$(module_data)
 	install -m 644 LICENSE-MIT LICENSE-APACHE $(DESTDIR)$(PYTHONDIR)/$(module_data)/licenses
 	@$(if $(DESTDIR),,packaging/python_told $(PYTHON) $(PYTHONDIR))
-	install -m 644 $(pages) $(DESTDIR)$(PREFIX)/share/man/man1
-	install -m 644 out/man3/*.3 $(DESTDIR)$(PREFIX)/share/man/man3
-	install -m 644 $(completions) $(DESTDIR)$(PREFIX)/share/bash-completion/completions
-	install -m 644 $(zsh_completions) $(DESTDIR)$(PREFIX)/share/zsh/site-functions
-	install -m 644 $(fish_completions) $(DESTDIR)$(PREFIX)/share/fish/vendor_completions.d
 
 uninstall:
 	rm -f $(addprefix $(DESTDIR)$(PREFIX)/bin/,$(commands)) $(addprefix $(DESTDIR)$(PREFIX)/include/,$(notdir $(headers)))
@@ -281,21 +309,30 @@ uninstall:
 	rm -f $(addprefix $(DESTDIR)$(PREFIX)/share/fish/vendor_completions.d/,$(notdir $(fish_completions)))
 
 check:
-	.ci/run
+	test/run
+check-all:
+	test/run --all
 
 deb: all out/man3/simbegyor-ndef.3
-	packaging/make_deb $(VERSION) '$(MAINTAINER)'
+	packaging/make_deb "$$MAINTAINER"
 
 debian:
-	packaging/debian_source '$(or $(FOLDER),.)' '$(MAINTAINER)'
+	packaging/debian_source '$(or $(FOLDER),.)' "$$MAINTAINER"
 
 amalgamation:
 	ports/amalgamation out/amalgamation
+	cd out/amalgamation && sha256sum ndef.c ndef*.h | tee SHA256SUMS
 
 dist:
 	ports/dist dist
+	packaging/go_library
 
 release:
 	packaging/release
 
-.PHONY: all amalgamation cost dist programs library python wheel sdist java prove from-dist install uninstall check deb debian web npm release FORCE
+boards:
+	packaging/make_boards out/boards
+	@echo out/boards/simbegyor-ndef
+
+.PHONY: all amalgamation cost dist programs library python wheel sdist java prove from-dist install install-programs install-library \
+    install-python uninstall check check-all deb debian web npm release boards FORCE

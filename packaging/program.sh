@@ -92,6 +92,7 @@ needs_rt() {
 }
 
 interrupted() {
+    rm -f "$log"
     say 'interrupted; the next run goes on from what is proved'
     exit 3
 }
@@ -105,6 +106,7 @@ build() {
     trap interrupted INT TERM
     if ! (cd "$top/crates/${crates[-1]}" && rt run --cpu x86-64 -- "$@" </dev/null 2>&1) | tee "$log" | progress; then
         cat "$log" >&2
+        rm -f "$log"
         exit 3
     fi
     trap - INT TERM
