@@ -26,23 +26,6 @@ over_dist() {
 # try_made NAME COMMAND..: a test of a page or a program that uses what make made in out/: `try`, or where that is of dist/ `over_dist`.
 try_made() { if [ "${NDEF_FROM:-$(cat "$top/out/from")}" = crates ]; then try "$@"; else over_dist "$@"; fi; }
 
-# The calls that a header declares, and those of include/ndef.h that the release in dist/ lacks.
-calls_in() { sed -nE 's/^(uint32_t|void) (ndef_[a-z0-9_]+).*/\2/p' "$1" | LC_ALL=C sort; }
-lacking() { comm -23 <(calls_in "$top/include/ndef.h") <(calls_in "$top/dist/ndef.h"); }
-
-# linked_tests: the words for `cargo test` that name the tests of the Rust crate which can be linked with the release in dist/: those that make
-# none of the calls that it lacks. Without such calls there is no word, which stands for all tests.
-linked_tests() {
-    local name made
-    made=$(lacking | sed 's/^ndef_//' | paste -sd '|')
-    [ -n "$made" ] || return 0
-    echo --lib
-    for name in "$top"/rust/tests/*.rs; do
-        grep -qE "\\b($made)\\(" "$name" || echo "--test $(basename "$name" .rs)"
-    done
-}
-leave_out_lacking() { [ -z "$(lacking)" ] || left_out "tests of the Rust crate that make calls which the release in dist/ lacks: $(lacking | paste -sd ' ')"; }
-
 # The calls to the system in whose place test/fuzz/commands.c puts its own, as words for the compiler that links it.
 wrapped=()
 for call in read write isatty open close lseek statx; do wrapped+=("-Wl,--wrap=$call"); done

@@ -12,6 +12,7 @@ import tables  # noqa: E402
 RESULTS = json.loads(pathlib.Path(sys.argv[1]).read_text(encoding='utf-8'))
 NAMES = [*tables.WORKLOADS, 'records-100', 'records-10000', 'records-60000']
 CALLS = {'c': ['%s %s' % (call, name) for name in NAMES for call in ('check', 'walk', 'feed', 'memcpy')] + ['check cut'],
+         'hand': ['check ' + name for name in NAMES] + ['check cut'],
          'plain': ['check ' + name for name in NAMES]}
 
 harness.count('nothing is left out but what this machine lacks', set(RESULTS['left out']) <= {*programs.NAMES, 'instructions'}, RESULTS['left out'])

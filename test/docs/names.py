@@ -7,14 +7,14 @@ CODE = ('*.rt', '*.antt', '*.py', '*.h', '*.c', '*.hpp', '*.cpp', '*.rs', '*.go'
 # Names of Rust's, of C's, of the kit's, of Debian's packages and of ndeflib's classes that pages use, and placeholders.
 FOREIGN = set('''
     rt git apt make dpkg-dev lintian clang ctypes clap cc strip simdutf8 hex itoa arrayvec smallvec byteorder thiserror anyhow
-    FetchContent add_subdirectory npm requires ensures after_borrow Copy Display Eq Hash PartialEq QNdefMessage Sig
-    mandoc pkg-config help ndeflib type nodejs qemu-user cargo rustdoc rustfmt clippy serde
+    FetchContent add_subdirectory BUILD_SHARED_LIBS CMAKE_POSITION_INDEPENDENT_CODE subprojects REQUIRES npm requires ensures after_borrow Copy Display Eq Hash PartialEq QNdefMessage Sig
+    try_grow ERR_REQUIRE_ESM mandoc pkg-config help ndeflib type nodejs qemu-user cargo rustdoc rustfmt clippy serde
     gcc-riscv64-linux-gnu gcc-arm-linux-gnueabihf gcc-arm-none-eabi gcc-mingw-w64-x86-64-win32 gcc-aarch64-linux-gnu
     BluetoothEasyPairingRecord BluetoothLowEnergyRecord WifiSimpleConfigRecord WifiPeerToPeerRecord DeviceInformationRecord
     SignatureRecord HandoverMediationRecord HandoverInitiateRecord
 '''.split())
 # Names that releases before this one had, and the pages that may speak of them.
-FORMER = set('NDEF_OLD_NAMES NDEF_END_OF_INPUT NDEF_VERSION NDEF_UTF16 NDEF_EMPTY NDEF_MEDIA NDEF_FIRST NDEF_LAST NDEF_LONG'.split())
+FORMER = set('simbegyor-ndef-sys OuterLanguage NDEF_WRITE_ NDEF_OLD_NAMES NDEF_END_OF_INPUT NDEF_VERSION NDEF_UTF16 NDEF_EMPTY NDEF_MEDIA NDEF_FIRST NDEF_LAST NDEF_LONG'.split())
 HISTORY = ('CHANGELOG.md', 'DECISIONS.md')
 
 

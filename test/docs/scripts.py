@@ -15,6 +15,8 @@ import time
 STAND_IN = r'''#!/usr/bin/env bash
 case $1 in
 run)
+    echo 'rt: chose --jobs 4 for ndef_format'
+    echo 'so far: 1 of 2 functions checked'
     echo 'rt: chose --jobs 4 for ndef_value'
     echo 'so far: 0 of 103 functions checked; the verdict comes last'
     echo 'rt: chose --jobs 4 for ndef_lang'
@@ -33,7 +35,7 @@ try)
     echo 'error: a line of its own' >&2
     [ ! -e ../../broken ] || exit 1
     printf 'checked: ended status=1\nrun=ended status=1 runners=1 proved=no\n' >&2
-    exit 1
+    exit "$(cat ../../status)"
     ;;
 esac
 '''
@@ -68,6 +70,8 @@ class Copy:
             (self.folder / 'crates' / crate / 'src/main.rt').write_text('')
         (self.folder / 'dist').mkdir()
         self.release({'commands.c': COMMANDS, 'runtime.c': 'extern int no_calls;\n', 'ndef.c': LIBRARY, 'ndef.h': 'int answer(void);\n'}, '9.8.7')
+        (self.folder / 'status').write_text('1')
+        (self.folder / 'moment').mkdir()
         (self.folder / 'bin').mkdir()
         (self.folder / 'bin/rt').write_text(STAND_IN)
         (self.folder / 'bin/rt').chmod(0o755)
@@ -88,7 +92,7 @@ class Copy:
     def environment(self, has_rt=True):
         tools = os.pathsep.join(folder for folder in os.environ['PATH'].split(os.pathsep)
                                 if not os.path.exists(os.path.join(folder, 'rt')))
-        return dict(os.environ, PATH=f'{self.folder / "bin"}{os.pathsep}{tools}' if has_rt else tools)
+        return dict(os.environ, TMPDIR=str(self.folder / 'moment'), PATH=f'{self.folder / "bin"}{os.pathsep}{tools}' if has_rt else tools)
 
     def run(self, *words, has_rt=True, stdin=subprocess.DEVNULL, **more):
         return subprocess.run([f'./{words[0]}', *words[1:]], cwd=self.folder, env=dict(self.environment(has_rt), **more),
@@ -194,6 +198,20 @@ def library_from_dist(copy):
         yield from expect(copy.run('packaging/from_dist', *words), 3, '', "from_dist: dist/ndef.h isn't the file whose SHA-256 is in dist/SOURCE: "
                           "take dist/ from the release again, as by 'git checkout dist'")
     yield from expect(copy.run('packaging/from_dist', 'check', 'none.c'), 3, '')
+    copy.release({'ndef.h': 'int answer(void);\n'}, '9.8.7')
+    copy.program('failing', 'echo failing >&2\nexit 1\n')
+    yield from expect(copy.run('packaging/from_dist', 'library', copy.folder / 'out/none/libndef.a', AR='failing'), 3, '', 'failing')
+    if (copy.folder / 'out/none/libndef.a').exists():
+        yield 'an archive that ar did not make'
+    # Where there is no sha256sum, as on macOS, shasum does it.
+    few = copy.folder / 'few'
+    few.mkdir()
+    for program in ('sh', 'dirname', 'readlink', 'cut'):
+        (few / program).symlink_to(shutil.which(program))
+    (few / 'shasum').write_text('#!/bin/sh\n[ "$*" = "-a 256" ] && exec %s\n' % shutil.which('sha256sum'))
+    (few / 'shasum').chmod(0o755)
+    yield from expect(copy.run('packaging/from_dist', 'check', 'ndef.h', PATH=str(few)), 0, '')
+    yield from expect(copy.run('packaging/from_dist', 'check', 'none.h', PATH=str(few)), 3, '')
     yield from expect(copy.run('packaging/from_dist'), 3, '', 'from_dist: say what to make: commands, library FILE FLAG.., version, or check FILE..')
 
 
@@ -232,6 +250,8 @@ def unproved(copy):
         yield from expect(run, 1, 'tried check --hex\n', f'{script}: running unproved; ./{script} --prove proves it first', 'error: a line of its own')
         if 'run=ended' in run.stderr:
             yield f"{script}: rt's own lines are shown"
+    (copy.folder / 'status').write_text('0')
+    yield from expect(copy.run('ndef', '--try', 'check'), 0, 'tried check\n')
 
 
 def unproved_with_files(copy):
@@ -253,7 +273,8 @@ def unproved_and_broken(copy):
 
 def built_once(copy):
     first = copy.run('ndef', '--prove', 'show', '--hex')
-    yield from expect(first, 0, 'built show --hex\n', 'ndef: crate 4 of {}: ndef_lang, 120 of 183 functions'.format(count(first)))
+    yield from expect(first, 0, 'built show --hex\n', 'ndef: crate 1 of {}: ndef_format, 1 of 2 functions'.format(count(first)),
+                      'ndef: crate 4 of {}: ndef_lang, 120 of 183 functions'.format(count(first)))
     if 'processor minutes' not in first.stderr or 'ndef: proved and built in 0 minutes' not in first.stderr:
         yield f'no cost or no time in {first.stderr!r}'
     for words in (('ndef', 'show'), ('ndef', '--prove', 'show')):
@@ -353,8 +374,11 @@ def for_two_processors(copy):
     flags = re.search('(?m)^flags.*', pathlib.Path('/proc/cpuinfo').read_text())[0].split()
     has_v2 = {'pni', 'ssse3', 'cx16', 'sse4_1', 'sse4_2', 'popcnt'} <= set(flags)
     yield from expect(copy.run('ndef', 'show'), 0, 'faster\n' if has_v2 else 'plain\n')
-    (copy.folder / 'dist/commands-x86_64-v2-linux.s').write_text('# changed\n')
-    yield from expect(copy.run('packaging/from_dist', 'commands'), 3, '')
+    # What was changed would compile all the same.
+    with (copy.folder / 'dist/commands-x86_64-v2-linux.s').open('a') as file:
+        file.write('# changed\n')
+    yield from expect(copy.run('packaging/from_dist', 'commands'), 3, '', "from_dist: dist/commands-x86_64-v2-linux.s isn't the file whose SHA-256 is "
+                      "in dist/SOURCE: take dist/ from the release again, as by 'git checkout dist'")
     (copy.folder / 'dist/commands-x86_64-v2-linux.s').unlink()
     copy.release({}, '9.9.0')
     os.utime(copy.folder / 'dist/SOURCE', (time.time() + 5, time.time() + 5))
@@ -363,16 +387,35 @@ def for_two_processors(copy):
 
 def interrupted(copy):
     (copy.folder / 'slow').touch()
-    # A job of a shell in the background begins with interrupts ignored.
-    run = subprocess.Popen(['./ndef', '--prove', 'show'], cwd=copy.folder, env=copy.environment(), stdin=subprocess.DEVNULL,
-                           stderr=subprocess.PIPE, text=True, start_new_session=True,
-                           preexec_fn=lambda: signal.signal(signal.SIGINT, signal.SIG_DFL))
-    begun = run.stderr.readline()
-    time.sleep(3)
-    os.killpg(run.pid, signal.SIGINT)
-    said = begun + run.communicate(timeout=60)[1]
-    if run.returncode != 3 or 'ndef: interrupted; the next run goes on from what is proved' not in said:
-        yield f'status {run.returncode}, {said!r}'
+    for number in (signal.SIGINT, signal.SIGTERM):
+        # A job of a shell in the background begins with interrupts ignored.
+        run = subprocess.Popen(['./ndef', '--prove', 'show'], cwd=copy.folder, env=copy.environment(), stdin=subprocess.DEVNULL,
+                               stderr=subprocess.PIPE, text=True, start_new_session=True,
+                               preexec_fn=lambda: signal.signal(signal.SIGINT, signal.SIG_DFL))
+        begun = run.stderr.readline()
+        time.sleep(3)
+        os.killpg(run.pid, number)
+        said = begun + run.communicate(timeout=60)[1]
+        if run.returncode != 3 or 'ndef: interrupted; the next run goes on from what is proved' not in said:
+            yield f'{number}: status {run.returncode}, {said!r}'
+
+
+def made_of(copy):
+    """packaging/made_of says crates where each of the four things is proved and newer than its sources, else dist."""
+    made = [copy.folder / 'crates' / name for name in ('ndef/out/ndef', 'ndef_make/out/ndef_make', 'ndef_explain/out/ndef_explain', 'ndef_c/out/libndef_c.a')]
+    for path in made:
+        path.parent.mkdir(parents=True, exist_ok=True)
+        path.write_text('')
+    yield from expect(copy.run('packaging/made_of'), 0, 'crates\n')
+    for path in made:
+        for is_old in (True, False):
+            if is_old:
+                os.utime(path, (1, 1))
+            else:
+                path.unlink()
+            yield from expect(copy.run('packaging/made_of'), 0, 'dist\n')
+        path.write_text('')
+    yield from expect(copy.run('packaging/made_of'), 0, 'crates\n')
 
 
 # Words of each script, and what it reads then from a terminal.
@@ -406,6 +449,7 @@ def all_tests(top):
              'the scripts compile the commands for two processors, where dist/ has both, and run those for this one': for_two_processors,
              'the scripts compile dist/ with the compiler that CC names, or the first that is there': with_compilers,
              'packaging/from_dist compiles the library and looks at sums': library_from_dist,
+             'packaging/made_of says of what things are made': made_of,
              './ndef says why it does not compile dist/, with status 3': not_from_dist,
              'the scripts say what is missing without rt': without_rt,
              '--try runs the programs unproved, with their status': unproved,
@@ -416,11 +460,13 @@ def all_tests(top):
              '--prove proves and builds anew after an edit of a source, and after no other': built_anew,
              '--prove says what is left, by the table of processor seconds': cost_is_said,
              './ndef-make --prove shows why nothing is proved, with status 3': not_proved,
-             './ndef --prove says that an interrupted run goes on': interrupted,
+             './ndef --prove says that an interrupted or ended run goes on': interrupted,
              'the scripts say on a terminal that they read, and what': on_a_terminal}
     for name, run in tests.items():
         with tempfile.TemporaryDirectory() as folder:
-            yield name, list(run(Copy(top, folder)))
+            copy = Copy(top, folder)
+            wrong = list(run(copy))
+            yield name, wrong + [f'{path.name} is left' for path in (copy.folder / 'moment').iterdir()]
 
 
 if __name__ == '__main__':

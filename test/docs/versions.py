@@ -22,10 +22,14 @@ def of_sources(version):
     return of_dist()['version'] if of_dist().get('crates') == here else version
 
 
+def is_of_dist():
+    """Whether what is made in out/ is made of dist/."""
+    return (TOP / 'out/from').read_text() == 'dist\n'
+
+
 def of_commands():
     """The version that the commands in out/bin print."""
-    is_of_dist = (TOP / 'out/from').read_text() == 'dist\n'
-    return of_dist()['version'] if is_of_dist else of_sources((TOP / 'VERSION').read_text().strip())
+    return of_dist()['version'] if is_of_dist() else of_sources((TOP / 'VERSION').read_text().strip())
 
 
 def wrong():
@@ -34,13 +38,13 @@ def wrong():
         yield f'VERSION holds {version!r}'
     version = version.strip()
     sources, cargo, maven = of_sources(version), version.replace('.dev', '-dev'), version.replace('.dev', '-SNAPSHOT')
-    man = {f'man/{name}.1': f'\nThis page is of Simbegyor {version},' for name in ('ndef', 'ndef-make', 'ndef-explain')}
+    man = {f'man/{name}.1': '\nThis page is of Simbegyor @VERSION@,' for name in ('ndef', 'ndef-make', 'ndef-explain')}
     wanted = {'Makefile': '$(shell cat VERSION)', **man,
               'packaging/ndef.pc.in': 'Version: @VERSION@', 'packaging/control.in': 'Version: @VERSION@',
               'python/METADATA.in': 'Version: @VERSION@', 'packaging/npm/package.json.in': '"version": "@VERSION@"',
               'CHANGELOG.md': '\n## Unreleased\n' if version.endswith('.dev') else f'\n## {version} - ',
               'java/pom.xml': f'\n  <version>{maven}</version>\n', 'java/build.gradle.kts': f'\nversion = "{maven}"\n',
-              'rust/Cargo.toml': f'\nversion = "{cargo}"\n', 'rust/sys/Cargo.toml': f'\nversion = "{cargo}"\n',
+              'rust/Cargo.toml': f'\nversion = "{cargo}"\n',
               **dict.fromkeys(('rust/Cargo.lock', 'test/fuzz/rust/Cargo.lock'), f'name = "simbegyor-ndef"\nversion = "{cargo}"\n'),
               'crates/ndef_make_tool/src/pages.rt': f'b"ndef-make {sources}\\n"',
               'crates/ndef_explain_tool/src/pages.rt': f'b"ndef-explain {sources}\\n"'}
@@ -54,7 +58,8 @@ def wrong():
         if '.'.join(numbers) != sources.removesuffix('.dev'):
             yield f'{path} has {numbers}'
     module = TOP / 'out/python/simbegyor_ndef/__init__.py'
-    if module.exists() and f"__version__ = '{version.replace('.dev', '.dev0')}'" not in module.read_text():
+    made = of_dist()['version'] if module.exists() and is_of_dist() else version
+    if module.exists() and f"__version__ = '{made.replace('.dev', '.dev0')}'" not in module.read_text():
         yield 'out/python has another version: make python makes it anew'
 
 
