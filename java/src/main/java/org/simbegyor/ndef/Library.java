@@ -28,7 +28,7 @@ final class Library {
     /** How a record is written. */
     static final int FIRST = 1, LAST = 2, LONG = 4;
     /** The words of the state of a check. */
-    static final int CHECKER_WORDS = 29;
+    static final int CHECKER_WORDS = 61;
 
     static {
         Loader.load();
