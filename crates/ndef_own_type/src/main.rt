@@ -30,7 +30,7 @@ const GOOD: [u8; 33] = *b"\x94\x10\x02example.com:temp\x00\xD7\x51\x01\x08T\x02e
 /// A temperature of three octets.
 const LONG: [u8; 22] = *b"\xD4\x10\x03example.com:temp\x00\xD7\x00";
 
-/// A text whose status octet has the reserved bit 6, behind a temperature.
+/// A text whose status octet has the reserved bit 6, after a temperature.
 const BAD: [u8; 28] = *b"\x94\x10\x02example.com:temp\x00\xD7\x51\x01\x03T\x42en";
 
 /// Prints the number of records, or where the bytes are refused and why.
