@@ -6,28 +6,28 @@
  *
  * On x86-64 the archive libndef.a and the shared library run on every processor. With glibc both take the code for
  * x86-64-v2 where the processor has that (the shared library by a file in glibc-hwcaps), and check long texts that are
- * not ASCII some twelve times as fast. libndef-v2.a has that code alone, and needs SSSE3 and SSE4.1.
+ * not ASCII several times as fast. libndef-v2.a has that code alone, and needs SSSE3 and SSE4.1.
  *
  * The caller must keep these rules:
  *   - A pointer that comes with a length points to that many bytes (or elements). Where the length is 0, the pointer
  *     may have any value, NULL too. Any other pointer points to memory for one value of its type.
  *   - No other pointer is NULL. The library does not test for that: NULL with a length above 0, or NULL for a struct or
  *     a count, reads or writes memory at a low address, which ends the program on most systems.
- *   - What a call writes (`out`, `count`, `why`, a room, a checker) overlaps none of its other arguments.
+ *   - What a call writes (`out`, `count`, `why`, a buffer, a checker) overlaps none of its other arguments.
  *   - The ndef_checker that ndef_feed is given holds what ndef_begin or ndef_feed left in it, or is a copy of one
  *     that does. Only one call at a time uses it.
  *   - No array has more than PTRDIFF_MAX bytes.
  * All else is checked: whatever the numbers, bytes and structs hold, the answer is defined.
  *
- * Most calls return an ndef_status. With NDEF_BAD_ARGUMENT and NDEF_END the call has written nothing (but
- * ndef_begin has written its checker); with NDEF_NO_ROOM it has written *count alone. Where there is no room or no
+ * Most calls return an ndef_status. With NDEF_BAD_ARGUMENT and NDEF_END the call has written nothing (but ndef_begin
+ * has written its checker); with NDEF_NO_ROOM it has written *count alone. Where the array is too small or there is no
  * field, ndef_fields, ndef_field_at and ndef_next_field have written *why as well, and ndef_items, which has no count,
- * *out. What `out`, `count`, `why` and a room held before the call does not matter: nothing need have been written
+ * *out. What `out`, `count`, `why` and a buffer held before the call does not matter: nothing need have been written
  * there, so a variable without a value and fresh memory of malloc serve.
  *
- * A room is memory of the caller, `size` bytes long, to which a call writes bytes. The call puts the number of
- * bytes it wrote into *count. Where the room is too small, the answer is NDEF_NO_ROOM and *count has the size that
- * is needed: so a room of 0 bytes asks for the size. Text in a room is not followed by a NUL. */
+ * A buffer (the parameter `room`) is memory that the caller supplies, `size` bytes long, to which a call writes bytes.
+ * The call puts the number of bytes it wrote into *count. Where the buffer is too small, the answer is NDEF_NO_ROOM and
+ * *count has the size that is needed: so a buffer of 0 bytes asks for the size. Text in a buffer ends without a NUL. */
 #ifndef NDEF_H
 #define NDEF_H
 
@@ -39,7 +39,7 @@
 #define NDEF_VERSION_MINOR 4
 #define NDEF_VERSION_PATCH 0
 
-/* A length, or the place of a byte counted from 0. It has 64 bits on every machine, since the library is compiled
+/* A length, or the offset of a byte counted from 0. It has 64 bits on every machine, since the library is compiled
  * so. Where size_t has 64 bits it is size_t; elsewhere it is uint64_t, with the library's alignment of 8 bytes. */
 #if SIZE_MAX == UINT64_MAX
 typedef size_t ndef_size;
@@ -56,8 +56,8 @@ extern "C" {
 /* What most calls return. */
 enum ndef_status {
     NDEF_OK = 0,
-    NDEF_REFUSED = 1,      /* the bytes are no message, or no such payload; the call gives the place and the reason */
-    NDEF_NO_ROOM = 2,      /* the room is too small; *count has the size that is needed, and the room is unchanged */
+    NDEF_REFUSED = 1,      /* the bytes are no message, or no such payload; the call gives the offset and the reason */
+    NDEF_NO_ROOM = 2,      /* the buffer is too small, and unchanged; *count has the size that is needed */
     NDEF_BAD_ARGUMENT = 3, /* an argument is wrong; the comment at each call lists what it refuses */
     NDEF_END = 4,          /* there are no more records, references, links or fields */
     NDEF_MORE = 5          /* the bytes so far begin a message, and more must follow (ndef_feed alone) */
@@ -101,12 +101,12 @@ typedef struct ndef_limits {
 } ndef_limits;
 enum { NDEF_STANDARD = 1, NDEF_OPAQUE = 2 };
 
-/* Writes limits that suit usual tags: 1048576 bytes of payload, 1024 records, 4096 pieces, no flags. */
+/* Writes the default limits, which suit tags: 1048576 bytes of payload, 1024 records, 4096 chunks, no flags. */
 void ndef_usual_limits(ndef_limits *out);
 
 /* What a check finds. */
 typedef struct ndef_checked {
-    uint64_t place;   /* the length of the message in bytes; if refused, the place of the first refused byte */
+    uint64_t place;   /* the length of the message in bytes; if refused, the offset of the first refused byte */
     uint32_t records; /* the number of records; if refused, 0 */
     uint32_t reason;  /* 0; if refused, an ndef_reason */
 } ndef_checked;
@@ -120,8 +120,8 @@ typedef struct ndef_checked {
 uint32_t ndef_check(const uint8_t *bytes, ndef_size length, const ndef_limits *limits, ndef_checked *out);
 
 /* The state of a check of bytes that arrive in parts. It lies in the caller's memory, aligned to 8 bytes. Of the
- * message it holds the bytes of one type at most, while that arrives in parts, and no byte of an id or a payload. Its
- * words have a meaning for ndef_begin and ndef_feed alone; copying it copies the state. */
+ * message it holds the bytes of one type at most, while that arrives in parts, and no byte of an id or a payload. What
+ * `words` holds has a meaning for ndef_begin and ndef_feed alone; copying it copies the state. */
 typedef struct ndef_checker {
     uint64_t words[61];
 } ndef_checker;
@@ -132,39 +132,39 @@ typedef struct ndef_checker {
 uint32_t ndef_begin(const ndef_limits *limits, ndef_checker *checker);
 
 /* Checks the next `length` bytes; 0 is allowed. The answer is what ndef_check answers for all bytes fed since
- * ndef_begin, joined, except that NDEF_MORE says that the message goes on. Places count from the first byte that
+ * ndef_begin, joined, except that NDEF_MORE says that the message goes on. Offsets count from the first byte that
  * was fed.
- * NDEF_OK: the first out->place bytes are a message. NDEF_REFUSED: out has the place and the reason. After either,
+ * NDEF_OK: the first out->place bytes are a message. NDEF_REFUSED: out has the offset and the reason. After either,
  *   every later feed gives the same answer.
  * NDEF_MORE: the bytes begin a message, and more must follow. out->place is the number of bytes fed, out->reason is
  *   NDEF_REASON_END_OF_INPUT. Feeding 0 bytes gives this answer again.
  * NDEF_BAD_ARGUMENT: ndef_begin answered so. */
 uint32_t ndef_feed(ndef_checker *checker, const uint8_t *bytes, ndef_size length, ndef_checked *out);
 
-/* Writes the name of a reason to the room, in ASCII, at most 16 bytes.
+/* Writes the name of a reason to the buffer, in ASCII, at most 16 bytes.
  * NDEF_OK, NDEF_NO_ROOM. NDEF_BAD_ARGUMENT: there is no such reason. */
 uint32_t ndef_reason_name(uint32_t reason, uint8_t *room, ndef_size size, ndef_size *count);
 
-/* Writes what a reason means to the room: a sentence of English in ASCII, at most 70 bytes, as ndef-explain prints it.
+/* Writes what a reason means to the buffer: a sentence of English in ASCII, at most 70 bytes; ndef-explain prints it.
  * NDEF_OK, NDEF_NO_ROOM. NDEF_BAD_ARGUMENT: there is no such reason. */
 uint32_t ndef_reason_sentence(uint32_t reason, uint8_t *room, ndef_size size, ndef_size *count);
 
 /* Writes what was wanted where the bytes are refused, or what the reason means: a sentence of ASCII, at most 192 bytes.
- * NDEF_OK, NDEF_NO_ROOM. NDEF_END: they begin with a message. NDEF_BAD_ARGUMENT: as of ndef_fields. After these two the
- *   room and *count are unchanged. */
+ * NDEF_OK, NDEF_NO_ROOM. NDEF_END: they begin with a message. NDEF_BAD_ARGUMENT: as with ndef_fields. After these two
+ *   the buffer and *count are unchanged. */
 uint32_t ndef_why(const uint8_t *bytes, ndef_size length, const ndef_limits *limits, uint8_t *room, ndef_size size,
                   ndef_size *count);
 
-/* Writes a sentence that may help where the bytes are refused, as ndef_why does: a message begins at one of the places 1
- * to 16, the code of a URI may be missing, or NDEF_STANDARD reads the bytes. It may take 17 times as long as a check.
- * NDEF_OK, NDEF_NO_ROOM, NDEF_BAD_ARGUMENT: as of ndef_why. NDEF_END: also where nothing is known to help. */
+/* Writes a sentence that may help where the bytes are refused, as ndef_why does: a message begins at one of the offsets
+ * 1 to 16, the code of a URI may be missing, or NDEF_STANDARD reads the bytes. It may take 17 times as long as a check.
+ * NDEF_OK, NDEF_NO_ROOM, NDEF_BAD_ARGUMENT: as with ndef_why. NDEF_END: also where nothing is known to help. */
 uint32_t ndef_hint(const uint8_t *bytes, ndef_size length, const ndef_limits *limits, uint8_t *room, ndef_size size,
                    ndef_size *count);
 
 /* ---- read records */
 
 /* A record: where its parts lie in the bytes of the message. Of its first chunk the type, the id and the payload follow
- * one another, up to the end of that chunk; so an empty part, too, has its place. */
+ * one another, up to the end of that chunk; so an empty part, too, has its offset. */
 typedef struct ndef_record {
     ndef_size at;                   /* where the record begins */
     ndef_size end;                  /* where the next record begins */
@@ -178,9 +178,9 @@ typedef struct ndef_record {
     uint32_t last;                  /* 1 for the last record of the message, else 0 */
 } ndef_record;
 
-/* Gives the record that begins at a place. The first record of a message begins at 0, the next at the `end` of the
+/* Gives the record that begins at an offset. The first record of a message begins at 0, the next at the `end` of the
  * one before, up to the record whose `last` is 1. If ndef_check took the message, this reaches every record of it.
- * In other bytes the call says whether a whole record begins at the place: an unchunked record, or an initial
+ * In other bytes the call says whether a whole record begins at the offset: an unchunked record, or an initial
  * chunk with all chunks that follow.
  * NDEF_OK: `out` has the record. NDEF_END: `at` is `length`. NDEF_BAD_ARGUMENT: no record begins at any other `at`. */
 uint32_t ndef_record_at(const uint8_t *bytes, ndef_size length, ndef_size at, ndef_record *out);
@@ -207,8 +207,8 @@ enum ndef_kinds {
  * its tnf is above 5, or payloads of the kind `within` hold no message. */
 uint32_t ndef_kind(const uint8_t *bytes, ndef_size length, const ndef_record *record, uint32_t within);
 
-/* Writes the whole payload of the record that begins at a place to the room, its chunks joined.
- * NDEF_OK, NDEF_NO_ROOM. NDEF_BAD_ARGUMENT: no record begins at the place, or the place is `length`. */
+/* Writes the whole payload of the record that begins at an offset to the buffer, its chunks joined.
+ * NDEF_OK, NDEF_NO_ROOM. NDEF_BAD_ARGUMENT: no record begins at `at`, or `at` is `length`. */
 uint32_t ndef_payload(const uint8_t *bytes, ndef_size length, ndef_size at, uint8_t *room, ndef_size size,
                       ndef_size *count);
 
@@ -224,7 +224,7 @@ typedef struct ndef_writing {
 } ndef_writing;
 enum { NDEF_WRITE_FIRST = 1, NDEF_WRITE_LAST = 2, NDEF_WRITE_LONG = 4 };
 
-/* Writes a record to the room. With an id of length 0 the record gets no id. Records written one after the other,
+/* Writes a record to the buffer. With an id of length 0 the record gets no id. Records written one after the other,
  * the first with NDEF_WRITE_FIRST and the last with NDEF_WRITE_LAST, are a message.
  * NDEF_OK, NDEF_NO_ROOM.
  * NDEF_BAD_ARGUMENT: tnf is above 5; an unknown flag is set; the type or the id has more than 255 bytes; the
@@ -242,13 +242,13 @@ uint32_t ndef_write_record(const uint8_t *type, ndef_size type_length, const uin
  * NDEF_REFUSED the bytes are no payload of that type: why->place and why->reason say where in the payload and why,
  * why->records is 0, and nothing else is written. */
 
-/* Writes the URI of a URI record (`U`) to the room, in UTF-8, with its prefix spelled out. Flags: with
- * NDEF_STANDARD a reserved prefix code stands for no prefix; without it such a code is refused.
+/* Writes the URI of a URI record (`U`) to the buffer, in UTF-8, with its prefix spelled out. Flags: with
+ * NDEF_STANDARD a reserved prefix code means no prefix; without it such a code is refused.
  * NDEF_OK, NDEF_NO_ROOM, NDEF_REFUSED. NDEF_BAD_ARGUMENT: an unknown flag is set. */
 uint32_t ndef_uri(const uint8_t *payload, ndef_size length, uint32_t flags, uint8_t *room, ndef_size size,
                   ndef_size *count, ndef_checked *why);
 
-/* Writes the payload of a URI record (`U`) to the room, with the longest prefix code that fits the URI.
+/* Writes the payload of a URI record (`U`) to the buffer, with the longest prefix code that fits the URI.
  * NDEF_OK, NDEF_NO_ROOM. NDEF_BAD_ARGUMENT: the URI is not UTF-8, or the payload would have more than 4294967295
  *   bytes. */
 uint32_t ndef_write_uri(const uint8_t *uri, ndef_size length, uint8_t *room, ndef_size size, ndef_size *count);
@@ -264,13 +264,13 @@ typedef struct ndef_text_parts {
  * NDEF_OK, NDEF_REFUSED. */
 uint32_t ndef_text(const uint8_t *payload, ndef_size length, ndef_text_parts *out, ndef_checked *why);
 
-/* Writes the text of a Text record (`T`) to the room, in UTF-8. UTF-16 is converted, and its byte order mark is
- * left out.
+/* Writes the text of a Text record (`T`) to the buffer, in UTF-8. UTF-16 is converted, and its byte order mark is
+ * skipped.
  * NDEF_OK, NDEF_NO_ROOM, NDEF_REFUSED. */
 uint32_t ndef_text_in_utf8(const uint8_t *payload, ndef_size length, uint8_t *room, ndef_size size, ndef_size *count,
                            ndef_checked *why);
 
-/* Writes the payload of a Text record (`T`) to the room. The text is given in UTF-8. Flags: NDEF_AS_UTF16 writes it
+/* Writes the payload of a Text record (`T`) to the buffer. The text is given in UTF-8. Flags: NDEF_AS_UTF16 writes it
  * in UTF-16, big-endian, with a byte order mark in front.
  * NDEF_OK, NDEF_NO_ROOM.
  * NDEF_BAD_ARGUMENT: the language code has more than 63 bytes or is not ASCII; the text is not UTF-8; the payload
@@ -291,7 +291,7 @@ typedef struct ndef_carrier_parts {
  * NDEF_OK, NDEF_REFUSED. */
 uint32_t ndef_carrier(const uint8_t *payload, ndef_size length, ndef_carrier_parts *out, ndef_checked *why);
 
-/* Writes the payload of a Handover Carrier record (`Hc`) to the room, with reserved bits 0.
+/* Writes the payload of a Handover Carrier record (`Hc`) to the buffer, with reserved bits 0.
  * NDEF_OK, NDEF_NO_ROOM.
  * NDEF_BAD_ARGUMENT: the format is above 7; the type has more than 255 bytes; the payload would have more than
  *   4294967295 bytes. */
@@ -305,11 +305,11 @@ typedef struct ndef_alternative_parts {
 } ndef_alternative_parts;
 
 /* Gives the power state and the number of references in the payload of an Alternative Carrier record (`ac`).
- * Reserved bits are ignored. Such records stand in the message within a handover request or select.
+ * Reserved bits are ignored. Such records are in the message within a handover request or select.
  * NDEF_OK, NDEF_REFUSED. */
 uint32_t ndef_alternative(const uint8_t *payload, ndef_size length, ndef_alternative_parts *out, ndef_checked *why);
 
-/* A part of an array of bytes. An empty part, too, has the place where its bytes would begin. */
+/* A part of an array of bytes. An empty part, too, has the offset at which its bytes would begin. */
 typedef struct ndef_part {
     ndef_size at, length;
 } ndef_part;
@@ -319,7 +319,7 @@ typedef struct ndef_part {
  * NDEF_OK. NDEF_END: there are no more references. NDEF_BAD_ARGUMENT: it is no such payload. */
 uint32_t ndef_reference(const uint8_t *payload, ndef_size length, ndef_size index, ndef_part *out);
 
-/* Writes the payload of an Alternative Carrier record (`ac`) to the room, with reserved bits 0. Each reference is a
+/* Writes the payload of an Alternative Carrier record (`ac`) to the buffer, with reserved bits 0. Each reference is a
  * part of `bytes`: the first part is the carrier data reference, and the others are the auxiliary references.
  * NDEF_OK, NDEF_NO_ROOM.
  * NDEF_BAD_ARGUMENT: the power state is above 3; there are no parts, or more than 256; a part reaches beyond the
@@ -361,7 +361,7 @@ uint32_t ndef_select(const uint8_t *payload, ndef_size length, uint32_t flags, n
 typedef struct ndef_link {
     ndef_size carrier_at, carrier_length; /* where the payload of the carrier's record lies in that of the handover */
     ndef_size record_index, record_at;    /* the index of the record in the message, from 0, and where it begins */
-    uint32_t has_record;                  /* 1; or 0 if it refers to no record, and then index and place are 0 */
+    uint32_t has_record;                  /* 1; or 0 if it refers to no record, and then index and offset are 0 */
 } ndef_link;
 
 /* Gives one link: the alternative carrier with an index, from 0, and the first record of the message whose id
@@ -390,17 +390,17 @@ uint32_t ndef_poster(const uint8_t *payload, ndef_size length, uint32_t flags, n
 
 /* ---- payloads of handovers, and of the records within smart posters and handovers */
 
-/* Writes the payload of an Action record (`act`) of a smart poster to the room, 1 byte.
+/* Writes the payload of an Action record (`act`) of a smart poster to the buffer, 1 byte.
  * NDEF_OK, NDEF_NO_ROOM. NDEF_BAD_ARGUMENT: the action is above 255. */
 uint32_t ndef_write_action(uint32_t action, uint8_t *room, ndef_size size, ndef_size *count);
 
-/* Writes the payload of a Size record (`s`) of a smart poster to the room, 4 bytes: the size in bytes of what the
+/* Writes the payload of a Size record (`s`) of a smart poster to the buffer, 4 bytes: the size in bytes of what the
  * URI leads to.
  * NDEF_OK, NDEF_NO_ROOM. */
 uint32_t ndef_write_size(uint32_t bytes, uint8_t *room, ndef_size size, ndef_size *count);
 
-/* Writes the payload of a Collision Resolution record (`cr`), the first record of a handover request, to the room,
- * 2 bytes.
+/* Writes the payload of a Collision Resolution record (`cr`), the first record of a handover request, to the
+ * buffer, 2 bytes.
  * NDEF_OK, NDEF_NO_ROOM. NDEF_BAD_ARGUMENT: the number is above 65535. */
 uint32_t ndef_write_collision(uint32_t number, uint8_t *room, ndef_size size, ndef_size *count);
 
@@ -416,7 +416,7 @@ typedef struct ndef_error_parts {
  * NDEF_OK, NDEF_REFUSED. */
 uint32_t ndef_error(const uint8_t *payload, ndef_size length, ndef_error_parts *out, ndef_checked *why);
 
-/* Writes the payload of an Error record (`err`) of a handover select to the room: its reason and its data.
+/* Writes the payload of an Error record (`err`) of a handover select to the buffer: its reason and its data.
  * NDEF_OK, NDEF_NO_ROOM.
  * NDEF_BAD_ARGUMENT: the reason is above 255; the reason is 1 or 3 and the data don't have 1 byte; the reason is 2
  *   and the data don't have 4 bytes; the payload would have more than 4294967295 bytes. */
@@ -428,7 +428,7 @@ uint32_t ndef_write_error(uint32_t reason, const uint8_t *data, ndef_size length
  * NDEF_BAD_ARGUMENT: the reason is not 1, 2 or 3; the reason is 1 or 3 and the number is above 255. */
 uint32_t ndef_write_error_number(uint32_t reason, uint32_t number, uint8_t *room, ndef_size size, ndef_size *count);
 
-/* Writes the payload of a Handover Request record (`Hr`) or a Handover Select record (`Hs`) to the room: a version
+/* Writes the payload of a Handover Request record (`Hr`) or a Handover Select record (`Hs`) to the buffer: a version
  * byte and then the message. A select may have no message; then `length` is 0.
  * NDEF_OK, NDEF_NO_ROOM.
  * NDEF_BAD_ARGUMENT: `handover` is not an ndef_handover; the major version is not 1; the minor version is above 15;
@@ -439,15 +439,24 @@ uint32_t ndef_write_handover(uint32_t handover, uint32_t major, uint32_t minor, 
                              ndef_size length, uint8_t *room, ndef_size size, ndef_size *count);
 enum ndef_handover { NDEF_REQUEST = 0, NDEF_SELECT = 1 };
 
+/* What a field of a layout holds. */
+enum ndef_layout_form {
+    NDEF_LAYOUT_OCTETS = 1,  /* `least` octets */
+    NDEF_LAYOUT_WITHIN = 2,  /* one octet, from `least` to `most` */
+    NDEF_LAYOUT_COUNTED = 3, /* octets after their number, which is one octet */
+    NDEF_LAYOUT_UTF8 = 4,    /* a text in UTF-8, up to the end of the payload */
+    NDEF_LAYOUT_REST = 5     /* any octets, up to the end of the payload */
+};
+
 /* ---- arrays
  *
  * These calls fill an array of the caller, `size` elements long, from its front. They put the number of elements they
  * wrote into *count. Where the array is too small, the answer is NDEF_NO_ROOM, *count has the size that is needed, and
  * the array is unchanged: so an array of 0 elements asks for the size. Elements after *count are unchanged. */
 
-/* Says where the payload of each chunk lies, of the record that begins at a place. The parts are in the order of the
+/* Says where the payload of each chunk lies, of the record that begins at an offset. The parts are in the order of the
  * chunks, so their bytes, joined, are what ndef_payload writes; a record that is not chunked has one.
- * NDEF_OK, NDEF_NO_ROOM. NDEF_BAD_ARGUMENT: no record begins at the place, or the place is `length`. */
+ * NDEF_OK, NDEF_NO_ROOM. NDEF_BAD_ARGUMENT: no record begins at `at`, or `at` is `length`. */
 uint32_t ndef_pieces(const uint8_t *bytes, ndef_size length, ndef_size at, ndef_part *parts, ndef_size size,
                      ndef_size *count);
 
@@ -459,18 +468,18 @@ uint32_t ndef_references(const uint8_t *payload, ndef_size length, ndef_part *pa
 
 /* Gives the links of a message: for each index what ndef_link_at gives for the same message and payload. The payload is
  * read once. Each alternative carrier is compared with the records up to its own, so the time grows with carriers times
- * records: for bytes of a stranger, have ndef_check take the message with limits first.
+ * records: for bytes that you don't trust, have ndef_check take the message with limits first.
  * NDEF_OK, NDEF_NO_ROOM. NDEF_BAD_ARGUMENT: as ndef_link_at answers it. */
 uint32_t ndef_links(const uint8_t *bytes, ndef_size length, const uint8_t *payload, ndef_size payload_length,
                     ndef_link *links, ndef_size size, ndef_size *count);
 
 /* ---- find records */
 
-/* Gives the first record of a type, from the record that begins at a place on, up to the last of its message. The type
- * name format is an ndef_tnf; types are equal where their bytes are. To find the next one, ask again with its `end`,
- * unless it was the last: what follows the last is another message.
- * NDEF_OK: `out` is what ndef_record_at gives for that record. NDEF_END: none of these records has the type, or the
- *   place is `length`. NDEF_BAD_ARGUMENT: no record begins at the place; or, before a record that has the type or is
+/* Gives the first record of a type, from the record that begins at an offset on, up to the last of its message. The
+ * type name format is an ndef_tnf; types are equal where their bytes are. To find the next one, ask again with its
+ * `end`, unless it was the last: what follows the last is another message.
+ * NDEF_OK: `out` is what ndef_record_at gives for that record. NDEF_END: none of these records has the type, or
+ *   `at` is `length`. NDEF_BAD_ARGUMENT: no record begins at `at`; or, before a record that has the type or is
  *   the last, no whole record begins where the one before it ends. */
 uint32_t ndef_find_type(const uint8_t *bytes, ndef_size length, ndef_size at, uint32_t tnf, const uint8_t *type,
                         ndef_size type_length, ndef_record *out);
@@ -482,8 +491,8 @@ uint32_t ndef_find_id(const uint8_t *bytes, ndef_size length, ndef_size at, cons
 
 /* ---- fields
  *
- * In which field each byte of a message stands: the parts of the heads of its records, and of the payloads that the
- * standards define. The fields follow one another without a gap from the first byte to the last. A message within a
+ * Each byte of a message belongs to a field: a part of the head of a record, or of a payload that the standards
+ * define. The fields follow one another without a gap from the first byte to the last. A message within a
  * payload has fields of its own, with depth 1. The payload of a chunk is one field.
  *
  * The calls with a `why` write to it what ndef_check says of the bytes: where why->reason is 0, the fields are those
@@ -507,9 +516,9 @@ typedef struct ndef_field {
 uint32_t ndef_fields(const uint8_t *bytes, ndef_size length, const ndef_limits *limits, ndef_field *fields,
                      ndef_size size, ndef_size *count, ndef_checked *why);
 
-/* Gives the field in which the byte at a place stands. Each call looks at the message from its start.
+/* Gives the field to which the byte at `place` belongs. Each call looks at the message from its start.
  * NDEF_OK: `out` is that field.
- * NDEF_END: the place is after the message. NDEF_REFUSED: the bytes are refused, and the place is that of the refused
+ * NDEF_END: `place` is after the message. NDEF_REFUSED: the bytes are refused, and `place` is the offset of the refused
  *   byte or after it. After either, `out` is unchanged.
  * NDEF_BAD_ARGUMENT: as ndef_fields answers it. */
 uint32_t ndef_field_at(const uint8_t *bytes, ndef_size length, const ndef_limits *limits, ndef_size place,
@@ -525,30 +534,30 @@ uint32_t ndef_next_field(const uint8_t *bytes, ndef_size length, const ndef_limi
                          ndef_checked *why);
 
 /* Fills the array with the fields of a payload, its chunks joined, of a record with this type name format (an ndef_tnf)
- * and this type: as ndef_fields does, but places count from the first byte of the payload. Whatever bytes it has, each
- * of them stands in a field; where it is cut, bytes of the last field are missing.
+ * and this type: as ndef_fields does, but offsets count from the first byte of the payload. Whatever bytes it has, each
+ * of them belongs to a field; where it is cut, bytes of the last field are missing.
  * NDEF_OK, NDEF_NO_ROOM. NDEF_BAD_ARGUMENT: the type name format is above 5. */
 uint32_t ndef_payload_fields(uint32_t tnf, const uint8_t *type, ndef_size type_length, const uint8_t *payload,
                              ndef_size length, ndef_field *fields, ndef_size size, ndef_size *count);
 
-/* Writes the name of a field to the room, in ASCII, at most 31 bytes: as "PAYLOAD_LENGTH" for
+/* Writes the name of a field to the buffer, in ASCII, at most 31 bytes: such as "PAYLOAD_LENGTH" for
  * NDEF_FIELD_PAYLOAD_LENGTH.
  * NDEF_OK, NDEF_NO_ROOM. NDEF_BAD_ARGUMENT: there is no such name. */
 uint32_t ndef_field_name(uint32_t name, uint8_t *room, ndef_size size, ndef_size *count);
 
 /* ---- what is strange in a message that is accepted */
 
-/* Writes what is strange in a field of a message that ndef_check accepts to the room: a sentence of ASCII, at most 192 bytes,
- * as ndef-explain prints it. `octets` are the bytes of the field, `name` is its name.
- * NDEF_OK, NDEF_NO_ROOM. NDEF_END: nothing is known to be strange. NDEF_BAD_ARGUMENT: there is no such name. After these two
- *   the room and *count are unchanged. */
+/* Writes what is strange in a field of a message that ndef_check accepts to the buffer: a sentence of ASCII, at most
+ * 192 bytes, as ndef-explain prints it. `octets` are the bytes of the field, `name` is its name.
+ * NDEF_OK, NDEF_NO_ROOM. NDEF_END: nothing is known to be strange. NDEF_BAD_ARGUMENT: there is no such name. After
+ *   these two the buffer and *count are unchanged. */
 uint32_t ndef_field_remark(uint32_t name, const uint8_t *octets, ndef_size octets_length, uint8_t *room, ndef_size size,
                            ndef_size *count);
 
-/* Writes what is strange in a record beside the others to the room, as ndef_field_remark does: two titles in one language,
- * a request without an alternative carrier or with a second collision record, a reference to no record, a text that may be
- * little-endian; or else an id that another record has too. `bytes` begin with a message that ndef_check accepts; the
- * record with `index` 0 is its first. Messages of more than 64 records are not looked through.
+/* Writes what is strange in a record beside the others to the buffer, as ndef_field_remark does: two titles in one
+ * language, a request without an alternative carrier or with a second collision record, a reference to no record, a
+ * text that may be little-endian; or else an id that another record has too. `bytes` begin with a message that
+ * ndef_check accepts; the record with `index` 0 is its first. Messages of more than 64 records are not looked through.
  * NDEF_OK, NDEF_NO_ROOM. NDEF_END: nothing is known to be strange, or there is no such record. */
 uint32_t ndef_record_remark(const uint8_t *bytes, ndef_size length, ndef_size index, uint8_t *room, ndef_size size,
                             ndef_size *count);
@@ -559,7 +568,7 @@ uint32_t ndef_record_remark(const uint8_t *bytes, ndef_size length, ndef_size in
  * third. */
 uint32_t ndef_version(void);
 
-/* Writes the name of an ndef_status to the room, in ASCII, at most 11 bytes: as "NoRoom" for NDEF_NO_ROOM.
+/* Writes the name of an ndef_status to the buffer, in ASCII, at most 11 bytes: such as "NoRoom" for NDEF_NO_ROOM.
  * NDEF_OK, NDEF_NO_ROOM. NDEF_BAD_ARGUMENT: there is no such status. */
 uint32_t ndef_status_name(uint32_t status, uint8_t *room, ndef_size size, ndef_size *count);
 
@@ -577,54 +586,54 @@ typedef struct ndef_uri_parts {
 uint32_t ndef_uri_view(const uint8_t *payload, ndef_size length, uint32_t flags, ndef_uri_parts *out,
                        ndef_checked *why);
 
-/* Writes the prefix of a code to the room, in ASCII, at most 26 bytes. Code 0 and the reserved codes, 36 to 255, have
+/* Writes the prefix of a code to the buffer, in ASCII, at most 26 bytes. Code 0 and the reserved codes, 36 to 255, have
  * the empty prefix.
  * NDEF_OK, NDEF_NO_ROOM. NDEF_BAD_ARGUMENT: the code is above 255. */
 uint32_t ndef_uri_prefix(uint32_t code, uint8_t *room, ndef_size size, ndef_size *count);
 
 /* ---- build a message */
 
-/* What is known of a message that is being built in a room. All 0: it has no record yet. */
+/* What is known of a message that is being built in a buffer. All 0: it has no record yet. */
 typedef struct ndef_built {
-    ndef_size length;  /* its bytes, from the front of the room */
+    ndef_size length;  /* its bytes, from the front of the buffer */
     ndef_size last_at; /* where the last chunk of its last record begins */
     uint32_t records; /* the number of its records */
 } ndef_built;
 
-/* Appends a record to the message that the room begins with, and writes to `built` what is known of the message then.
- * The room holds a whole message after each call: the record that was the last says so no longer. The record is
+/* Appends a record to the message that the buffer begins with, and writes to `built` what is known of the message then.
+ * The buffer holds a whole message after each call: the record that was the last says so no longer. The record is
  * written as ndef_write_record writes it; the only flag is NDEF_WRITE_LONG, since the call knows which record is
- * first and which is last. `built` and the room are as the call before left them; for the first record all of `built`
- * is 0. *count has the length of the message with the record. Bytes of the room after it are unchanged.
- * NDEF_OK. NDEF_NO_ROOM: the room and `built` are unchanged.
- * NDEF_BAD_ARGUMENT: another flag is set; what ndef_write_record answers so; or `built` does not fit the room: its
+ * first and which is last. `built` and the buffer are as the call before left them; for the first record all of `built`
+ * is 0. *count has the length of the message with the record. Bytes of the buffer after it are unchanged.
+ * NDEF_OK. NDEF_NO_ROOM: the buffer and `built` are unchanged.
+ * NDEF_BAD_ARGUMENT: another flag is set; what ndef_write_record answers so; or `built` does not fit the buffer: its
  *   length is above `size`; the last bytes of the message, from last_at on, are not the chunk that ends a message; it
  *   has 4294967295 records; or its length is 0 and the other members are not. */
 uint32_t ndef_append(ndef_built *built, const uint8_t *type, ndef_size type_length, const uint8_t *id,
                      ndef_size id_length, const uint8_t *payload, ndef_size payload_length, const ndef_writing *how,
                      uint8_t *room, ndef_size size, ndef_size *count);
 
-/* Appends the record of a text (`T`), whose payload is written where it belongs, so it needs no room of its own. The
- * text is given in UTF-8. Flags: as ndef_write_text. The record is written in one piece, with no id where the id has
- * length 0. *count, `built` and the room: as ndef_append.
- * NDEF_OK. NDEF_NO_ROOM: the room and `built` are unchanged.
- * NDEF_BAD_ARGUMENT: what ndef_write_text answers so; the id has more than 255 bytes; or `built` does not fit the room,
- *   as with ndef_append. */
+/* Appends the record of a text (`T`), whose payload is written where it belongs, so it needs no buffer of its own. The
+ * text is given in UTF-8. Flags: as ndef_write_text. The record is written in one chunk, with no id where the id has
+ * length 0. *count, `built` and the buffer: as ndef_append.
+ * NDEF_OK. NDEF_NO_ROOM: the buffer and `built` are unchanged.
+ * NDEF_BAD_ARGUMENT: what ndef_write_text answers so; the id has more than 255 bytes; or `built` does not fit the
+ *   buffer, as with ndef_append. */
 uint32_t ndef_append_text(ndef_built *built, const uint8_t *id, ndef_size id_length, const uint8_t *language,
                           ndef_size language_length, const uint8_t *text, ndef_size text_length, uint32_t flags,
                           uint8_t *room, ndef_size size, ndef_size *count);
 
 /* Appends the record of a URI (`U`) in the same way.
- * NDEF_OK. NDEF_NO_ROOM: the room and `built` are unchanged.
- * NDEF_BAD_ARGUMENT: what ndef_write_uri answers so; the id has more than 255 bytes; or `built` does not fit the room,
- *   as with ndef_append. */
+ * NDEF_OK. NDEF_NO_ROOM: the buffer and `built` are unchanged.
+ * NDEF_BAD_ARGUMENT: what ndef_write_uri answers so; the id has more than 255 bytes; or `built` does not fit the
+ *   buffer, as with ndef_append. */
 uint32_t ndef_append_uri(ndef_built *built, const uint8_t *id, ndef_size id_length, const uint8_t *uri,
                          ndef_size uri_length, uint8_t *room, ndef_size size, ndef_size *count);
 
 /* ---- titles, media types and icons of smart posters
  *
  * The payload is that of a Smart Poster record (`Sp`), its chunks joined. Reserved values are treated as the standard
- * says. Places count from the front of this payload. */
+ * says. Offsets count from the front of this payload. */
 
 /* Gives the titles of a smart poster, one text in each of several languages: where the parts of each lie, in the order
  * of their records. It fills the array as the calls above do.
@@ -693,11 +702,12 @@ typedef struct ndef_poster_writing {
     uint32_t has_size, size;     /* 1 and the size in bytes of what the URI leads to, or 0 */
 } ndef_poster_writing;
 
-/* Writes the payload of a Smart Poster record (`Sp`) to the room: a message of the URI record (`U`), the titles (`T`),
- * the action (`act`), the size (`s`), the media type (`t`) and the icons, in this order. Each part lies in `bytes`, and
- * parts may overlap. The records have no ids, and each is written in one chunk, as ndef_write_record writes it without
- * NDEF_WRITE_LONG. An icon is a record of its media type (NDEF_TNF_MEDIA). Give each title a language of its own, and
- * icons a type that begins with "image/" or "video/": the standard asks for that, and the call does not look at it.
+/* Writes the payload of a Smart Poster record (`Sp`) to the buffer: a message of the URI record (`U`), the titles
+ * (`T`), the action (`act`), the size (`s`), the media type (`t`) and the icons, in this order. Each part lies in
+ * `bytes`, and parts may overlap. The records have no ids, and each is written in one chunk, as ndef_write_record
+ * writes it without NDEF_WRITE_LONG. An icon is a record of its media type (NDEF_TNF_MEDIA). Give each title a language
+ * of its own, and icons a type that begins with "image/" or "video/": the standard asks for that, and the call does not
+ * look at it.
  * NDEF_OK, NDEF_NO_ROOM.
  * NDEF_BAD_ARGUMENT: a part does not lie within `bytes`; the URI or the media type is not UTF-8; what ndef_write_text
  *   answers so for a title; the media type of an icon has no bytes or more than 255; has_media_type, has_action or
@@ -718,9 +728,9 @@ typedef struct ndef_alternative_writing {
     uint32_t power;       /* the power state of the carrier: 0 inactive, 1 active, 2 activating, 3 unknown */
 } ndef_alternative_writing;
 
-/* Writes the payload of a Handover Request record (`Hr`) of version 1.minor to the room: a Collision Resolution record
- * (`cr`) with a random number, and then an Alternative Carrier record (`ac`) for each alternative carrier, in their
- * order. Each reference is a part of `bytes`. The records have no ids, and each is written in one chunk, as
+/* Writes the payload of a Handover Request record (`Hr`) of version 1.minor to the buffer: a Collision Resolution
+ * record (`cr`) with a random number, and then an Alternative Carrier record (`ac`) for each alternative carrier, in
+ * their order. Each reference is a part of `bytes`. The records have no ids, and each is written in one chunk, as
  * ndef_write_record writes it without NDEF_WRITE_LONG.
  * NDEF_OK, NDEF_NO_ROOM.
  * NDEF_BAD_ARGUMENT: the minor version is above 15; the number is above 65535; the references of an alternative carrier
@@ -752,13 +762,13 @@ uint32_t ndef_write_select(const ndef_select_writing *how, const uint8_t *bytes,
 
 /* ---- a message and all its records, in one call */
 
-/* A record, in 32-bit words: places and lengths in the bytes. Its id lies between its type and its payload, so at
- * payload_at - id_length. */
+/* A record, in numbers of 32 bits: offsets and lengths in the bytes. Its id lies between its type and its payload, so
+ * at payload_at - id_length. */
 typedef struct ndef_item {
     uint32_t at;              /* where it begins */
     uint32_t end;             /* where the next one begins */
     uint32_t tnf;             /* the type name format, 0 to 5 */
-    uint32_t kind;            /* the number of its kind, as ndef_kind says it of a record in a message of its own */
+    uint32_t kind;            /* the number of its kind, which ndef_kind says of a record in a message of its own */
     uint32_t type_at;         /* where its type begins */
     uint32_t type_length;     /* the bytes of its type, at most 255 */
     uint32_t id_length;       /* the bytes of its id, at most 255 */
@@ -777,14 +787,42 @@ typedef struct ndef_item {
 
 /* Checks the message with which the bytes begin, and gives all its records. `out` becomes what ndef_check makes of
  * it. Each item has what ndef_record_at gives at its `at`, and the kind that ndef_kind says with `within` 0. A text and
- * a URI in one chunk have the parts that ndef_text and ndef_uri_view give, as places in these bytes.
+ * a URI in one chunk have the parts that ndef_text and ndef_uri_view give, as offsets in these bytes.
  * NDEF_OK: the first out->records items are the records of the message, in order; those after them are unchanged.
  * NDEF_NO_ROOM: the message is accepted, and `size` is less than out->records; the items are unchanged.
- * NDEF_REFUSED: as ndef_check answers it; the items are unchanged. ndef_record_at gives the records before the place.
+ * NDEF_REFUSED: as ndef_check answers it; the items are unchanged. ndef_record_at gives the records before that offset.
  * NDEF_BAD_ARGUMENT: a limit is out of range, an unknown flag is set, or `length` is above 4294967295; nothing is
  *   written. */
 uint32_t ndef_items(const uint8_t *bytes, ndef_size length, const ndef_limits *limits, ndef_checked *out,
                     ndef_item *items, ndef_size size);
+
+/* ---- payloads of a layout that a program gives */
+
+/* A field of the layout of a payload. */
+typedef struct ndef_layout_field {
+    uint32_t form;  /* what it holds, one of ndef_layout_form */
+    uint32_t least; /* its number of octets, or the least octet; else it isn't read */
+    uint32_t most;  /* the greatest octet, at most 255; else it isn't read */
+} ndef_layout_field;
+
+/* What a check of a payload by its layout answers. */
+typedef struct ndef_laid_out {
+    uint64_t place;       /* the length of the payload, or the offset of the refused octet */
+    uint32_t reason;      /* 0, or the number of the reason */
+    uint32_t length_fits; /* 1, or 0 where no payload of the layout has the length of this one */
+} ndef_laid_out;
+
+/* Checks a payload by a layout, for a record type of the program's own: the fields of the layout follow one another
+ * up to the end of the payload. A text in UTF-8 or any octets can be the last field alone. `out->place` becomes the
+ * length of the payload, or the offset of the first octet after which no payload of the same length is one of the
+ * layout. No payload of more than 4294967295 bytes is one.
+ * NDEF_OK: the payload is one of the layout; `out->reason` is 0 and `out->length_fits` is 1.
+ * NDEF_REFUSED: it is none; `out->reason` says why. Where no payload of the layout has its length, `out->place` and
+ *   `out->length_fits` are 0.
+ * NDEF_BAD_ARGUMENT: there are more than 255 fields; the form of a field is unknown; the bounds of an octet are in
+ *   the wrong order or above 255; or a field follows a text or any octets. Nothing is written. */
+uint32_t ndef_check_layout(const uint8_t *payload, ndef_size length, const ndef_layout_field *fields,
+                           ndef_size fields_count, ndef_laid_out *out);
 
 #include "ndef_names.h"
 

@@ -11,7 +11,7 @@
 /// not given an array, and what ndef_building.hpp has: builders of posters and handovers, messages that own their bytes,
 /// filters of records. Nothing throws, except std::bad_alloc where such memory is refused.
 ///
-/// The rules at the head of ndef.h are kept as long as the memory of each view lives and stays as it is, and a room
+/// The rules at the head of ndef.h are kept as long as the memory of each view lives and stays as it is, and a buffer
 /// holds no bytes that are still needed.
 #ifndef NDEF_HPP
 #define NDEF_HPP

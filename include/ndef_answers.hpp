@@ -1,4 +1,5 @@
-/// ndef_answers.hpp: what all calls for C++ share: results and errors, views of bytes, rooms, iterators. Include ndef.hpp.
+/// ndef_answers.hpp: what all calls for C++ share: results and errors, views of bytes, buffers, iterators. Include
+/// ndef.hpp.
 #ifndef NDEF_ANSWERS_HPP
 #define NDEF_ANSWERS_HPP
 
@@ -68,8 +69,8 @@ enum class argument { unknown, limits, records, format, type, id, payload, sever
 struct error {
     status what = NDEF_BAD_ARGUMENT; ///< never NDEF_OK
     reason why = {};                 ///< with NDEF_REFUSED, the reason; else 0
-    std::uint64_t place = 0;         ///< with NDEF_REFUSED, the place of the first refused byte; else 0
-    ndef_size needed = 0;            ///< with NDEF_NO_ROOM, the size that the room must have; else 0
+    std::uint64_t place = 0;         ///< with NDEF_REFUSED, the offset of the first refused byte; else 0
+    ndef_size needed = 0;            ///< with NDEF_NO_ROOM, the size that the buffer must have; else 0
     /// Where a record isn't written, its index in the message, from 0; `place` counts from its first byte then.
     std::optional<std::size_t> record{};
     argument which = argument::unknown; ///< with NDEF_BAD_ARGUMENT of a call that writes a message, which argument
@@ -187,10 +188,10 @@ public:
         return first[index];
     }
 
-    /// The bytes from a place on; none if the place is beyond the end.
+    /// The bytes from an offset on; none if the offset is beyond the end.
     constexpr bytes from(ndef_size at) const noexcept { return part(at, length); }
 
-    /// `count` bytes from a place on, or as many of them as there are.
+    /// `count` bytes from an offset on, or as many of them as there are.
     constexpr bytes part(ndef_size at, ndef_size count) const noexcept {
         if (at > length) return {};
         const std::size_t place = static_cast<std::size_t>(at), rest = length - place;
@@ -219,11 +220,11 @@ public:
     kept(Owner &&) = delete;
 };
 
-/// Memory of the caller to which calls write, one after the other. A call that succeeds takes what it wrote from the
-/// front of the room, so what it returned stays as it is. A call that fails takes nothing.
+/// A buffer of the caller, to which calls write one after the other. A call that succeeds takes what it wrote from the
+/// front of the buffer, so what it returned stays as it is. A call that fails takes nothing.
 class room {
 public:
-    /// A room of no bytes. A call that writes to it gives the size that it needs.
+    /// A buffer of no bytes. A call that writes to it gives the size that it needs.
     constexpr room() noexcept = default;
     constexpr room(std::uint8_t *data, std::size_t size) noexcept : first(data), length(size) {}
     template <class Container, class = std::enable_if_t<std::is_same_v<std::uint8_t *, decltype(detail::octets(
@@ -233,7 +234,7 @@ public:
     constexpr std::uint8_t *data() const noexcept { return first; }
     constexpr std::size_t size() const noexcept { return length; }
 
-    /// Takes bytes from the front of the room; all of them if there are fewer.
+    /// Takes bytes from the front of the buffer; all of them if there are fewer.
     constexpr bytes take(ndef_size count) noexcept {
         const std::size_t taken = count < length ? static_cast<std::size_t>(count) : length;
         const bytes front{first, taken};
@@ -253,7 +254,7 @@ constexpr error failure(std::uint32_t answer, const ndef_checked &why = {}, ndef
     return {static_cast<status>(answer), {}, 0, answer == NDEF_NO_ROOM ? needed : 0};
 }
 
-/// What a call writes to a room: call(memory, size, count, why).
+/// What a call writes to a buffer: call(memory, size, count, why).
 template <class Call> result<bytes> written(room &to, Call call) noexcept {
     ndef_size count = 0;
     ndef_checked why = {};
@@ -273,7 +274,7 @@ template <class Call> std::string as_string(Call call) {
     return text;
 }
 
-/// What a call of ndef.h writes whose last words are a room: call(words.., memory, size, count).
+/// What a call of ndef.h writes whose last arguments are a buffer: call(words.., memory, size, count).
 template <class Call, class... Words> result<bytes> put(room &to, Call call, Words... words) noexcept {
     return written(to, [&](std::uint8_t *memory, ndef_size size, ndef_size *count, ndef_checked *) {
         return call(words..., memory, size, count);
@@ -324,16 +325,11 @@ protected:
     Parts told = {};
 };
 
-/// A value of a range, and the place from which the next one is looked for.
-template <class T> struct found_at {
-    T value;
-    ndef_size next;
-};
-
 /// No more values follow.
 inline constexpr ndef_size no_place = ~ndef_size{0};
 
-/// An iterator over a range that has look(place): the first value from a place on, if there is one.
+/// An iterator over a range that has look(place, value): whether there is a value from an offset on. It is written to `value`,
+/// and the offset becomes that from which the next one is looked for.
 template <class Range, class T> class iterator_of {
 public:
     using iterator_category = std::input_iterator_tag;
@@ -344,12 +340,11 @@ public:
     using reference = T;
 
     iterator_of() noexcept = default;
-    explicit iterator_of(const Range &of) noexcept : range(of), now(of.look(0)) {}
-    T operator*() const noexcept { return now->value; }
-    const T *operator->() const noexcept { return &now->value; }
+    explicit iterator_of(const Range &of) noexcept : range(of), is_there(range.look(next, now)) {}
+    T operator*() const noexcept { return now; }
+    const T *operator->() const noexcept { return &now; }
     iterator_of &operator++() noexcept {
-        place = now->next;
-        now = range.look(place);
+        is_there = next != no_place && range.look(next, now);
         return *this;
     }
     iterator_of operator++(int) noexcept {
@@ -358,14 +353,15 @@ public:
         return before;
     }
     friend bool operator==(const iterator_of &left, const iterator_of &right) noexcept {
-        return left.now.has_value() == right.now.has_value() && (!left.now || left.place == right.place);
+        return left.is_there == right.is_there && (!left.is_there || left.next == right.next);
     }
     friend bool operator!=(const iterator_of &left, const iterator_of &right) noexcept { return !(left == right); }
 
 private:
     Range range;
-    std::optional<found_at<T>> now;
-    ndef_size place = 0;
+    T now{};
+    ndef_size next = 0;
+    bool is_there = false;
 };
 } // namespace detail
 

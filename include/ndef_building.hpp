@@ -16,7 +16,7 @@
 namespace ndef {
 
 namespace detail {
-/// The bytes of parts, one after another, for calls that take places.
+/// The bytes of parts, one after another, for calls that take offsets.
 class shelf {
 public:
     /// Puts bytes on the shelf, and returns where they lie.
@@ -32,7 +32,7 @@ private:
     std::vector<std::uint8_t> held;
 };
 
-/// What a call writes to a room, in new memory: write(room) is called with a room of the size that it needs.
+/// What a call writes to a buffer, in new memory: write(room) is called with a buffer of the size that it needs.
 template <class Write> result<std::vector<std::uint8_t>> in_memory(Write write) {
     room none;
     const result<bytes> asked = write(none);
@@ -202,7 +202,7 @@ private:
     std::vector<std::uint8_t> held;
 };
 
-/// Whether the records of a message have to stand in the order in which a filter has their types.
+/// Whether the records of a message have to be in the order in which a filter has their types.
 enum class order { any, given };
 
 /// Which records a message has to have, and how many of each type. A message with a record of another type doesn't
@@ -261,7 +261,7 @@ private:
 
 // ---- printing
 
-/// The name of an argument, as "id"; "" for one that isn't known.
+/// The name of an argument, such as "id"; "" for one that isn't known.
 constexpr std::string_view to_string(argument value) noexcept {
     constexpr std::string_view names[] = {"", "limits", "records", "format", "type", "id", "payload", "several"};
     return names[static_cast<std::size_t>(value)];

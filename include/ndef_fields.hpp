@@ -1,4 +1,4 @@
-/// ndef_fields.hpp: in which field each byte of a message stands. Include ndef.hpp.
+/// ndef_fields.hpp: to which field each byte of a message belongs. Include ndef.hpp.
 #ifndef NDEF_FIELDS_HPP
 #define NDEF_FIELDS_HPP
 
@@ -22,7 +22,7 @@ constexpr std::string_view to_string(field_name value) noexcept {
     return "";
 }
 
-/// Bytes of a message that stand in one field.
+/// Bytes of a message that belong to one field.
 struct field {
     bytes octets;            ///< the bytes, at least one
     std::size_t at = 0;      ///< where they begin
@@ -51,9 +51,10 @@ class fields {
             return {whole.part(one.at, one.length), static_cast<std::size_t>(one.at), one.depth,
                     static_cast<field_name>(one.name)};
         }
-        std::optional<detail::found_at<field>> look(ndef_size index) const noexcept {
-            if (index >= count) return std::nullopt;
-            return detail::found_at<field>{at(static_cast<std::size_t>(index)), index + 1};
+        bool look(ndef_size &index, field &found) const noexcept {
+            if (index >= count) return false;
+            found = at(static_cast<std::size_t>(index++));
+            return true;
         }
 
         bytes whole;
@@ -91,11 +92,11 @@ public:
     iterator end() const noexcept { return {}; }
     std::size_t size() const noexcept { return range().count; }
 
-    /// Why no field follows the last one: NDEF_END after a message, NDEF_REFUSED with the place and the reason, or
+    /// Why no field follows the last one: NDEF_END after a message, NDEF_REFUSED with the offset and the reason, or
     /// NDEF_BAD_ARGUMENT.
     const error &after() const noexcept { return end_of; }
 
-    /// The field in which the byte at a place stands; where there is none, what `after` says.
+    /// The field to which the byte at an offset belongs; where there is none, what `after` says.
     result<field> at(ndef_size place) const noexcept {
         const told_fields all = range();
         const auto is_after = [](ndef_size wanted, const ndef_field &one) { return wanted < one.at; };

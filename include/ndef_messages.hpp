@@ -27,7 +27,7 @@ class record {
 public:
     record() noexcept = default;
 
-    /// The record that begins at a place of some bytes, as ndef_record_at gives it.
+    /// The record that begins at an offset of some bytes, as ndef_record_at gives it.
     static result<record> at(kept message NDEF_LIFETIMEBOUND, ndef_size place) noexcept {
         return told_by(ndef_record_at, message, place);
     }
@@ -45,13 +45,13 @@ public:
         return static_cast<ndef::kind>(ndef_kind(whole.data(), whole.size(), &told, within));
     }
 
-    /// The payload: in place if the record has one chunk, otherwise joined in the room.
+    /// The payload: in place if the record has one chunk, otherwise joined in the buffer.
     result<bytes> payload(room &joined) const noexcept {
         if (told.pieces == 1) return whole.part(told.payload_at, told.payload_length);
         return detail::written(joined, [this](auto... words) { return join(words...); });
     }
 
-    /// The payload in place. A record of several chunks has NDEF_NO_ROOM, and the size of the room that joins them.
+    /// The payload in place. A record of several chunks has NDEF_NO_ROOM, and the size of the buffer that joins them.
     result<bytes> payload() const noexcept {
         room none;
         return payload(none);
@@ -63,7 +63,7 @@ public:
     }
 
     /// The payload read as a text, uri, poster, request, select or another view. NDEF_BAD_ARGUMENT if the record has
-    /// another type. A record of several chunks needs a room for its joined payload.
+    /// another type. A record of several chunks needs a buffer for its joined payload.
     template <class View> result<View> as(room &joined, profile how = profile::strict) const noexcept {
         if (!is(View::type_name)) return error{};
         return payload(joined).and_then([how](bytes whole_payload) { return View::read(whole_payload, how); });
@@ -145,10 +145,11 @@ private:
     template <class View> friend class views;
     friend class icons;
     explicit message(bytes input) noexcept : whole(input) {}
-    std::optional<detail::found_at<record>> look(ndef_size place) const noexcept {
-        const auto found = record::at(whole, place);
-        if (!found) return std::nullopt;
-        return detail::found_at<record>{*found, found->is_last() ? detail::no_place : found->parts().end};
+    bool look(ndef_size &place, record &found) const noexcept {
+        if (ndef_record_at(whole.data(), whole.size(), place, &found.told) != NDEF_OK) return false;
+        found.whole = whole;
+        place = found.told.last ? detail::no_place : found.told.end;
+        return true;
     }
 
     bytes whole;

@@ -4,7 +4,7 @@
  * The functions here are compiled into the program that calls them, and a program that calls none has none of these
  * texts. Each returns a string that ends with NUL and stays valid as long as the program runs; it never returns NULL.
  * The strings are what ndef_reason_name, ndef_reason_sentence, ndef_status_name and ndef_field_name of the library
- * write to a room; those calls serve programs that don't read this header. */
+ * write to a buffer; those calls serve programs that don't read this header. */
 #ifndef NDEF_NAMES_H
 #define NDEF_NAMES_H
 
@@ -30,13 +30,13 @@ enum ndef_field_names {
     NDEF_FIELD_MARK = 10,                /* of a text in UTF-16 */
     NDEF_FIELD_TEXT = 11,
     NDEF_FIELD_URI_CODE = 12,            /* of a URI */
-    NDEF_FIELD_URI_REST = 13,            /* after the prefix for which the code stands */
+    NDEF_FIELD_URI_REST = 13,            /* after the prefix of the code */
     NDEF_FIELD_ACTION = 14,              /* of a smart poster */
     NDEF_FIELD_SIZE = 15,                /* of a smart poster */
     NDEF_FIELD_MEDIA_TYPE = 16,          /* of a smart poster */
     NDEF_FIELD_VERSION = 17,             /* of a handover */
     NDEF_FIELD_COLLISION = 18,           /* of a collision resolution */
-    NDEF_FIELD_POWER = 19,               /* of an alternative carrier, as the next six */
+    NDEF_FIELD_POWER = 19,               /* of an alternative carrier, like the next six */
     NDEF_FIELD_REFERENCE_LENGTH = 20,
     NDEF_FIELD_REFERENCE = 21,
     NDEF_FIELD_AUXILIARY_COUNT = 22,
@@ -45,7 +45,7 @@ enum ndef_field_names {
     NDEF_FIELD_AFTER_AUXILIARY = 25,     /* the bytes after the references */
     NDEF_FIELD_ERROR_REASON = 26,        /* of a handover's error */
     NDEF_FIELD_ERROR_DATA = 27,
-    NDEF_FIELD_CARRIER_FORMAT = 28,      /* of a handover carrier, as the next three */
+    NDEF_FIELD_CARRIER_FORMAT = 28,      /* of a handover carrier, like the next three */
     NDEF_FIELD_CARRIER_TYPE_LENGTH = 29, NDEF_FIELD_CARRIER_TYPE = 30, NDEF_FIELD_CARRIER_DATA = 31
 };
 

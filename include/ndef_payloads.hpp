@@ -25,7 +25,7 @@ public:
     /// The text as it is encoded in the payload.
     bytes encoded() const noexcept { return part(told.text_at, told.text_length); }
 
-    /// The text in UTF-8: in place if it is encoded so, otherwise converted in the room.
+    /// The text in UTF-8: in place if it is encoded so, otherwise converted in the buffer.
     result<std::string_view> utf8(room &converted) const noexcept {
         if (!is_utf16()) return encoded().text();
         const auto made = detail::written(converted, [this](auto... words) { return convert(words...); });
@@ -44,7 +44,7 @@ private:
     }
 };
 
-/// The payload of a URI record: a code, which stands for a prefix, and the rest.
+/// The payload of a URI record: the code of a prefix, and the rest.
 class uri : public detail::payload_view<ndef_uri_parts> {
 public:
     static constexpr std::string_view type_name = "U";
@@ -57,7 +57,7 @@ public:
     std::uint32_t code() const noexcept { return told.code; }
     std::string_view rest() const noexcept { return part(told.rest_at, told.rest_length).text(); }
 
-    /// The URI in UTF-8, its prefix spelled out, in the room.
+    /// The URI in UTF-8, its prefix spelled out, in the buffer.
     result<std::string_view> utf8(room &spelled) const noexcept {
         const auto made = detail::written(spelled, [this](auto... words) { return spell(words...); });
         return made.transform([](bytes found) { return found.text(); });
@@ -76,7 +76,7 @@ private:
     profile reading = profile::strict;
 };
 
-/// Those records of a message that can be read as a View. Others are left out, and records of several chunks.
+/// Those records of a message that can be read as a View. Others are skipped, and so are records of several chunks.
 template <class View> class views {
 public:
     using iterator = detail::iterator_of<views, View>;
@@ -87,11 +87,13 @@ public:
 
 private:
     friend iterator;
-    std::optional<detail::found_at<View>> look(ndef_size place) const noexcept {
-        for (auto found = records.look(place); found; found = records.look(found->next))
-            if (const auto view = found->value.template as<View>(reading))
-                return detail::found_at<View>{*view, found->next};
-        return std::nullopt;
+    bool look(ndef_size &place, View &found) const noexcept {
+        for (record one; place != detail::no_place && records.look(place, one);)
+            if (const auto view = one.as<View>(reading)) {
+                found = *view;
+                return true;
+            }
+        return false;
     }
 
     message records;
@@ -116,11 +118,13 @@ public:
 
 private:
     friend iterator;
-    std::optional<detail::found_at<icon>> look(ndef_size place) const noexcept {
-        for (auto found = records.look(place); found; found = records.look(found->next))
-            if (const auto data = found->value.payload(); data && found->value.format() == NDEF_TNF_MEDIA)
-                return detail::found_at<icon>{{found->value.type(), *data}, found->next};
-        return std::nullopt;
+    bool look(ndef_size &place, icon &found) const noexcept {
+        for (record one; place != detail::no_place && records.look(place, one);)
+            if (const auto data = one.payload(); data && one.format() == NDEF_TNF_MEDIA) {
+                found = {one.type(), *data};
+                return true;
+            }
+        return false;
     }
 
     message records;
@@ -259,15 +263,15 @@ struct link {
 class links {
     /// The links that lie in an array.
     struct told_links {
-        std::optional<detail::found_at<link>> look(ndef_size index) const noexcept {
-            if (index >= count) return std::nullopt;
-            const ndef_link &one = first[index];
+        bool look(ndef_size &index, link &found) const noexcept {
+            if (index >= count) return false;
+            const ndef_link &one = first[index++];
             const auto carrier = alternative::read(payload.part(one.carrier_at, one.carrier_length));
-            if (!carrier) return std::nullopt;
-            link found = {*carrier, std::nullopt, static_cast<std::size_t>(one.record_index)};
+            if (!carrier) return false;
+            found = {*carrier, std::nullopt, static_cast<std::size_t>(one.record_index)};
             if (one.has_record)
                 if (const auto record = ndef::record::at(whole, one.record_at)) found.record = *record;
-            return detail::found_at<link>{found, index + 1};
+            return true;
         }
 
         bytes whole, payload;
@@ -327,7 +331,7 @@ public:
         return ndef::links::in(array, size, of, this->whole);
     }
 
-    /// All its records; none if the version stands alone.
+    /// All its records; none if the payload is the version alone.
     message records() const noexcept { return message::unchecked(this->whole.from(1)); }
 };
 

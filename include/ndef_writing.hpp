@@ -11,7 +11,7 @@ namespace ndef {
 
 // ---- writing
 //
-// Each function writes to the front of a room and returns what it wrote. NDEF_NO_ROOM gives the size that is needed.
+// Each function writes to the front of a buffer and returns what it wrote. NDEF_NO_ROOM gives the size that is needed.
 
 /// How a text is encoded: in UTF-8, or in UTF-16, big-endian with a byte order mark.
 enum class encoding : std::uint32_t { utf8 = 0, utf16 = NDEF_AS_UTF16 };
@@ -117,7 +117,7 @@ struct new_record {
     bool is_long = false;     ///< write the payload length in four bytes even where one would do
 };
 
-/// Records of the usual type name formats.
+/// Records of the common type name formats.
 inline new_record well_known(std::string_view type, bytes payload, std::string_view id = {}) noexcept {
     return {NDEF_TNF_WELL_KNOWN, type, payload, id};
 }
@@ -200,8 +200,8 @@ struct checking {
 
 /// A message of records, one or more, as ndef_write_record writes each. NDEF_BAD_ARGUMENT if there is no record, or one of
 /// them can't be written, and NDEF_REFUSED if a check refuses what is written: the error says which record; then which
-/// argument, or where in the record and why. NDEF_NO_ROOM gives the size of the whole message. The room may hold a part of
-/// the message after an error.
+/// argument, or where in the record and why. NDEF_NO_ROOM gives the size of the whole message. The buffer may hold a
+/// part of the message after an error.
 template <class Records>
 result<message> write_message(room &to, const Records &records, const checking &how = {}) noexcept {
     room rest = to;

@@ -180,9 +180,9 @@ def derive_clone(ts):
             words = [t.text for t in ts[b + 1:e] if is_code(t)]
             if "Drop" in words and "Clone" not in words:
                 j = nxt(ts, nxt(ts, e))
-                while txt(ts, j) not in ("{", ";", "("):
+                while txt(ts, j) not in ("struct", "enum"):
                     j = nxt(ts, j)
-                if txt(ts, j) == "(":
+                while txt(ts, j) not in ("{", ";", "("):
                     j = nxt(ts, j)
                 body = [t.text for t in ts[j:close(ts, j)] if is_code(t)] if txt(ts, j) == "{" else []
                 if not any(a == "mut" for a in body):

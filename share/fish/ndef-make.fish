@@ -26,11 +26,11 @@ function __ndef_make_edits
 end
 
 complete -c ndef-make -f
-complete -c ndef-make -n __ndef_make_begins -l size -d 'Print the size of the message in place of it'
+complete -c ndef-make -n __ndef_make_begins -l size -d 'Print the size of the message, and not the message'
 complete -c ndef-make -n __ndef_make_begins -l tag -x -a 'ntag213 ntag215 ntag216' -d 'Write it only if it fits on the tag'
 complete -c ndef-make -n __ndef_make_begins -l from -r -F -d 'Edit the message in a file'
-complete -c ndef-make -n '__ndef_make_edits; and __ndef_make_in ""' -l drop -x -d 'Leave out the record of this number'
-complete -c ndef-make -n '__ndef_make_edits; and __ndef_make_in ""' -l replace -x -d 'Put a record in place of that of this number'
+complete -c ndef-make -n '__ndef_make_edits; and __ndef_make_in ""' -l drop -x -d 'Remove the record of this number'
+complete -c ndef-make -n '__ndef_make_edits; and __ndef_make_in ""' -l replace -x -d 'Replace the record of this number'
 complete -c ndef-make -n __ndef_make_begins -l help -d 'Print a page of help'
 complete -c ndef-make -n __ndef_make_begins -l version -d 'Print the name and the version'
 complete -c ndef-make -n '__ndef_make_in ""' -a text -d 'A text'

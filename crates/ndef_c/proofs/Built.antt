@@ -14,7 +14,7 @@ use Rattle.ndef_c.specs.declared.building.NdefBuilt.{NdefBuilt}
 use Rattle.ndef_c.specs.declared.writing.NdefWriting.{NdefWriting}
 use Rattle.ndef_c.specs.declared.writing.Way.{Way}
 use Rattle.ndef_c.proofs.Alternatives.{octet_at}
-use Rattle.ndef_c.proofs.Followed.{same_split}
+use Rattle.ndef_message.specs.Machine.SeenLaws.{same_split}
 use Rattle.ndef_c.proofs.Records.{last_by, octets_most}
 
 -- ---- the piece that ends the bytes
@@ -22,7 +22,7 @@ use Rattle.ndef_c.proofs.Records.{last_by, octets_most}
 -- what is shown there is that piece
 pub ends_only : HeadsAreApart → (bytes : List ℕ) (at : ℕ) (p : Piece) (short : Bool) (rest : List ℕ) → IsSplit p short rest (drop at bytes) → EndsWithPiece bytes at → (p.last ≡ true) × (p.chunked ≡ false) × (rest ≡ [])
 ends_only apart bytes at p short rest s e =
-    let w = same_split apart p e.piece short e.short rest [] (drop at bytes) s e.split in
+    let w = same_split p e.piece short e.short rest [] (drop at bytes) s e.split in
     (ap (λ q. q.last) w.0 ∙ e.last, ap (λ q. q.chunked) w.0 ∙ e.whole, w.1)
 
 pub none_of : (r : List ℕ) → (length r == 0) ≡ true → r ≡ []
@@ -40,9 +40,6 @@ mark_of bytes at e =
     let one : bit e.piece.last ≡ 1 = ap bit e.last in
     let is = o.is in
     record { within = o.within; is_set = omega (arith, is, one) }
-
-pub none_ends : (at : ℕ) → EndsWithPiece [] at → ⊥
-none_ends at e = let n = (mark_of [] at e).within in omega (arith, n)
 
 -- where there are bytes the message is there
 pub built_of : (h : Holding) → MayBeGrown h → 0 < h.built.length → IsBuilt h

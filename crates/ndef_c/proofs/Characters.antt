@@ -1,16 +1,17 @@
 -- Characters in UTF-16, one after another.
 use Rattle.std.proofs.Common.{◌≡◌, ℕ, ◌+◌, ◌-◌, ◌*◌, ◌/◌, ◌%◌, ◌<◌, ◌≤◌, ◌⊎◌, Bool, true, false, List, [], ◌∷◌, ◌++◌, length, refl, sym, ◌∙◌, ap, subst, inl, inr, arith, lt-ltb, le-ltb, append_assoc, append-nil, length-append, encode_utf8_all}
 use Rattle.std.proofs.lemmas.Bool.{cases_lt, and_parts}
-use Rattle.std.proofs.lemmas.Grind.{flat_map-append}
+use Rattle.std.proofs.lemmas.Str.{len_utf8_bounds, length-encode}
 use Rattle.std.specs.Char.{InScalarRange}
 use Rattle.std.specs.Char.Escape.{encode_utf16}
 use lib.Utf8.{scalar, scalars, scalar_cases, encode}
 use Rattle.ndef_format.specs.Texts.{units_of, spelled, unit_octets}
 use Rattle.ndef_lang.specs.Machine.Utf16Laws.{spelled_length}
 use Rattle.ndef_types.specs.UnitLaws.{same_unit}
-use Rattle.ndef_c.proofs.Puts.{put_on}
-use Rattle.ndef_c.specs.Rooms.{IsPut}
+use Rattle.ndef_c.proofs.Puts.{puts_on}
+use Rattle.ndef_c.specs.Rooms.{Puts}
 use Rattle.ndef_c.specs.Texts.{AreSpelled}
+use Rattle.ndef_c.specs.declared.out.Out.{Out}
 
 -- ---- one unit
 
@@ -35,6 +36,9 @@ one_unit c a = rw (lt-ltb c 0x10000 a) refl
 
 pair_of : (c : ℕ) → 0x10000 ≤ c → encode_utf16 c ≡ (0xD800 + (c - 0x10000) / 0x400) ∷ (0xDC00 + (c - 0x10000) % 0x400) ∷ []
 pair_of c a = rw (le-ltb c 0x10000 a) refl
+
+units_some : (c : ℕ) → 1 ≤ length (encode_utf16 c)
+units_some c = elim (cases_lt c 0x10000) [ inl x ↦ (let l = ap length (one_unit c x) in omega (arith, l)) | inr x ↦ (let l = ap length (pair_of c x) in omega (arith, l)) ]
 
 -- ---- the first character
 
@@ -68,7 +72,7 @@ pub some_unit : (little : Bool) (c : ℕ) (cs octets : List ℕ) → AreSpelled 
 some_unit little c cs octets a =
     let n = sym (ap length a.are) ∙ spelled_length little (units_of (c ∷ cs)) in
     let k = length-append (encode_utf16 c) (units_of cs) in
-    let one : 1 ≤ length (encode_utf16 c) = elim (cases_lt c 0x10000) [ inl x ↦ (let l = ap length (one_unit c x) in omega (arith, l)) | inr x ↦ (let l = ap length (pair_of c x) in omega (arith, l)) ] in
+    let one = units_some c in
     omega (arith, n, k, one)
 
 -- a unit that is no surrogate is the character
@@ -132,64 +136,51 @@ shorter little c cs octets behind a b =
     let m = sym (ap length b.are) ∙ spelled_length little (units_of cs) in
     omega (arith, n, m)
 
-encoded_all : (xs ys : List ℕ) → encode_utf8_all (xs ++ ys) ≡ encode_utf8_all xs ++ encode_utf8_all ys
-encoded_all [] ys = refl
-encoded_all (x ∷ xs) ys = ap (λ s. encode x ++ s) (encoded_all xs ys) ∙ sym (append_assoc (encode x) (encode_utf8_all xs) (encode_utf8_all ys))
-
 encoded_on : (done : List ℕ) (c : ℕ) → encode_utf8_all (done ++ c ∷ []) ≡ encode_utf8_all done ++ encode c
 encoded_on [] c = append-nil (encode c)
 encoded_on (d ∷ done) c = ap (λ x. encode d ++ x) (encoded_on done c) ∙ sym (append_assoc (encode d) (encode_utf8_all done) (encode c))
 
--- these characters were put at the front of the room, and others are left
-pub record Putting (little : Bool) (cs rest : List ℕ) (at : ℕ) (old room : List ℕ) : Type 0 where
+-- these characters were written, and others are left
+pub record Putting (little : Bool) (cs rest : List ℕ) (old new : Out) : Type 0 where
   pub done : List ℕ
   pub left : List ℕ
   pub all : done ++ left ≡ cs
   pub are : AreSpelled little left rest
-  pub put : IsPut 0 (encode_utf8_all done) old room
-  pub at_is : at ≡ length (encode_utf8_all done)
+  pub puts : Puts old (encode_utf8_all done) new
 
-pub putting_at : (little : Bool) (cs rest old : List ℕ) → AreSpelled little cs rest → Putting little cs rest 0 old old
-putting_at little cs rest old a = record { done = []; left = cs; all = refl; are = a; put = record { is = refl }; at_is = refl }
+pub putting_at : {little : Bool} {cs rest : List ℕ} {out : Out} → AreSpelled little cs rest → Puts out [] out → Putting little cs rest out out
+putting_at {little} {cs} {rest} {out} a p = record { done = []; left = cs; all = refl; are = a; puts = p }
 
-pub putting_on : (little : Bool) (cs rest : List ℕ) (at : ℕ) (old mid new : List ℕ) (p : Putting little cs rest at old mid) (c : ℕ) (more text : List ℕ) → p.left ≡ c ∷ more → text ≡ encode c
-    → (behind : List ℕ) (next : ℕ) → AreSpelled little more behind → IsPut at text mid new → next ≡ at + length text → Putting little cs behind next old new
-putting_on little cs rest at old mid new p c more text l t behind next a q n =
-    let k = p.at_is in
-    let on = encoded_on p.done c ∙ ap (λ x. encode_utf8_all p.done ++ x) (sym t) in
-    let m = ap length on ∙ length-append (encode_utf8_all p.done) text in
-    record {
-      done = p.done ++ c ∷ [];
-      left = more;
-      all = append_assoc p.done (c ∷ []) more ∙ ap (λ x. p.done ++ x) (sym l) ∙ p.all;
-      are = a;
-      put = subst (λ x. IsPut 0 x old new) (sym on) (put_on 0 at (encode_utf8_all p.done) text old mid new (omega arith) p.put (omega (arith, k)) q);
-      at_is = omega (arith, n, k, m);
-    }
+pub putting_on : {little : Bool} {cs rest : List ℕ} {old mid new : Out} (p : Putting little cs rest old mid) (c : ℕ) (more text behind : List ℕ) → p.left ≡ c ∷ more → text ≡ encode c
+    → AreSpelled little more behind → Puts mid text new → Putting little cs behind old new
+putting_on {little} {cs} {rest} {old} {mid} {new} p c more text behind l t a q = record {
+  done = p.done ++ c ∷ [];
+  left = more;
+  all = append_assoc p.done (c ∷ []) more ∙ ap (λ x. p.done ++ x) (sym l) ∙ p.all;
+  are = a;
+  puts = subst (λ x. Puts old x new) (ap (λ x. encode_utf8_all p.done ++ x) t ∙ sym (encoded_on p.done c)) (puts_on p.puts q);
+}
 
-pub all_put : (little : Bool) (cs rest : List ℕ) (at : ℕ) (old room : List ℕ) → Putting little cs rest at old room → length rest ≡ 0 → IsPut 0 (encode_utf8_all cs) old room
-all_put little cs rest at old room p h =
-    subst (λ x. IsPut 0 (encode_utf8_all x) old room) (sym (append-nil p.done) ∙ ap (λ x. p.done ++ x) (sym (none_left little p.left rest p.are h)) ∙ p.all) p.put
+pub all_put : {little : Bool} {cs rest : List ℕ} {old new : Out} → Putting little cs rest old new → length rest ≡ 0 → Puts old (encode_utf8_all cs) new
+all_put {little} {cs} {rest} {old} {new} p h =
+    subst (λ x. Puts old (encode_utf8_all x) new) (sym (append-nil p.done) ∙ ap (λ x. p.done ++ x) (sym (none_left little p.left rest p.are h)) ∙ p.all) p.puts
 
--- what is put next has room where all has
-pub next_fits : (little : Bool) (cs rest : List ℕ) (at : ℕ) (old room : List ℕ) (p : Putting little cs rest at old room) (c : ℕ) (more : List ℕ) → p.left ≡ c ∷ more → at + length (encode c) ≤ length (encode_utf8_all cs)
-next_fits little cs rest at old room p c more l =
-    let e = ap encode_utf8_all (sym p.all ∙ ap (λ x. p.done ++ x) l ∙ sym (append_assoc p.done (c ∷ []) more)) in
-    let n = ap length (e ∙ encoded_all (p.done ++ c ∷ []) more) ∙ length-append (encode_utf8_all (p.done ++ c ∷ [])) (encode_utf8_all more) in
-    let m = ap length (encoded_on p.done c) ∙ length-append (encode_utf8_all p.done) (encode c) in
-    let k = p.at_is in
-    omega (arith, n, m, k)
+-- ---- their length
 
-pub encoded_length : (c : ℕ) (cs : List ℕ) → length (encode_utf8_all (c ∷ cs)) ≡ length (encode c) + length (encode_utf8_all cs)
-encoded_length c cs = length-append (encode c) (encode_utf8_all cs)
+encoded_units : (cs : List ℕ) → length (encode_utf8_all cs) ≤ 4 * length (units_of cs)
+encoded_units [] = omega arith
+encoded_units (c ∷ cs) =
+    let n = length-append (encode c) (encode_utf8_all cs) in
+    let m = length-append (encode_utf16 c) (units_of cs) in
+    let four = (len_utf8_bounds c).1 in
+    let e = length-encode c in
+    let one = units_some c in
+    let more = encoded_units cs in
+    omega (arith, n, m, four, e, one, more)
 
--- the units of a text have room for those of each character and of the ones before it
-pub units_fit : (done : List ℕ) (c : ℕ) (more all : List ℕ) → done ++ c ∷ more ≡ all
-    → length (spelled false (units_of done)) + length (spelled false (encode_utf16 c)) ≤ length (spelled false (units_of all))
-units_fit done c more all e =
-    let n = ap (λ x. length (units_of x)) (sym e) ∙ ap length (flat_map-append encode_utf16 done (c ∷ more)) ∙ length-append (units_of done) (units_of (c ∷ more)) in
-    let m = length-append (encode_utf16 c) (units_of more) in
-    let i = spelled_length false (units_of done) in
-    let j = spelled_length false (encode_utf16 c) in
-    let k = spelled_length false (units_of all) in
-    omega (arith, n, m, i, j, k)
+-- a unit of two octets stands for up to four
+pub encoded_length : (little : Bool) (cs octets : List ℕ) → AreSpelled little cs octets → length (encode_utf8_all cs) ≤ 2 * length octets
+encoded_length little cs octets a =
+    let n = sym (ap length a.are) ∙ spelled_length little (units_of cs) in
+    let k = encoded_units cs in
+    omega (arith, n, k)

@@ -18,7 +18,8 @@ use Rattle.ndef_c.specs.Checks.{ChecksTo}
 use Rattle.ndef_c.specs.Fields.{AreFieldsChecked}
 use Rattle.ndef_c.specs.declared.checking.NdefChecked.{NdefChecked}
 use Rattle.ndef_c.specs.declared.status.TheConstants.{OK, NO_ROOM, BAD_ARGUMENT, END}
-use Rattle.ndef_c.proofs.Followed.{same_split, split_size}
+use Rattle.ndef_message.specs.Machine.SeenLaws.{same_split}
+use Rattle.ndef_c.proofs.Followed.{split_size}
 
 -- ---- a whole message as a front
 
@@ -35,7 +36,7 @@ all_whole apart (p ∷ ps) [] bytes front rest (short, x, y, f, is, more) t e n 
     absurd (n (record { piece = p; short = short; rest = y; split = record { front = x; spells = is; joined = same ∙ f } }))
 all_whole apart (p ∷ ps) (q ∷ qs) bytes front rest (short, x, y, f, is, more) (wide, u, v, g, are, others) e n =
     let joined : bytes ≡ u ++ (v ++ rest) = e ∙ ap (λ z. z ++ rest) g ∙ append_assoc u v rest in
-    let w = same_split apart p q short wide y (v ++ rest) bytes (record { front = x; spells = is; joined = f }) (record { front = u; spells = are; joined = joined }) in
+    let w = same_split p q short wide y (v ++ rest) bytes (record { front = x; spells = is; joined = f }) (record { front = u; spells = are; joined = joined }) in
     let k = all_whole apart ps qs y v rest more others w.1 n in
     (ap₂ (λ r rs. r ∷ rs) (sym w.0) k.0, k.1)
 

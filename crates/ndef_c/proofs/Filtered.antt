@@ -1,8 +1,13 @@
--- The elements of a list that pass a test.
-use Rattle.std.proofs.Common.{◌≡◌, ◌+◌, Bool, true, false, List, [], ◌∷◌, ◌++◌, length, length-append, ◌∙◌, ap, append-nil, Some}
+-- The elements of a list that pass a test, and the records of a message that are wanted.
+use Rattle.std.proofs.Common.{◌≡◌, ℕ, ◌+◌, Bool, true, false, List, [], ◌∷◌, ◌++◌, length, length-append, refl, sym, ◌∙◌, ap, append-nil, Some}
 use Rattle.std.specs.Prelude.{if◌then◌else◌, filter, slice_get}
 use Rattle.std.proofs.lemmas.List.Elements.{filter-append}
-use Rattle.ndef_c.proofs.Ahead.{get_behind}
+use Rattle.ndef_format.specs.Messages.{Item, run_record}
+use Rattle.ndef_c.specs.Sought.{IsWantedAt}
+use Rattle.ndef_c.specs.declared.record.NdefRecord.{NdefRecord}
+use Rattle.ndef_c.specs.declared.walk.Walk.{Walk}
+use Rattle.ndef_c.proofs.Ahead.{Reached, get_behind}
+use Rattle.ndef_c.proofs.Walking.{Here}
 
 -- one more that passes it
 pub filter_more : {T : Type 0} (test : T → Bool) (xs : List T) (x : T) → test x ≡ true → filter test (xs ++ x ∷ []) ≡ filter test xs ++ x ∷ []
@@ -27,3 +32,13 @@ filter_with test all xs x w e =
 pub filter_at : {T : Type 0} (test : T → Bool) (all xs : List T) (x : T) → (w : (more : List T) × (all ≡ xs ++ x ∷ more)) → test x ≡ true → slice_get (filter test all) (length (filter test xs)) ≡ Some x
 filter_at test all xs x w e =
     ap (λ ys. slice_get ys (length (filter test xs))) (filter_with test all xs x w e) ∙ get_behind (filter test xs) x (filter test w.0)
+
+-- the record that a walk passes is wanted
+pub wanted_at : (wanted : Item → Bool) {message : List ℕ} {items done : List Item} {w : Walk} {r : NdefRecord} {after : Walk} (h : Here message w r after) → Reached items message done r h.there.run after → wanted (run_record h.there.run) ≡ true
+    → IsWantedAt wanted message items (length (filter wanted done)) r
+wanted_at wanted {done = done} {w = w} h r k =
+    record { from = w.at; there = h.there; before = done; after = r.within.0; all = r.within.1; is_wanted = k; index_is = refl; one = r.one; stands = r.stands }
+
+-- it has that index
+pub index_of_wanted : (wanted : Item → Bool) (message : List ℕ) (items : List Item) (index : ℕ) (r : NdefRecord) → (i : IsWantedAt wanted message items index r) → slice_get (filter wanted items) index ≡ Some (run_record i.there.run)
+index_of_wanted wanted message items index r i = ap (slice_get (filter wanted items)) (sym i.index_is) ∙ filter_at wanted items i.before (run_record i.there.run) (i.after, i.all) i.is_wanted

@@ -1,37 +1,14 @@
 -- The pieces that follow one another at the front of some bytes.
 use Rattle.std.proofs.Common.{◌≡◌, ℕ, ◌+◌, ◌≤◌, ◌∷◌, [], sym, refl, ◌∙◌, ap, ap₂, subst, arith, List, ◌++◌, length, length-append, append_assoc, append-nil, Bool, true, false, true≢false}
-use Rattle.ndef_value.specs.PieceLaws.{same_body}
-use Rattle.ndef_format.specs.Records.{Piece, Run, SpellsPiece, Follow, IsInitial, IsLater, fields, octets, body}
+use Rattle.ndef_format.specs.Records.{Piece, Run, Follow, IsInitial, IsLater, fields, octets, body}
 use Rattle.ndef_format.specs.Messages.{SpellsPieces, payload_of}
 use Rattle.ndef_format.specs.declared.profile.Profile.TheVariants.{Standard}
-use Rattle.ndef_format.specs.Positions.{CanBeSpelled}
-use Rattle.ndef_piece.specs.Heads.{HeadsAreApart}
 use Rattle.ndef_piece.specs.Whole.{IsSplit, BeginWithPiece}
 use Rattle.ndef_c.specs.Walks.{BeginsWithRun, OneRecordIsThere, ends_message}
 use Rattle.std.specs.Prelude.{unwrap_or}
-use Rattle.ndef_piece.specs.HeaderLaws.{id_count}
+use Rattle.ndef_message.specs.Machine.SeenLaws.{same_split}
 
 -- ---- one piece
-
-can_be_spelled : (p : Piece) (short : Bool) (front : List ℕ) → SpellsPiece p short front → CanBeSpelled (fields p short)
-can_be_spelled p short front s = record {
-  tnf = s.piece.tnf;
-  kind = s.piece.kind_length;
-  payload = s.piece.payload_length;
-  form = s.form;
-  id = let n = id_count p.id in let k = s.piece.id_length in omega (arith, n, k);
-}
-
-head_first : (p : Piece) (short : Bool) (rest bytes : List ℕ) → (i : IsSplit p short rest bytes) → bytes ≡ octets (fields p short) ++ (body p ++ rest)
-head_first p short rest bytes i = i.joined ∙ ap (λ x. x ++ rest) i.spells.spelled ∙ append_assoc (octets (fields p short)) (body p) rest
-
--- at the front of some bytes is one piece alone
-pub same_split : HeadsAreApart → (p q : Piece) (s t : Bool) (x y bytes : List ℕ) → IsSplit p s x bytes → IsSplit q t y bytes → (p ≡ q) × (x ≡ y)
-same_split apart p q s t x y bytes a b =
-    let w = apart (fields p s) (fields q t) (body p ++ x) (body q ++ y) (can_be_spelled p s a.front a.spells) (can_be_spelled q t b.front b.spells)
-    (sym (head_first p s x bytes a) ∙ head_first q t y bytes b) in
-    let short : s ≡ t = ap (λ f. f.short) w.0 in
-    same_body p q s x y (w.0 ∙ ap (fields q) (sym short)) w.1
 
 -- it has more octets than its payload
 pub split_size : (p : Piece) (s : Bool) (x bytes : List ℕ) → IsSplit p s x bytes → 1 + length p.payload + length x ≤ length bytes
@@ -92,19 +69,19 @@ later_cons q qs short rest behind bytes is i l = record {
   joined = i.joined ∙ ap (λ x. i.front ++ x) l.joined ∙ sym (append_assoc i.front l.front rest);
 }
 
-same_later : HeadsAreApart → (chunked : Bool) (ps qs : List Piece) (x y bytes : List ℕ) → Later chunked ps x bytes → Later chunked qs y bytes → (ps ≡ qs) × (x ≡ y)
-same_later apart false ps qs x y bytes a b =
+same_later : (chunked : Bool) (ps qs : List Piece) (x y bytes : List ℕ) → Later chunked ps x bytes → Later chunked qs y bytes → (ps ≡ qs) × (x ≡ y)
+same_later false ps qs x y bytes a b =
     let l = later_none ps x bytes a in let m = later_none qs y bytes b in (l.0 ∙ sym m.0, l.1 ∙ sym m.1)
-same_later apart true [] qs x y bytes a b = absurd (true≢false a.follow)
-same_later apart true (p ∷ ps) [] x y bytes a b = absurd (true≢false b.follow)
-same_later apart true (p ∷ ps) (q ∷ qs) x y bytes a b =
+same_later true [] qs x y bytes a b = absurd (true≢false a.follow)
+same_later true (p ∷ ps) [] x y bytes a b = absurd (true≢false b.follow)
+same_later true (p ∷ ps) (q ∷ qs) x y bytes a b =
     let l = later_next (p ∷ ps) x bytes a in
     let m = later_next (q ∷ qs) y bytes b in
-    let s = same_split apart p q a.spelled.0 b.spelled.0 (a.spelled.2 ++ x) (b.spelled.2 ++ y) bytes
+    let s = same_split p q a.spelled.0 b.spelled.0 (a.spelled.2 ++ x) (b.spelled.2 ++ y) bytes
     (record { front = a.spelled.1; spells = a.spelled.4; joined = a.joined ∙ ap (λ z. z ++ x) a.spelled.3 ∙ append_assoc a.spelled.1 a.spelled.2 x })
     (record { front = b.spelled.1; spells = b.spelled.4; joined = b.joined ∙ ap (λ z. z ++ y) b.spelled.3 ∙ append_assoc b.spelled.1 b.spelled.2 y }) in
     let c : p.chunked ≡ q.chunked = ap (λ r. r.chunked) s.0 in
-    let t = same_later apart p.chunked ps qs x y (a.spelled.2 ++ x)
+    let t = same_later p.chunked ps qs x y (a.spelled.2 ++ x)
     (record { follow = a.follow.2; front = a.spelled.2; spelled = a.spelled.5; joined = refl })
     (record { follow = subst (λ k. Follow k qs) (sym c) b.follow.2; front = b.spelled.2; spelled = b.spelled.5; joined = s.1 }) in
     (ap₂ (λ r rs. r ∷ rs) s.0 t.0, t.1)
@@ -142,13 +119,13 @@ begins_with p ps short rest behind bytes is i l = record {
 pub begins_with_piece : (run : Run) (rest bytes : List ℕ) → BeginsWithRun run rest bytes → BeginWithPiece bytes
 begins_with_piece run rest bytes b = let i = initial_of run rest bytes b in record { piece = run.initial; short = i.short; rest = i.behind; split = i.split }
 
-pub one_record : HeadsAreApart → OneRecordIsThere
-one_record apart r s x y bytes a b =
+pub one_record : OneRecordIsThere
+one_record r s x y bytes a b =
     let i = initial_of r x bytes a in
     let j = initial_of s y bytes b in
-    let p = same_split apart r.initial s.initial i.short j.short i.behind j.behind bytes i.split j.split in
+    let p = same_split r.initial s.initial i.short j.short i.behind j.behind bytes i.split j.split in
     let c : r.initial.chunked ≡ s.initial.chunked = ap (λ p. p.chunked) p.0 in
-    let l = same_later apart r.initial.chunked r.later s.later x y i.behind i.others
+    let l = same_later r.initial.chunked r.later s.later x y i.behind i.others
     (record { follow = subst (λ k. Follow k s.later) (sym c) j.others.follow; front = j.others.front; spelled = j.others.spelled; joined = p.1 ∙ j.others.joined }) in
     (ap₂ (λ p ps. record { initial = p; later = ps }) p.0 l.0, l.1)
 
@@ -158,10 +135,10 @@ pub record From (p : Piece) (run : Run) (end behind : List ℕ) : Type 0 where
   pub is_initial : IsInitial Standard p
   pub others : Later p.chunked run.later end behind
 
-pub from_piece : HeadsAreApart → (p : Piece) (short : Bool) (behind bytes : List ℕ) → IsSplit p short behind bytes → (run : Run) (end : List ℕ) → BeginsWithRun run end bytes → From p run end behind
-from_piece apart p short behind bytes s run end b =
+pub from_piece : (p : Piece) (short : Bool) (behind bytes : List ℕ) → IsSplit p short behind bytes → (run : Run) (end : List ℕ) → BeginsWithRun run end bytes → From p run end behind
+from_piece p short behind bytes s run end b =
     let i = initial_of run end bytes b in
-    let e = same_split apart run.initial p i.short short i.behind behind bytes i.split s in
+    let e = same_split run.initial p i.short short i.behind behind bytes i.split s in
     record {
       same = e.0;
       is_initial = subst (IsInitial Standard) e.0 i.is_initial;
@@ -202,16 +179,16 @@ payload_more (p ∷ ps) q =
     omega (arith, a, b, c)
 
 -- one more
-pub reading_on : HeadsAreApart → {p q r : Piece} {behind rest more : List ℕ} {size count : ℕ} (short : Bool) → Reading p q behind rest size count → q.chunked ≡ true → IsLater r → IsSplit r short more rest
+pub reading_on : {p q r : Piece} {behind rest more : List ℕ} {size count : ℕ} (short : Bool) → Reading p q behind rest size count → q.chunked ≡ true → IsLater r → IsSplit r short more rest
     → Reading p r behind more (size + length r.payload) (count + 1)
-reading_on apart {p} {q} {r} {behind} {rest} {more} {size} {count} short g c is i = record {
+reading_on {p} {q} {r} {behind} {rest} {more} {size} {count} short g c is i = record {
   done = g.done ++ r ∷ [];
   onto = λ ps end l. subst (λ z. Later p.chunked z end behind) (sym (append_assoc g.done (r ∷ []) ps))
       (g.onto (r ∷ ps) end (subst (λ k. Later k (r ∷ ps) end rest) (sym c) (later_cons r ps short end more rest is i l)));
   back = λ ps end l.
       let b = g.back ps end l in
       let n = later_next b.0 end rest (subst (λ k. Later k b.0 end rest) c b.2) in
-      let s = same_split apart n.piece r n.short short n.behind more rest n.split i in
+      let s = same_split n.piece r n.short short n.behind more rest n.split i in
       let chunked : n.piece.chunked ≡ r.chunked = ap (λ p. p.chunked) s.0 in (
         n.more,
         b.1 ∙ ap (λ z. g.done ++ z) (n.are ∙ ap (λ p. p ∷ n.more) s.0) ∙ sym (append_assoc g.done (r ∷ []) n.more),

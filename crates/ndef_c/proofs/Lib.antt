@@ -4,7 +4,6 @@ pub mod Alternatives
 pub mod Built
 pub mod Carriers
 pub mod Characters
-pub mod Copied
 pub mod Counted
 pub mod Errors
 pub mod Feeds
@@ -18,6 +17,7 @@ pub mod HandoverSaid
 pub mod Handovers
 pub mod HandoverValues
 pub mod Linked
+pub mod Layouts
 pub mod LinkParts
 pub mod Listed
 pub mod Made
@@ -40,4 +40,4 @@ pub mod Stepped
 pub mod Texts
 pub mod TitleTexts
 pub mod Walked
-pub mod WantedRecords
+pub mod Walking

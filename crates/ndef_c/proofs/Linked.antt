@@ -1,5 +1,5 @@
 -- The links that are given are those of the message.
-use Rattle.std.proofs.Common.{◌≡◌, ◌≢◌, ℕ, zero, suc, ◌∷◌, [], drop, refl, sym, ◌∙◌, ap, subst, arith, false, true≢false, List, length, map, append-nil, Some, None, inl, inr, Option}
+use Rattle.std.proofs.Common.{◌≡◌, ℕ, zero, suc, ◌∷◌, [], drop, refl, sym, ◌∙◌, ap, subst, arith, true≢false, List, length, map, append-nil, Some, None, inl, inr, Option}
 use Rattle.std.specs.List.{AllByRecursion}
 use Rattle.std.specs.Prelude.{slice_get, Ok}
 use Rattle.std.proofs.lemmas.List.{take_all}
@@ -18,7 +18,6 @@ use Rattle.ndef_format.specs.Nested.{HasContents, IsNest, Nested, table_of}
 use Rattle.ndef_nest.specs.Nested.{StrictContentsAreRead}
 use Rattle.ndef_format.specs.declared.table.Table.{Table}
 use Rattle.ndef_format.specs.declared.table.Table.TheVariants.{Request, Select}
-use Rattle.ndef_piece.specs.Heads.{HeadsAreApart}
 use Rattle.ndef_types.specs.Contents.{IsFirstAt, Lack, StandsForMessage}
 use Rattle.ndef_types.specs.ContentsLaws.{has_at}
 use Rattle.ndef_types.specs.Decoding.{OneValue}
@@ -33,24 +32,21 @@ use Rattle.ndef_c.specs.declared.message.Place.{Place}
 use Rattle.ndef_c.proofs.Ahead.{none_left}
 use Rattle.ndef_c.proofs.Followed.{one_record}
 use Rattle.ndef_c.proofs.Walked.{checks_walked, read_standard}
+use Rattle.ndef_c.proofs.Walking.{some_last}
 
 -- ---- one message
 
-tail_once : HeadsAreApart → (bytes : List ℕ) (x y : ℕ) (rs ss : List Run) (e f : ℕ) → drop x bytes ≡ drop y bytes → is_last_run rs ≡ is_last_run ss → AreWalked bytes x rs e → AreWalked bytes y ss f → rs ≡ ss
-tail_once apart bytes x y [] [] e f d l a b = refl
-tail_once apart bytes x y [] (s ∷ ss) e f d l a b = absurd (true≢false l)
-tail_once apart bytes x y (r ∷ rs) [] e f d l a b = absurd (true≢false (sym l))
-tail_once apart bytes x y (r ∷ rs) (s ∷ ss) e f d l a b =
-    let o = one_record apart r s (drop a.0 bytes) (drop b.0 bytes) (drop x bytes) a.1 (subst (BeginsWithRun s (drop b.0 bytes)) (sym d) b.1) in
+tail_once : (bytes : List ℕ) (x y : ℕ) (rs ss : List Run) (e f : ℕ) → drop x bytes ≡ drop y bytes → is_last_run rs ≡ is_last_run ss → AreWalked bytes x rs e → AreWalked bytes y ss f → rs ≡ ss
+tail_once bytes x y [] [] e f d l a b = refl
+tail_once bytes x y [] (s ∷ ss) e f d l a b = absurd (true≢false l)
+tail_once bytes x y (r ∷ rs) [] e f d l a b = absurd (true≢false (sym l))
+tail_once bytes x y (r ∷ rs) (s ∷ ss) e f d l a b =
+    let o = one_record r s (drop a.0 bytes) (drop b.0 bytes) (drop x bytes) a.1 (subst (BeginsWithRun s (drop b.0 bytes)) (sym d) b.1) in
     let ends : is_last_run rs ≡ is_last_run ss = sym a.2 ∙ ap (λ r. ends_message r.initial r.later) o.0 ∙ b.2 in
-    ap (λ r. r ∷ rs) o.0 ∙ ap (λ rs. s ∷ rs) (tail_once apart bytes a.0 b.0 rs ss e f o.1 ends a.3 b.3)
+    ap (λ r. r ∷ rs) o.0 ∙ ap (λ rs. s ∷ rs) (tail_once bytes a.0 b.0 rs ss e f o.1 ends a.3 b.3)
 
-some_last : (rs : List Run) → rs ≢ [] → is_last_run rs ≡ false
-some_last [] h = absurd (h refl)
-some_last (r ∷ rs) h = refl
-
-runs_once : HeadsAreApart → (bytes : List ℕ) (rs ss : List Run) → BeginsWithRuns rs bytes → BeginsWithRuns ss bytes → rs ≡ ss
-runs_once apart bytes rs ss a b = tail_once apart bytes 0 0 rs ss a.end b.end refl (some_last rs a.some ∙ sym (some_last ss b.some)) a.walked b.walked
+runs_once : (bytes : List ℕ) (rs ss : List Run) → BeginsWithRuns rs bytes → BeginsWithRuns ss bytes → rs ≡ ss
+runs_once bytes rs ss a b = tail_once bytes 0 0 rs ss a.end b.end refl (some_last rs a.some ∙ sym (some_last ss b.some)) a.walked b.walked
 
 not_flat : (profile : Profile) (runs : List Run) (items : List Item) (bytes : List ℕ) → bytes ≡ [] → SpellsBy profile runs items bytes → ⊥
 not_flat profile runs items bytes e h =
@@ -158,13 +154,13 @@ same_links : OneMeaning → (profile : Profile) (outer items : List Item) (paylo
 same_links one profile outer items [] links h m = absurd h
 same_links one profile outer items (version ∷ bytes) links h m = subst (λ is. AreLinks outer (alternatives is) links) (sym (items_once one Standard profile items bytes h.0 m h.1)) h.2
 
-pub links_told : HeadsAreApart → OneMeaning → StrictContentsAreRead → OneValue IsAlternative StandsForAc → (set : Sets) (holds : Conditions) → LinksAreTold set holds
-links_told apart one read value set holds limits bytes v handover links s k short l =
+pub links_told : OneMeaning → StrictContentsAreRead → OneValue IsAlternative StandsForAc → (set : Sets) (holds : Conditions) → LinksAreTold set holds
+links_told one read value set holds limits bytes v handover links s k short l =
     let b = begins_with_runs set holds limits bytes v s in
     record {
       may = record { handover = is_handover read limits.profile handover k l.0; short = short; message = (v.runs, b) };
       each = λ index out x.
-          let same = runs_once apart bytes x.runs v.runs x.message b in
+          let same = runs_once bytes x.runs v.runs x.message b in
           let a = link_at (map run_record v.runs) (alternatives x.items) links index x.carrier (same_links one limits.profile (map run_record v.runs) x.items handover.payload links l.1 x.records) x.is_carrier in
           let w = value x.carrier.payload x.alternative a.0.ac x.in_set x.stands a.2 in (
             a.0,

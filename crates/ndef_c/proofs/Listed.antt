@@ -16,13 +16,13 @@ use Rattle.ndef_format.specs.Reasons.{Conditions}
 use Rattle.ndef_c.specs.Checks.{ChecksTo, TakesMessage}
 use Rattle.ndef_c.specs.Items.{AreItems, HasValue, IsItemAt}
 use Rattle.ndef_c.specs.Kinds.{kind_number}
-use Rattle.ndef_c.specs.Walks.{AreWalked, BeginsWithRun, IsRecordAt, OneRecordIsThere}
+use Rattle.ndef_c.specs.Walks.{AreWalked, BeginsWithRun, IsRecordAt}
 use Rattle.ndef_c.specs.declared.checking.NdefChecked.{NdefChecked}
 use Rattle.ndef_c.specs.declared.items.NdefItem.{NdefItem}
 use Rattle.ndef_c.specs.declared.items.Value.{Value}
 use Rattle.ndef_c.specs.declared.record.NdefRecord.{NdefRecord}
 use Rattle.ndef_c.specs.declared.status.TheConstants.{OK}
-use Rattle.ndef_c.proofs.Followed.{initial_of, split_size}
+use Rattle.ndef_c.proofs.Followed.{initial_of, one_record, split_size}
 
 -- ---- sizes
 
@@ -117,10 +117,10 @@ pub record Step (bytes : List ℕ) (at : ℕ) (left : List Run) (end : ℕ) (r :
   pub are : left ≡ x.run ∷ more
   pub walked : AreWalked bytes r.end more end
 
-pub step : OneRecordIsThere → (bytes : List ℕ) (at : ℕ) (left : List Run) (end : ℕ) (r : NdefRecord) → AreWalked bytes at left end → end ≤ length bytes → 0 < length left → (x : IsRecordAt bytes at r) → Step bytes at left end r x
-step one bytes at [] end r w h some x = absurd (omega (arith, some))
-step one bytes at (q ∷ more) end r w h some x =
-    let o = one q x.run (drop w.0 bytes) (drop r.end bytes) (drop at bytes) w.1 x.begins in
+pub step : (bytes : List ℕ) (at : ℕ) (left : List Run) (end : ℕ) (r : NdefRecord) → AreWalked bytes at left end → end ≤ length bytes → 0 < length left → (x : IsRecordAt bytes at r) → Step bytes at left end r x
+step bytes at [] end r w h some x = absurd (omega (arith, some))
+step bytes at (q ∷ more) end r w h some x =
+    let o = one_record q x.run (drop w.0 bytes) (drop r.end bytes) (drop at bytes) w.1 x.begins in
     let n = walk_within bytes w.0 more end w.3 h in
     let e = ap length o.1 in
     let a = length-drop w.0 bytes in
@@ -139,9 +139,9 @@ member_amid P [] r more h = h.0
 member_amid P (d ∷ done) r more h = member_amid P done r more h.1
 
 -- at a place is one record, which ends at one place
-pub same_end : OneRecordIsThere → (bytes : List ℕ) (at : ℕ) (r s : NdefRecord) → IsRecordAt bytes at r → IsRecordAt bytes at s → r.end ≡ s.end
-same_end one bytes at r s x y =
-    let o = one x.run y.run (drop r.end bytes) (drop s.end bytes) (drop at bytes) x.begins y.begins in
+pub same_end : (bytes : List ℕ) (at : ℕ) (r s : NdefRecord) → IsRecordAt bytes at r → IsRecordAt bytes at s → r.end ≡ s.end
+same_end bytes at r s x y =
+    let o = one_record x.run y.run (drop r.end bytes) (drop s.end bytes) (drop at bytes) x.begins y.begins in
     let e = ap length o.1 in
     let a = length-drop r.end bytes in
     let b = length-drop s.end bytes in

@@ -83,7 +83,7 @@ onward_in : HeadsAreApart → (bytes : List ℕ) (runs done : List Run) (at next
     → BeginsWithRun run (drop next bytes) (drop at bytes) → Onward bytes runs next done run
 onward_in apart bytes runs done at next run [] end a s w b = absurd (s refl)
 onward_in apart bytes runs done at next run (r ∷ more) end a s w b =
-    let o = one_record apart r run (drop w.0 bytes) (drop next bytes) (drop at bytes) w.1 b in
+    let o = one_record r run (drop w.0 bytes) (drop next bytes) (drop at bytes) w.1 b in
     let all : runs ≡ done ++ run ∷ more = a ∙ ap (λ x. done ++ x ∷ more) o.0 in
     let ends : ends_message run.initial run.later ≡ is_last_run more = subst (λ x. ends_message x.initial x.later ≡ is_last_run more) o.0 w.2 in
     record { more = more; all = all; ends = ends; left = λ e. left_behind bytes runs done next w.0 run more end all o.1 ends e w.3 }
@@ -134,10 +134,6 @@ place_of bytes runs done run more at next p a l b n e = record {
 
 pub lack_all : (done : List Run) (run : Run) (id : List ℕ) → Lack (HasId id) (map run_record done) → (HasId id (run_record run) → ⊥) → Lack (HasId id) (map run_record (done ++ run ∷ []))
 lack_all done run id lack h = subst (Lack (HasId id)) (sym (map-append run_record done (run ∷ []))) (lack_on (HasId id) (map run_record done) (run_record run) lack h)
-
-pub none_with : (runs done : List Run) (run : Run) (id : List ℕ) (more : List Run) → runs ≡ done ++ run ∷ more → is_last_run more ≡ true → Lack (HasId id) (map run_record done) → (HasId id (run_record run) → ⊥) → Lack (HasId id) (map run_record runs)
-none_with runs done run id [] a e lack h = subst (λ rs. Lack (HasId id) (map run_record rs)) (sym a) (lack_all done run id lack h)
-none_with runs done run id (r ∷ more) a e lack h = absurd (true≢false (sym e))
 
 -- the id that is shown of a run
 pub id_of : {bytes : List ℕ} (f : FirstRun) → (x : IsFirstRun bytes f) → (run_record x.run).id ≡ f.first.id.now

@@ -1,14 +1,17 @@
 -- Where the pieces of a record lie, given one after another.
-use Rattle.std.proofs.Common.{◌≡◌, ℕ, ◌+◌, ◌-◌, ◌≤◌, ◌∷◌, [], drop, sym, ◌∙◌, ap, subst, arith, List, ◌++◌, length, length-append, length-drop, append_assoc, Bool, true, false}
-use Rattle.ndef_format.specs.Records.{Piece, Run, pieces}
+use Rattle.std.proofs.Common.{◌≡◌, ℕ, ◌+◌, ◌-◌, ◌≤◌, ◌∷◌, [], drop, refl, sym, ◌∙◌, ap, subst, arith, List, ◌++◌, length, length-append, length-drop, append_assoc, append-nil, Bool, true, false, true≢false, inl, inr}
+use Rattle.std.proofs.lemmas.Grind.{flat_map-append}
+use Rattle.ndef_format.specs.Messages.{SpellsPieces, payload_of}
+use Rattle.ndef_format.specs.Records.{Follow, Piece, Run, pieces}
 use Rattle.ndef_format.specs.HeadReasons.{is_set}
-use Rattle.ndef_piece.specs.Heads.{HeadsAreApart}
-use Rattle.ndef_piece.specs.Whole.{IsSplit, piece_of}
-use Rattle.ndef_c.specs.Pieces.{ArePiecesAt, IsPieceAt}
+use Rattle.ndef_piece.specs.Whole.{BeginWithPiece, IsSplit, piece_of}
+use Rattle.ndef_c.specs.Pieces.{ArePiecesAt, IsLast, IsPieceAt, StepsOver}
 use Rattle.ndef_c.specs.Walks.{BeginsWithRun, Lies}
 use Rattle.ndef_c.specs.declared.part.NdefPart.{NdefPart}
+use Rattle.ndef_c.specs.declared.pieces.Pieces.{Pieces}
 use Rattle.ndef_c.proofs.Ahead.{behind_piece}
-use Rattle.ndef_c.proofs.Followed.{Later, initial_of, later_none, later_next, same_split, split_size}
+use Rattle.ndef_message.specs.Machine.SeenLaws.{same_split}
+use Rattle.ndef_c.proofs.Followed.{split_size}
 use Rattle.ndef_c.proofs.Places.{lie_in, shown_parts}
 
 -- ---- one piece
@@ -46,67 +49,120 @@ piece_there header short kind id payload rest behind bytes place part h e none i
 
 -- ---- those of a run
 
--- some pieces of a run have been given, and the others begin at the place
-pub record Telling (bytes : List ℕ) (at : ℕ) (all : List Piece) (end : List ℕ) (place : ℕ) (done : List NdefPart) : Type 0 where
-  pub next : Piece
+-- the first of these pieces comes exactly where one follows, and each other one after one that is chunked
+abbrev Chain : Bool → List Piece → Type 0
+Chain follows [] = follows ≡ false
+Chain follows (p ∷ ps) = (follows ≡ true) × Chain p.chunked ps
+
+chain_of : (chunked : Bool) (ps : List Piece) → Follow chunked ps → Chain chunked ps
+chain_of chunked [] f = f
+chain_of chunked (p ∷ ps) f = (f.0, chain_of p.chunked ps f.2)
+
+-- of some pieces these were passed, and the others lie from the place on
+pub record Passing (bytes : List ℕ) (all : List Piece) (p : Pieces) (passed : List Piece) : Type 0 where
+  pub same : p.bytes.now ≡ bytes
   pub later : List Piece
-  pub short : Bool
-  pub behind : List ℕ
-  pub split : IsSplit next short behind (drop place bytes)
-  pub others : Later next.chunked later end behind
-  pub onto : (parts : List NdefPart) → ArePiecesAt bytes place (next ∷ later) parts → ArePiecesAt bytes at all (done ++ parts)
-  pub count : length done + length (next ∷ later) ≡ length all
+  pub are : all ≡ passed ++ later
+  pub chain : Chain p.follows later
+  pub end : List ℕ
+  pub front : List ℕ
+  pub spelled : SpellsPieces later front
+  pub joined : drop p.at bytes ≡ front ++ end
 
-pub telling_at : (run : Run) (end bytes : List ℕ) (at : ℕ) → BeginsWithRun run end (drop at bytes) → Telling bytes at (pieces run) end at []
-telling_at run end bytes at b =
-    let i = initial_of run end (drop at bytes) b in
-    record {
-      next = run.initial;
-      later = run.later;
-      short = i.short;
-      behind = i.behind;
-      split = i.split;
-      others = i.others;
-      onto = λ parts h. h;
-      count = omega arith;
-    }
+pub passing_at : (run : Run) (end bytes : List ℕ) (at : ℕ) {made p : Pieces} → BeginsWithRun run end (drop at bytes) → p ≡ made → made.bytes.now ≡ bytes → made.at ≡ at → made.follows ≡ true → Passing bytes (pieces run) p []
+passing_at run end bytes at {made} {p} b e s a f = subst (λ q. Passing bytes (pieces run) q []) (sym e) (record {
+  same = s;
+  later = pieces run;
+  are = refl;
+  chain = (f, chain_of run.initial.chunked run.later b.read.follow);
+  end = end;
+  front = b.front;
+  spelled = b.spelled;
+  joined = ap (λ k. drop k bytes) a ∙ b.joined;
+})
 
--- the piece that is shown there is the next one
-pub record NextPart (bytes : List ℕ) (at : ℕ) (all : List Piece) (end : List ℕ) (done : List NdefPart) (p : Piece) (part : NdefPart) : Type 0 where
-  pub more : p.chunked ≡ true → Telling bytes at all end (part.at + part.length) (done ++ part ∷ [])
-  pub all_told : p.chunked ≡ false → ArePiecesAt bytes at all (done ++ part ∷ [])
-  pub count : p.chunked ≡ false → length (done ++ part ∷ []) ≡ length all
+-- the piece that comes is the next of them
+pub record Passed (bytes : List ℕ) (all : List Piece) (p : Pieces) (part : NdefPart) (after : Pieces) (passed : List Piece) : Type 0 where
+  pub piece : Piece
+  pub is : IsPieceAt bytes p.at piece part
+  pub within : (more : List Piece) × (all ≡ passed ++ piece ∷ more)
+  pub next : after.at ≡ part.at + part.length
+  pub on : Passing bytes all after (passed ++ piece ∷ [])
 
-pub next_part : HeadsAreApart → {bytes : List ℕ} {at : ℕ} {all : List Piece} {end : List ℕ} {place : ℕ} {done : List NdefPart} (t : Telling bytes at all end place done) (p : Piece) (part : NdefPart)
-    → IsPieceAt bytes place p part → NextPart bytes at all end done p part
-next_part apart {bytes} {at} {all} {end} {place} {done} t p part is =
-    let behind = drop (part.at + part.length) bytes in
-    let s = same_split apart t.next p t.short is.short t.behind behind (drop place bytes) t.split is.split in
-    let here : IsPieceAt bytes place t.next part = subst (λ q. IsPieceAt bytes place q part) (sym s.0) is in
-    let chunked = ap (λ q. q.chunked) s.0 in
-    let others : Later p.chunked t.later end behind = subst (λ c. Later c t.later end behind) chunked (subst (Later t.next.chunked t.later end) s.1 t.others) in
-    let count = t.count in
-    let one = length-append done (part ∷ []) in
-    record {
-      more = λ c.
-          let n = later_next t.later end behind (subst (λ k. Later k t.later end behind) c others) in
-          let many = ap length n.are in
-          record {
-            next = n.piece;
-            later = n.more;
-            short = n.short;
-            behind = n.behind;
-            split = n.split;
-            others = n.others;
-            onto = λ parts h. subst (ArePiecesAt bytes at all) (sym (append_assoc done (part ∷ []) parts))
-                (t.onto (part ∷ parts) (here, subst (λ ps. ArePiecesAt bytes (part.at + part.length) ps parts) (sym n.are) h));
-            count = omega (arith, count, one, many);
+pub passes : {bytes : List ℕ} {all passed : List Piece} {p : Pieces} {part : NdefPart} {after : Pieces} → Passing bytes all p passed → StepsOver p part after → Passed bytes all p part after passed
+passes {bytes} {all} {passed} {p} {part} {after} k s = by_later k.later k.are k.chain k.front k.spelled k.joined
+  where
+    by_later : (later : List Piece) → all ≡ passed ++ later → Chain p.follows later → (front : List ℕ) → SpellsPieces later front → drop p.at bytes ≡ front ++ k.end → Passed bytes all p part after passed
+    by_later [] are chain front spelled joined = absurd (true≢false (sym s.follows ∙ chain))
+    by_later (q ∷ later) are chain front (short, head, rest, e, spells, more) joined =
+        let is : IsPieceAt bytes p.at s.piece part = subst (λ b. IsPieceAt b p.at s.piece part) k.same s.is in
+        let split : IsSplit q short (rest ++ k.end) (drop p.at bytes) = record { front = head; spells = spells; joined = joined ∙ ap (λ x. x ++ k.end) e ∙ append_assoc head rest k.end } in
+        let o = same_split q s.piece short is.short (rest ++ k.end) (drop (part.at + part.length) bytes) (drop p.at bytes) split is.split in
+        let whole : all ≡ passed ++ s.piece ∷ later = are ∙ ap (λ x. passed ++ x ∷ later) o.0 in
+        record {
+          piece = s.piece;
+          is = is;
+          within = (later, whole);
+          next = s.next;
+          on = record {
+            same = s.same ∙ k.same;
+            later = later;
+            are = whole ∙ sym (append_assoc passed (s.piece ∷ []) later);
+            chain = subst (λ c. Chain c later) (ap (λ x. x.chunked) o.0 ∙ sym s.chunked) chain.1;
+            end = k.end;
+            front = rest;
+            spelled = more;
+            joined = ap (λ n. drop n bytes) s.next ∙ sym o.1;
           };
-      all_told = λ c.
-          let n = later_none t.later end behind (subst (λ k. Later k t.later end behind) c others) in
-          t.onto (part ∷ []) (here, subst (λ ps. ArePiecesAt bytes (part.at + part.length) ps []) (sym n.0) tt);
-      count = λ c.
-          let n = later_none t.later end behind (subst (λ k. Later k t.later end behind) c others) in
-          let none = ap length n.0 in
-          omega (arith, count, one, none);
-    }
+        }
+
+-- where no more come all were passed
+pub none_left : {bytes : List ℕ} {all passed : List Piece} {p : Pieces} → Passing bytes all p passed → IsLast p → all ≡ passed
+none_left {bytes} {all} {passed} {p} k last = by_later k.later k.are k.chain k.front k.spelled k.joined
+  where
+    by_later : (later : List Piece) → all ≡ passed ++ later → Chain p.follows later → (front : List ℕ) → SpellsPieces later front → drop p.at bytes ≡ front ++ k.end → all ≡ passed
+    by_later [] are chain front spelled joined = are ∙ append-nil passed
+    by_later (q ∷ later) are chain front (short, head, rest, e, spells, more) joined = absurd (elim last [
+      | inl f ↦ true≢false (sym chain.0 ∙ f)
+      | inr n ↦ n (subst (λ b. BeginWithPiece (drop p.at b)) (sym k.same) (record {
+        piece = q;
+        short = short;
+        rest = rest ++ k.end;
+        split = record { front = head; spells = spells; joined = joined ∙ ap (λ x. x ++ k.end) e ∙ append_assoc head rest k.end };
+      }))
+    ])
+
+-- ---- the parts that are given for them
+
+-- where the last of them ends
+abbrev pub end_of : (at : ℕ) → List NdefPart → ℕ
+end_of at [] = at
+end_of at (q ∷ qs) = end_of (q.at + q.length) qs
+
+pub end_on : (at : ℕ) (parts : List NdefPart) (part : NdefPart) → end_of at (parts ++ part ∷ []) ≡ part.at + part.length
+end_on at [] part = refl
+end_on at (q ∷ qs) part = end_on (q.at + q.length) qs part
+
+pub pieces_on : (bytes : List ℕ) (at : ℕ) (ps : List Piece) (parts : List NdefPart) (p : Piece) (part : NdefPart) → ArePiecesAt bytes at ps parts → IsPieceAt bytes (end_of at parts) p part → ArePiecesAt bytes at (ps ++ p ∷ []) (parts ++ part ∷ [])
+pieces_on bytes at [] [] p part h i = (i, tt)
+pieces_on bytes at [] (x ∷ parts) p part h i = absurd h
+pieces_on bytes at (q ∷ ps) [] p part h i = absurd h
+pieces_on bytes at (q ∷ ps) (x ∷ parts) p part h i = (h.0, pieces_on bytes (x.at + x.length) ps parts p part h.1 i)
+
+pub pieces_count : (bytes : List ℕ) (at : ℕ) (ps : List Piece) (parts : List NdefPart) → ArePiecesAt bytes at ps parts → length parts ≡ length ps
+pieces_count bytes at [] [] h = refl
+pieces_count bytes at [] (x ∷ parts) h = absurd h
+pieces_count bytes at (q ∷ ps) [] h = absurd h
+pieces_count bytes at (q ∷ ps) (x ∷ parts) h = let n = pieces_count bytes (x.at + x.length) ps parts h.1 in omega (arith, n)
+
+-- ---- the payload of them
+
+pub payload_on : (ps : List Piece) (p : Piece) → payload_of (ps ++ p ∷ []) ≡ payload_of ps ++ p.payload
+payload_on ps p = flat_map-append (λ q. q.payload) ps (p ∷ []) ∙ ap (λ x. payload_of ps ++ x) (append-nil p.payload)
+
+-- it is as long as those of others with it at most
+pub payload_within : (ps : List Piece) (p : Piece) (all : List Piece) → (more : List Piece) × (all ≡ ps ++ p ∷ more) → length (payload_of ps) + length p.payload ≤ length (payload_of all)
+payload_within ps p all w =
+    let a = ap (λ x. length (payload_of x)) w.1 ∙ ap length (flat_map-append (λ q. q.payload) ps (p ∷ w.0)) ∙ length-append (payload_of ps) (payload_of (p ∷ w.0)) in
+    let b = length-append p.payload (payload_of w.0) in
+    omega (arith, a, b)

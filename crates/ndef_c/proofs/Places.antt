@@ -1,12 +1,11 @@
 -- Where the parts of a record lie.
-use Rattle.std.proofs.Common.{◌≡◌, ℕ, suc, ◌+◌, ◌-◌, ◌<◌, ◌≤◌, ◌∷◌, [], take, drop, refl, sym, ◌∙◌, ap, arith, List, ◌++◌, length, length-append, length-drop, append_assoc, take_at, drop_at, Bool, true, false}
-use Rattle.std.specs.Prelude.{unwrap_or, Some, None, if◌then◌else◌}
+use Rattle.std.proofs.Common.{◌≡◌, ◌≢◌, ℕ, suc, ◌+◌, ◌-◌, ◌<◌, ◌≤◌, ◌∷◌, [], take, drop, refl, sym, ◌∙◌, ap, arith, List, ◌++◌, length, length-append, length-drop, append_assoc, take_at, drop_at, Bool, true, false}
+use Rattle.std.specs.Prelude.{unwrap_or, Some, None, if◌then◌else◌, nat_eq}
 use Rattle.std.proofs.lemmas.List.{drop-drop, length-take, take-append-drop}
 use mir.Val.{bool_byte}
 use Rattle.ndef_format.specs.Records.{bit, Run, fields, octets}
 use Rattle.ndef_format.specs.HeadReasons.{is_set}
-use Rattle.ndef_piece.specs.Whole.{IsSplit, piece_of, shown}
-use Rattle.ndef_piece.specs.declared.whole.WholePiece.{WholePiece}
+use Rattle.ndef_piece.specs.Whole.{IsSplit, piece_of}
 use Rattle.ndef_c.specs.Walks.{BeginsWithRun, IsRecordThere, Lies}
 use Rattle.ndef_c.proofs.Followed.{initial_of, split_size}
 
@@ -88,20 +87,6 @@ shown_parts header short kind id payload rest behind bytes at e none i =
       joined = sym (take-append-drop at bytes) ∙ ap (λ x. take at bytes ++ x) (sym e ∙ j) ∙ sym (append_assoc (take at bytes) o _);
     }
 
--- .. of one that is shown somewhere in the bytes
-pub shown_in : (f : WholePiece) (bytes : List ℕ) → (at : ℕ) × IsSplit (shown f) (is_set 4 f.header) f.rest.now (drop at bytes) → (is_set 3 f.header ≡ false → f.id.now ≡ [])
-    → Shown f.header f.kind.now f.id.now f.payload.now f.rest.now bytes
-shown_in f bytes s none = shown_parts f.header (is_set 4 f.header) f.kind.now f.id.now f.payload.now f.rest.now (drop s.0 bytes) bytes s.0 refl none s.1
-
--- they are no longer than the bytes
-pub shown_size : (header : ℕ) (kind id payload rest bytes : List ℕ) → Shown header kind id payload rest bytes → length kind + length id + length payload + length rest ≤ length bytes
-shown_size header kind id payload rest bytes s =
-    let n = ap length s.joined ∙ length-append s.head (kind ++ (id ++ (payload ++ rest))) in
-    let a = length-append kind (id ++ (payload ++ rest)) in
-    let b = length-append id (payload ++ rest) in
-    let d = length-append payload rest in
-    omega (arith, n, a, b, d)
-
 -- they lie one before another
 pub record LieIn (bytes kind id payload rest : List ℕ) : Type 0 where
   pub kind_lies : Lies bytes (length bytes - length rest - length payload - length id - length kind) (length kind) kind
@@ -137,3 +122,16 @@ none_beyond bytes at h r =
 pub byte_is_bit : (b : Bool) → bool_byte b ≡ bit b
 byte_is_bit true = refl
 byte_is_bit false = refl
+
+-- a flag that is given as a number
+pub bit_told : (n : ℕ) (b : Bool) → n ≡ bit b → nat_eq n 1 ≡ b
+bit_told n true e = ap (λ k. nat_eq k 1) e
+bit_told n false e = ap (λ k. nat_eq k 1) e
+
+pub bit_is_set : (n : ℕ) (b : Bool) → n ≡ bit b → n ≡ 1 → b ≡ true
+bit_is_set n true e o = refl
+bit_is_set n false e o = absurd (omega (arith, e, o))
+
+pub bit_is_clear : (n : ℕ) (b : Bool) → n ≡ bit b → n ≢ 1 → b ≡ false
+bit_is_clear n true e o = absurd (o e)
+bit_is_clear n false e o = refl

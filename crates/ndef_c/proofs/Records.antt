@@ -1,5 +1,5 @@
 -- The octets of a record, piece after piece.
-use Rattle.std.proofs.Common.{◌≡◌, ◌<◌, ◌≤◌, ◌==◌, ◌+◌, ◌^◌, ℕ, Bool, true, false, List, [], ◌∷◌, ◌++◌, Option, Some, None, ◌&&◌, not, length, length-append, take, drop, refl, sym, ap, ap₂, ◌∙◌, arith, append-nil, append_assoc}
+use Rattle.std.proofs.Common.{◌≡◌, ◌<◌, ◌≤◌, ◌==◌, ◌+◌, ◌^◌, ℕ, Bool, false, List, [], ◌∷◌, ◌++◌, Option, Some, None, ◌&&◌, not, length, take, drop, refl, sym, ap, ap₂, ◌∙◌, arith, append-nil, append_assoc}
 use Rattle.std.specs.Prelude.{unwrap_or}
 use Rattle.std.specs.List.{flat_map}
 use Rattle.std.proofs.lemmas.Grind.{flat_map-append}
@@ -12,7 +12,7 @@ use Rattle.ndef_message.specs.declared.form.Form.{Form}
 use Rattle.ndef_message.specs.Cut.{first_piece, later_piece, later_pieces, all_parts, cut_run, cut_runs, none_left}
 use Rattle.ndef_message.specs.CutLaws.{all_parts-none, all_parts-some, none_left-all_parts}
 use Rattle.ndef_message.specs.Written.{written_piece, is_short}
-use Rattle.ndef_message.specs.WrittenLaws.{first_piece_is, later_is, first-step, later-step, later-end, whole_run}
+use Rattle.ndef_message.specs.WrittenLaws.{first_piece_is, later_is, first-step, later-step, whole_run}
 use Rattle.ndef_c.specs.Writes.{LastBegins, octets_of_piece, record_octets, octets_by, one_by_one, asked_octets, form_of, is_first, is_last, size_of}
 use Rattle.ndef_c.specs.declared.writing.NdefWriting.{NdefWriting}
 use Rattle.ndef_c.specs.declared.writing.Way.{Way}
@@ -34,12 +34,6 @@ pub later_octets : (form : Form) (last ends : Bool) (size : ℕ) (rest part late
 later_octets form last ends size rest part later head h some e f n w =
     ap (λ x. x ++ left_octets form last size later) (later_is form (ends && last) (not ends) part (written_fields head) w)
     ∙ later-step form last ends size rest part later h some e f n
-
-pub none_is_left : (form : Form) (last : Bool) (size : ℕ) (rest : List ℕ) → 1 ≤ size → (length rest == 0) ≡ true → [] ≡ left_octets form last size rest
-none_is_left form last size rest h n = later-end form last size rest [] (left_octets form last size rest) h n refl
-
-pub in_lengths : (xs ys zs : List ℕ) → xs ++ ys ≡ zs → length xs + length ys ≡ length zs
-in_lengths xs ys zs e = sym (length-append xs ys) ∙ ap length e
 
 -- the records one after another are those of the message
 pub records_joined : (first : Bool) (form : Form) (size : Option ℕ) (m : List Item) → one_by_one form first size m ≡ flat_map (written_piece form) (all_pieces (cut_runs first size m))

@@ -1,9 +1,11 @@
 -- The records of a message, each written in one piece.
-use Rattle.std.proofs.Common.{◌≡◌, ℕ, ◌+◌, ◌≤◌, Bool, true, false, List, [], ◌∷◌, ◌++◌, None, length, length-append, refl, sym, ◌∙◌, ap, ap₂, subst, arith, append-nil, append_assoc}
+use Rattle.std.proofs.Common.{◌≡◌, ℕ, ◌+◌, ◌*◌, ◌≤◌, Bool, true, false, List, [], ◌∷◌, ◌++◌, None, length, length-append, refl, sym, ◌∙◌, ap, ap₂, subst, arith, append-nil, append_assoc}
 use Rattle.std.specs.List.{AllByRecursion}
 use Rattle.std.proofs.lemmas.List.{append_cancel_left, map-append}
-use Rattle.ndef_format.specs.Messages.{Item, run_record}
-use Rattle.ndef_format.specs.Records.{Run, fields, tnf_of}
+use Rattle.std.specs.Prelude.{option_map, unwrap_or}
+use Rattle.ndef_format.specs.Canonical.{written_id}
+use Rattle.ndef_format.specs.Messages.{Item, SpellsPieces, payload_of, run_record}
+use Rattle.ndef_format.specs.Records.{Piece, Run, body, fields, id_length_octets, octets, payload_length_octets, tnf_of}
 use Rattle.ndef_format.specs.declared.tnf.Tnf.{Tnf}
 use Rattle.ndef_piece.specs.Whole.{shown}
 use Rattle.ndef_piece.specs.Heads.{written_fields}
@@ -14,9 +16,10 @@ use Rattle.ndef_message.specs.Written.{is_short}
 use Rattle.ndef_c.specs.Links.{BeginsWithRuns}
 use Rattle.ndef_c.specs.Rewrites.{IsWhole, IsWritable, run_records}
 use Rattle.ndef_c.specs.Runs.{IsFirstRun}
-use Rattle.ndef_c.specs.Walks.{is_last_run}
+use Rattle.ndef_c.specs.Walks.{BeginsWithRun, is_last_run}
 use Rattle.ndef_c.specs.Writes.{one_by_one, octets_of_piece, record_octets}
 use Rattle.ndef_c.specs.declared.run.FirstRun.{FirstRun}
+use Rattle.ndef_c.proofs.Followed.{split_size}
 use Rattle.ndef_c.proofs.Made.{whole_as}
 use Rattle.ndef_c.proofs.Messages.{Left, Onward, id_of}
 
@@ -90,24 +93,62 @@ writable_there runs done run more e h =
 
 -- ---- the number of bytes
 
--- the piece has those of its front and those of the payload
-pub part_length : {bytes : List ℕ} {found : FirstRun} (x : IsFirstRun bytes found) (head : Head) (front : ℕ) → front ≡ length (octets_of_piece head found.first.kind.now found.first.id.now [])
-    → length (octets_of_piece head found.first.kind.now found.first.id.now [] ++ (run_record x.run).payload) ≡ front + found.payload
-part_length {bytes} {found} x head front e =
-    let n = length-append (octets_of_piece head found.first.kind.now found.first.id.now []) (run_record x.run).payload in
-    let p = x.payload in
-    omega (arith, n, p, e)
+payload_least : (ps : List Piece) (x : List ℕ) → SpellsPieces ps x → length (payload_of ps) ≤ length x
+payload_least [] x s = omega arith
+payload_least (p ∷ ps) x s =
+    let a = ap length s.3 ∙ length-append s.1 s.2 in
+    let b = split_size p s.0 [] s.1 (record { front = s.1; spells = s.4; joined = sym (append-nil s.1) }) in
+    let c = payload_least ps s.2 s.5 in
+    let n = length-append p.payload (payload_of ps) in
+    omega (arith, a, b, c, n)
 
-pub sum_on : {form : Form} {first : Bool} {left : List Run} {run : Run} {more : List Run} {part : List ℕ} → Part form first left run more part → (total size sum whole : ℕ) → length part ≡ size → sum ≡ total + size
-    → total + length (one_by_one form first None (run_records left)) ≡ whole → sum + length (one_by_one form false None (run_records more)) ≡ whole
-sum_on {form} {first} {left} {run} {more} {part} p total size sum whole n s e =
-    let k = ap length p.octets ∙ length-append part (one_by_one form false None (run_records more)) in
-    omega (arith, k, n, s, e)
+one_at_least : (short : Bool) (n : ℕ) (x : List ℕ) → 1 ≤ length (payload_length_octets short n ++ x)
+one_at_least true n x = omega arith
+one_at_least false n x = omega arith
 
-pub sum_all : (form : Form) (more : List Run) (sum whole : ℕ) → more ≡ [] → sum + length (one_by_one form false None (run_records more)) ≡ whole → sum ≡ whole
-sum_all form more sum whole none e =
-    let k = ap (λ rs. length (one_by_one form false None (run_records rs))) none in
-    omega (arith, k, e)
+-- a run has three octets at least beside its parts
+run_least : (run : Run) (rest bytes : List ℕ) → BeginsWithRun run rest bytes
+    → 3 + length (run_record run).kind + length (run_record run).id + length (run_record run).payload + length rest ≤ length bytes
+run_least run rest bytes b =
+    let p = run.initial in
+    let id = unwrap_or p.id [] in
+    let s = b.spelled in
+    let a = ap length b.joined ∙ length-append b.front rest in
+    let c = ap length s.3 ∙ length-append s.1 s.2 in
+    let d = ap length s.4.spelled ∙ length-append (octets (fields p s.0)) (body p) in
+    let e = one_at_least s.0 (length p.payload) (id_length_octets (option_map length p.id)) in
+    let f = length-append p.kind (id ++ p.payload) in
+    let g = length-append id p.payload in
+    let h = payload_least run.later s.2 s.5 in
+    let n = length-append p.payload (payload_of run.later) in
+    omega (arith, a, c, d, e, f, g, h, n)
+
+four_at_most : (short : Bool) (n : ℕ) (x : List ℕ) → length (payload_length_octets short n ++ x) ≤ 4 + length x
+four_at_most true n x = omega arith
+four_at_most false n x = omega arith
+
+id_at_most : (id : List ℕ) → length (id_length_octets (option_map length (written_id id))) ≤ length id
+id_at_most [] = omega arith
+id_at_most (x ∷ id) = omega arith
+
+-- it is written in twice as many at most
+pub part_most : {bytes : List ℕ} {found : FirstRun} (x : IsFirstRun bytes found) (form : Form) (first : Bool) (head : Head)
+    → written_fields head ≡ fields (first_piece first found.last false (run_record x.run) (run_record x.run).payload) (is_short form (length (run_record x.run).payload))
+    → length (octets_of_piece head found.first.kind.now found.first.id.now [] ++ (run_record x.run).payload) + 2 * length found.rest.now ≤ 2 * length bytes
+part_most {bytes} {found} x form first head e =
+    let m : Item = run_record x.run in
+    let kind = ap (λ q. length q.kind) x.initial in
+    let id = ap length (id_of found x) in
+    let h = ap (λ f. length (octets f)) e in
+    let front = octets_of_piece head found.first.kind.now found.first.id.now [] in
+    let a = length-append front m.payload in
+    let b = length-append (octets (written_fields head)) (found.first.kind.now ++ (found.first.id.now ++ [])) in
+    let c = length-append found.first.kind.now (found.first.id.now ++ []) in
+    let d = length-append found.first.id.now [] in
+    let f = four_at_most (is_short form (length m.payload)) (length m.payload) (id_length_octets (option_map length (written_id m.id))) in
+    let g = id_at_most m.id in
+    let n = run_least x.run found.rest.now bytes x.begins in
+    omega (arith, kind, id, h, a, b, c, d, f, g, n)
 
 -- ---- what is written so far
 
@@ -118,13 +159,6 @@ octets_on {form} {first} {left} {run} {more} {part} p done whole e =
 
 pub octets_all : (form : Form) (more : List Run) (done whole : List ℕ) → more ≡ [] → done ++ one_by_one form false None (run_records more) ≡ whole → done ≡ whole
 octets_all form more done whole none e = sym (append-nil done) ∙ ap (λ rs. done ++ one_by_one form false None (run_records rs)) (sym none) ∙ e
-
-pub part_within : {form : Form} {first : Bool} {left : List Run} {run : Run} {more : List Run} {part : List ℕ} → Part form first left run more part → (done whole : List ℕ)
-    → done ++ one_by_one form first None (run_records left) ≡ whole → length done + length part ≤ length whole
-part_within {form} {first} {left} {run} {more} {part} p done whole e =
-    let k = ap length p.octets ∙ length-append part (one_by_one form false None (run_records more)) in
-    let n = sym (length-append done (one_by_one form first None (run_records left))) ∙ ap length e in
-    omega (arith, k, n)
 
 -- ---- whether a record can be in one piece
 

@@ -1,15 +1,14 @@
 -- Where the parts of a text lie, and its payload.
-use Rattle.std.proofs.Common.{◌≡◌, ℕ, ◌+◌, ◌*◌, ◌-◌, ◌<◌, ◌≤◌, Bool, true≢false, encode_utf8_all, ◌∷◌, [], false, take, drop, refl, sym, ◌∙◌, ap, arith, List, ◌++◌, length, length-append, get_or, length-drop}
+use Rattle.std.proofs.Common.{◌≡◌, ℕ, ◌+◌, ◌-◌, ◌<◌, ◌≤◌, Bool, true≢false, encode_utf8_all, ◌∷◌, [], false, take, drop, sym, ◌∙◌, ap, arith, List, ◌++◌, length, get_or, length-drop}
 use Rattle.std.proofs.lemmas.List.{drop-drop, take_all, length-take-le}
 use Rattle.std.proofs.lemmas.Bool.{leb-true, le-leb}
 use Rattle.std.proofs.lemmas.Str.{encodes-chars}
-use Rattle.std.specs.Prelude.{IsUtf8, chars}
+use Rattle.std.specs.Prelude.{IsUtf8}
 use Rattle.ndef_lang.specs.OctetLaws.{field_parts}
 use Rattle.ndef_format.specs.Texts.{IsCodeOctet, IsText, IsTextIn, is_wide, code_length, spelled, units_of, unmarked}
 use Rattle.ndef_types.specs.declared.encoding.Encoding.{Encoding}
 use Rattle.ndef_types.specs.declared.encoding.Encoding.TheVariants.{Utf8, Utf16}
 use Rattle.ndef_types.specs.Values.{TextValue, StandsForText, SpellsText, is_utf16, language_octets, encoded_octets, text_payload}
-use Rattle.ndef_lang.specs.Machine.Utf16Laws.{spelled_length}
 use Rattle.ndef_c.specs.Texts.{AreSpelled, asked_text}
 use Rattle.ndef_c.specs.Walks.{Lies}
 
@@ -42,19 +41,6 @@ parts_lie payload n e h =
 -- the payload of a text in UTF-8
 pub utf8_payload : (language text : List ℕ) (n : ℕ) → IsUtf8 text → n ≡ length language → (n ∷ []) ++ (language ++ text) ≡ text_payload (asked_text 0 language text)
 utf8_payload language text n u e = ap (λ m. m ∷ (language ++ text)) e ∙ ap (λ t. length language ∷ (language ++ t)) (sym (encodes-chars text u))
-
--- its length in UTF-16
-pub utf16_size : (language text : List ℕ) (n : ℕ) → n ≡ length (units_of (chars text)) → length (text_payload (asked_text 1 language text)) ≡ 3 + length language + 2 * n
-utf16_size language text n e =
-    let k = length-append language (0xfe ∷ 0xff ∷ spelled false (units_of (chars text))) in
-    let l = spelled_length false (units_of (chars text)) in
-    omega (arith, e, k, l)
-
-pub utf8_size : (language text : List ℕ) → IsUtf8 text → length (text_payload (asked_text 0 language text)) ≡ 1 + (length language + length text)
-utf8_size language text u =
-    let e = ap length (utf8_payload language text (length language) u refl) in
-    let k = length-append language text in
-    omega (arith, e, k)
 
 -- ---- texts that are read
 

@@ -4,28 +4,25 @@ use Rattle.std.specs.Prelude.{slice_get}
 use Rattle.std.proofs.lemmas.List.{drop-drop, drop-take, take-take}
 use Rattle.ndef_format.specs.Messages.{Item}
 use Rattle.ndef_format.specs.Nested.{IsPayload, kind_in}
-use Rattle.ndef_format.specs.Records.{Piece, tnf_of}
 use Rattle.ndef_format.specs.Texts.{IsText}
 use Rattle.ndef_format.specs.declared.kind.Kind.{Kind}
 use Rattle.ndef_format.specs.declared.kind.Kind.TheVariants as kinds
 use Rattle.ndef_format.specs.declared.profile.Profile.TheVariants.{Standard}
 use Rattle.ndef_format.specs.declared.table.Table.TheVariants.{SmartPoster}
+use Rattle.ndef_format.specs.declared.tnf.Tnf.{Tnf}
 use Rattle.ndef_types.specs.Contents.{IsOfKind}
 use Rattle.ndef_types.specs.ContentsLaws.{has_at}
 use Rattle.ndef_types.specs.Posters.{is_text}
 use Rattle.ndef_c.specs.Posters.{HasPosterRecords}
-use Rattle.ndef_c.specs.Sought.{IsOfPiece}
-use Rattle.ndef_c.specs.Titles.{IsPosterPayload, LiesAsText}
+use Rattle.ndef_c.specs.Titles.{IsPosterPayload}
 use Rattle.ndef_c.specs.Walks.{Lies}
-use Rattle.ndef_c.specs.declared.nested.Found.{Found}
-use Rattle.ndef_c.specs.declared.text.NdefText.{NdefText}
 use Rattle.ndef_c.proofs.Ahead.{get_behind}
 
 abbrev pub is_title : Item → Bool
 is_title i = is_text (kind_in SmartPoster i.tnf i.kind)
 
-pub title_kind : (i : Item) (p : Piece) → IsOfPiece i p → is_title i ≡ is_text (kind_in SmartPoster (tnf_of p.tnf) p.kind)
-title_kind i p e = ap₂ (λ t k. is_text (kind_in SmartPoster t k)) e.tnf e.kind
+pub title_is : (i : Item) (tnf : Tnf) (kind : List ℕ) → tnf ≡ i.tnf → kind ≡ i.kind → is_title i ≡ is_text (kind_in SmartPoster tnf kind)
+title_is i tnf kind e f = sym (ap₂ (λ t k. is_text (kind_in SmartPoster t k)) e f)
 
 text_kind : (kind : Kind) → is_text kind ≡ true → kind ≡ kinds.Text
 text_kind kinds.Text e = refl
@@ -63,7 +60,3 @@ lies_deeper bytes whole part at size from count l m =
     inside count from size xs whole e h =
         let split : size ≡ from + (size - from) = omega (arith, h) in
         ap (λ x. take count (drop from x)) (sym e ∙ ap (λ n. take n xs) split) ∙ ap (take count) (drop-take from (size - from) xs) ∙ take-take count (size - from) (drop from xs) (omega (arith, h))
-
--- a title, by where its payload lies
-pub text_lies : (payload : List ℕ) (i : Item) (f : Found) (out : NdefText) → f.payload.now ≡ i.payload → LiesAsText payload f.payload.now f.at out → LiesAsText payload i.payload f.at out
-text_lies payload i f out e l = subst (λ t. LiesAsText payload t f.at out) e l

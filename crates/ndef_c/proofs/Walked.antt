@@ -37,7 +37,8 @@ pub between_on : (bytes : List ℕ) (from at next : ℕ) (done : List Run) (r : 
 between_on bytes from at next [] r l b = (next, subst (λ n. BeginsWithRun r (drop next bytes) (drop n bytes)) (sym l) b, refl)
 between_on bytes from at next (d ∷ done) r l b = (l.0, l.1, between_on bytes l.0 at next done r l.2 b)
 
-walked : (profile : Profile) (rs : List Run) (bytes done left : List ℕ) (at : ℕ) → AllByRecursion (IsRun profile) rs → SpellsPieces (all_pieces rs) left → (rs ≡ [] → ⊥) → EndsOnce (all_pieces rs)
+-- the runs that some bytes spell lie one after another there
+pub walked : (profile : Profile) (rs : List Run) (bytes done left : List ℕ) (at : ℕ) → AllByRecursion (IsRun profile) rs → SpellsPieces (all_pieces rs) left → (rs ≡ [] → ⊥) → EndsOnce (all_pieces rs)
     → (rest : List ℕ) → bytes ≡ done ++ (left ++ rest) → at ≡ length done → AreWalked bytes at rs (at + length left)
 walked profile [] bytes done left at each s some e rest b a = absurd (some refl)
 walked profile (r ∷ []) bytes done left at each s some e rest b a =

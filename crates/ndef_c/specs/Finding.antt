@@ -6,8 +6,6 @@ use Rattle.ndef_format.specs.Records.{Run, code}
 use Rattle.ndef_c.specs.Walks.{BeginsWithRun, IsRecordAt, IsRecordThere, LieBetween, ends_message}
 use Rattle.ndef_c.specs.declared.finding.Wanted.{Wanted}
 use Rattle.ndef_c.specs.declared.finding.Wanted.TheVariants.{Kind as OfKind, Id as WithId}
-use Rattle.ndef_c.specs.declared.finding.Walk.{Walk}
-use Rattle.ndef_c.specs.declared.finding.Walk.TheVariants.{Found, Ended, Broken}
 use Rattle.ndef_c.specs.declared.record.NdefRecord.{NdefRecord}
 
 -- NDEF 1.0, TNF and TYPE: the record has this type name format and this type
@@ -47,14 +45,6 @@ pub record FindsAt (P : Sought) (bytes : List ℕ) (at : ℕ) (out : NdefRecord)
   pub record_is : IsRecordAt bytes next out
   pub has : P (run_record record_is.run)
 
--- NDEF 1.0, messages: the first of these records that has what is searched for begins there
-pub record HasFirst (P : Sought) (bytes : List ℕ) (at next : ℕ) : Type 0 where
-  pub passes : PassesTo P bytes at next
-  pub run : Run
-  pub rest : List ℕ
-  pub begins : BeginsWithRun run rest (drop next bytes)
-  pub has : P (run_record run)
-
 -- NDEF 1.0, messages: none of the records from the place on, up to the last of the message, has
 -- what is searched for
 pub record HasNone (P : Sought) (bytes : List ℕ) (at : ℕ) : Type 0 where
@@ -72,9 +62,3 @@ pub record BreaksOff (P : Sought) (bytes : List ℕ) (at : ℕ) : Type 0 where
   pub next : ℕ
   pub passes : PassesTo P bytes at next
   pub gap : ¬ IsRecordThere bytes next
-
--- how a walk ends
-abbrev pub WalksTo : Sought → List ℕ → ℕ → Walk → Type 0
-WalksTo P bytes at (Found next) = HasFirst P bytes at next
-WalksTo P bytes at Ended = HasNone P bytes at
-WalksTo P bytes at Broken = BreaksOff P bytes at

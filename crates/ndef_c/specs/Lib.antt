@@ -16,6 +16,7 @@ pub mod Handovers
 pub mod Icons
 pub mod Items
 pub mod Kinds
+pub mod Layouts
 pub mod Links
 pub mod Made
 pub mod Feeding

@@ -1,11 +1,10 @@
 -- Where the records of messages in payloads lie.
-use Rattle.std.specs.Prelude.{◌≡◌, ℕ, ◌+◌, ◌≤◌, ◌⊎◌, List, [], length, map, drop, slice_get, Option, Some, None}
+use Rattle.std.specs.Prelude.{◌≡◌, ℕ, ◌+◌, ◌⊎◌, List, [], length, map, drop, Option, Some, None}
 use Rattle.std.specs.List.{AllByRecursion}
 use Rattle.ndef_format.specs.Messages.{Item, SpellsBy, run_record}
 use Rattle.ndef_format.specs.Records.{Run}
 use Rattle.ndef_format.specs.declared.profile.Profile.{Profile}
 use Rattle.ndef_types.specs.Contents.{IsFirstOf, Lack}
-use Rattle.ndef_types.specs.Links.{alternatives}
 use Rattle.ndef_c.specs.Walks.{BeginsWithRun, LieBetween, Lies}
 use Rattle.ndef_c.specs.declared.nested.Found.{Found}
 
@@ -46,14 +45,6 @@ abbrev pub FirstLies : (Item → Type 0) → List Item → List ℕ → Option F
 FirstLies P items bytes None = Lack P items
 FirstLies P items bytes (Some f) =
     (i : Item) × IsFirstOf P items (Some i) × IsFound (Lack P) bytes i f
-
--- Connection Handover 1.2, Alternative Carrier record: the payload of the alternative carrier with
--- the index, if there is one
-abbrev pub CarrierLies : List Item → ℕ → List ℕ → Option Found → Type 0
-CarrierLies items index bytes None = length (alternatives items) ≤ index
-CarrierLies items index bytes (Some f) =
-    (i : Item) × (slice_get (alternatives items) index ≡ Some i)
-    × IsFound (λ before. length (alternatives before) ≡ index) bytes i f
 
 -- 1 and the number, or 0 and 0 for none
 abbrev pub TellsNumber : Option ℕ → (has number : ℕ) → Type 0

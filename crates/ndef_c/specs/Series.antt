@@ -1,5 +1,5 @@
 -- Records that stand one after another in a message that is written.
-use Rattle.std.specs.Prelude.{◌≡◌, ℕ, ◌+◌, ◌-◌, ◌<◌, ◌≤◌, ◌^◌, ◌==◌, ◌&&◌, ⊤, Bool, false, List, [], ◌∷◌, ◌++◌, length, map, None, slice_index_or}
+use Rattle.std.specs.Prelude.{◌≡◌, ℕ, ◌-◌, ◌<◌, ◌≤◌, ◌^◌, ◌==◌, ◌&&◌, ⊤, Bool, false, List, [], ◌∷◌, ◌++◌, length, map, None, slice_index_or}
 use Rattle.std.specs.List.{All, flat_map}
 use Rattle.ndef_format.specs.Canonical.{canonical, is_nil}
 use Rattle.ndef_format.specs.Messages.{Item}
@@ -7,9 +7,10 @@ use Rattle.ndef_message.specs.declared.form.Form.TheVariants.{Short}
 use Rattle.ndef_c.specs.Made.{IsMade, made_item}
 use Rattle.ndef_c.specs.HandoverParts.{MayBeCarried, alternative_item}
 use Rattle.ndef_c.specs.PosterParts.{MayBeIcon, MayBeTitle, icon_item, title_item}
-use Rattle.ndef_c.specs.Rooms.{IsPut}
+use Rattle.ndef_c.specs.Rooms.{Puts}
 use Rattle.ndef_c.specs.Writes.{record_octets}
 use Rattle.ndef_c.specs.declared.handover_parts.NdefAlternativeWriting.{NdefAlternativeWriting}
+use Rattle.ndef_c.specs.declared.out.Out.{Out}
 use Rattle.ndef_c.specs.declared.poster_parts.NdefIconWriting.{NdefIconWriting}
 use Rattle.ndef_c.specs.declared.poster_parts.NdefTitleWriting.{NdefTitleWriting}
 use Rattle.ndef_c.specs.declared.series.Series.{Series}
@@ -62,23 +63,14 @@ left_octets first left [] = []
 left_octets first left (m ∷ ms) =
     record_octets Short first (left == 1) None m ++ left_octets false (left - 1) ms
 
--- where the records after these are written
+-- where the records after these stand
 abbrev pub place_after : Place → List Item → Place
-place_after p items = record {
-  at = p.at + length (left_octets p.first p.left items);
-  left = p.left - length items;
-  first = p.first && is_nil items;
-}
+place_after p items = record { left = p.left - length items; first = p.first && is_nil items }
 
--- the records are written at the place, and the other one is after them
-pub record IsWritten (p : Place) (items : List Item) (old new : List ℕ) (q : Place) : Type 0 where
-  pub put : IsPut p.at (left_octets p.first p.left items) old new
-  pub size : length new ≡ length old
+-- the records are written at their place, and the other one is after them
+pub record IsWritten (p : Place) (items : List Item) (old new : Out) (q : Place) : Type 0 where
+  pub put : Puts old (left_octets p.first p.left items) new
   pub next : q ≡ place_after p items
-
--- NDEF 1.0, record layout: the octets of records that are neither the first nor the last
-abbrev pub middle_octets : List Item → List ℕ
-middle_octets = flat_map (λ m. record_octets Short false false None m)
 
 -- RTD Smart Poster 1.0 and Connection Handover 1.2: after these octets a message of these records,
 -- each of which may be written, is no longer than a payload

@@ -1,5 +1,5 @@
 -- Where the records of some bytes lie.
-use Rattle.std.specs.Prelude.{◌≡◌, ℕ, ◌+◌, ◌<◌, ◌≤◌, Bool, true, false, List, [], ◌∷◌, ◌++◌, length, take, drop, Ok}
+use Rattle.std.specs.Prelude.{◌≡◌, ℕ, ◌+◌, ◌<◌, ◌≤◌, ◌⊎◌, Bool, true, false, List, [], ◌∷◌, ◌++◌, length, take, drop, Ok, Option, Some, None}
 use Rattle.ndef_format.specs.Records.{Piece, Run, IsRun, pieces, code, bit}
 use Rattle.ndef_format.specs.Messages.{SpellsPieces, run_record}
 use Rattle.ndef_format.specs.Limits.{LimitValues}
@@ -10,6 +10,7 @@ use Rattle.ndef_message.specs.Views.{Viewed, Views}
 use Rattle.ndef_piece.specs.Whole.{IsSplit}
 use Rattle.ndef_c.specs.Rooms.{Gives}
 use Rattle.ndef_c.specs.declared.record.NdefRecord.{NdefRecord}
+use Rattle.ndef_c.specs.declared.walk.Walk.{Walk}
 
 -- NDEF 1.0, chunked payloads: the bytes begin with the pieces of a run, all of them whole, and
 -- these follow
@@ -69,6 +70,25 @@ pub record GivesPayload (bytes : List ℕ) (at : ℕ) (before after : List ℕ) 
   pub rest : List ℕ
   pub begins : BeginsWithRun run rest (drop at bytes)
   pub gives : Gives (run_record run).payload before after count status
+
+-- ---- walks
+
+-- NDEF 1.0, messages: no more records come: the message has ended, or no record begins at the place
+abbrev pub IsOver : Walk → Type 0
+IsOver w = (w.ended ≡ true) ⊎ ¬ IsRecordThere w.bytes.now w.at
+
+-- NDEF 1.0, messages: the record at the place comes, and then those after its end, unless it ends the message
+pub record PassesOver (w : Walk) (r : NdefRecord) (after : Walk) : Type 0 where
+  pub going : w.ended ≡ false
+  pub record_is : IsRecordAt w.bytes.now w.at r
+  pub same : after.bytes.now ≡ w.bytes.now
+  pub next : after.at ≡ r.end
+  pub ends : after.ended ≡ ends_message record_is.run.initial record_is.run.later
+
+-- what a step of a walk gives
+abbrev pub WalksOn : Walk → Option NdefRecord → Walk → Type 0
+WalksOn w None after = IsOver w
+WalksOn w (Some r) after = PassesOver w r after
 
 -- ---- laws
 

@@ -39,8 +39,8 @@ fn alternative_at(payload: &[u8]) -> NdefAlternative
     }
 }
 
-/// Gives the power state of the alternative carrier for which the payload of an Alternative Carrier
-/// record stands, and its number of references.
+/// Gives the power state of the alternative carrier that the payload of an Alternative Carrier
+/// record describes, and its number of references.
 #[unsafe(no_mangle)]
 pub extern "C" fn ndef_alternative(
     payload: &[u8],
@@ -137,7 +137,7 @@ fn give_reference(payload: &[u8], index: usize, out: &mut NdefPart) -> u32
     }
 }
 
-/// Gives the place of the reference with an index in the payload of an Alternative Carrier record:
+/// Gives the offset of the reference with an index in the payload of an Alternative Carrier record:
 /// 0 is the carrier data reference, and the auxiliary ones follow.
 #[unsafe(no_mangle)]
 pub extern "C" fn ndef_reference(payload: &[u8], index: usize, out: &mut NdefPart) -> u32

@@ -5,18 +5,19 @@ ghost use Rattle.ndef_c.specs.Built.{AppendedBegins, EndsWithPiece, GivesAppende
 ghost use Rattle.ndef_c.specs.Made.{IsMade, made_item};
 ghost use Rattle.ndef_c.specs.Writes.{LastBegins, asked, item_of, octets_by};
 
-use crate::making::{Ends, Made, made_length, put_made};
+use crate::making::{Ends, Made, put_made};
+use crate::out::Out;
 use crate::status::{BAD_ARGUMENT, NO_ROOM, OK};
-use crate::writing::{NdefWriting, Parts, Way, asked_parts, put_record, record_length, way_of};
+use crate::writing::{NdefWriting, Parts, Way, asked_parts, put_record, way_of};
 use ndef_piece::{heads_are_apart, whole_piece};
 
-/// What is known of a message that is being built in a room; all 0: no record is there yet.
+/// What is known of a message that is being built in a buffer; all 0: no record is there yet.
 #[repr(C)]
 #[derive(Clone, Copy, Drop)]
 pub struct NdefBuilt {
     /// Its bytes.
     pub length: u64,
-    /// Where its last piece begins.
+    /// Where its last chunk begins.
     pub last_at: u64,
     /// Its records.
     pub records: u32,
@@ -85,15 +86,16 @@ fn append(
         (held room.old built.old) (held room.new built.new) count.new result }
 {
     let start = built.length as usize;
-    let end = start + record_length(parts, way);
-    *count = end;
-    if room.len() < end {
+    let mut counter = Out::new(&mut [], start);
+    let last = put_record(&mut counter, parts, way);
+    *count = counter.at();
+    if room.len() < *count {
         return NO_ROOM;
     }
     reopen(room, built);
-    let last = put_record(room, start, parts, way);
+    let _last = put_record(&mut Out::new(room, start), parts, way);
     *built = NdefBuilt {
-        length: end as u64,
+        length: *count as u64,
         last_at: last as u64,
         records: built.records + 1,
     };
@@ -114,15 +116,16 @@ pub(crate) fn append_made(
     let start = built.length as usize;
     let first = built.length == 0;
     let ends = Ends { first, last: true };
-    let end = start + made_length(made, ends);
-    *count = end;
-    if room.len() < end {
+    let mut counter = Out::new(&mut [], start);
+    put_made(&mut counter, made, ends);
+    *count = counter.at();
+    if room.len() < *count {
         return NO_ROOM;
     }
     reopen(room, built);
-    let _end = put_made(room, start, made, ends);
+    put_made(&mut Out::new(room, start), made, ends);
     *built = NdefBuilt {
-        length: end as u64,
+        length: *count as u64,
         last_at: start as u64,
         records: built.records + 1,
     };
@@ -130,7 +133,7 @@ pub(crate) fn append_made(
 }
 
 /// Appends a record (NDEF 1.0, record layout and chunked payloads) to the message with which the
-/// room begins, and updates what is known of the message. The record that was the last no longer
+/// buffer begins, and updates what is known of the message. The record that was the last no longer
 /// is.
 #[unsafe(no_mangle)]
 pub extern "C" fn ndef_append(

@@ -14,7 +14,7 @@ use ndef_lang::{Kind, Leaf};
 use ndef_types::accept;
 use ndef_value::Profile;
 
-/// A handover carrier, by places and lengths in its payload.
+/// A handover carrier, by offsets and lengths in its payload.
 #[repr(C)]
 #[derive(Clone, Copy, Drop)]
 pub struct NdefCarrier {
@@ -47,7 +47,7 @@ fn carrier_at(payload: &[u8]) -> NdefCarrier
     }
 }
 
-/// Gives the places of the parts of the carrier for which the payload of a Handover Carrier record stands.
+/// Gives the offsets of the parts of the carrier that the payload of a Handover Carrier record describes.
 #[unsafe(no_mangle)]
 pub extern "C" fn ndef_carrier(payload: &[u8], out: &mut NdefCarrier, why: &mut NdefChecked) -> u32
     ensures known { (result ≡ OK) ⊎ (result ≡ REFUSED) }
@@ -72,7 +72,7 @@ fn may_be_carrier(format: u32, kind: &[u8], carried: &[u8]) -> bool
     format < 8 && kind.len() < 256 && carried.len() <= u32::MAX as usize - 2 - kind.len()
 }
 
-/// Writes the payload of a Handover Carrier record, its reserved bits 0, to the room.
+/// Writes the payload of a Handover Carrier record, its reserved bits 0, to the buffer.
 #[unsafe(no_mangle)]
 pub extern "C" fn ndef_write_carrier(
     format: u32,

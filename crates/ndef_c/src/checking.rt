@@ -14,7 +14,7 @@ use ndef_value::Limits;
 #[repr(C)]
 #[derive(Clone, Copy, Drop)]
 pub struct NdefChecked {
-    /// The bytes of the message, or the place of the refusal.
+    /// The bytes of the message, or the offset of the refused byte.
     pub place: u64,
     /// The records of the message, 0 where it is refused.
     pub records: u32,

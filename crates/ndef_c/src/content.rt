@@ -1,15 +1,14 @@
 //! What is written as the payload of a record, in the place where it belongs.
-ghost use Rattle.std.specs.Prelude.{◌≡◌, ◌≢◌, ◌+◌, ◌*◌, ◌<◌, ◌≤◌, ◌^◌, ◌↔◌, chars, length, IfSome, IsNone};
-ghost use Rattle.ndef_format.specs.Texts.{units_of};
+ghost use Rattle.std.specs.Prelude.{◌≡◌, ◌≢◌, ◌≤◌, ◌^◌, ◌↔◌, length, IfSome, IsNone};
 ghost use Rattle.ndef_c.specs.Contents.{IsContent, content_octets};
-ghost use Rattle.ndef_c.specs.Rooms.{Gives, IsPut};
+ghost use Rattle.ndef_c.specs.Rooms.{Gives, Puts};
 
-use crate::alternative_writing::{alternative_length, put_alternative};
+use crate::alternative_writing::put_alternative;
+use crate::out::Out;
 use crate::part::NdefPart;
-use crate::room::{put, put_parts};
+use crate::room::put_parts;
 use crate::status::{BAD_ARGUMENT, NO_ROOM, OK};
 use crate::utf16::put_units;
-use ndef_types::units_len;
 
 /// What is written as a payload.
 #[derive(Clone, Copy)]
@@ -48,29 +47,30 @@ pub(crate) enum Content<'a> {
     },
 }
 
-/// The sum of both numbers of bytes, unless no payload is that long.
-fn payload_length(front: usize, behind: usize) -> Option<usize>
-    requires { front < 2 ^ 32 }
-    ensures none { IsNone result ↔ (2 ^ 32 ≤ front + behind) }
-    ensures some { IfSome result (λ n. n ≡ front + behind) }
+/// Writes it.
+#[inline(always)]
+pub(crate) fn put_content(out: &mut Out<'_>, content: &Content<'_>)
+    requires { IsContent content.now }
+    ensures { Puts out.old (content_octets content.now) out.new }
 {
-    if behind > u32::MAX as usize - front {
-        return None;
+    match *content {
+        Content::Utf8 { language, text } => {
+            put_parts(out, &[language.len() as u8], language, text.as_bytes());
+        }
+        Content::Utf16 { language, text } => {
+            put_parts(out, &[128 + language.len() as u8], language, &[0xfe, 0xff]);
+            put_units(out, text);
+        }
+        Content::Uri { code, rest } => put_parts(out, &[code], rest, &[]),
+        Content::Alternative {
+            power,
+            bytes,
+            reference,
+            auxiliary,
+        } => put_alternative(out, power, bytes, reference, auxiliary),
+        Content::Error { reason, detail } => put_parts(out, &[reason], detail, &[]),
+        Content::Octets { octets } => out.put(octets),
     }
-    Some(front + behind)
-}
-
-/// Twice as many bytes as a text has units, after some others, unless no payload is that long.
-fn units_length(front: usize, text: &str) -> Option<usize>
-    requires { front < 2 ^ 32 }
-    ensures none { IsNone result ↔ (2 ^ 32 ≤ front + 2 * length (units_of (chars text.now))) }
-    ensures some { IfSome result (λ n. n ≡ front + 2 * length (units_of (chars text.now))) }
-{
-    let units = units_len(text);
-    if units > u64::from(u32::MAX) {
-        return None;
-    }
-    payload_length(front, 2 * units as usize)
 }
 
 /// The number of its bytes, unless no payload is that long.
@@ -79,48 +79,13 @@ pub(crate) fn content_length(content: &Content<'_>) -> Option<usize>
     ensures none { IsNone result ↔ (2 ^ 32 ≤ length (content_octets content.now)) }
     ensures some { IfSome result (λ n. n ≡ length (content_octets content.now)) }
 {
-    match *content {
-        Content::Utf8 { language, text } => payload_length(1 + language.len(), text.len()),
-        Content::Utf16 { language, text } => units_length(3 + language.len(), text),
-        Content::Uri { code: _, rest } => payload_length(1, rest.len()),
-        Content::Alternative {
-            power: _,
-            bytes,
-            reference,
-            auxiliary,
-        } => Some(alternative_length(bytes, reference, auxiliary)),
-        Content::Error { reason: _, detail } => payload_length(1, detail.len()),
-        Content::Octets { octets } => payload_length(0, octets.len()),
+    let mut counter = Out::new(&mut [], 0);
+    put_content(&mut counter, content);
+    let length = counter.at();
+    if length > u32::MAX as usize {
+        return None;
     }
-}
-
-/// Writes it at a place of the room, and answers the place after it.
-pub(crate) fn put_content(room: &mut [u8], at: usize, content: &Content<'_>) -> usize
-    requires content { IsContent content.now }
-    requires room { at + length (content_octets content.now) ≤ length room.old }
-    ensures put { IsPut at (content_octets content.now) room.old room.new }
-    ensures size { length room.new ≡ length room.old }
-    ensures behind { result ≡ at + length (content_octets content.now) }
-{
-    match *content {
-        Content::Utf8 { language, text } => {
-            put_parts(room, at, &[language.len() as u8], language, text.as_bytes())
-        }
-        Content::Utf16 { language, text } => {
-            let status = 128 + language.len() as u8;
-            let after_mark = put_parts(room, at, &[status], language, &[0xfe, 0xff]);
-            put_units(room, after_mark, text)
-        }
-        Content::Uri { code, rest } => put_parts(room, at, &[code], rest, &[]),
-        Content::Alternative {
-            power,
-            bytes,
-            reference,
-            auxiliary,
-        } => put_alternative(room, at, power, bytes, reference, auxiliary),
-        Content::Error { reason, detail } => put_parts(room, at, &[reason], detail, &[]),
-        Content::Octets { octets } => put(room, at, octets),
-    }
+    Some(length)
 }
 
 /// Writes it to the room where that is large enough, sets `count` to its number of bytes, and returns the status.
@@ -138,6 +103,6 @@ pub(crate) fn give_content(content: &Content<'_>, room: &mut [u8], count: &mut u
     if room.len() < needed {
         return NO_ROOM;
     }
-    let _end = put_content(room, 0, content);
+    put_content(&mut Out::new(room, 0), content);
     OK
 }

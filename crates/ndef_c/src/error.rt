@@ -13,7 +13,7 @@ use ndef_lang::{Kind, Leaf};
 use ndef_types::accept;
 use ndef_value::Profile;
 
-/// A handover error, its data by their place and length in its payload.
+/// A handover error, its data by their offset and length in its payload.
 #[repr(C)]
 #[derive(Clone, Copy, Drop)]
 pub struct NdefError {
@@ -60,7 +60,7 @@ fn error_at(payload: &[u8]) -> NdefError
     }
 }
 
-/// Gives the reason of the error for which the payload of an Error record stands, where its data
+/// Gives the reason of the error that the payload of an Error record describes, where its data
 /// lie, and the number that they give.
 #[unsafe(no_mangle)]
 pub extern "C" fn ndef_error(payload: &[u8], out: &mut NdefError, why: &mut NdefChecked) -> u32

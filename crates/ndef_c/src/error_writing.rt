@@ -19,7 +19,7 @@ pub(crate) fn may_be_error(reason: u32, detail: &[u8]) -> bool
     goes_with && reason < 256 && detail.len() < u32::MAX as usize
 }
 
-/// Writes the payload of an Error record, the reason and its data, to the room.
+/// Writes the payload of an Error record, the reason and its data, to the buffer.
 #[unsafe(no_mangle)]
 pub extern "C" fn ndef_write_error(
     reason: u32,
@@ -38,7 +38,7 @@ pub extern "C" fn ndef_write_error(
     give_parts(&[], &[reason as u8], detail, room, count)
 }
 
-/// Writes the payload of an Error record of a defined reason, whose data are a number, to the room.
+/// Writes the payload of an Error record of a defined reason, whose data are a number, to the buffer.
 #[unsafe(no_mangle)]
 pub extern "C" fn ndef_write_error_number(
     reason: u32,

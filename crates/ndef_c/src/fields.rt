@@ -178,7 +178,7 @@ fn answer_behind(checked: u32) -> u32
     if checked == OK { END } else { checked }
 }
 
-/// Gives the field of the byte at a place of the message with which the bytes begin, or of those before the refused
+/// Gives the field of the byte at an offset of the message with which the bytes begin, or of those before the refused
 /// byte, and what a check answers.
 #[unsafe(no_mangle)]
 pub extern "C" fn ndef_field_at(
@@ -202,7 +202,7 @@ pub extern "C" fn ndef_field_at(
     give_field(front, place, answer_behind(checked), out)
 }
 
-/// Steps to the field after this one, of which the length 0 and the place 0 are before the first.
+/// Steps to the field after this one, of which the length 0 and the offset 0 are before the first.
 #[unsafe(no_mangle)]
 pub extern "C" fn ndef_next_field(
     bytes: &[u8],

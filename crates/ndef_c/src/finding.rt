@@ -1,13 +1,12 @@
 //! The first record with a type or an id.
-ghost use Rattle.std.specs.Prelude.{◌≡◌, ◌≢◌, ◌≤◌, ◌↔◌, ◌⊎◌, length, IsTrue, List, ℕ};
+ghost use Rattle.std.specs.Prelude.{◌≡◌, ◌≢◌, ◌↔◌, ◌⊎◌, ℕ, length, IsTrue};
 ghost use Rattle.ndef_format.specs.Messages.{run_record};
-ghost use Rattle.ndef_c.specs.Finding.{BreaksOff, FindsAt, Has, HasIdOf, HasNone, IsOfType, WalksTo};
-ghost use Rattle.ndef_c.specs.Runs.{IsFirstRun};
+ghost use Rattle.ndef_c.specs.Finding.{BreaksOff, FindsAt, Has, HasIdOf, HasNone, IsOfType};
+ghost use Rattle.ndef_c.specs.Walks.{IsRecordAt};
 
-use crate::laws::one_record_is_there;
-use crate::record::{NdefRecord, record_at};
-use crate::run::{FirstRun, first_run};
+use crate::record::{NdefRecord, id_in, type_in};
 use crate::status::{BAD_ARGUMENT, END, OK};
+use crate::walk::Walk;
 
 /// What a record is to have.
 #[derive(Clone, Copy)]
@@ -18,47 +17,15 @@ enum Wanted<'a> {
     Id(&'a [u8]),
 }
 
-/// How a walk over records ends.
-#[derive(Clone, Copy)]
-enum Walk {
-    /// At the place of the first record that has what is searched for.
-    Found(usize),
-    /// After the last record of the message.
-    Ended,
-    /// Where no record begins.
-    Broken,
-}
-
 /// Whether a record has what is searched for.
-fn has(found: &FirstRun<'_>, wanted: &Wanted<'_>) -> bool
-    ensures { (bytes : List ℕ) (first : IsFirstRun bytes found.now)
-        → (IsTrue result ↔ Has wanted.now (run_record first.run)) }
+fn has(bytes: &[u8], found: &NdefRecord, wanted: &Wanted<'_>) -> bool
+    requires { (at : ℕ) × IsRecordAt bytes.now at found.now }
+    ensures { (at : ℕ) → (r : IsRecordAt bytes.now at found.now)
+        → (IsTrue result ↔ Has wanted.now (run_record r.run)) }
 {
     match *wanted {
-        Wanted::Kind(tnf, kind) => {
-            u32::from(found.first.tnf().code()) == tnf && found.first.kind == kind
-        }
-        Wanted::Id(id) => !id.is_empty() && found.first.id == id,
-    }
-}
-
-/// Walks over the records from a place on, up to the first that has what is searched for.
-fn walk_from(bytes: &[u8], at: usize, wanted: &Wanted<'_>) -> Walk
-    requires { at ≤ length bytes.now }
-    ensures { WalksTo (Has wanted.now) bytes.now at result }
-{
-    let (_before, mut rest) = bytes.split_at(at);
-    loop {
-        let Some(found) = first_run(rest) else {
-            return Walk::Broken;
-        };
-        if has(&found, wanted) {
-            return Walk::Found(bytes.len() - rest.len());
-        }
-        if found.last {
-            return Walk::Ended;
-        }
-        rest = found.rest;
+        Wanted::Kind(tnf, kind) => found.tnf == tnf && type_in(bytes, found) == kind,
+        Wanted::Id(id) => !id.is_empty() && id_in(bytes, found) == id,
     }
 }
 
@@ -73,24 +40,19 @@ fn find(bytes: &[u8], at: usize, wanted: &Wanted<'_>, out: &mut NdefRecord) -> u
     if at == bytes.len() {
         return END;
     }
-    if at > bytes.len() {
-        return BAD_ARGUMENT;
-    }
-    one_record_is_there();
-    match walk_from(bytes, at, wanted) {
-        Walk::Found(next) => {
-            let Some(record) = record_at(bytes, next) else {
-                unreachable!()
-            };
-            *out = record;
-            OK
+    for found in Walk::from(bytes, at) {
+        if has(bytes, &found, wanted) {
+            *out = found;
+            return OK;
         }
-        Walk::Ended => END,
-        Walk::Broken => BAD_ARGUMENT,
+        if found.last == 1 {
+            return END;
+        }
     }
+    BAD_ARGUMENT
 }
 
-/// Gives the first record with a type (NDEF 1.0, TNF and TYPE) from the one at a place on, up to
+/// Gives the first record with a type (NDEF 1.0, TNF and TYPE) from the one at an offset on, up to
 /// the one that is the last of its message.
 #[unsafe(no_mangle)]
 pub extern "C" fn ndef_find_type(
@@ -109,7 +71,7 @@ pub extern "C" fn ndef_find_type(
     find(bytes, at, &Wanted::Kind(tnf, kind), out)
 }
 
-/// Gives the first record with an id (NDEF 1.0, ID) from the one at a place on, up to the one that
+/// Gives the first record with an id (NDEF 1.0, ID) from the one at an offset on, up to the one that
 /// is the last of its message. No record has the empty id.
 #[unsafe(no_mangle)]
 pub extern "C" fn ndef_find_id(bytes: &[u8], at: usize, id: &[u8], out: &mut NdefRecord) -> u32

@@ -30,7 +30,7 @@ fn is_payload<L: Language>(kind: Kind, octet: u8, behind: &[u8]) -> bool
     state.step_all(behind, length, length) == behind.len()
 }
 
-/// Writes the payload of a handover record, a version octet and the bytes of a message, to the room.
+/// Writes the payload of a handover record, a version octet and the bytes of a message, to the buffer.
 #[unsafe(no_mangle)]
 pub extern "C" fn ndef_write_handover(
     number: u32,

@@ -1,18 +1,16 @@
 //! The icons of a smart poster, where they lie (RTD Smart Poster 1.0).
-ghost use Rattle.std.specs.Prelude.{◌≡◌, ◌≢◌, ◌+◌, ◌↔◌, length};
+ghost use Rattle.std.specs.Prelude.{◌≡◌, ◌≢◌, ◌↔◌};
 ghost use Rattle.std.proofs.Common.{inr};
 ghost use Rattle.ndef_format.specs.declared.profile.Profile.TheVariants.{Standard};
 ghost use Rattle.ndef_c.specs.Icons.{GivesIcons, IsIconAt, is_media};
 ghost use Rattle.ndef_c.specs.Posters.{HasPosterRecords};
-ghost use Rattle.ndef_c.specs.Sought.{IsPieceIn};
 ghost use Rattle.ndef_c.specs.Titles.{IsPosterPayload};
-ghost use Rattle.ndef_c.specs.Walks.{Lies};
 
 use crate::part::NdefPart;
+use crate::record::NdefRecord;
 use crate::sought::{Sought, Wanted, give_all};
 use crate::status::BAD_ARGUMENT;
 use crate::titles::is_poster;
-use ndef_piece::WholePiece;
 use ndef_value::Tnf;
 
 /// Where an icon of a smart poster lies.
@@ -23,27 +21,6 @@ pub struct NdefIcon {
     pub media_type: NdefPart,
     /// The bytes of the image.
     pub octets: NdefPart,
-}
-
-/// Where the type and the payload of a piece lie in the bytes.
-fn icon_in(bytes: &[u8], piece: &WholePiece<'_>) -> NdefIcon
-    requires { IsPieceIn bytes.now piece.now }
-    ensures kind { Lies bytes.now result.media_type.at result.media_type.length piece.now.kind.now }
-    ensures image { Lies bytes.now result.octets.at result.octets.length piece.now.payload.now }
-    ensures id { result.media_type.at + (result.media_type.length + length piece.now.id.now) ≡ result.octets.at }
-    ensures end { result.octets.at + length piece.now.payload.now + length piece.now.rest.now ≡ length bytes.now }
-{
-    let image_at = bytes.len() - piece.rest.len() - piece.payload.len();
-    NdefIcon {
-        media_type: NdefPart {
-            at: image_at - piece.id.len() - piece.kind.len(),
-            length: piece.kind.len(),
-        },
-        octets: NdefPart {
-            at: image_at,
-            length: piece.payload.len(),
-        },
-    }
 }
 
 /// The icons of a poster.
@@ -81,8 +58,17 @@ impl<'a> Sought for Icons<'a> {
         self.payload
     }
 
-    fn given(&self, piece: &WholePiece<'_>) -> NdefIcon {
-        icon_in(self.payload, piece)
+    fn given(&self, found: &NdefRecord) -> NdefIcon {
+        NdefIcon {
+            media_type: NdefPart {
+                at: found.type_at,
+                length: found.type_length,
+            },
+            octets: NdefPart {
+                at: found.payload_at,
+                length: found.part_length,
+            },
+        }
     }
 }
 
@@ -94,7 +80,7 @@ fn give_icons(payload: &[u8], array: &mut [NdefIcon], count: &mut usize) -> u32
     give_all(&Icons { payload }, array, count)
 }
 
-/// Gives the places of the media type and the image of each icon of a smart poster, in the payload
+/// Gives the offsets of the media type and the image of each icon of a smart poster, in the payload
 /// of the poster. Each record of a media type counts, whatever the type.
 #[unsafe(no_mangle)]
 pub extern "C" fn ndef_poster_icons(

@@ -17,7 +17,6 @@ ghost use Rattle.ndef_c.specs.declared.items.NdefItem.{NdefItem as Told};
 
 use crate::checking::{NdefChecked, check_in};
 use crate::kinds::ndef_kind;
-use crate::laws::one_record_is_there;
 use crate::limits::{NdefLimits, limits_of};
 use crate::record::{NdefRecord, record_at};
 use crate::status::{BAD_ARGUMENT, NO_ROOM, OK};
@@ -27,7 +26,7 @@ use ndef_lang::{Kind, Opaque, RecordLanguage};
 use ndef_nest::Typed;
 use ndef_value::Limits;
 
-/// A record, by places and lengths in the bytes. Its id lies between its type and its payload, so at `payload_at` -
+/// A record, by offsets and lengths in the bytes. Its id lies between its type and its payload, so at `payload_at` -
 /// `id_length`.
 #[repr(C)]
 #[derive(Clone, Copy, Drop)]
@@ -38,7 +37,7 @@ pub struct NdefItem {
     pub end: u32,
     /// The type name format, 0 to 5.
     pub tnf: u32,
-    /// The number of its kind, as `ndef_kind` says it of a record in a message of its own.
+    /// The number of its kind, which `ndef_kind` says of a record in a message of its own.
     pub kind: u32,
     /// Where its type begins.
     pub type_at: u32,
@@ -46,13 +45,13 @@ pub struct NdefItem {
     pub type_length: u32,
     /// The bytes of its id, at most 255.
     pub id_length: u32,
-    /// Where the payload of its first piece begins.
+    /// Where the payload of its first chunk begins.
     pub payload_at: u32,
-    /// The bytes of its payload, the pieces joined.
+    /// The bytes of its payload, the chunks joined.
     pub payload_length: u32,
-    /// Its pieces.
+    /// The number of its chunks.
     pub pieces: u32,
-    /// 1 for a text in UTF-8, 2 for one in UTF-16, 3 for a URI. 0 for any other record, for one in several pieces, and
+    /// 1 for a text in UTF-8, 2 for one in UTF-16, 3 for a URI. 0 for any other record, for one in several chunks, and
     /// where no payload was looked into: then the members after it are 0.
     pub form: u32,
     /// The code of the prefix of a URI, else 0.
@@ -221,7 +220,6 @@ fn tell_items<L: RecordLanguage>(
         × (told : List Told) × AreItems looks limits.profile bytes.now 0 t.viewed.runs told checked.now.place
         × (length told ≡ length t.viewed.runs) × (items.new ≡ set_over told items.old) }
 {
-    one_record_is_there();
     let records = checked.records as usize;
     let mut at = 0;
     let mut index = 0;

@@ -11,11 +11,10 @@ ghost use Rattle.ndef_c.specs.Writes.{RecordsMakeAMessage};
 use ndef_lang::RecordLanguage;
 use ndef_message::{answers_are_told, views_are_exact, writing_is_spelling};
 use ndef_nest::strict_contents_are_read;
-use ndef_piece::heads_are_apart;
 use ndef_types::{alternatives_are_exact, texts_are_exact, uris_are_exact};
 use ndef_value::one_meaning;
 
-/// What a check takes is walked from place 0 on: its records lie one after another, each where the one before it ends,
+/// What a check takes is walked from offset 0 on: its records lie one after another, each where the one before it ends,
 /// and only the last of them is marked as the last.
 pub fn checks_are_walked<L: RecordLanguage>()
     ensures { ChecksAreWalked L.payloads L.reasons }
@@ -29,12 +28,10 @@ pub fn feeds_are_checks<L: RecordLanguage>()
     answers_are_told::<L>();
 }
 
-/// At a place begins one record, if any, and it ends at one place.
+/// At an offset begins one record, if any, and it ends at one offset.
 pub fn one_record_is_there()
     ensures { OneRecordIsThere }
-{
-    heads_are_apart();
-}
+{}
 
 /// Records that are written one after another, the first and the last marked as such, are the bytes that `encode` and
 /// `encode_chunked` make of their message.
@@ -42,14 +39,14 @@ pub fn records_make_a_message()
     ensures { RecordsMakeAMessage }
 {}
 
-/// What a room holds of the records that `ndef_append` appends to it: each written as it was asked, one after another,
+/// What a buffer holds of the records that `ndef_append` appends to it: each written as asked, one after another,
 /// and only the first and the last of them marked as such.
 pub fn appended_records_are_held()
     ensures first { FirstIsHeld }
     ensures others { OthersAreHeld }
 {}
 
-/// The records that a room holds are a message, whatever form and pieces were asked for each of them.
+/// The records that a buffer holds are a message, whatever form and chunks were asked for each of them.
 pub fn held_records_are_a_message()
     ensures { HeldAreAMessage }
 {
@@ -61,13 +58,12 @@ pub fn held_records_are_a_message()
 pub fn links_are_told<L: RecordLanguage>()
     ensures { LinksAreTold L.payloads L.reasons }
 {
-    heads_are_apart();
     one_meaning();
     strict_contents_are_read();
     alternatives_are_exact();
 }
 
-/// Of fields that follow one another without a gap the byte at a place stands in one, and the byte after one of
+/// Of fields that follow one another without a gap the byte at an offset is in one, and the byte after one of
 /// them in the next: so `ndef_next_field` steps from each to the one after it.
 pub fn fields_are_stepped()
     ensures one { OneFieldWith }

@@ -4,13 +4,15 @@
 //! Where to look:
 //!
 //! - `checking.rt`: check. `feeding.rt`, `specs/Feeding.antt`: check of bytes that come in parts.
-//! - `run.rt`, `record.rt`, `specs/Walks.antt`: the record at a place. `payload.rt`: its joined payload.
+//! - `run.rt`, `record.rt`, `specs/Walks.antt`: the record at a place. `payload.rt`: its joined payload. `walk.rt`: the
+//!   records from a place on, which other calls go over.
 //! - `kinds.rt`, `specs/Kinds.antt`: what the payload of a record is, as its type says.
 //! - `pieces.rt`, `specs/Pieces.antt`: where its pieces lie. `specs/Arrays.antt`: what is written to an array.
 //! - `fields.rt`, `field_names.rt`, `payload_fields.rt`, `specs/Fields.antt`: in which field each byte stands.
 //! - `why.rt`, `specs/Whys.antt`: why bytes are refused, and what may help, in sentences. `remarks.rt`,
 //!   `specs/Remarks.antt`: what is strange in a message that is accepted.
 //! - `items.rt`, `specs/Items.antt`: a message and all its records, in one call.
+//! - `layout.rt`, `specs/Layouts.antt`: payloads of a layout that a program gives.
 //! - `finding.rt`, `specs/Finding.antt`: the first record with a type or an id.
 //! - `writing.rt`, `specs/Writes.antt`: a record written. `building.rt`, `specs/Built.antt`, `specs/Growing.antt`: a
 //!   message built in a room. `making.rt`, `specs/Made.antt`, `content.rt`, `specs/Contents.antt`: a record whose
@@ -31,7 +33,7 @@
 //!   selects share. `links.rt`, `references.rt`: all links of a message, all references of an alternative carrier.
 //! - `nested.rt`: records of the messages in payloads. `sought.rt`, `specs/Sought.antt`: what is given for each record
 //!   that is wanted, and their number.
-//! - `room.rt`, `specs/Rooms.antt`: bytes written to the caller's buffer.
+//! - `out.rt`, `room.rt`, `specs/Rooms.antt`: octets written to the caller's buffer, or counted.
 //! - `laws.rt`: what holds of the calls together.
 #![tactic(auto)]
 
@@ -56,6 +58,7 @@ mod icons;
 mod items;
 mod kinds;
 mod laws;
+mod layout;
 mod limits;
 mod link;
 mod links;
@@ -63,6 +66,7 @@ mod making;
 mod message;
 mod nested;
 mod numbers;
+mod out;
 mod part;
 mod payload;
 mod payload_fields;
@@ -91,6 +95,7 @@ mod uri;
 mod uri_view;
 mod utf16;
 mod version;
+mod walk;
 mod why;
 mod writing;
 
@@ -143,6 +148,14 @@ pub use laws::one_record_is_there;
 pub use laws::records_make_a_message;
 pub use laws::written_handovers_are_read;
 pub use laws::written_posters_are_read;
+pub use layout::LAYOUT_COUNTED;
+pub use layout::LAYOUT_OCTETS;
+pub use layout::LAYOUT_REST;
+pub use layout::LAYOUT_UTF8;
+pub use layout::LAYOUT_WITHIN;
+pub use layout::NdefLaidOut;
+pub use layout::NdefLayoutField;
+pub use layout::ndef_check_layout;
 pub use limits::NdefLimits;
 pub use limits::ndef_usual_limits;
 pub use link::NdefLink;

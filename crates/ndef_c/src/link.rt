@@ -6,11 +6,11 @@ ghost use Rattle.ndef_types.specs.Values.{AcValue, StandsForAc};
 ghost use Rattle.ndef_c.specs.Links.{BeginsWithRuns, HasNoLink, HasRuns, IsLinkAt, MayHaveLinks, TellsPlace, TellsRecord};
 
 use crate::alternative::carrier_reference;
-use crate::handover::{behind_version, is_handover};
+use crate::handover::is_handover;
+use crate::links::Links;
 use crate::message::{Place, has_message, record_with};
-use crate::nested::alternative_at;
+use crate::sought::give_one;
 use crate::status::{BAD_ARGUMENT, END, OK};
-use ndef_types::alternatives_are_exact;
 
 /// A link: an alternative carrier of a handover, and the record to which it refers.
 #[repr(C)]
@@ -69,15 +69,7 @@ fn give_link(bytes: &[u8], payload: &[u8], index: usize, out: &mut NdefLink) -> 
     ensures end { result ≡ END → HasNoLink bytes.now payload.now index }
     ensures kept { result ≢ OK → out.new ≡ out.old }
 {
-    // For the proof alone.
-    alternatives_are_exact();
-    match alternative_at(behind_version(payload), index) {
-        Some(carrier) => {
-            *out = link_of(bytes, carrier.at, carrier.payload);
-            OK
-        }
-        None => END,
-    }
+    give_one(&Links { bytes, payload }, index, out)
 }
 
 /// Gives the link with an index: where the payload of its Alternative Carrier record lies in the payload of a handover,

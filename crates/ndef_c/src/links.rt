@@ -11,18 +11,18 @@ ghost use Rattle.ndef_c.specs.Links.{GivesLinks, IsLinkAt, MayHaveLinks};
 use crate::handover::{behind_version, is_handover};
 use crate::link::{NdefLink, link_of};
 use crate::message::has_message;
-use crate::nested::{found_in, is_alternative};
+use crate::nested::is_alternative;
+use crate::record::{NdefRecord, part_in};
 use crate::sought::{Sought, Wanted, give_all};
 use crate::status::BAD_ARGUMENT;
-use ndef_piece::WholePiece;
 use ndef_types::alternatives_are_exact;
 use ndef_value::Tnf;
 
 /// The links of the message with which the bytes begin, by the payload of its handover.
 #[derive(Clone, Copy)]
-struct Links<'a> {
-    bytes: &'a [u8],
-    payload: &'a [u8],
+pub(crate) struct Links<'a> {
+    pub(crate) bytes: &'a [u8],
+    pub(crate) payload: &'a [u8],
 }
 
 impl<'a> Wanted for Links<'a> {
@@ -52,11 +52,11 @@ impl<'a> Sought for Links<'a> {
         behind_version(self.payload)
     }
 
-    fn given(&self, piece: &WholePiece<'_>) -> NdefLink {
+    fn given(&self, found: &NdefRecord) -> NdefLink {
         // For the proof alone.
         alternatives_are_exact();
-        let carrier = found_in(behind_version(self.payload), piece);
-        link_of(self.bytes, carrier.at, carrier.payload)
+        let carrier = part_in(behind_version(self.payload), found);
+        link_of(self.bytes, found.payload_at, carrier)
     }
 }
 

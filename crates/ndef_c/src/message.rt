@@ -3,8 +3,8 @@ ghost use Rattle.std.specs.Prelude.{◌↔◌, List, IsTrue};
 ghost use Rattle.ndef_format.specs.Records.{Run};
 ghost use Rattle.ndef_c.specs.Links.{BeginsWithRuns, FindsRecord, HasRuns};
 
-use crate::run::first_run;
-use ndef_piece::heads_are_apart;
+use crate::record::id_in;
+use crate::walk::Walk;
 
 /// A record of a message.
 #[derive(Clone, Copy)]
@@ -19,18 +19,12 @@ pub(crate) struct Place {
 pub(crate) fn has_message(bytes: &[u8]) -> bool
     ensures { IsTrue result ↔ HasRuns bytes.now }
 {
-    // For the proof alone.
-    heads_are_apart();
-    let mut rest = bytes;
-    loop {
-        let Some(found) = first_run(rest) else {
-            return false;
-        };
-        if found.last {
+    for found in Walk::from(bytes, 0) {
+        if found.last == 1 {
             return true;
         }
-        rest = found.rest;
     }
+    false
 }
 
 /// The first record of a message with the id; no record has the empty id.
@@ -41,22 +35,15 @@ pub(crate) fn record_with(bytes: &[u8], id: &[u8]) -> Option<Place>
     if id.is_empty() {
         return None;
     }
-    // For the proof alone.
-    heads_are_apart();
-    let mut rest = bytes;
     let mut index = 0;
-    loop {
-        let Some(found) = first_run(rest) else {
-            unreachable!()
-        };
-        if found.first.id == id {
-            let at = bytes.len() - rest.len();
-            return Some(Place { index, at });
-        }
-        if found.last {
-            return None;
+    for found in Walk::from(bytes, 0) {
+        if id_in(bytes, &found) == id {
+            return Some(Place {
+                index,
+                at: found.at,
+            });
         }
         index += 1;
-        rest = found.rest;
     }
+    None
 }

@@ -7,7 +7,7 @@ ghost use Rattle.ndef_c.specs.Payloads.{GivesFor};
 use crate::room::give;
 use crate::status::BAD_ARGUMENT;
 
-/// Writes the payload of an Action record, one octet, to the room.
+/// Writes the payload of an Action record, one octet, to the buffer.
 #[unsafe(no_mangle)]
 pub extern "C" fn ndef_write_action(action: u32, room: &mut [u8], count: &mut usize) -> u32
     ensures bad { result ≡ BAD_ARGUMENT ↔ (255 < action) }
@@ -20,7 +20,7 @@ pub extern "C" fn ndef_write_action(action: u32, room: &mut [u8], count: &mut us
     give(&[action as u8], room, count)
 }
 
-/// Writes the payload of a Size record, four octets, to the room.
+/// Writes the payload of a Size record, four octets, to the buffer.
 #[unsafe(no_mangle)]
 pub extern "C" fn ndef_write_size(bytes: u32, room: &mut [u8], count: &mut usize) -> u32
     ensures { GivesFor WritesSize bytes room.old room.new count.new result }
@@ -28,7 +28,7 @@ pub extern "C" fn ndef_write_size(bytes: u32, room: &mut [u8], count: &mut usize
     give(&bytes.to_be_bytes(), room, count)
 }
 
-/// Writes the payload of a Collision Resolution record, two octets, to the room.
+/// Writes the payload of a Collision Resolution record, two octets, to the buffer.
 #[unsafe(no_mangle)]
 pub extern "C" fn ndef_write_collision(number: u32, room: &mut [u8], count: &mut usize) -> u32
     ensures bad { result ≡ BAD_ARGUMENT ↔ (65535 < number) }

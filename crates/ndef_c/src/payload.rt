@@ -1,65 +1,44 @@
 //! The joined payload of a record.
-ghost use Rattle.std.specs.Prelude.{◌≡◌, ◌≢◌, ◌+◌, ◌≤◌, ◌↔◌, length, List, ℕ};
+ghost use Rattle.std.specs.Prelude.{◌≡◌, ◌≢◌, ◌↔◌, List, ℕ};
 ghost use Rattle.ndef_format.specs.Records.{Run};
 ghost use Rattle.ndef_format.specs.Messages.{run_record};
-ghost use Rattle.ndef_c.specs.Rooms.{IsPut};
+ghost use Rattle.ndef_c.specs.Rooms.{Puts};
 ghost use Rattle.ndef_c.specs.Runs.{HasRun};
 ghost use Rattle.ndef_c.specs.Walks.{BeginsWithRun, IsRecordThere, GivesPayload};
 
-use crate::laws::one_record_is_there;
-use crate::room::put;
-use crate::run::first_run;
+use crate::out::Out;
+use crate::pieces::Pieces;
+use crate::record::record_at;
 use crate::status::{BAD_ARGUMENT, NO_ROOM, OK};
-use ndef_piece::{heads_are_apart, whole_piece};
 
-/// Copies the payloads of the pieces of the run with which the bytes begin to a place of the room, and
-/// answers the place after them.
-pub(crate) fn copy_pieces(bytes: &[u8], room: &mut [u8], from: usize) -> usize
-    requires run { HasRun bytes.now }
-    requires room { (run : Run) (rest : List ℕ) → BeginsWithRun run rest bytes.now
-        → from + length (run_record run).payload ≤ length room.old }
-    ensures put { (run : Run) (rest : List ℕ) → BeginsWithRun run rest bytes.now
-        → IsPut from (run_record run).payload room.old room.new }
-    ensures size { length room.new ≡ length room.old }
-    ensures behind { (run : Run) (rest : List ℕ) → BeginsWithRun run rest bytes.now
-        → result ≡ from + length (run_record run).payload }
+/// Writes the payload of the run with which the bytes begin, the payloads of its pieces joined.
+#[inline(always)]
+pub(crate) fn copy_pieces(out: &mut Out<'_>, bytes: &[u8])
+    requires { HasRun bytes.now }
+    ensures { (run : Run) (rest : List ℕ) → BeginsWithRun run rest bytes.now
+        → Puts out.old (run_record run).payload out.new }
 {
-    // For the proof alone.
-    heads_are_apart();
-    let mut rest = bytes;
-    let mut at = from;
-    loop {
-        let Some(piece) = whole_piece(rest) else {
-            unreachable!()
-        };
-        at = put(room, at, piece.payload);
-        rest = piece.rest;
-        if !piece.is_chunked() {
-            return at;
-        }
+    for part in Pieces::from(bytes, 0) {
+        out.put(&bytes[part.at..part.at + part.length]);
     }
 }
 
-/// Writes the payload of the record at a place of the bytes, the payloads of its pieces joined, to the
-/// room.
+/// Writes the payload of the record at an offset of the bytes, the payloads of its chunks joined, to the
+/// buffer.
 #[unsafe(no_mangle)]
 pub extern "C" fn ndef_payload(bytes: &[u8], at: usize, room: &mut [u8], count: &mut usize) -> u32
     ensures bad { result ≡ BAD_ARGUMENT ↔ ¬ IsRecordThere bytes.now at }
     ensures kept { result ≡ BAD_ARGUMENT → (room.new ≡ room.old) × (count.new ≡ count.old) }
     ensures payload { result ≢ BAD_ARGUMENT → GivesPayload bytes.now at room.old room.new count.new result }
 {
-    if at > bytes.len() {
-        return BAD_ARGUMENT;
-    }
-    let (_, behind) = bytes.split_at(at);
-    let Some(found) = first_run(behind) else {
+    let Some(found) = record_at(bytes, at) else {
         return BAD_ARGUMENT;
     };
-    *count = found.payload;
-    if room.len() < found.payload {
+    *count = found.payload_length;
+    if room.len() < found.payload_length {
         return NO_ROOM;
     }
-    one_record_is_there();
-    let _end = copy_pieces(behind, room, 0);
+    let (_before, behind) = bytes.split_at(at);
+    copy_pieces(&mut Out::new(room, 0), behind);
     OK
 }

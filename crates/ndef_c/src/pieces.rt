@@ -1,50 +1,84 @@
 //! Where the pieces of a record lie.
-ghost use Rattle.std.specs.Prelude.{◌≡◌, ◌≢◌, ◌≤◌, ◌↔◌, length, drop, List, ℕ};
+ghost use Rattle.std.specs.Prelude.{◌≡◌, ◌≢◌, ◌-◌, ◌≤◌, ◌↔◌, true, length, drop, List, ℕ};
+ghost use Rattle.std.specs.Iterator.{at_most};
 ghost use Rattle.ndef_format.specs.Records.{Run, pieces};
 ghost use Rattle.ndef_c.specs.Arrays.{set_over};
-ghost use Rattle.ndef_c.specs.Pieces.{ArePiecesAt, GivesPieces};
-ghost use Rattle.ndef_c.specs.Runs.{HasRun};
+ghost use Rattle.ndef_c.specs.Pieces.{ArePiecesAt, GivesPieces, StepsOn};
 ghost use Rattle.ndef_c.specs.Walks.{BeginsWithRun, IsRecordThere};
 ghost use Rattle.ndef_c.specs.declared.part.NdefPart.{NdefPart as Part};
 
-use crate::laws::one_record_is_there;
 use crate::part::NdefPart;
-use crate::run::first_run;
+use crate::record::record_at;
 use crate::status::{BAD_ARGUMENT, NO_ROOM, OK};
-use ndef_piece::{heads_are_apart, whole_piece};
+use ndef_piece::whole_piece;
+
+/// The pieces of a record, one after another, each by where its payload lies (NDEF 1.0, chunked payloads).
+#[derive(Drop)]
+pub(crate) struct Pieces<'a> {
+    /// The bytes in which they lie.
+    bytes: &'a [u8],
+    /// Where the next one would begin.
+    at: usize,
+    /// Whether one follows.
+    follows: bool,
+}
+
+impl<'a> Pieces<'a> {
+    /// The pieces of the record that begins at a place.
+    pub(crate) fn from(bytes: &'a [u8], at: usize) -> Pieces<'a>
+        ensures bytes { result.bytes.now ≡ bytes.now }
+        ensures at { result.at ≡ at }
+        ensures follows { result.follows ≡ true }
+    {
+        Pieces {
+            bytes,
+            at,
+            follows: true,
+        }
+    }
+}
+
+impl<'a> Iterator for Pieces<'a> {
+    type Item = NdefPart;
+
+    ghost next_gives = { StepsOn };
+
+    ghost remaining = { λ pieces. at_most (length pieces.bytes.now - pieces.at) };
+
+    fn next(&mut self) -> Option<NdefPart> {
+        if !self.follows || self.at > self.bytes.len() {
+            return None;
+        }
+        let (_before, behind) = self.bytes.split_at(self.at);
+        let piece = whole_piece(behind)?;
+        let length = piece.payload.len();
+        let part = NdefPart {
+            at: self.bytes.len() - piece.rest.len() - length,
+            length,
+        };
+        self.at = part.at + length;
+        self.follows = piece.is_chunked();
+        Some(part)
+    }
+}
 
 /// Writes where the payload of each piece of the record at a place lies to the front of the parts.
 fn tell_pieces(bytes: &[u8], at: usize, parts: &mut [NdefPart])
-    requires within { at ≤ length bytes.now }
-    requires run { HasRun (drop at bytes.now) }
+    requires run { IsRecordThere bytes.now at }
     requires room { (run : Run) (rest : List ℕ) → BeginsWithRun run rest (drop at bytes.now)
         → length (pieces run) ≤ length parts.old }
     ensures { (run : Run) (rest : List ℕ) → BeginsWithRun run rest (drop at bytes.now)
         → (told : List Part) × ArePiecesAt bytes.now at (pieces run) told × (length told ≡ length (pieces run))
         × (parts.new ≡ set_over told parts.old) }
 {
-    // For the proof alone.
-    heads_are_apart();
-    let (_before, mut rest) = bytes.split_at(at);
     let mut index = 0;
-    loop {
-        let Some(piece) = whole_piece(rest) else {
-            unreachable!()
-        };
-        let length = piece.payload.len();
-        parts[index] = NdefPart {
-            at: bytes.len() - piece.rest.len() - length,
-            length,
-        };
+    for part in Pieces::from(bytes, at) {
+        parts[index] = part;
         index += 1;
-        rest = piece.rest;
-        if !piece.is_chunked() {
-            return;
-        }
     }
 }
 
-/// Gives the place of the payload of each piece of the record at a place of the bytes (NDEF 1.0, chunked payloads):
+/// Gives the offset of the payload of each chunk of the record at an offset of the bytes (NDEF 1.0, chunked payloads):
 /// writes them to the front of the parts, in their order, where these are enough.
 #[unsafe(no_mangle)]
 pub extern "C" fn ndef_pieces(
@@ -57,18 +91,13 @@ pub extern "C" fn ndef_pieces(
     ensures kept { result ≡ BAD_ARGUMENT → (parts.new ≡ parts.old) × (count.new ≡ count.old) }
     ensures pieces { result ≢ BAD_ARGUMENT → GivesPieces bytes.now at parts.old parts.new count.new result }
 {
-    if at > bytes.len() {
-        return BAD_ARGUMENT;
-    }
-    let (_before, behind) = bytes.split_at(at);
-    let Some(found) = first_run(behind) else {
+    let Some(found) = record_at(bytes, at) else {
         return BAD_ARGUMENT;
     };
     *count = found.pieces;
     if parts.len() < found.pieces {
         return NO_ROOM;
     }
-    one_record_is_there();
     tell_pieces(bytes, at, parts);
     OK
 }

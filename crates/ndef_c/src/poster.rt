@@ -119,7 +119,7 @@ fn poster_at(payload: &[u8]) -> NdefPoster
     }
 }
 
-/// Gives the place of the payload of the URI record of a smart poster, its action and its size.
+/// Gives the offset of the payload of the URI record of a smart poster, its action and its size.
 #[unsafe(no_mangle)]
 pub extern "C" fn ndef_poster(
     payload: &[u8],

@@ -43,7 +43,7 @@ fn reason_of(number: u32) -> Option<Reason>
     Some(reason)
 }
 
-/// Writes the name of the reason with a number, in ASCII and with no NUL after it, to the room.
+/// Writes the name of the reason with a number, in ASCII and with no NUL after it, to the buffer.
 #[unsafe(no_mangle)]
 pub extern "C" fn ndef_reason_name(reason: u32, room: &mut [u8], count: &mut usize) -> u32
     ensures bad { result ≡ BAD_ARGUMENT ↔ ((reason ≡ 0) ⊎ (25 < reason)) }
@@ -57,7 +57,7 @@ pub extern "C" fn ndef_reason_name(reason: u32, room: &mut [u8], count: &mut usi
     give(reason.name(), room, count)
 }
 
-/// Writes what the reason with a number means to the room: a sentence of English, in ASCII and with no NUL after it.
+/// Writes what the reason with a number means to the buffer: a sentence of English, in ASCII and with no NUL after it.
 #[unsafe(no_mangle)]
 pub extern "C" fn ndef_reason_sentence(reason: u32, room: &mut [u8], count: &mut usize) -> u32
     ensures bad { result ≡ BAD_ARGUMENT ↔ ((reason ≡ 0) ⊎ (25 < reason)) }

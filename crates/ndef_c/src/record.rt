@@ -1,11 +1,14 @@
 //! Records of a message where they lie.
-ghost use Rattle.std.specs.Prelude.{◌≡◌, ◌≢◌, ◌<◌, ◌≤◌, ◌↔◌, ◌⊎◌, length, IfNone, IfSome};
+ghost use Rattle.std.specs.Prelude.{◌≡◌, ◌≢◌, ◌<◌, ◌≤◌, ◌↔◌, ◌⊎◌, ℕ, List, length, IfNone, IfSome};
+ghost use Rattle.ndef_format.specs.Messages.{run_record};
 ghost use Rattle.ndef_c.specs.Walks.{IsRecordThere, IsRecordAt};
 
 use crate::run::first_run;
 use crate::status::{BAD_ARGUMENT, END, OK};
+use crate::writing::tnf_of;
+use ndef_value::Tnf;
 
-/// A record, by places and lengths in the bytes.
+/// A record, by offsets and lengths in the bytes.
 #[repr(C)]
 #[derive(Clone, Copy, Drop)]
 pub struct NdefRecord {
@@ -21,13 +24,13 @@ pub struct NdefRecord {
     pub id_at: usize,
     /// The bytes of its id, at most 255.
     pub id_length: usize,
-    /// Where the payload of its first piece begins.
+    /// Where the payload of its first chunk begins.
     pub payload_at: usize,
-    /// The bytes of the payload of its first piece.
+    /// The bytes of the payload of its first chunk.
     pub part_length: usize,
-    /// The bytes of its payload, the pieces joined.
+    /// The bytes of its payload, the chunks joined.
     pub payload_length: usize,
-    /// Its pieces.
+    /// The number of its chunks.
     pub pieces: usize,
     /// The type name format, 0 to 5.
     pub tnf: u32,
@@ -67,7 +70,42 @@ pub(crate) fn record_at(bytes: &[u8], at: usize) -> Option<NdefRecord>
     })
 }
 
-/// The record at a place of the bytes.
+/// The type name format of a record (NDEF 1.0, TNF).
+pub(crate) fn tnf_in(found: &NdefRecord) -> Tnf
+    requires { (bytes : List ℕ) × (at : ℕ) × IsRecordAt bytes at found.now }
+    ensures { (bytes : List ℕ) (at : ℕ) → (r : IsRecordAt bytes at found.now) → result ≡ (run_record r.run).tnf }
+{
+    let Some(tnf) = tnf_of(found.tnf) else {
+        unreachable!()
+    };
+    tnf
+}
+
+/// The type of a record (NDEF 1.0, TYPE).
+pub(crate) fn type_in<'a>(bytes: &'a [u8], found: &NdefRecord) -> &'a [u8]
+    requires { (at : ℕ) × IsRecordAt bytes.now at found.now }
+    ensures { (at : ℕ) → (r : IsRecordAt bytes.now at found.now) → result.now ≡ (run_record r.run).kind }
+{
+    &bytes[found.type_at..found.type_at + found.type_length]
+}
+
+/// The id of a record, empty where it has none (NDEF 1.0, ID).
+pub(crate) fn id_in<'a>(bytes: &'a [u8], found: &NdefRecord) -> &'a [u8]
+    requires { (at : ℕ) × IsRecordAt bytes.now at found.now }
+    ensures { (at : ℕ) → (r : IsRecordAt bytes.now at found.now) → result.now ≡ (run_record r.run).id }
+{
+    &bytes[found.id_at..found.id_at + found.id_length]
+}
+
+/// The payload of the first piece of a record (NDEF 1.0, PAYLOAD).
+pub(crate) fn part_in<'a>(bytes: &'a [u8], found: &NdefRecord) -> &'a [u8]
+    requires { (at : ℕ) × IsRecordAt bytes.now at found.now }
+    ensures { (at : ℕ) → (r : IsRecordAt bytes.now at found.now) → result.now ≡ r.run.initial.payload }
+{
+    &bytes[found.payload_at..found.payload_at + found.part_length]
+}
+
+/// The record at an offset of the bytes.
 #[unsafe(no_mangle)]
 pub extern "C" fn ndef_record_at(bytes: &[u8], at: usize, out: &mut NdefRecord) -> u32
     ensures end { result ≡ END ↔ (at ≡ length bytes.now) }

@@ -49,8 +49,8 @@ fn give_references(payload: &[u8], parts: &mut [NdefPart], count: &mut usize) ->
     OK
 }
 
-/// Gives the place of each reference in the payload of an Alternative Carrier record: the carrier data reference first,
-/// then the auxiliary ones.
+/// Gives the offset of each reference in the payload of an Alternative Carrier record: the carrier data reference
+/// first, then the auxiliary ones.
 #[unsafe(no_mangle)]
 pub extern "C" fn ndef_references(payload: &[u8], parts: &mut [NdefPart], count: &mut usize) -> u32
     ensures bad { result ≡ BAD_ARGUMENT ↔ ¬ (IsAlternative payload.now × (length payload.now < 2 ^ 32)) }

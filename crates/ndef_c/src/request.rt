@@ -77,7 +77,7 @@ fn request_at(payload: &[u8]) -> NdefRequest
     }
 }
 
-/// Gives the version of the handover request for which the payload of a Handover Request record stands, its random
+/// Gives the version of the handover request that the payload of a Handover Request record describes, its random
 /// number and its number of alternative carriers.
 #[unsafe(no_mangle)]
 pub extern "C" fn ndef_request(

@@ -1,22 +1,22 @@
 //! A message that is written again, each of its records in one piece.
-ghost use Rattle.std.specs.Prelude.{◌≡◌, ◌≢◌, ◌<◌, ◌≤◌, ◌^◌, ◌↔◌, ◌⊎◌, ℕ, false, List, length, IfNone, IfSome, IsTrue};
-ghost use Rattle.std.specs.List.{AllByRecursion};
+ghost use Rattle.std.specs.Prelude.{◌≡◌, ◌≢◌, ◌↔◌, ◌⊎◌, ℕ, false, List, length, IfNone, IfSome, IsTrue};
 ghost use Rattle.ndef_format.specs.Messages.{run_record};
 ghost use Rattle.ndef_format.specs.Records.{FitsForm, Run, fields};
 ghost use Rattle.ndef_message.specs.Cut.{first_piece};
 ghost use Rattle.ndef_message.specs.Written.{is_short};
 ghost use Rattle.ndef_piece.specs.Heads.{written_fields};
 ghost use Rattle.ndef_c.specs.Links.{BeginsWithRuns, HasRuns};
-ghost use Rattle.ndef_c.specs.Rewrites.{AsksForForm, CanBeRewritten, GivesRewritten, IsWhole, IsWritable, MayBeRewritten, form_with, run_records, rewritten};
-ghost use Rattle.ndef_c.specs.Rooms.{IsPut};
+ghost use Rattle.ndef_c.specs.Rewrites.{AsksForForm, CanBeRewritten, GivesRewritten, IsWhole, IsWritable, MayBeRewritten, form_with, rewritten};
+ghost use Rattle.ndef_c.specs.Rooms.{Puts};
 ghost use Rattle.ndef_c.specs.Runs.{IsFirstRun};
 
-use crate::making::{Ends, whole_head};
+use crate::making::Ends;
 use crate::message::has_message;
+use crate::out::Out;
 use crate::payload::copy_pieces;
 use crate::run::{FirstRun, first_run};
 use crate::status::{BAD_ARGUMENT, NO_ROOM, OK};
-use crate::writing::{has_shape, piece_length, put_piece};
+use crate::writing::{first_head, has_shape, put_piece};
 use ndef_message::Form;
 use ndef_piece::{Head, heads_are_apart};
 use ndef_value::Tnf;
@@ -50,23 +50,30 @@ fn head_of(found: &FirstRun<'_>, first: bool, form: Form) -> Head
         last: found.last,
     };
     let piece = &found.first;
-    whole_head(piece.tnf(), piece.kind, piece.id, found.payload, ends, form)
+    first_head(
+        piece.tnf(),
+        piece.kind,
+        piece.id,
+        found.payload,
+        ends,
+        true,
+        form,
+    )
 }
 
-/// The number of bytes of the message with which the bytes begin, each record in one piece, unless one can't be, or no
-/// room is that large.
-fn rewritten_length(bytes: &[u8], form: Form) -> Option<usize>
+/// Writes the message with which the bytes begin, each record in one piece, unless one can't be.
+#[inline(always)]
+fn put_rewritten(out: &mut Out<'_>, bytes: &[u8], form: Form) -> Option<()>
     requires { HasRuns bytes.now }
     ensures none { IfNone result ((runs : List Run) → BeginsWithRuns runs bytes.now → ¬ CanBeRewritten form runs) }
     ensures may { IfSome result (λ _. (runs : List Run) → BeginsWithRuns runs bytes.now → CanBeRewritten form runs) }
-    ensures some { IfSome result (λ n. (runs : List Run) → BeginsWithRuns runs bytes.now
-        → n ≡ length (rewritten form runs)) }
+    ensures some { IfSome result (λ _. (runs : List Run) → BeginsWithRuns runs bytes.now
+        → Puts out.old (rewritten form runs) out.new) }
 {
     // For the proof alone.
     heads_are_apart();
     let mut rest = bytes;
     let mut first = true;
-    let mut total: usize = 0;
     loop {
         let Some(found) = first_run(rest) else {
             unreachable!()
@@ -75,42 +82,10 @@ fn rewritten_length(bytes: &[u8], form: Form) -> Option<usize>
             return None;
         }
         let head = head_of(&found, first, form);
-        let front = piece_length(&head, found.first.kind, found.first.id, &[]);
-        let Some(sum) = total.checked_add(front + found.payload) else {
-            return None;
-        };
-        total = sum;
+        put_piece(out, &head, found.first.kind, found.first.id, &[]);
+        copy_pieces(out, rest);
         if found.last {
-            return Some(total);
-        }
-        first = false;
-        rest = found.rest;
-    }
-}
-
-/// Writes the message with which the bytes begin, each record in one piece, to the front of the room.
-fn put_rewritten(room: &mut [u8], bytes: &[u8], form: Form)
-    requires runs { HasRuns bytes.now }
-    requires writable { (runs : List Run) → BeginsWithRuns runs bytes.now
-        → AllByRecursion IsWritable (run_records runs) }
-    requires room { (runs : List Run) → BeginsWithRuns runs bytes.now
-        → length (rewritten form runs) ≤ length room.old }
-    ensures { (runs : List Run) → BeginsWithRuns runs bytes.now → IsPut 0 (rewritten form runs) room.old room.new }
-{
-    // For the proof alone.
-    heads_are_apart();
-    let mut rest = bytes;
-    let mut first = true;
-    let mut at = 0;
-    loop {
-        let Some(found) = first_run(rest) else {
-            unreachable!()
-        };
-        let head = head_of(&found, first, form);
-        let after_front = put_piece(room, at, &head, found.first.kind, found.first.id, &[]);
-        at = copy_pieces(rest, room, after_front);
-        if found.last {
-            return;
+            return Some(());
         }
         first = false;
         rest = found.rest;
@@ -130,8 +105,8 @@ fn form_with(flags: u32) -> Option<Form>
     }
 }
 
-/// Writes the message with which the bytes begin again, each record in one piece (NDEF 1.0, record layout),
-/// to the room; without a flag that is its canonical spelling.
+/// Writes the message with which the bytes begin again, each record in one chunk (NDEF 1.0, record layout),
+/// to the buffer; without a flag that is its canonical spelling.
 #[unsafe(no_mangle)]
 pub extern "C" fn ndef_rewrite(bytes: &[u8], flags: u32, room: &mut [u8], count: &mut usize) -> u32
     ensures bad { result ≡ BAD_ARGUMENT ↔ ¬ MayBeRewritten flags bytes.now }
@@ -145,13 +120,14 @@ pub extern "C" fn ndef_rewrite(bytes: &[u8], flags: u32, room: &mut [u8], count:
     if !has_message(bytes) {
         return BAD_ARGUMENT;
     }
-    let Some(needed) = rewritten_length(bytes, form) else {
+    let mut counter = Out::new(&mut [], 0);
+    let Some(()) = put_rewritten(&mut counter, bytes, form) else {
         return BAD_ARGUMENT;
     };
-    *count = needed;
-    if room.len() < needed {
+    *count = counter.at();
+    if room.len() < *count {
         return NO_ROOM;
     }
-    put_rewritten(room, bytes, form);
+    let _same = put_rewritten(&mut Out::new(room, 0), bytes, form);
     OK
 }

@@ -6,7 +6,7 @@ ghost use Rattle.ndef_piece.specs.Whole.{shown};
 ghost use Rattle.ndef_c.specs.Runs.{HasRun, IsFirstRun};
 
 use ndef_format::header::{ID_THERE, is_set, tnf_number};
-use ndef_piece::{WholePiece, heads_are_apart, whole_piece};
+use ndef_piece::{WholePiece, whole_piece};
 
 /// A run at the front of some bytes (NDEF 1.0, chunked payloads).
 #[derive(Clone, Copy)]
@@ -43,8 +43,6 @@ pub(crate) fn first_run(bytes: &[u8]) -> Option<FirstRun<'_>>
     ensures none { IfNone result (¬ HasRun bytes.now) }
     ensures some { IfSome result (IsFirstRun bytes.now) }
 {
-    // For the proof alone.
-    heads_are_apart();
     let Some(first) = whole_piece(bytes) else {
         return None;
     };

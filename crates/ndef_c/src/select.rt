@@ -100,8 +100,8 @@ fn select_at(payload: &[u8]) -> NdefSelect
     }
 }
 
-/// Gives the version of the handover select for which the payload of a Handover Select record
-/// stands, its error and its number of alternative carriers.
+/// Gives the version of the handover select that the payload of a Handover Select record
+/// describes, its error and its number of alternative carriers.
 #[unsafe(no_mangle)]
 pub extern "C" fn ndef_select(
     payload: &[u8],

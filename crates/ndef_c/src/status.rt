@@ -4,7 +4,7 @@
 pub const OK: u32 = 0;
 /// The bytes are refused.
 pub const REFUSED: u32 = 1;
-/// The room is too small.
+/// The buffer is too small.
 pub const NO_ROOM: u32 = 2;
 /// An argument isn't one of those that are allowed.
 pub const BAD_ARGUMENT: u32 = 3;

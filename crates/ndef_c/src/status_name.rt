@@ -47,7 +47,7 @@ fn text_of(status: Status) -> &'static str
     }
 }
 
-/// Writes the name of the status with a number, in ASCII and with no NUL after it, to the room.
+/// Writes the name of the status with a number, in ASCII and with no NUL after it, to the buffer.
 #[unsafe(no_mangle)]
 pub extern "C" fn ndef_status_name(status: u32, room: &mut [u8], count: &mut usize) -> u32
     ensures bad { result ≡ BAD_ARGUMENT ↔ (MORE < status) }

@@ -17,7 +17,7 @@ use ndef_lang::{Kind, Leaf};
 use ndef_types::{accept, split_language, texts_are_exact, unmark};
 use ndef_value::Profile;
 
-/// A text, by places and lengths in its payload.
+/// A text, by offsets and lengths in its payload.
 #[repr(C)]
 #[derive(Clone, Copy, Drop)]
 pub struct NdefText {
@@ -50,7 +50,7 @@ pub(crate) fn text_at(payload: &[u8]) -> NdefText
     }
 }
 
-/// Gives the places of the parts of the text for which the payload of a Text record stands.
+/// Gives the offsets of the parts of the text that the payload of a Text record holds.
 #[unsafe(no_mangle)]
 pub extern "C" fn ndef_text(payload: &[u8], out: &mut NdefText, why: &mut NdefChecked) -> u32
     ensures known { (result ≡ OK) ⊎ (result ≡ REFUSED) }
@@ -84,7 +84,7 @@ fn give_text(payload: &[u8], room: &mut [u8], count: &mut usize) -> u32
     give_in_utf8(little, octets, room, count)
 }
 
-/// Writes the text for which the payload of a Text record stands to the room in UTF-8, converted where
+/// Writes the text that the payload of a Text record holds to the buffer in UTF-8, converted where
 /// it is UTF-16, without its byte order mark.
 #[unsafe(no_mangle)]
 pub extern "C" fn ndef_text_in_utf8(
@@ -129,7 +129,7 @@ pub(crate) fn text_content<'a>(
     }
 }
 
-/// Writes the payload of a Text record to the room. The text is given in UTF-8.
+/// Writes the payload of a Text record to the buffer. The text is given in UTF-8.
 #[unsafe(no_mangle)]
 pub extern "C" fn ndef_write_text(
     language: &[u8],

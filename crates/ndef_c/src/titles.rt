@@ -11,17 +11,18 @@ ghost use Rattle.ndef_types.specs.Contents.{IsOfKind};
 ghost use Rattle.ndef_types.specs.Posters.{is_text};
 ghost use Rattle.ndef_c.specs.Posters.{HasPosterRecords};
 ghost use Rattle.ndef_c.specs.Titles.{FindsMediaType, FindsTitle, GivesTitles, IsPosterPayload, IsTitleAt, IsTitleIn, LiesAsText, PosterLacks};
-ghost use Rattle.ndef_c.specs.Walks.{Lies};
+ghost use Rattle.ndef_c.specs.Walks.{IsRecordAt, Lies};
 
 use crate::handover::is_nest;
-use crate::nested::{Found, first_of, found_in};
+use crate::nested::first_of;
 use crate::part::NdefPart;
+use crate::record::{NdefRecord, part_in, tnf_in, type_in};
 use crate::sought::{Sought, Wanted, give_all};
 use crate::status::{BAD_ARGUMENT, END, OK};
 use crate::text::{NdefText, text_at};
+use crate::walk::Walk;
 use ndef_lang::Kind;
 use ndef_nest::Table;
-use ndef_piece::{WholePiece, heads_are_apart, whole_piece};
 use ndef_value::Tnf;
 
 /// Whether the payload is that of a smart poster, as the standard reads it.
@@ -41,18 +42,18 @@ fn is_title(tnf: Tnf, kind: &[u8]) -> bool
     }
 }
 
-/// Where the parts of a text lie, by where its payload lies.
-fn text_of(found: &Found<'_>) -> NdefText
-    requires text { IsText found.now.payload.now }
-    requires bound { found.now.at + length found.now.payload.now < 2 ^ 32 }
-    ensures { (bytes : List ℕ) → Lies bytes found.now.at (length found.now.payload.now) found.now.payload.now
-        → LiesAsText bytes found.now.payload.now found.now.at result }
+/// Where the parts of a text lie, which is the payload of a record in one piece.
+fn text_of(bytes: &[u8], found: &NdefRecord) -> NdefText
+    requires text { (at : ℕ) × (r : IsRecordAt bytes.now at found.now) × IsText r.run.initial.payload }
+    requires bound { length bytes.now < 2 ^ 32 }
+    ensures { (at : ℕ) → (r : IsRecordAt bytes.now at found.now)
+        → LiesAsText bytes.now r.run.initial.payload found.now.payload_at result }
 {
-    let text = text_at(found.payload);
+    let text = text_at(part_in(bytes, found));
     NdefText {
-        language_at: found.at + text.language_at,
+        language_at: found.payload_at + text.language_at,
         language_length: text.language_length,
-        text_at: found.at + text.text_at,
+        text_at: found.payload_at + text.text_at,
         text_length: text.text_length,
         utf16: text.utf16,
     }
@@ -91,8 +92,8 @@ impl<'a> Sought for Titles<'a> {
         self.payload
     }
 
-    fn given(&self, piece: &WholePiece<'_>) -> NdefText {
-        text_of(&found_in(self.payload, piece))
+    fn given(&self, found: &NdefRecord) -> NdefText {
+        text_of(self.payload, found)
     }
 }
 
@@ -104,7 +105,7 @@ fn give_titles(payload: &[u8], texts: &mut [NdefText], count: &mut usize) -> u32
     give_all(&Titles { payload }, texts, count)
 }
 
-/// Gives the place of each title of a smart poster, as `ndef_text` gives the parts of a text, but by places in the
+/// Gives the offset of each title of a smart poster, as `ndef_text` gives the parts of a text, but by offsets in the
 /// payload of the poster.
 #[unsafe(no_mangle)]
 pub extern "C" fn ndef_poster_titles(
@@ -122,7 +123,7 @@ pub extern "C" fn ndef_poster_titles(
     give_titles(payload, texts, count)
 }
 
-/// Gives the place of the media type to which the URI of a smart poster leads.
+/// Gives the offset of the media type to which the URI of a smart poster leads.
 #[unsafe(no_mangle)]
 pub extern "C" fn ndef_poster_media_type(payload: &[u8], out: &mut NdefPart) -> u32
     ensures known { (result ≡ OK) ⊎ (result ≡ END) ⊎ (result ≡ BAD_ARGUMENT) }
@@ -160,25 +161,18 @@ fn title_in(payload: &[u8], language: &[u8]) -> Option<NdefText>
     ensures none { IfNone result (PosterLacks (IsTitleIn language.now) payload.now) }
     ensures some { IfSome result (FindsTitle language.now payload.now) }
 {
-    // For the proof alone.
-    heads_are_apart();
-    let mut rest = payload;
-    while !rest.is_empty() {
-        let Some(piece) = whole_piece(rest) else {
-            unreachable!()
-        };
-        if is_title(piece.tnf(), piece.kind) {
-            let text = text_of(&found_in(payload, &piece));
+    for found in Walk::from(payload, 0) {
+        if is_title(tnf_in(&found), type_in(payload, &found)) {
+            let text = text_of(payload, &found);
             if is_language(payload, &text, language) {
                 return Some(text);
             }
         }
-        rest = piece.rest;
     }
     None
 }
 
-/// Gives the place of the title of a smart poster in a language, of several the first, as
+/// Gives the offset of the title of a smart poster in a language, of several the first, as
 /// `ndef_poster_titles` gives it. The case of the letters of language codes doesn't matter (RFC
 /// 5646, section 2.1.1).
 #[unsafe(no_mangle)]

@@ -30,7 +30,7 @@ fn give_uri(payload: &[u8], room: &mut [u8], count: &mut usize) -> u32
     give_parts(&[], prefix(*code).as_bytes(), rest, room, count)
 }
 
-/// Writes the URI for which the payload of a URI record stands, its prefix written out, to the room.
+/// Writes the URI that the payload of a URI record holds, its prefix written out, to the buffer.
 #[unsafe(no_mangle)]
 pub extern "C" fn ndef_uri(
     payload: &[u8],
@@ -56,7 +56,7 @@ pub extern "C" fn ndef_uri(
     }
 }
 
-/// Writes the payload of a URI record, by the longest prefix that begins the URI, to the room.
+/// Writes the payload of a URI record, by the longest prefix that begins the URI, to the buffer.
 #[unsafe(no_mangle)]
 pub extern "C" fn ndef_write_uri(uri: &[u8], room: &mut [u8], count: &mut usize) -> u32
     ensures bad { result ≡ BAD_ARGUMENT → (¬ IsUtf8 uri.now) ⊎ IsTooLong WritesUri uri.now }

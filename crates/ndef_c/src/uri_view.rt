@@ -44,7 +44,7 @@ pub(crate) fn uri_at(payload: &[u8]) -> NdefUri
     }
 }
 
-/// Gives the code of the prefix and the place of the rest of the URI for which the payload of a URI record stands.
+/// Gives the code of the prefix and the offset of the rest of the URI that the payload of a URI record holds.
 #[unsafe(no_mangle)]
 pub extern "C" fn ndef_uri_view(
     payload: &[u8],
@@ -72,8 +72,8 @@ pub extern "C" fn ndef_uri_view(
     }
 }
 
-/// Writes the prefix for which a code stands (RTD URI 1.0, URI identifier codes) to the room; a reserved
-/// code stands for the empty one.
+/// Writes the prefix of a code (RTD URI 1.0, URI identifier codes) to the buffer; a reserved
+/// code has the empty one.
 #[unsafe(no_mangle)]
 pub extern "C" fn ndef_uri_prefix(code: u32, room: &mut [u8], count: &mut usize) -> u32
     ensures bad { result ≡ BAD_ARGUMENT ↔ (255 < code) }

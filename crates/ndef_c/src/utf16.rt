@@ -3,10 +3,10 @@ ghost use Rattle.std.specs.Prelude.{◌≡◌, ◌+◌, ◌<◌, ◌≤◌, ◌^
 ghost use Rattle.std.specs.Char.{InScalarRange};
 ghost use Rattle.std.specs.Char.Escape.{encode_utf16};
 ghost use Rattle.ndef_format.specs.Texts.{spelled, unit_octets, units_of};
-ghost use Rattle.ndef_c.specs.Rooms.{Gives, IsPut};
+ghost use Rattle.ndef_c.specs.Rooms.{Gives, Puts};
 ghost use Rattle.ndef_c.specs.Texts.{AreSpelled};
 
-use crate::room::put;
+use crate::out::Out;
 use crate::status::{NO_ROOM, OK};
 
 /// The unit of two octets.
@@ -64,35 +64,16 @@ fn first_character(little: bool, octets: &[u8]) -> (char, &[u8])
     (character(code), behind)
 }
 
-/// The number of bytes in UTF-8 of the text that the octets spell.
-fn utf8_length(little: bool, octets: &[u8]) -> usize
-    requires text { (cs : List ℕ) × AreSpelled little cs octets.now }
-    requires short { length octets.now < 2 ^ 32 }
-    ensures { (cs : List ℕ) → AreSpelled little cs octets.now → result ≡ length (encode_utf8_all cs) }
+/// Writes the text that the octets spell in UTF-8.
+fn put_in_utf8(out: &mut Out<'_>, little: bool, octets: &[u8])
+    requires { (cs : List ℕ) × AreSpelled little cs octets.now }
+    ensures { (cs : List ℕ) → AreSpelled little cs octets.now → Puts out.old (encode_utf8_all cs) out.new }
 {
-    let mut count = 0;
-    let mut rest = octets;
-    while !rest.is_empty() {
-        let (c, behind) = first_character(little, rest);
-        count += c.len_utf8();
-        rest = behind;
-    }
-    count
-}
-
-/// Writes the text that the octets spell to the front of the room in UTF-8.
-fn put_in_utf8(room: &mut [u8], little: bool, octets: &[u8])
-    requires text { (cs : List ℕ) × AreSpelled little cs octets.now }
-    requires room { (cs : List ℕ) → AreSpelled little cs octets.now
-        → length (encode_utf8_all cs) ≤ length room.old }
-    ensures { (cs : List ℕ) → AreSpelled little cs octets.now → IsPut 0 (encode_utf8_all cs) room.old room.new }
-{
-    let mut at = 0;
     let mut rest = octets;
     while !rest.is_empty() {
         let (c, behind) = first_character(little, rest);
         let mut buffer = [0; 4];
-        at = put(room, at, c.encode_utf8(&mut buffer).as_bytes());
+        out.put(c.encode_utf8(&mut buffer).as_bytes());
         rest = behind;
     }
 }
@@ -105,42 +86,31 @@ pub(crate) fn give_in_utf8(little: bool, octets: &[u8], room: &mut [u8], count: 
     ensures { (cs : List ℕ) → AreSpelled little cs octets.now
         → Gives (encode_utf8_all cs) room.old room.new count.new result }
 {
-    let needed = utf8_length(little, octets);
-    *count = needed;
-    if room.len() < needed {
+    let mut counter = Out::new(&mut [], 0);
+    put_in_utf8(&mut counter, little, octets);
+    *count = counter.at();
+    if room.len() < *count {
         return NO_ROOM;
     }
-    put_in_utf8(room, little, octets);
+    put_in_utf8(&mut Out::new(room, 0), little, octets);
     OK
 }
 
-/// Writes the units of a character, big-endian, at a place of the room, and answers the place after
-/// them.
-fn put_character(room: &mut [u8], at: usize, c: char) -> usize
-    requires { at + length (spelled false (encode_utf16 c)) ≤ length room.old }
-    ensures put { IsPut at (spelled false (encode_utf16 c)) room.old room.new }
-    ensures size { length room.new ≡ length room.old }
-    ensures behind { result ≡ at + length (spelled false (encode_utf16 c)) }
+/// Writes the units of a character, big-endian.
+fn put_character(out: &mut Out<'_>, c: char)
+    ensures { Puts out.old (spelled false (encode_utf16 c)) out.new }
 {
     let mut units = [0; 2];
-    let mut end = at;
     for unit in c.encode_utf16(&mut units).iter() {
-        end = put(room, end, &unit.to_be_bytes());
+        out.put(&unit.to_be_bytes());
     }
-    end
 }
 
-/// Writes the units of a text, big-endian, at a place of the room, and answers the place after
-/// them.
-pub(crate) fn put_units(room: &mut [u8], at: usize, text: &str) -> usize
-    requires { at + length (spelled false (units_of (chars text.now))) ≤ length room.old }
-    ensures put { IsPut at (spelled false (units_of (chars text.now))) room.old room.new }
-    ensures size { length room.new ≡ length room.old }
-    ensures behind { result ≡ at + length (spelled false (units_of (chars text.now))) }
+/// Writes the units of a text, big-endian.
+pub(crate) fn put_units(out: &mut Out<'_>, text: &str)
+    ensures { Puts out.old (spelled false (units_of (chars text.now))) out.new }
 {
-    let mut end = at;
     for c in text.chars() {
-        end = put_character(room, end, c);
+        put_character(out, c);
     }
-    end
 }

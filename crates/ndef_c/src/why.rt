@@ -77,8 +77,8 @@ fn give_hint(bytes: &[u8], limits: Limits, room: &mut [u8], count: &mut usize) -
     }
 }
 
-/// Writes why the bytes are refused to the room: a sentence of English that says what was wanted, in ASCII and with no
-/// NUL after it.
+/// Writes why the bytes are refused to the buffer: a sentence of English that says what was wanted, in ASCII and with
+/// no NUL after it.
 #[unsafe(no_mangle)]
 pub extern "C" fn ndef_why(
     bytes: &[u8],
@@ -98,8 +98,8 @@ pub extern "C" fn ndef_why(
     give_why(bytes, limits, room, count)
 }
 
-/// Writes what may help where the bytes are refused to the room: a sentence of English, in ASCII and with no NUL after
-/// it.
+/// Writes what may help where the bytes are refused to the buffer: a sentence of English, in ASCII and with no NUL
+/// after it.
 #[unsafe(no_mangle)]
 pub extern "C" fn ndef_hint(
     bytes: &[u8],

@@ -1,5 +1,5 @@
 //! Writes a record.
-ghost use Rattle.std.specs.Prelude.{◌≡◌, ◌≢◌, ◌+◌, ◌*◌, ◌≤◌, ◌<◌, ◌^◌, ◌++◌, ◌&&◌, [], not, take, drop, length, unwrap_or, Some, IfNone, IfSome, IsNone, IsTrue, ◌↔◌, ℕ};
+ghost use Rattle.std.specs.Prelude.{◌≡◌, ◌≢◌, ◌+◌, ◌*◌, ◌≤◌, ◌<◌, ◌^◌, ◌++◌, ◌&&◌, [], not, take, drop, length, unwrap_or, Some, IfNone, IfSome, IsNone, IsTrue, ◌↔◌, ℕ, List};
 ghost use Rattle.ndef_format.specs.Records.{FitsForm, HasShape, fields, tnf_of};
 ghost use Rattle.ndef_format.specs.Messages.{IsShaped};
 ghost use Rattle.ndef_format.specs.Canonical.{HasLengths};
@@ -7,10 +7,12 @@ ghost use Rattle.ndef_format.specs.declared.tnf.Tnf.TheVariants.{Unchanged};
 ghost use Rattle.ndef_piece.specs.Heads.{written_fields};
 ghost use Rattle.ndef_message.specs.Cut.{first_piece, later_piece};
 ghost use Rattle.ndef_message.specs.Written.{is_short};
-ghost use Rattle.ndef_c.specs.Rooms.{Gives, IsPut};
+ghost use Rattle.ndef_c.specs.Made.{item_with};
+ghost use Rattle.ndef_c.specs.Rooms.{Gives, Puts};
 ghost use Rattle.ndef_c.specs.Writes.{item_of, octets_by, octets_of_piece, asked, asked_octets, is_first, is_last, form_of, size_of, LastBegins, MayBeWritten};
 
-use crate::room::put;
+use crate::making::Ends;
+use crate::out::Out;
 use crate::status::{BAD_ARGUMENT, NO_ROOM, OK};
 use ndef_message::Form;
 use ndef_piece::{Head, write_head};
@@ -24,7 +26,7 @@ pub struct NdefWriting {
     pub tnf: u32,
     /// 1 for the first record of the message, 2 for the last, 3 for both, and 4 more for the long form.
     pub flags: u32,
-    /// The payload bytes of a piece, or 0 for one piece.
+    /// The payload bytes of a chunk, or 0 for one chunk.
     pub chunk: u32,
 }
 
@@ -96,7 +98,7 @@ fn has_lengths(parts: &Parts<'_>) -> bool
 }
 
 /// Whether a piece of `length` payload bytes is written in the short form.
-pub(crate) fn is_short(form: Form, length: usize) -> bool
+fn is_short(form: Form, length: usize) -> bool
     ensures { result ≡ is_short form length }
 {
     match form {
@@ -105,27 +107,36 @@ pub(crate) fn is_short(form: Form, length: usize) -> bool
     }
 }
 
-/// The head of the first piece of a record, which has this part of the payload, alone or not.
-fn first_head(parts: &Parts<'_>, way: Way, alone: bool, part: &[u8]) -> Head
-    requires part { length part.now < 2 ^ 32 }
-    requires lengths { HasLengths (item_of parts.now) }
-    ensures head { written_fields result
-        ≡ fields (first_piece way.first (alone && way.last) (not alone) (item_of parts.now) part.now)
-        (is_short way.form (length part.now)) }
+/// The head of the first piece of a record, where that piece has `payload` bytes of the payload.
+pub(crate) fn first_head(
+    tnf: Tnf,
+    kind: &[u8],
+    id: &[u8],
+    payload: usize,
+    ends: Ends,
+    alone: bool,
+    form: Form,
+) -> Head
+    requires kind { length kind.now < 256 }
+    requires id { length id.now < 256 }
+    requires payload { payload < 2 ^ 32 }
+    ensures head { (part : List ℕ) → length part ≡ payload → written_fields result
+        ≡ fields (first_piece ends.first (alone && ends.last) (not alone)
+        (item_with tnf kind.now id.now part) part) (is_short form (length part)) }
     ensures form { FitsForm result.short result.payload_length }
 {
     Head {
-        first: way.first,
-        last: alone && way.last,
+        first: ends.first,
+        last: alone && ends.last,
         chunked: !alone,
-        short: is_short(way.form, part.len()),
-        tnf: parts.tnf,
-        kind_length: parts.kind.len() as u8,
-        payload_length: part.len() as u32,
-        id_length: if parts.id.is_empty() {
+        short: is_short(form, payload),
+        tnf,
+        kind_length: kind.len() as u8,
+        payload_length: payload as u32,
+        id_length: if id.is_empty() {
             None
         } else {
-            Some(parts.id.len() as u8)
+            Some(id.len() as u8)
         },
     }
 }
@@ -149,41 +160,20 @@ fn later_head(way: Way, ends: bool, part: &[u8]) -> Head
     }
 }
 
-/// Writes a piece at a place of the room, and answers the place after it.
-pub(crate) fn put_piece(
-    room: &mut [u8],
-    at: usize,
-    head: &Head,
-    kind: &[u8],
-    id: &[u8],
-    part: &[u8],
-) -> usize
-    requires form { FitsForm head.now.short head.now.payload_length }
-    requires room { at + length (octets_of_piece head.now kind.now id.now part.now) ≤ length room.old }
-    ensures put { IsPut at (octets_of_piece head.now kind.now id.now part.now) room.old room.new }
-    ensures size { length room.new ≡ length room.old }
-    ensures behind { result ≡ at + length (octets_of_piece head.now kind.now id.now part.now) }
+/// Writes a piece.
+#[inline(always)]
+pub(crate) fn put_piece(out: &mut Out<'_>, head: &Head, kind: &[u8], id: &[u8], part: &[u8])
+    requires { FitsForm head.now.short head.now.payload_length }
+    ensures put { Puts out.old (octets_of_piece head.now kind.now id.now part.now) out.new }
+    ensures most { length (octets_of_piece head.now kind.now id.now part.now)
+        ≤ 7 + (length kind.now + (length id.now + length part.now)) }
 {
     let mut octets = [0; 7];
     let count = write_head(head, &mut octets);
-    let after_head = put(room, at, &octets[..count]);
-    let after_kind = put(room, after_head, kind);
-    let after_id = put(room, after_kind, id);
-    put(room, after_id, part)
-}
-
-/// The bytes of a piece.
-pub(crate) fn piece_length(head: &Head, kind: &[u8], id: &[u8], part: &[u8]) -> usize
-    requires form { FitsForm head.now.short head.now.payload_length }
-    requires part { length part.now < 2 ^ 32 }
-    requires kind { length kind.now < 256 }
-    requires id { length id.now < 256 }
-    ensures value { result ≡ length (octets_of_piece head.now kind.now id.now part.now) }
-    ensures most { result ≤ 7 + (length kind.now + (length id.now + length part.now)) }
-{
-    let mut octets = [0; 7];
-    let count = write_head(head, &mut octets);
-    count + kind.len() + id.len() + part.len()
+    out.put(&octets[..count]);
+    out.put(kind);
+    out.put(id);
+    out.put(part);
 }
 
 /// The first part of a payload, and what is left of it.
@@ -194,45 +184,40 @@ fn first_part(payload: &[u8], size: usize) -> (&[u8], &[u8])
     payload.split_at(payload.len().min(size))
 }
 
-/// The bytes of a record that is written so.
-pub(crate) fn record_length(parts: &Parts<'_>, way: Way) -> usize
+/// Writes a record so, and answers where its last piece begins.
+#[inline(always)]
+pub(crate) fn put_record(out: &mut Out<'_>, parts: &Parts<'_>, way: Way) -> usize
     requires lengths { HasLengths (item_of parts.now) }
     requires some { 1 ≤ way.size }
-    ensures value { result ≡ length (octets_by way (item_of parts.now)) }
-    ensures bound { result < 2 ^ 36 }
-{
-    let (part, behind) = first_part(parts.payload, way.size);
-    let head = first_head(parts, way, behind.is_empty(), part);
-    let mut total = piece_length(&head, parts.kind, parts.id, part);
-    let mut rest = behind;
-    while !rest.is_empty() {
-        let (part, later) = first_part(rest, way.size);
-        let head = later_head(way, later.is_empty(), part);
-        total += piece_length(&head, &[], &[], part);
-        rest = later;
-    }
-    total
-}
-
-/// Writes a record so at a place of the room, and answers where its last piece begins.
-pub(crate) fn put_record(room: &mut [u8], from: usize, parts: &Parts<'_>, way: Way) -> usize
-    requires lengths { HasLengths (item_of parts.now) }
-    requires some { 1 ≤ way.size }
-    requires room { from + length (octets_by way (item_of parts.now)) ≤ length room.old }
-    ensures put { IsPut from (octets_by way (item_of parts.now)) room.old room.new }
+    requires place { out.old.at < 2 ^ 63 }
+    ensures put { Puts out.old (octets_by way (item_of parts.now)) out.new }
+    ensures bound { length (octets_by way (item_of parts.now)) < 2 ^ 36 }
     ensures last { (at : ℕ) × LastBegins way.form way.first way.last (Some way.size) (item_of parts.now) at
-        × (result ≡ from + at) }
+        × (result ≡ out.old.at + at) }
 {
     let (part, behind) = first_part(parts.payload, way.size);
-    let head = first_head(parts, way, behind.is_empty(), part);
-    let mut last = from;
-    let mut at = put_piece(room, from, &head, parts.kind, parts.id, part);
+    let ends = Ends {
+        first: way.first,
+        last: way.last,
+    };
+    let alone = behind.is_empty();
+    let head = first_head(
+        parts.tnf,
+        parts.kind,
+        parts.id,
+        part.len(),
+        ends,
+        alone,
+        way.form,
+    );
+    let mut last = out.at();
+    put_piece(out, &head, parts.kind, parts.id, part);
     let mut rest = behind;
     while !rest.is_empty() {
         let (part, later) = first_part(rest, way.size);
         let head = later_head(way, later.is_empty(), part);
-        last = at;
-        at = put_piece(room, at, &head, &[], &[], part);
+        last = out.at();
+        put_piece(out, &head, &[], &[], part);
         rest = later;
     }
     last
@@ -287,7 +272,7 @@ pub(crate) fn asked_parts<'a>(
     Some(parts)
 }
 
-/// Writes a record to the room (NDEF 1.0, record layout and chunked payloads), as the numbers say; an
+/// Writes a record to the buffer (NDEF 1.0, record layout and chunked payloads), as the numbers say; an
 /// empty id isn't written.
 #[unsafe(no_mangle)]
 pub extern "C" fn ndef_write_record(
@@ -308,11 +293,12 @@ pub extern "C" fn ndef_write_record(
         return BAD_ARGUMENT;
     };
     let way = way_of(how);
-    let needed = record_length(&parts, way);
-    *count = needed;
-    if room.len() < needed {
+    let mut counter = Out::new(&mut [], 0);
+    let _last = put_record(&mut counter, &parts, way);
+    *count = counter.at();
+    if room.len() < *count {
         return NO_ROOM;
     }
-    let _last = put_record(room, 0, &parts, way);
+    let _last = put_record(&mut Out::new(room, 0), &parts, way);
     OK
 }

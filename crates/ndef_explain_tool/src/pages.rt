@@ -24,20 +24,20 @@ pub(crate) fn page_text(page: Page) -> &'static [u8]
 /// What the program does, its words, and examples.
 const HELP: &[u8] = b"\
 ndef-explain prints each byte of messages of the NFC Data Exchange Format, with the
-field in which it stands and what the field says.
+field to which it belongs and what the field says.
 
 Usage: ndef-explain [OPTION].. [FILE]..
 
 Without a FILE, and for the FILE -, it reads standard input.
 
   --hex               the input is hexadecimal text
-  --payload N         the most bytes of a payload, 1 to 4294967295; without it: 1048576
-  --records N         the most records of a message, 1 to 65535; without it: 1024
-  --pieces N          the most chunks of a record, 1 to 65535; without it: 4096
-  --profile P         strict refuses reserved values, as without the option;
+  --payload N         the most bytes of a payload, 1 to 4294967295; by default 1048576
+  --records N         the most records of a message, 1 to 65535; by default 1024
+  --pieces N          the most chunks of a record, 1 to 65535; by default 4096
+  --profile P         strict, the default, refuses reserved values;
                       standard reads them as the standard says
-  --color WHEN        always, never, or auto: in colour where output is a terminal and
-                      NO_COLOR isn't set, as without the option
+  --color WHEN        always, never, or auto, the default: in colour where output is a
+                      terminal and NO_COLOR isn't set
   --json              print an object in JSON in a line for each message
   --utf8              print printable UTF-8 as itself, and not as \\xHH
 

@@ -1,17 +1,21 @@
 -- Edits, one after another.
 use Rattle.std.proofs.Common.{◌≡◌, ◌∙◌, ◌<◌, ◌≤◌, ◌+◌, ℕ, zero, suc, Bool, true, false, List, [], ◌∷◌, ◌++◌, append-nil, append_assoc, length, take, get_or, map, Option, None, Some, Err, Ok, refl, sym, ap, ap₂, arith, cond, rules, subst}
-use Rattle.std.specs.Prelude.{◌||◌, count_by, nat_lt, option_and_then, option_map}
-use Rattle.std.specs.List.{find, flat_map, list_any, slice_get}
-use Rattle.std.proofs.lemmas.Bool.{lt-ltb, ltb-true}
-use Rattle.std.proofs.lemmas.List.{flat_map_more, length-map, take_all, take_more}
+use Rattle.std.specs.Prelude.{◌||◌, ◌==◌, count_by, drop, nat_lt, option_and_then, option_map}
+use Rattle.std.proofs.Math.ListN.{set}
+use Rattle.std.specs.List.{find, flat_map, list_any, remove, slice_get}
+use Rattle.std.proofs.lemmas.Bool.{eqb-true, false_from_ne_true, lt-ltb, ltb-true}
+use Rattle.std.proofs.Math.Seq.{drop-append-add, drop-cons, drop-append_seam, get_or-append_seam, take-append-add, take-append_seam}
+use Rattle.std.proofs.lemmas.List.{drop-set, flat_map_more, length-append, length-map, take-append-drop, take-set, take_all, take_more}
 use Rattle.std.proofs.lemmas.List.Concat.{flat_map-append}
 use Rattle.std.proofs.lemmas.List.Folds.{find-append, list_any-append}
 use Rattle.std.proofs.lemmas.List.Sums.{sum_by-cons}
-use Rattle.std.proofs.lemmas.Option.{slice_get-map, slice_get_past, slice_get_read}
+use Rattle.std.proofs.lemmas.Option.{get_or_from_slice_get, slice_get-get_or, slice_get_within, slice_get-map, slice_get_past, slice_get_read}
 use Rattle.std.specs.Option.{option_map_or, option_or}
 use Rattle.clap.specs.Words.{Text}
+use Rattle.ndef_format.specs.Messages.{Item}
 use Rattle.ndef_make_tool.specs.Asked.{AskedPart}
-use Rattle.ndef_make_tool.specs.Editing.{AreSaid, AskFor, IsWrongPart, SaysEdit, edit_map, edit_references, edit_said, in_place, kept_from, misuse_after, misuse_at, names, number_of, one_or_none, passes, record_of, records_in}
+use Rattle.ndef_make_tool.specs.Edited.{IsPlaced}
+use Rattle.ndef_make_tool.specs.Editing.{altered_by, AreSaid, AskFor, IsWrongPart, SaysEdit, edit_map, edit_references, edit_said, in_place, kept_from, misuse_after, misuse_at, names, number_of, one_or_none, passes, record_of, records_in}
 use Rattle.ndef_make_tool.specs.Faults.{fault_at}
 use Rattle.ndef_make_tool.specs.References.{references_of}
 use Rattle.ndef_make_tool.specs.declared.editing.Edit.{Edit}
@@ -88,62 +92,118 @@ cut_there [] n p l e = absurd (omega arith)
 cut_there (x ∷ ps) zero p l e = (ps, ap (λ y. y ∷ ps) (sym e))
 cut_there (x ∷ ps) (suc n) p l e = let more = cut_there ps n p (omega arith) e in (more.0, ap (λ t. x ∷ t) more.1)
 
-kept_both : {X : Type 0} (m : ℕ) (edits : List (Edit X)) (xs ys : List X) → kept_from m edits (xs ++ ys) ≡ kept_from m edits xs ++ kept_from (m + length xs) edits ys
-kept_both m edits [] ys = ap (λ k. kept_from k edits ys) (omega arith)
-kept_both m edits (x ∷ xs) ys =
-    let own = in_place (find (names m) edits) x in
-    let place : (m + 1) + length xs ≡ m + length (x ∷ xs) = omega arith in
-    ap (λ t. own ++ t) (kept_both (m + 1) edits xs ys) ∙ sym (append_assoc own (kept_from (m + 1) edits xs) (kept_from ((m + 1) + length xs) edits ys))
-    ∙ ap (λ k. (own ++ kept_from (m + 1) edits xs) ++ kept_from k edits ys) place
+-- an edit that adds a record is of no record that is there
+pub found_altered : {X : Type 0} (n : ℕ) (es : List (Edit X)) → find (names n) (flat_map altered_by es) ≡ find (names n) es
+found_altered n [] = refl
+found_altered {X} n (Drops m ∷ es) = ap (λ (o : Option (Edit X)). cond (names {X = X} n (Drops m)) (Some (Drops m)) o) (found_altered n es)
+found_altered {X} n (Replaces m x ∷ es) = ap (λ (o : Option (Edit X)). cond (names {X = X} n (Replaces m x)) (Some (Replaces m x)) o) (found_altered n es)
+found_altered n (Adds x ∷ es) = found_altered n es
 
-front_length : {A : Type 0} (ps : List A) (n : ℕ) → n < length ps → length (take n ps) ≡ n
-front_length [] n l = absurd (omega arith)
-front_length (x ∷ ps) zero l = refl
-front_length (x ∷ ps) (suc n) l = ap suc (front_length ps n (omega arith))
+-- so edits that add records change none
+pub kept_same : {X : Type 0} (n : ℕ) (es : List (Edit X)) (xs : List X) → kept_from n (flat_map altered_by es) xs ≡ kept_from n es xs
+kept_same n es [] = refl
+kept_same {X} n es (x ∷ xs) = ap₂ (λ (o : Option (Edit X)) (rest : List X). in_place o x ++ rest) (found_altered n es) (kept_same (n + 1) es xs)
+
+-- one edit more that alters or adds a record
+pub one_more : {X Y : Type 0} (f : X → List Y) (xs : List X) (x : X) (before now after : List Y) → now ≡ before ++ flat_map f xs → after ≡ now ++ f x → after ≡ before ++ flat_map f (xs ++ x ∷ [])
+one_more f xs x before now after is grown = grown ∙ ap (λ t. t ++ f x) is ∙ flat_map_more f before xs x
+
+-- ---- one record after another, from the last on
+
+-- what stands in place of the record between others
+placed_between : {X : Type 0} (edits : List (Edit X)) (front rest added : List X) (x : X) (edit : Option (Edit X)) → edit ≡ find (names (length front + 1)) edits
+    → take (length front) (front ++ x ∷ (kept_from (length front + 2) edits rest ++ added))
+    ++ (in_place edit x ++ drop (length front + 1) (front ++ x ∷ (kept_from (length front + 2) edits rest ++ added)))
+    ≡ front ++ (kept_from (length front + 1) edits (x ∷ rest) ++ added)
+placed_between {X} edits front rest added x edit is =
+    let kept = kept_from (length front + 2) edits rest in
+    let tail = x ∷ (kept ++ added) in
+    let next : (length front + 1) + 1 ≡ length front + 2 = omega arith in
+    let all : kept_from (length front + 1) edits (x ∷ rest) ≡ in_place edit x ++ kept =
+    ap₂ (λ (o : Option (Edit X)) (n : ℕ). in_place o x ++ kept_from n edits rest) (sym is) next in
+    ap₂ (λ (a b : List X). a ++ (in_place edit x ++ b)) (take-append_seam front tail) (drop-append-add front tail 1)
+    ∙ ap (λ t. front ++ t) (sym (append_assoc (in_place edit x) kept added))
+    ∙ ap (λ t. front ++ (t ++ added)) (sym all)
+
+-- no edit leaves the record as it is
+pub unaltered : (xs : List Item) (at : ℕ) (item : Item) → slice_get xs at ≡ Some item → xs ≡ take at xs ++ (item ∷ drop (at + 1) xs)
+unaltered xs at item is =
+    let next : suc at ≡ at + 1 = omega arith in
+    sym (take-append-drop at xs) ∙ ap (λ t. take at xs ++ t) (drop-cons xs at item (slice_get_within xs at item is)
+    ∙ ap₂ (λ (x : Item) (k : ℕ). x ∷ drop k xs) (get_or_from_slice_get xs at item item is) next)
+
+-- an edit with a record puts it in place
+pub replaced : (edit : Option (Edit Item)) (e : Edit Item) (xs : List Item) (at : ℕ) (y item : Item) → edit ≡ Some e → record_of e ≡ Some y → at < length xs
+    → set xs at y ≡ take at xs ++ (in_place edit item ++ drop (at + 1) xs)
+replaced edit e xs at y item is has l =
+    sym (take-append-drop at (set xs at y)) ∙ ap₂ (λ (a b : List Item). a ++ b) (take-set xs at y) (drop-set xs at y l)
+    ∙ ap (λ t. take at xs ++ (t ++ drop (at + 1) xs)) (sym (ap (λ o. in_place o item) is ∙ ap one_or_none has))
+
+split_there : {X : Type 0} (xs : List X) (k : ℕ) → k < length xs → (front : List X) × (x : X) × (rest : List X) × (xs ≡ front ++ x ∷ rest) × (k ≡ length front)
+split_there [] k l = absurd (omega arith)
+split_there (x ∷ xs) zero l = ([], x, xs, refl, refl)
+split_there (x ∷ xs) (suc k) l =
+    let more = split_there xs k (omega arith) in
+    (x ∷ more.0, more.1, more.2, ap (λ t. x ∷ t) more.3, ap suc more.4)
+
+placed_after : (edits : List (Edit Item)) (front rest added before after : List Item) (x : Item) (edit : Option (Edit Item)) → edit ≡ find (names (length front + 1)) edits
+    → before ≡ take (length front + 1) (front ++ x ∷ rest) ++ (kept_from (length front + 2) edits (drop (length front + 1) (front ++ x ∷ rest)) ++ added)
+    → IsPlaced (length front) edit before after → after ≡ take (length front) (front ++ x ∷ rest) ++ (kept_from (length front + 1) edits (drop (length front) (front ++ x ∷ rest)) ++ added)
+placed_after edits front rest added before after x edit is was placed =
+    let kept = kept_from (length front + 2) edits rest in
+    let flat : before ≡ front ++ x ∷ (kept ++ added) =
+    was ∙ ap₂ (λ (a b : List Item). a ++ (kept_from (length front + 2) edits b ++ added)) (take-append-add front (x ∷ rest) 1) (drop-append-add front (x ∷ rest) 1)
+    ∙ append_assoc front (x ∷ []) (kept ++ added) in
+    let long : length front < length (front ++ x ∷ (kept ++ added)) = omega (arith, length-append front (x ∷ (kept ++ added))) in
+    let there : slice_get before (length front) ≡ Some x =
+    ap (λ t. slice_get t (length front)) flat ∙ slice_get-get_or (front ++ x ∷ (kept ++ added)) (length front) x long ∙ ap (λ y. Some y) (get_or-append_seam front x (kept ++ added) x) in
+    placed x there ∙ ap (λ t. take (length front) t ++ (in_place edit x ++ drop (length front + 1) t)) flat ∙ placed_between edits front rest added x edit is
+    ∙ sym (ap₂ (λ (a b : List Item). a ++ (kept_from (length front + 1) edits b ++ added)) (take-append_seam front (x ∷ rest)) (drop-append_seam front (x ∷ rest)))
+
+-- what an edit leaves in place of the record at an index goes before what was left after it
+abbrev Placed : List (Edit Item) → (added before after : List Item) → Option (Edit Item) → (k : ℕ) → (old : List Item) → Type 0
+Placed edits added before after edit k old = edit ≡ find (names (k + 1)) edits
+    → before ≡ take (k + 1) old ++ (kept_from (k + 2) edits (drop (k + 1) old) ++ added) → IsPlaced k edit before after
+    → after ≡ take k old ++ (kept_from (k + 1) edits (drop k old) ++ added)
 
 -- what stands in place of one record more
-pub kept_more : {X : Type 0} (edits : List (Edit X)) (ps : List X) (n number : ℕ) (p : X) (before now after : List X) → n < length ps → p ≡ get_or ps n p → number ≡ n + 1
-    → now ≡ before ++ kept_from 1 edits (take n ps) → after ≡ now ++ in_place (find (names number) edits) p → after ≡ before ++ kept_from 1 edits (take (n + 1) ps)
-kept_more edits ps n number p before now after l e same is grown =
-    let own = in_place (find (names number) edits) p in
-    let front = kept_from 1 edits (take n ps) in
-    let place : 1 + length (take n ps) ≡ number = omega (arith, front_length ps n l, same) in
-    let more : kept_from 1 edits (take (n + 1) ps) ≡ front ++ own =
-    ap (kept_from 1 edits) (take_more ps n p l) ∙ kept_both 1 edits (take n ps) (get_or ps n p ∷ []) ∙ ap (λ x. front ++ kept_from (1 + length (take n ps)) edits (x ∷ [])) (sym e)
-    ∙ ap (λ k. front ++ kept_from k edits (p ∷ [])) place ∙ ap (λ t. front ++ t) (append-nil own) in
-    grown ∙ ap (λ t. t ++ own) is ∙ append_assoc before front own ∙ ap (λ t. before ++ t) (sym more)
+pub placed_step : (edits : List (Edit Item)) (old added before after : List Item) (k : ℕ) (edit : Option (Edit Item)) → k < length old → edit ≡ find (names (k + 1)) edits
+    → before ≡ take (k + 1) old ++ (kept_from (k + 2) edits (drop (k + 1) old) ++ added) → IsPlaced k edit before after → after ≡ take k old ++ (kept_from (k + 1) edits (drop k old) ++ added)
+placed_step edits old added before after k edit l =
+    let split = split_there old k l in
+    let front = split.0 in
+    let whole = front ++ split.1 ∷ split.2 in
+    subst (Placed edits added before after edit k) (sym split.3)
+    (subst (λ n. Placed edits added before after edit n whole) (sym split.4) (placed_after edits front split.2 added before after split.1 edit))
 
-no_tail : {X : Type 0} (xs ys : List X) → (xs ≡ [] → ⊥) → xs ++ ys ≡ [] → ⊥
-no_tail [] ys some e = some refl
-no_tail (x ∷ xs) ys some e = absurd (search rules)
+pub placed_before : (edits : List (Edit Item)) (old added before after : List Item) (k left : ℕ) (edit : Option (Edit Item)) → left ≤ length old → k + 1 ≡ left → edit ≡ find (names left) edits
+    → before ≡ take left old ++ (kept_from (left + 1) edits (drop left old) ++ added) → IsPlaced k edit before after → after ≡ take k old ++ (kept_from (k + 1) edits (drop k old) ++ added)
+placed_before edits old added before after k left edit l next is was placed =
+    placed_step edits old added before after k edit (omega (arith, l, next)) (is ∙ ap (λ n. find (names n) edits) (sym next))
+    (was ∙ ap₂ (λ n m. take n old ++ (kept_from m edits (drop n old) ++ added)) (sym next) (omega (arith, next))) placed
 
--- a list has elements, where a part of it has
-pub some_within : {X : Type 0} (xs ys zs : List X) → (ys ≡ [] → ⊥) → xs ++ (ys ++ zs) ≡ [] → ⊥
-some_within [] ys zs some e = no_tail ys zs some e
-some_within (x ∷ xs) ys zs some e = absurd (search rules)
+-- ---- an edit that is taken out
 
--- so there are records, where there are in place of one
-pub kept_some : {X : Type 0} (edits : List (Edit X)) (ps : List X) (n number : ℕ) (p : X) → n < length ps → p ≡ get_or ps n p → number ≡ n + 1
-    → (in_place (find (names number) edits) p ≡ [] → ⊥) → kept_from 1 edits ps ≡ [] → ⊥
-kept_some edits ps n number p l e same some none =
-    let split = cut_there ps n p l e in
-    let place : 1 + length (take n ps) ≡ number = omega (arith, front_length ps n l, same) in
-    let is = ap (kept_from 1 edits) split.1 ∙ kept_both 1 edits (take n ps) (p ∷ split.0) in
-    some_within (kept_from 1 edits (take n ps)) (in_place (find (names (1 + length (take n ps))) edits) p) (kept_from ((1 + length (take n ps)) + 1) edits split.0)
-    (subst (λ k. in_place (find (names k) edits) p ≡ [] → ⊥) (sym place) some) (sym is ∙ none)
+differs : (n other m : ℕ) → (m == n) ≡ true → (other ≡ n → ⊥) → (m == other) ≡ false
+differs n other m is apart =
+    let same = eqb-true m n is in
+    false_from_ne_true (m == other) (λ e. apart (sym (eqb-true m other e) ∙ same))
 
--- what one element more appends
-pub appended_more : {A X : Type 0} (f : A → List X) (ps : List A) (n : ℕ) (p : A) (before now after : List X) → n < length ps → p ≡ get_or ps n p
-    → now ≡ before ++ flat_map f (take n ps) → after ≡ now ++ f p → after ≡ before ++ flat_map f (take (n + 1) ps)
-appended_more f ps n p before now after l e is grown =
-    grown ∙ ap (λ t. t ++ f p) is ∙ flat_map_more f before (take n ps) p ∙ ap (λ x. before ++ flat_map f (take n ps ++ x ∷ [])) e ∙ ap (λ qs. before ++ flat_map f qs) (sym (take_more ps n p l))
+skipped : {X : Type 0} (test : X → Bool) (x : X) (rest : List X) → test x ≡ false → find test (x ∷ rest) ≡ find test rest
+skipped test x rest is = ap (λ b. cond b (Some x) (find test rest)) is
 
--- there are elements, where one appends some
-pub appended_some : {A X : Type 0} (f : A → List X) (ps : List A) (n : ℕ) (p : A) → n < length ps → p ≡ get_or ps n p → (f p ≡ [] → ⊥) → flat_map f ps ≡ [] → ⊥
-appended_some f ps n p l e some none =
-    let split = cut_there ps n p l e in
-    let is = ap (flat_map f) split.1 ∙ flat_map-append f (take n ps) (p ∷ split.0) in
-    some_within (flat_map f (take n ps)) (f p) (flat_map f split.0) some (sym is ∙ none)
+-- what doesn't pass is not missed
+pub found_without : {X : Type 0} (test : X → Bool) (ps : List X) (n : ℕ) (p : X) → n < length ps → p ≡ get_or ps n p → test p ≡ false → find test (remove ps n) ≡ find test ps
+found_without test ps n p l e is =
+    let tail : drop n ps ≡ p ∷ drop (suc n) ps = drop-cons ps n p l ∙ ap (λ x. x ∷ drop (suc n) ps) (sym e) in
+    find-append test (take n ps) (drop (suc n) ps) ∙ ap (λ o. option_or (find test (take n ps)) o) (sym (skipped test p (drop (suc n) ps) is) ∙ ap (find test) (sym tail))
+    ∙ sym (find-append test (take n ps) (drop n ps)) ∙ ap (find test) (take-append-drop n ps)
+
+-- an edit of one record is of no other
+pub other_number : {X : Type 0} (n other : ℕ) (e : Edit X) → names n e ≡ true → (other ≡ n → ⊥) → names other e ≡ false
+other_number n other (Drops m) is apart = differs n other m is apart
+other_number n other (Replaces m x) is apart = differs n other m is apart
+other_number n other (Adds x) is apart = refl
 
 -- ---- numbers
 

@@ -1,6 +1,7 @@
 -- The message that is edited, and what is written of it.
-use Rattle.std.specs.Prelude.{◌≡◌, ◌<◌, ◌⊎◌, ◌+◌, ◌++◌, ◌≢◌, ℕ, Bool, true, false, List, [], ◌∷◌, length, map, nat_lt, take, Some, Result, Ok, Err, ⊤, codes, if◌then◌else◌, Vec}
+use Rattle.std.specs.Prelude.{◌≡◌, ◌<◌, ◌⊎◌, ◌+◌, ◌++◌, ℕ, Bool, true, false, List, [], ◌∷◌, drop, length, map, nat_lt, take, Option, Some, Result, Ok, Err, ⊤, codes, if◌then◌else◌, Vec}
 use Rattle.std.specs.declared.alloc.Global.{Global}
+use Rattle.std.specs.List.{flat_map, slice_get}
 use Rattle.std.specs.Str.{bytes_eq}
 use Rattle.clap.specs.Words.{Text}
 use Rattle.ndef_format.specs.Accepted.{Accepted}
@@ -11,7 +12,7 @@ use Rattle.ndef_format.specs.Payloads.{IsTypedPayload}
 use Rattle.ndef_format.specs.Refusals.{Refuses}
 use Rattle.ndef_message.specs.Readings.{NeedsMemory}
 use Rattle.ndef_make_tool.specs.Asked.{AskedPart}
-use Rattle.ndef_make_tool.specs.Editing.{AreNumbers, AskFor, IsWrongPart, edit_parts, edited, number_of, records_in}
+use Rattle.ndef_make_tool.specs.Editing.{AreNumbers, AskFor, IsWrongPart, added_by, altered_by, edit_parts, edited, in_place, number_of, records_in}
 use Rattle.ndef_program.specs.Inputs.{GivesInput}
 use Rattle.ndef_make_tool.specs.Inputs.{ReadsNamed, readers_of}
 use Rattle.ndef_make_tool.specs.Making.{AreMadeIn, FailsIn, MakesAll, MakesFrom}
@@ -72,24 +73,26 @@ MakesEdit gives (Replaces n part) before after answer =
 MakesEdit gives (Adds part) before after answer =
     IsEditWith (λ i. Adds i) (MakesFrom gives part before after) answer
 
--- the edits with their records, or the first of which no record is made, and why
+-- the records with those that edits add, and the other edits with their records; or the first edit of
+-- which no record is made, and why
 abbrev pub MakesEdits : {I : Type 0} → GivesInput I → List (Edit AskedPart) → (before after : I)
-    → Result (Vec (Edit Item) Global) Fault → Type 0
-MakesEdits gives edits before after (Ok made) = AreMadeIn (MakesEdit gives) edits before after made.items
-MakesEdits gives edits before after (Err fault) = FailsIn (MakesEdit gives) edits before after fault
+    → (old new : List Item) → Result (Vec (Edit Item) Global) Fault → Type 0
+MakesEdits gives edits before after old new (Ok others) = (items : List (Edit Item))
+    × AreMadeIn (MakesEdit gives) edits before after items × (new ≡ old ++ flat_map added_by items)
+    × (others.items ≡ flat_map altered_by items)
+MakesEdits gives edits before after old new (Err fault) = FailsIn (MakesEdit gives) edits before after fault
+
+-- the record at this index is left out or replaced, or stays, as the edit says
+abbrev pub IsPlaced : (at : ℕ) → Option (Edit Item) → (before after : List Item) → Type 0
+IsPlaced at edit before after = (item : Item) → slice_get before at ≡ Some item
+    → after ≡ take at before ++ (in_place edit item ++ drop (at + 1) before)
 
 -- ---- what is written
-
--- what is written of some records; memory to keep them may run out
-abbrev pub WritesSome : List AskedPart → Writing → List Item → Result Written Fault → Type 0
-WritesSome parts writing items (Ok made) = MakesAll parts writing items (Ok made)
-WritesSome parts writing items (Err fault) =
-    (fault ≡ Memory) ⊎ MakesAll parts writing items (Err fault)
 
 -- NDEF 1.0, messages: what is written of the records, of which there has to be one
 abbrev pub WritesRecords : List AskedPart → Writing → List Item → Result Written Fault → Type 0
 WritesRecords parts writing [] answer = answer ≡ Err (Refused NoRecords)
-WritesRecords parts writing (i ∷ items) answer = WritesSome parts writing (i ∷ items) answer
+WritesRecords parts writing (i ∷ items) answer = MakesAll parts writing (i ∷ items) answer
 
 -- what is written of a message of these records after the edits, or why nothing is
 abbrev pub EditsMessage : {I : Type 0} → GivesInput I → List (Edit AskedPart) → Writing
@@ -104,18 +107,6 @@ EditsMessage gives edits writing old before after (Err fault) =
     × (FailsIn (MakesEdit gives) edits before after fault
     ⊎ ((items : List (Edit Item)) × AreMadeIn (MakesEdit gives) edits before after items
     × WritesRecords (records_in edits) writing (edited old items) (Err fault))))
-
--- ---- step by step
-
--- these stand after the others; or memory to keep one ran out
-abbrev pub Appends : List Item → (before after : List Item) → Result Unit Fault → Type 0
-Appends items before after (Ok done) = after ≡ before ++ items
-Appends items before after (Err fault) = (fault ≡ Memory) × (items ≢ [])
-
--- these are the records; or memory to keep one ran out
-abbrev pub GivesRecords : List Item → Result (Vec Item Global) Fault → Type 0
-GivesRecords items (Ok records) = records.items ≡ items
-GivesRecords items (Err fault) = (fault ≡ Memory) × (items ≢ [])
 
 -- ---- the file and the words
 

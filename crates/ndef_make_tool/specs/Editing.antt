@@ -83,6 +83,11 @@ abbrev pub added_by : {X : Type 0} → Edit X → List X
 added_by (Adds x) = x ∷ []
 added_by _ = []
 
+-- the edit, unless it adds a record
+abbrev pub altered_by : {X : Type 0} → Edit X → List (Edit X)
+altered_by (Adds x) = []
+altered_by edit = edit ∷ []
+
 -- what stands in place of each of the records, which are counted from 1, and then what is added
 abbrev pub edited : {X : Type 0} → (old : List X) → List (Edit X) → List X
 edited old edits = kept_from 1 edits old ++ flat_map added_by edits

@@ -9,7 +9,7 @@ abbrev pub payload_options : Text
 payload_options =
     codes "  --file FILE         the file that holds the payload, at most 1048576 bytes;\n"
     ++ codes "                      without it, or for -: standard input\n"
-    ++ codes "  --payload DIGITS    the payload in hexadecimal digits, in place of a file\n"
+    ++ codes "  --payload DIGITS    the payload in hexadecimal digits, instead of a file\n"
 
 -- NDEF 1.0, record layout: the options of every record
 abbrev pub record_options : Text
@@ -27,7 +27,7 @@ record_options =
 abbrev pub page_end : Text
 page_end =
     codes "\n"
-    ++ codes "Other RECORDs, and the words around them: ndef-make --help\n"
+    ++ codes "Other RECORDs, and the options around them: ndef-make --help\n"
 
 -- the page of a text
 abbrev pub text_page : Text

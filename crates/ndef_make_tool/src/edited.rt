@@ -1,23 +1,24 @@
 //! The message that is edited, and what is written of it.
-ghost use Rattle.std.specs.Prelude.{◌≡◌, ◌∷◌, ◌≤◌, [], length, map, nat_lt, option_map, string_bytes};
+ghost use Rattle.std.specs.Prelude.{◌≡◌, ◌≢◌, ◌<◌, ◌≤◌, ◌++◌, ℕ, List, length, map, nat_lt, string_bytes, IfErr, OnOk};
 ghost use Rattle.std.specs.List.{find, flat_map, list_any};
+ghost use Rattle.ndef_format.specs.Messages.{Item};
 ghost use Rattle.ndef_program.specs.Options.{flag_of};
 ghost use Rattle.ndef_make_tool.specs.Asked.{asked_part};
-ghost use Rattle.ndef_make_tool.specs.Edited.{Appends, EditsMessage, GivesRecords, IsEditedOf, IsEditedOfWords};
+ghost use Rattle.ndef_make_tool.specs.Edited.{EditsMessage, IsEditedOf, IsEditedOfWords, IsPlaced};
 ghost use Rattle.ndef_make_tool.specs.Edited.{IsMessageIn, MakesEdit, MakesEdits, ReadsMessage, WritesRecords};
 ghost use Rattle.ndef_make_tool.specs.Edited.{edit_readers, widest_limits};
-ghost use Rattle.ndef_make_tool.specs.Editing.{AreNumbers, added_by, edit_map, edit_references, edited};
-ghost use Rattle.ndef_make_tool.specs.Editing.{has_number, in_place, kept_from, misuse_after, names, number_of};
+ghost use Rattle.ndef_make_tool.specs.Editing.{AreNumbers, added_by, altered_by, edit_map, edit_references};
+ghost use Rattle.ndef_make_tool.specs.Editing.{has_number, kept_from, misuse_after, names, number_of};
 ghost use Rattle.ndef_make_tool.specs.Editing.{passes, records_in};
 ghost use Rattle.ndef_make_tool.specs.Inputs.{is_reader, readers_of};
 ghost use Rattle.ndef_make_tool.specs.Making.{has_flag, shown_by};
 ghost use Rattle.ndef_make_tool.specs.References.{AreFound, references_of};
+ghost use Rattle.ndef_make_tool.specs.declared.fault.Fault.TheVariants.{Memory};
 
 use crate::editing::{Edit, edit_parts, say_edits};
 use crate::inputs::{is_reader, read_named};
 use crate::making::{Shown, Writing, Written, read_and_make, shown_of, write_records};
 use crate::parts::Said;
-use crate::records::make_item;
 use crate::references::find_in_part;
 use crate::{Fault, Misuse, Refused};
 use ndef_message::{ReadError, SliceSource, read_message};
@@ -117,110 +118,86 @@ fn make_edit<I: Inputs>(
     }
 }
 
-/// The edits with the records of their parts.
+/// Keeps an edit: the record that it adds comes after the records, any other edit after the others.
+fn keep_edit(
+    records: &mut Vec<Record>,
+    others: &mut Vec<Edit<Record>>,
+    edit: Edit<Record>,
+) -> Result<(), Fault>
+    ensures records { OnOk result (records.new.items ≡ records.old.items ++ added_by edit) }
+    ensures others { OnOk result (others.new.items ≡ others.old.items ++ altered_by edit) }
+    ensures memory { IfErr result (λ fault. fault ≡ Memory) }
+{
+    match edit {
+        Edit::Adds(record) => records.push(record)?,
+        Edit::Drops(_) | Edit::Replaces(_, _) => others.push(edit)?,
+    }
+    Ok(())
+}
+
+/// Makes the records of the edits. Those that edits add come after the records; the other edits are returned.
 fn make_edits<I: Inputs>(
     alloc: Global,
     edits: &[Edit<Said<'_>>],
     inputs: &mut I,
+    records: &mut Vec<Record>,
 ) -> Result<Vec<Edit<Record>>, Fault>
-    ensures { MakesEdits I.gives (map (edit_map asked_part) edits.now) inputs.old inputs.new result }
+    ensures { MakesEdits I.gives (map (edit_map asked_part) edits.now) inputs.old inputs.new
+        records.old.items records.new.items result }
 {
-    let mut made = Vec::new(alloc);
-    for edit in edits {
-        match make_edit(alloc, edit, inputs) {
-            Ok(edit) => made.push(edit)?,
-            Err(fault) => return Err(fault.at(made.len() as u64 + 1)),
+    let mut others = Vec::new(alloc);
+    for at in 0..edits.len() {
+        match make_edit(alloc, &edits[at], inputs) {
+            Ok(edit) => keep_edit(records, &mut others, edit)?,
+            Err(fault) => return Err(fault.at(at as u64 + 1)),
         }
     }
-    Ok(made)
+    Ok(others)
 }
 
-/// Appends a copy of a record.
-fn push_copy(alloc: Global, records: &mut Vec<Record>, item: &Record) -> Result<(), Fault>
-    ensures { Appends (item.now ∷ []) records.old.items records.new.items result }
+/// Takes the first edit of the record with this number out of the edits.
+fn take_edit(edits: &mut Vec<Edit<Record>>, number: u32) -> Option<Edit<Record>>
+    ensures taken { result ≡ find (names number) edits.old.items }
+    ensures others { (other : ℕ) → other ≢ number
+        → find (names other) edits.new.items ≡ find (names other) edits.old.items }
 {
-    let copy = make_item(alloc, item.tnf(), item.kind(), item.id(), item.payload())?;
-    records.push(copy)?;
-    Ok(())
-}
-
-/// The first edit with this number.
-fn edit_of(edits: &[Edit<Record>], number: u32) -> Option<&Edit<Record>>
-    ensures { option_map (λ edit. edit.now) result ≡ find (names number) edits.now }
-{
-    for edit in edits {
-        if edit.names(number) {
-            return Some(edit);
+    for at in 0..edits.len() {
+        if edits[at].names(number) {
+            return Some(edits.remove(at));
         }
     }
     None
 }
 
-/// Appends what stands in place of a record with this number.
-fn push_kept(
-    alloc: Global,
-    records: &mut Vec<Record>,
-    item: &Record,
-    edit: Option<&Edit<Record>>,
-) -> Result<(), Fault>
-    ensures { Appends (in_place (option_map (λ edit. edit.now) edit.entry) item.now)
-        records.old.items records.new.items result }
+/// Puts what an edit leaves in place of the record at an index.
+fn put_in_place(records: &mut Vec<Record>, at: usize, edit: Option<Edit<Record>>)
+    requires { at < length records.old.items }
+    ensures { IsPlaced at edit records.old.items records.new.items }
 {
-    match edit {
-        None => push_copy(alloc, records, item),
-        Some(edit) => match edit.record() {
-            Some(other) => push_copy(alloc, records, other),
-            None => Ok(()),
-        },
+    let Some(edit) = edit else {
+        return;
+    };
+    match edit.into_record() {
+        Some(record) => records[at] = record,
+        None => {
+            let _dropped = records.remove(at);
+        }
     }
 }
 
-/// Appends what stands in place of each of the records.
-fn push_all_kept(
-    alloc: Global,
-    records: &mut Vec<Record>,
-    old: &[Record],
-    edits: &[Edit<Record>],
-) -> Result<(), Fault>
-    requires { length old.now ≤ 65535 }
-    ensures { Appends (kept_from 1 edits.now old.now) records.old.items records.new.items result }
+/// Puts what the edits leave in place of each of the first records, from the last of these on.
+fn put_all(records: &mut Vec<Record>, count: usize, edits: &mut Vec<Edit<Record>>)
+    requires few { count ≤ 65535 }
+    requires within { count ≤ length records.old.items }
+    ensures { (old added : List Item) → records.old.items ≡ old ++ added → length old ≡ count
+        → records.new.items ≡ kept_from 1 edits.old.items old ++ added }
 {
-    let mut number = 1;
-    for record in old {
-        push_kept(alloc, records, record, edit_of(edits, number))?;
-        number += 1;
+    let mut left = count;
+    while left > 0 {
+        let edit = take_edit(edits, left as u32);
+        left -= 1;
+        put_in_place(records, left, edit);
     }
-    Ok(())
-}
-
-/// Appends what an edit adds.
-fn push_own(alloc: Global, records: &mut Vec<Record>, edit: &Edit<Record>) -> Result<(), Fault>
-    ensures { Appends (added_by edit.now) records.old.items records.new.items result }
-{
-    match edit {
-        Edit::Drops(_) | Edit::Replaces(_, _) => Ok(()),
-        Edit::Adds(item) => push_copy(alloc, records, item),
-    }
-}
-
-/// Appends what edits add.
-fn push_added(alloc: Global, records: &mut Vec<Record>, edits: &[Edit<Record>]) -> Result<(), Fault>
-    ensures { Appends (flat_map added_by edits.now) records.old.items records.new.items result }
-{
-    for edit in edits {
-        push_own(alloc, records, edit)?;
-    }
-    Ok(())
-}
-
-/// The records of an edited message.
-fn edited(alloc: Global, old: &Message, edits: &[Edit<Record>]) -> Result<Vec<Record>, Fault>
-    ensures { GivesRecords (edited old.now edits.now) result }
-{
-    let mut records = Vec::new(alloc);
-    push_all_kept(alloc, &mut records, old.records(), edits)?;
-    push_added(alloc, &mut records, edits)?;
-    Ok(records)
 }
 
 /// Whether the record of an edit has the flag.
@@ -299,17 +276,19 @@ fn write_edited(
 /// What is written of a message after the edits.
 fn edit_message<I: Inputs>(
     alloc: Global,
-    old: &Message,
+    old: Message,
     edits: &[Edit<Said<'_>>],
     writing: Writing,
     inputs: &mut I,
 ) -> Result<Written, Fault>
-    ensures { EditsMessage I.gives (map (edit_map asked_part) edits.now) writing old.now
+    ensures { EditsMessage I.gives (map (edit_map asked_part) edits.now) writing old
         inputs.old inputs.new result }
 {
-    check_numbers(old.len(), edits)?;
-    let made = make_edits(alloc, edits, inputs)?;
-    let records = edited(alloc, old, made.as_slice())?;
+    let count = old.len();
+    check_numbers(count, edits)?;
+    let mut records = old.into_records();
+    let mut others = make_edits(alloc, edits, inputs, &mut records)?;
+    put_all(&mut records, count, &mut others);
     write_edited(alloc, records, edits, writing)
 }
 
@@ -361,7 +340,7 @@ fn edit_file<I: Inputs>(
         return Err(Fault::Usage(Misuse::TwoReaders));
     }
     let old = read_original(alloc, name, inputs)?;
-    edit_message(alloc, &old, edits, writing, inputs)
+    edit_message(alloc, old, edits, writing, inputs)
 }
 
 /// What is written of the message in the file of this name after the edits for which the words ask.

@@ -169,6 +169,17 @@ impl<X> Edit<X> {
         }
     }
 
+    /// Its record, moved out.
+    pub(crate) fn into_record(self) -> Option<X>
+        ensures { result ≡ record_of self }
+    {
+        match self {
+            Edit::Drops(_) => None,
+            Edit::Replaces(_, record) => Some(record),
+            Edit::Adds(record) => Some(record),
+        }
+    }
+
     /// Its record.
     pub(crate) fn record(&self) -> Option<&X>
         ensures { option_map (λ content. content.now) result ≡ record_of self.now }

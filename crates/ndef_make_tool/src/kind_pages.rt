@@ -108,7 +108,7 @@ Example:
 
   ndef-make text --language de Hallo > tag.bin
 
-Other RECORDs, and the words around them: ndef-make --help
+Other RECORDs, and the options around them: ndef-make --help
 ";
 
 /// What is printed of a URI.
@@ -131,7 +131,7 @@ Example:
 
   ndef-make uri http://www.example.com > tag.bin
 
-Other RECORDs, and the words around them: ndef-make --help
+Other RECORDs, and the options around them: ndef-make --help
 ";
 
 /// What is printed of a smart poster.
@@ -167,7 +167,7 @@ Example:
 
   ndef-make poster http://www.example.com --title en=Example > tag.bin
 
-Other RECORDs, and the words around them: ndef-make --help
+Other RECORDs, and the options around them: ndef-make --help
 ";
 
 /// What is printed of a handover.
@@ -202,7 +202,7 @@ Example:
 
   ndef-make handover select --carrier active=0 --and app a --id 0 > tag.bin
 
-Other RECORDs, and the words around them: ndef-make --help
+Other RECORDs, and the options around them: ndef-make --help
 ";
 
 /// What is printed of a record of given parts.
@@ -216,7 +216,7 @@ Usage: ndef-make record --tnf N [OPTION]..
   --type T            the type, at most 255 bytes; without it: none
   --file FILE         the file that holds the payload, at most 1048576 bytes;
                       without it, or for -: standard input
-  --payload DIGITS    the payload in hexadecimal digits, in place of a file
+  --payload DIGITS    the payload in hexadecimal digits, instead of a file
 
 Options of every RECORD:
 
@@ -230,7 +230,7 @@ Example:
 
   printf 123 | ndef-make record --tnf 2 --type a/b --id x > tag.bin
 
-Other RECORDs, and the words around them: ndef-make --help
+Other RECORDs, and the options around them: ndef-make --help
 ";
 
 /// What is printed of a record of a media type.
@@ -242,7 +242,7 @@ Usage: ndef-make media [OPTION].. TYPE
   TYPE                the media type, which has a slash, at most 255 bytes
   --file FILE         the file that holds the payload, at most 1048576 bytes;
                       without it, or for -: standard input
-  --payload DIGITS    the payload in hexadecimal digits, in place of a file
+  --payload DIGITS    the payload in hexadecimal digits, instead of a file
 
 Options of every RECORD:
 
@@ -256,7 +256,7 @@ Example:
 
   printf 123 | ndef-make media text/plain > tag.bin
 
-Other RECORDs, and the words around them: ndef-make --help
+Other RECORDs, and the options around them: ndef-make --help
 ";
 
 /// What is printed of a record of an external type.
@@ -268,7 +268,7 @@ Usage: ndef-make external [OPTION].. DOMAIN:NAME
   DOMAIN:NAME         the type: a domain, a colon and a name, at most 255 bytes
   --file FILE         the file that holds the payload, at most 1048576 bytes;
                       without it, or for -: standard input
-  --payload DIGITS    the payload in hexadecimal digits, in place of a file
+  --payload DIGITS    the payload in hexadecimal digits, instead of a file
 
 Options of every RECORD:
 
@@ -282,7 +282,7 @@ Example:
 
   ndef-make external example.com:a --payload 313233 > tag.bin
 
-Other RECORDs, and the words around them: ndef-make --help
+Other RECORDs, and the options around them: ndef-make --help
 ";
 
 /// What is printed of an application record.
@@ -306,7 +306,7 @@ Example:
 
   ndef-make uri http://www.example.com --and app com.example > tag.bin
 
-Other RECORDs, and the words around them: ndef-make --help
+Other RECORDs, and the options around them: ndef-make --help
 ";
 
 /// What is printed of a handover carrier.
@@ -319,7 +319,7 @@ Usage: ndef-make carrier --format N --type T [OPTION]..
   --type T            the carrier type, at most 255 bytes
   --file FILE         the file that holds the payload, at most 1048576 bytes;
                       without it, or for -: standard input
-  --payload DIGITS    the payload in hexadecimal digits, in place of a file
+  --payload DIGITS    the payload in hexadecimal digits, instead of a file
 
 Options of every RECORD:
 
@@ -333,5 +333,5 @@ Example:
 
   ndef-make carrier --format 2 --type a/b --payload 3132 > tag.bin
 
-Other RECORDs, and the words around them: ndef-make --help
+Other RECORDs, and the options around them: ndef-make --help
 ";

@@ -138,7 +138,7 @@ Each RECORD is a subcommand with its options. Separate records with --and.
 
   text TEXT           a text
     --language L      the code of its language; without it: en
-    --utf16           encode it in UTF-16 in place of UTF-8
+    --utf16           encode it in UTF-16 instead of UTF-8
   uri URI             a URI
   poster URI          a smart poster of a URI
     --title L=TEXT    a title in the language with the code L; may be repeated
@@ -159,8 +159,8 @@ Each RECORD is a subcommand with its options. Separate records with --and.
   record              a record of any type
     --tnf N           the type name format, 0 to 5
     --type T          the type
-  media TYPE          a record of a media type, as image/png
-  external TYPE       a record of an external type, as example.com:a
+  media TYPE          a record of a media type, such as image/png
+  external TYPE       a record of an external type, such as example.com:a
   app PACKAGE         an Android application record
   carrier             a handover carrier; its data is its payload
     --format N        the carrier type format, 0 to 7
@@ -169,18 +169,18 @@ Each RECORD is a subcommand with its options. Separate records with --and.
 The payload of a record, media, external or carrier is standard input, or
 
     --file FILE       what a file holds; - is standard input
-    --payload DIGITS  what hexadecimal digits stand for
+    --payload DIGITS  the bytes that hexadecimal digits spell
 
 Options of every RECORD:
 
   --id I              the id of the record
   --unchecked         write what a strict reader refuses or a standard forbids, too
-  --hex               write hexadecimal digits and a newline, as to a terminal
+  --hex               write hexadecimal digits and a newline, the default on a terminal
   --raw               write bytes, to a terminal too
 
 Before the first RECORD:
 
-  --size              print the number of the message's bytes in place of it
+  --size              print the number of the message's bytes, and not the message
   --tag TAG           write it only if it fits on the tag: ntag213, ntag215, ntag216, or
                       a number of bytes; counted with 3 bytes around it, or 5 around
                       255 and more
@@ -188,15 +188,15 @@ Before the first RECORD:
 
 With --from, each EDIT is
 
-  --drop N            its record N, counted from 1, is left out
-  --replace N RECORD  the RECORD stands in its place
+  --drop N            its record N, counted from 1, is dropped
+  --replace N RECORD  the RECORD replaces its record N
   RECORD              the RECORD comes after all its records
 
-In place of a message:
+Instead of a message:
 
   --help              print this page; after the name of a RECORD, the page of
-                      that; it may stand anywhere before the word --
-  --version           print the name and the version, where it stands alone
+                      that; it may come anywhere before the argument --
+  --version           print the name and the version; it is the only argument then
 
 Examples:
 

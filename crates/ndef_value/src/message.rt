@@ -90,6 +90,14 @@ impl Message {
         self.records.as_slice()
     }
 
+    /// The records, 1 to 65535 of them, moved out. It allocates no memory.
+    pub fn into_records(self) -> Vec<Record>
+        ensures value { result.items ≡ self }
+        ensures items { AreItems self }
+    {
+        self.records
+    }
+
     /// The record at a place, counted from 0; none from `len` on.
     pub fn get(&self, index: usize) -> Option<&Record>
         ensures value { option_map (λ r. r.now) result ≡ slice_get self.now index }

@@ -25,8 +25,8 @@ fn alternative_at(payload: &[u8]) -> NdefAlternative {
     NdefAlternative { power: u32::from(payload[0] % 4), references: 1 + u32::from(auxiliary) }
 }
 
-/// Gives the power state of the alternative carrier for which the payload of an Alternative Carrier
-/// record stands, and its number of references.
+/// Gives the power state of the alternative carrier that the payload of an Alternative Carrier
+/// record describes, and its number of references.
 pub fn ndef_alternative(payload: &[u8], out: &mut NdefAlternative, why: &mut NdefChecked) -> u32 {
     match accept::<Leaf>(Kind::Alternative, Profile::Strict, payload) {
         Ok(()) => {
@@ -81,7 +81,7 @@ fn give_reference(payload: &[u8], index: usize, out: &mut NdefPart) -> u32 {
     }
 }
 
-/// Gives the place of the reference with an index in the payload of an Alternative Carrier record:
+/// Gives the offset of the reference with an index in the payload of an Alternative Carrier record:
 /// 0 is the carrier data reference, and the auxiliary ones follow.
 pub fn ndef_reference(payload: &[u8], index: usize, out: &mut NdefPart) -> u32 {
     match accept::<Leaf>(Kind::Alternative, Profile::Strict, payload) {

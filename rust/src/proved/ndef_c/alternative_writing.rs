@@ -2,8 +2,8 @@
 //! Writes the payloads of Alternative Carrier records (Connection Handover 1.2).
 
 use crate::proved::ndef_c::content::{give_content, Content};
+use crate::proved::ndef_c::out::Out;
 use crate::proved::ndef_c::part::NdefPart;
-use crate::proved::ndef_c::room::put;
 use crate::proved::ndef_c::status::BAD_ARGUMENT;
 
 /// Whether a part is a reference: it lies within the bytes, and has up to 255 of them.
@@ -21,49 +21,34 @@ fn are_references(bytes: &[u8], parts: &[NdefPart]) -> bool {
     true
 }
 
-/// The bytes of references, each after its length.
-fn counted_length(bytes: &[u8], parts: &[NdefPart]) -> usize {
-    let mut total = 0;
-    for part in parts {
-        total += 1 + part.length;
-    }
-    total
-}
-
-/// Writes a reference after its length at a place of the room, and answers the place after it.
-fn put_reference(room: &mut [u8], at: usize, bytes: &[u8], part: &NdefPart) -> usize {
-    let after_length = put(room, at, &[part.length as u8]);
+/// Writes a reference after its length.
+#[inline(always)]
+fn put_reference(out: &mut Out<'_>, bytes: &[u8], part: &NdefPart) {
+    out.put(&[part.length as u8]);
     let (_before, from) = bytes.split_at(part.at);
-    put(room, after_length, &from[..part.length])
+    out.put(&from[..part.length]);
 }
 
-/// Writes references, each after its length, at a place of the room, and answers the place after them.
-fn put_references(room: &mut [u8], at: usize, bytes: &[u8], parts: &[NdefPart]) -> usize {
-    let mut end = at;
+/// Writes references, each after its length.
+fn put_references(out: &mut Out<'_>, bytes: &[u8], parts: &[NdefPart]) {
     for part in parts {
-        end = put_reference(room, end, bytes, part);
+        put_reference(out, bytes, part);
     }
-    end
 }
 
-/// The bytes of the payload of an alternative carrier.
-pub(crate) fn alternative_length(bytes: &[u8], reference: &NdefPart, auxiliary: &[NdefPart]) -> usize {
-    3 + reference.length + counted_length(bytes, auxiliary)
-}
-
-/// Writes the payload of an alternative carrier at a place of the room, and answers the place after it.
+/// Writes the payload of an alternative carrier.
+#[inline(always)]
 pub(crate) fn put_alternative(
-    room: &mut [u8],
-    at: usize,
+    out: &mut Out<'_>,
     power: u8,
     bytes: &[u8],
     reference: &NdefPart,
     auxiliary: &[NdefPart],
-) -> usize {
-    let after_power = put(room, at, &[power]);
-    let after_first = put_reference(room, after_power, bytes, reference);
-    let after_count = put(room, after_first, &[auxiliary.len() as u8]);
-    put_references(room, after_count, bytes, auxiliary)
+) {
+    out.put(&[power]);
+    put_reference(out, bytes, reference);
+    out.put(&[auxiliary.len() as u8]);
+    put_references(out, bytes, auxiliary);
 }
 
 /// What is written for an alternative carrier, if its power and references may be so.
@@ -77,7 +62,7 @@ pub(crate) fn alternative_content<'a>(power: u32, bytes: &'a [u8], parts: &'a [N
     Some(Content::Alternative { power: power as u8, bytes, reference, auxiliary })
 }
 
-/// Writes the payload of an Alternative Carrier record, its reserved bits 0, to the room. Each reference
+/// Writes the payload of an Alternative Carrier record, its reserved bits 0, to the buffer. Each reference
 /// is a part of the bytes; the first is the carrier data reference, and the auxiliary ones follow.
 pub fn ndef_write_alternative<'a>(
     power: u32,

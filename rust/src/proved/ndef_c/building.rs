@@ -1,18 +1,19 @@
 // Written by ports/erase of crates/ndef_c/src/building.rt, which has the contracts: do not edit.
 //! A message that is built in the room of its caller, whole after each record.
 
-use crate::proved::ndef_c::making::{made_length, put_made, Ends, Made};
+use crate::proved::ndef_c::making::{put_made, Ends, Made};
+use crate::proved::ndef_c::out::Out;
 use crate::proved::ndef_c::status::{BAD_ARGUMENT, NO_ROOM, OK};
-use crate::proved::ndef_c::writing::{asked_parts, put_record, record_length, way_of, NdefWriting, Parts, Way};
+use crate::proved::ndef_c::writing::{asked_parts, put_record, way_of, NdefWriting, Parts, Way};
 use crate::proved::ndef_piece::whole_piece;
 
-/// What is known of a message that is being built in a room; all 0: no record is there yet.
+/// What is known of a message that is being built in a buffer; all 0: no record is there yet.
 #[repr(C)]
 #[derive(Clone, Copy, Debug, Default, PartialEq, Eq, Hash)]
 pub struct NdefBuilt {
     /// Its bytes.
     pub(crate) length: u64,
-    /// Where its last piece begins.
+    /// Where its last chunk begins.
     pub(crate) last_at: u64,
     /// Its records.
     pub(crate) records: u32,
@@ -57,14 +58,15 @@ fn reopen(room: &mut [u8], built: &NdefBuilt) {
 /// Appends a record to the message with which the room begins.
 fn append(room: &mut [u8], built: &mut NdefBuilt, parts: &Parts<'_>, way: Way, count: &mut usize) -> u32 {
     let start = built.length as usize;
-    let end = start + record_length(parts, way);
-    *count = end;
-    if room.len() < end {
+    let mut counter = Out::new(&mut [], start);
+    let last = put_record(&mut counter, parts, way);
+    *count = counter.at();
+    if room.len() < *count {
         return NO_ROOM;
     }
     reopen(room, built);
-    let last = put_record(room, start, parts, way);
-    *built = NdefBuilt { length: end as u64, last_at: last as u64, records: built.records + 1 };
+    let _last = put_record(&mut Out::new(room, start), parts, way);
+    *built = NdefBuilt { length: *count as u64, last_at: last as u64, records: built.records + 1 };
     OK
 }
 
@@ -73,19 +75,20 @@ pub(crate) fn append_made(room: &mut [u8], built: &mut NdefBuilt, made: &Made<'_
     let start = built.length as usize;
     let first = built.length == 0;
     let ends = Ends { first, last: true };
-    let end = start + made_length(made, ends);
-    *count = end;
-    if room.len() < end {
+    let mut counter = Out::new(&mut [], start);
+    put_made(&mut counter, made, ends);
+    *count = counter.at();
+    if room.len() < *count {
         return NO_ROOM;
     }
     reopen(room, built);
-    let _end = put_made(room, start, made, ends);
-    *built = NdefBuilt { length: end as u64, last_at: start as u64, records: built.records + 1 };
+    put_made(&mut Out::new(room, start), made, ends);
+    *built = NdefBuilt { length: *count as u64, last_at: start as u64, records: built.records + 1 };
     OK
 }
 
 /// Appends a record (NDEF 1.0, record layout and chunked payloads) to the message with which the
-/// room begins, and updates what is known of the message. The record that was the last no longer
+/// buffer begins, and updates what is known of the message. The record that was the last no longer
 /// is.
 pub fn ndef_append(
     built: &mut NdefBuilt,

@@ -9,7 +9,7 @@ use crate::proved::ndef_lang::{Kind, Leaf};
 use crate::proved::ndef_types::accept;
 use crate::proved::ndef_value::Profile;
 
-/// A handover carrier, by places and lengths in its payload.
+/// A handover carrier, by offsets and lengths in its payload.
 #[repr(C)]
 #[derive(Clone, Copy, Debug, Default, PartialEq, Eq, Hash)]
 pub struct NdefCarrier {
@@ -38,7 +38,7 @@ fn carrier_at(payload: &[u8]) -> NdefCarrier {
     }
 }
 
-/// Gives the places of the parts of the carrier for which the payload of a Handover Carrier record stands.
+/// Gives the offsets of the parts of the carrier that the payload of a Handover Carrier record describes.
 pub fn ndef_carrier(payload: &[u8], out: &mut NdefCarrier, why: &mut NdefChecked) -> u32 {
     match accept::<Leaf>(Kind::Carrier, Profile::Strict, payload) {
         Ok(()) => {
@@ -54,7 +54,7 @@ fn may_be_carrier(format: u32, kind: &[u8], carried: &[u8]) -> bool {
     format < 8 && kind.len() < 256 && carried.len() <= u32::MAX as usize - 2 - kind.len()
 }
 
-/// Writes the payload of a Handover Carrier record, its reserved bits 0, to the room.
+/// Writes the payload of a Handover Carrier record, its reserved bits 0, to the buffer.
 pub fn ndef_write_carrier(format: u32, kind: &[u8], carried: &[u8], room: &mut [u8], count: &mut usize) -> u32 {
     if !may_be_carrier(format, kind, carried) {
         return BAD_ARGUMENT;

@@ -13,7 +13,7 @@ use crate::proved::ndef_value::Limits;
 #[repr(C)]
 #[derive(Clone, Copy, Debug, Default, PartialEq, Eq, Hash)]
 pub struct NdefChecked {
-    /// The bytes of the message, or the place of the refusal.
+    /// The bytes of the message, or the offset of the refused byte.
     pub(crate) place: u64,
     /// The records of the message, 0 where it is refused.
     pub(crate) records: u32,

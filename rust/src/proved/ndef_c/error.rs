@@ -9,7 +9,7 @@ use crate::proved::ndef_lang::{Kind, Leaf};
 use crate::proved::ndef_types::accept;
 use crate::proved::ndef_value::Profile;
 
-/// A handover error, its data by their place and length in its payload.
+/// A handover error, its data by their offset and length in its payload.
 #[repr(C)]
 #[derive(Clone, Copy, Debug, Default, PartialEq, Eq, Hash)]
 pub struct NdefError {
@@ -41,7 +41,7 @@ fn error_at(payload: &[u8]) -> NdefError {
     NdefError { data_at: 1, data_length: detail.len(), reason: u32::from(*reason), has_number, number }
 }
 
-/// Gives the reason of the error for which the payload of an Error record stands, where its data
+/// Gives the reason of the error that the payload of an Error record describes, where its data
 /// lie, and the number that they give.
 pub fn ndef_error(payload: &[u8], out: &mut NdefError, why: &mut NdefChecked) -> u32 {
     match accept::<Leaf>(Kind::Error, Profile::Strict, payload) {

@@ -14,7 +14,7 @@ pub(crate) fn may_be_error(reason: u32, detail: &[u8]) -> bool {
     goes_with && reason < 256 && detail.len() < u32::MAX as usize
 }
 
-/// Writes the payload of an Error record, the reason and its data, to the room.
+/// Writes the payload of an Error record, the reason and its data, to the buffer.
 pub fn ndef_write_error(reason: u32, detail: &[u8], room: &mut [u8], count: &mut usize) -> u32 {
     if !may_be_error(reason, detail) {
         return BAD_ARGUMENT;
@@ -22,7 +22,7 @@ pub fn ndef_write_error(reason: u32, detail: &[u8], room: &mut [u8], count: &mut
     give_parts(&[], &[reason as u8], detail, room, count)
 }
 
-/// Writes the payload of an Error record of a defined reason, whose data are a number, to the room.
+/// Writes the payload of an Error record of a defined reason, whose data are a number, to the buffer.
 pub fn ndef_write_error_number(reason: u32, number: u32, room: &mut [u8], count: &mut usize) -> u32 {
     match reason {
         1 | 3 if number < 256 => give(&[reason as u8, number as u8], room, count),

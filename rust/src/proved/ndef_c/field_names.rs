@@ -49,7 +49,7 @@ pub(crate) fn name_of(number: u32) -> Option<FieldName> {
     Some(name)
 }
 
-/// Writes the name of the field with a number, in ASCII and with no NUL after it, to the room.
+/// Writes the name of the field with a number, in ASCII and with no NUL after it, to the buffer.
 pub fn ndef_field_name(name: u32, room: &mut [u8], count: &mut usize) -> u32 {
     let Some(name) = name_of(name) else {
         return BAD_ARGUMENT;

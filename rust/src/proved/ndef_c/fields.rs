@@ -122,7 +122,7 @@ fn answer_behind(checked: u32) -> u32 {
     }
 }
 
-/// Gives the field of the byte at a place of the message with which the bytes begin, or of those before the refused
+/// Gives the field of the byte at an offset of the message with which the bytes begin, or of those before the refused
 /// byte, and what a check answers.
 pub fn ndef_field_at(
     bytes: &[u8],
@@ -138,7 +138,7 @@ pub fn ndef_field_at(
     give_field(front, place, answer_behind(checked), out)
 }
 
-/// Steps to the field after this one, of which the length 0 and the place 0 are before the first.
+/// Steps to the field after this one, of which the length 0 and the offset 0 are before the first.
 pub fn ndef_next_field(bytes: &[u8], limits: &NdefLimits, field: &mut NdefField, why: &mut NdefChecked) -> u32 {
     let place = field.at.saturating_add(field.length);
     ndef_field_at(bytes, limits, place, field, why)

@@ -14,9 +14,10 @@ pub(crate) fn is_nest(kind: Kind, payload: &[u8]) -> bool {
     }
 }
 
-/// Whether the payload is that of a handover request or of a select.
+/// Whether the payload is that of a handover request or of a select. A request is mostly a select's payload too, as
+/// nothing demands that a select has no collision resolution: so a second check is seldom needed.
 pub(crate) fn is_handover(payload: &[u8]) -> bool {
-    is_nest(Kind::Request, payload) || is_nest(Kind::Select, payload)
+    is_nest(Kind::Select, payload) || is_nest(Kind::Request, payload)
 }
 
 /// The major and the minor version of a handover.

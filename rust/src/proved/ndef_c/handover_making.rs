@@ -30,7 +30,7 @@ fn version_octet(minor: u32) -> u8 {
     0x10 + minor as u8
 }
 
-/// Writes the payload of a Handover Request record to the room: the collision resolution with the number,
+/// Writes the payload of a Handover Request record to the buffer: the collision resolution with the number,
 /// and then the alternative carriers, whose references are parts of the bytes.
 pub fn ndef_write_request<'a>(
     minor: u32,
@@ -71,7 +71,7 @@ fn error_series<'a>(how: &NdefSelectWriting, bytes: &'a [u8]) -> Option<Series<'
     }
 }
 
-/// Writes the payload of a Handover Select record to the room: the alternative carriers, whose references
+/// Writes the payload of a Handover Select record to the buffer: the alternative carriers, whose references
 /// are parts of the bytes, and then the error. Without any of them it is the version alone.
 pub fn ndef_write_select<'a>(
     how: &'a NdefSelectWriting,

@@ -23,7 +23,7 @@ fn is_payload<L: Language>(kind: Kind, octet: u8, behind: &[u8]) -> bool {
     state.step_all(behind, length, length) == behind.len()
 }
 
-/// Writes the payload of a handover record, a version octet and the bytes of a message, to the room.
+/// Writes the payload of a handover record, a version octet and the bytes of a message, to the buffer.
 pub fn ndef_write_handover(
     number: u32,
     major: u32,

@@ -2,10 +2,10 @@
 //! The icons of a smart poster, where they lie (RTD Smart Poster 1.0).
 
 use crate::proved::ndef_c::part::NdefPart;
+use crate::proved::ndef_c::record::NdefRecord;
 use crate::proved::ndef_c::sought::{give_all, Sought, Wanted};
 use crate::proved::ndef_c::status::BAD_ARGUMENT;
 use crate::proved::ndef_c::titles::is_poster;
-use crate::proved::ndef_piece::WholePiece;
 use crate::proved::ndef_value::Tnf;
 
 /// Where an icon of a smart poster lies.
@@ -16,15 +16,6 @@ pub struct NdefIcon {
     pub(crate) media_type: NdefPart,
     /// The bytes of the image.
     pub(crate) octets: NdefPart,
-}
-
-/// Where the type and the payload of a piece lie in the bytes.
-fn icon_in(bytes: &[u8], piece: &WholePiece<'_>) -> NdefIcon {
-    let image_at = bytes.len() - piece.rest.len() - piece.payload.len();
-    NdefIcon {
-        media_type: NdefPart { at: image_at - piece.id.len() - piece.kind.len(), length: piece.kind.len() },
-        octets: NdefPart { at: image_at, length: piece.payload.len() },
-    }
 }
 
 /// The icons of a poster.
@@ -49,8 +40,11 @@ impl<'a> Sought for Icons<'a> {
         self.payload
     }
 
-    fn given(&self, piece: &WholePiece<'_>) -> NdefIcon {
-        icon_in(self.payload, piece)
+    fn given(&self, found: &NdefRecord) -> NdefIcon {
+        NdefIcon {
+            media_type: NdefPart { at: found.type_at, length: found.type_length },
+            octets: NdefPart { at: found.payload_at, length: found.part_length },
+        }
     }
 }
 
@@ -59,7 +53,7 @@ fn give_icons(payload: &[u8], array: &mut [NdefIcon], count: &mut usize) -> u32 
     give_all(&Icons { payload }, array, count)
 }
 
-/// Gives the places of the media type and the image of each icon of a smart poster, in the payload
+/// Gives the offsets of the media type and the image of each icon of a smart poster, in the payload
 /// of the poster. Each record of a media type counts, whatever the type.
 pub fn ndef_poster_icons(payload: &[u8], array: &mut [NdefIcon], count: &mut usize) -> u32 {
     if !is_poster(payload) {

@@ -12,7 +12,7 @@ use crate::proved::ndef_lang::{Kind, Opaque, RecordLanguage};
 use crate::proved::ndef_nest::Typed;
 use crate::proved::ndef_value::Limits;
 
-/// A record, by places and lengths in the bytes. Its id lies between its type and its payload, so at `payload_at` -
+/// A record, by offsets and lengths in the bytes. Its id lies between its type and its payload, so at `payload_at` -
 /// `id_length`.
 #[repr(C)]
 #[derive(Clone, Copy, Debug, Default, PartialEq, Eq, Hash)]
@@ -23,7 +23,7 @@ pub struct NdefItem {
     pub(crate) end: u32,
     /// The type name format, 0 to 5.
     pub(crate) tnf: u32,
-    /// The number of its kind, as `ndef_kind` says it of a record in a message of its own.
+    /// The number of its kind, which `ndef_kind` says of a record in a message of its own.
     pub(crate) kind: u32,
     /// Where its type begins.
     pub(crate) type_at: u32,
@@ -31,13 +31,13 @@ pub struct NdefItem {
     pub(crate) type_length: u32,
     /// The bytes of its id, at most 255.
     pub(crate) id_length: u32,
-    /// Where the payload of its first piece begins.
+    /// Where the payload of its first chunk begins.
     pub(crate) payload_at: u32,
-    /// The bytes of its payload, the pieces joined.
+    /// The bytes of its payload, the chunks joined.
     pub(crate) payload_length: u32,
-    /// Its pieces.
+    /// The number of its chunks.
     pub(crate) pieces: u32,
-    /// 1 for a text in UTF-8, 2 for one in UTF-16, 3 for a URI. 0 for any other record, for one in several pieces, and
+    /// 1 for a text in UTF-8, 2 for one in UTF-16, 3 for a URI. 0 for any other record, for one in several chunks, and
     /// where no payload was looked into: then the members after it are 0.
     pub(crate) form: u32,
     /// The code of the prefix of a URI, else 0.

@@ -7,11 +7,11 @@ use crate::proved::ndef_value::{Limits, Profile};
 #[repr(C)]
 #[derive(Clone, Copy, Debug, Default, PartialEq, Eq, Hash)]
 pub struct NdefLimits {
-    /// The greatest number of bytes of a payload, its pieces joined, 1 to 4294967295.
+    /// The greatest number of bytes of a payload, its chunks joined, 1 to 4294967295.
     pub(crate) payload: u32,
     /// The greatest number of records of a message, 1 to 65535.
     pub(crate) records: u32,
-    /// The greatest number of pieces of a record, 1 to 65535.
+    /// The greatest number of chunks of a record, 1 to 65535.
     pub(crate) pieces: u32,
     /// 1 for the profile Standard, 2 for a look into no payload, 3 for both.
     pub(crate) flags: u32,
@@ -37,7 +37,7 @@ pub(crate) fn limits_of(numbers: &NdefLimits) -> Option<(Limits, bool)> {
     Some((limits.with(profile_of(numbers.flags)), numbers.flags < 2))
 }
 
-/// Writes the limits for usual tags: 1048576 bytes, 1024 records and 4096 pieces, strict, with a look
+/// Writes the default limits: 1048576 bytes, 1024 records and 4096 chunks, strict, with a look
 /// into payloads.
 pub fn ndef_usual_limits(out: &mut NdefLimits) {
     let limits = Limits::usual();

@@ -2,10 +2,11 @@
 //! The links of messages (Connection Handover 1.2).
 
 use crate::proved::ndef_c::alternative::carrier_reference;
-use crate::proved::ndef_c::handover::{behind_version, is_handover};
+use crate::proved::ndef_c::handover::is_handover;
+use crate::proved::ndef_c::links::Links;
 use crate::proved::ndef_c::message::{has_message, record_with, Place};
-use crate::proved::ndef_c::nested::alternative_at;
-use crate::proved::ndef_c::status::{BAD_ARGUMENT, END, OK};
+use crate::proved::ndef_c::sought::give_one;
+use crate::proved::ndef_c::status::BAD_ARGUMENT;
 
 /// A link: an alternative carrier of a handover, and the record to which it refers.
 #[repr(C)]
@@ -39,13 +40,7 @@ pub(crate) fn link_of(bytes: &[u8], at: usize, carrier: &[u8]) -> NdefLink {
 
 /// Gives the link with an index, if there is one.
 fn give_link(bytes: &[u8], payload: &[u8], index: usize, out: &mut NdefLink) -> u32 {
-    match alternative_at(behind_version(payload), index) {
-        Some(carrier) => {
-            *out = link_of(bytes, carrier.at, carrier.payload);
-            OK
-        }
-        None => END,
-    }
+    give_one(&Links { bytes, payload }, index, out)
 }
 
 /// Gives the link with an index: where the payload of its Alternative Carrier record lies in the payload of a handover,

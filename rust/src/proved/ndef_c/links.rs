@@ -4,17 +4,17 @@
 use crate::proved::ndef_c::handover::{behind_version, is_handover};
 use crate::proved::ndef_c::link::{link_of, NdefLink};
 use crate::proved::ndef_c::message::has_message;
-use crate::proved::ndef_c::nested::{found_in, is_alternative};
+use crate::proved::ndef_c::nested::is_alternative;
+use crate::proved::ndef_c::record::{part_in, NdefRecord};
 use crate::proved::ndef_c::sought::{give_all, Sought, Wanted};
 use crate::proved::ndef_c::status::BAD_ARGUMENT;
-use crate::proved::ndef_piece::WholePiece;
 use crate::proved::ndef_value::Tnf;
 
 /// The links of the message with which the bytes begin, by the payload of its handover.
 #[derive(Clone, Copy)]
-struct Links<'a> {
-    bytes: &'a [u8],
-    payload: &'a [u8],
+pub(crate) struct Links<'a> {
+    pub(crate) bytes: &'a [u8],
+    pub(crate) payload: &'a [u8],
 }
 
 impl<'a> Wanted for Links<'a> {
@@ -30,9 +30,9 @@ impl<'a> Sought for Links<'a> {
         behind_version(self.payload)
     }
 
-    fn given(&self, piece: &WholePiece<'_>) -> NdefLink {
-        let carrier = found_in(behind_version(self.payload), piece);
-        link_of(self.bytes, carrier.at, carrier.payload)
+    fn given(&self, found: &NdefRecord) -> NdefLink {
+        let carrier = part_in(behind_version(self.payload), found);
+        link_of(self.bytes, found.payload_at, carrier)
     }
 }
 

@@ -5,13 +5,15 @@
 //! Where to look:
 //!
 //! - `checking.rs`: check. `feeding.rs`, `crates/ndef_c/specs/Feeding.antt`: check of bytes that come in parts.
-//! - `run.rs`, `record.rs`, `crates/ndef_c/specs/Walks.antt`: the record at a place. `payload.rs`: its joined payload.
+//! - `run.rs`, `record.rs`, `crates/ndef_c/specs/Walks.antt`: the record at a place. `payload.rs`: its joined payload. `walk.rs`: the
+//!   records from a place on, which other calls go over.
 //! - `kinds.rs`, `crates/ndef_c/specs/Kinds.antt`: what the payload of a record is, as its type says.
 //! - `pieces.rs`, `crates/ndef_c/specs/Pieces.antt`: where its pieces lie. `crates/ndef_c/specs/Arrays.antt`: what is written to an array.
 //! - `fields.rs`, `field_names.rs`, `payload_fields.rs`, `crates/ndef_c/specs/Fields.antt`: in which field each byte stands.
 //! - `why.rs`, `crates/ndef_c/specs/Whys.antt`: why bytes are refused, and what may help, in sentences. `remarks.rs`,
 //!   `crates/ndef_c/specs/Remarks.antt`: what is strange in a message that is accepted.
 //! - `items.rs`, `crates/ndef_c/specs/Items.antt`: a message and all its records, in one call.
+//! - `layout.rs`, `crates/ndef_c/specs/Layouts.antt`: payloads of a layout that a program gives.
 //! - `finding.rs`, `crates/ndef_c/specs/Finding.antt`: the first record with a type or an id.
 //! - `writing.rs`, `crates/ndef_c/specs/Writes.antt`: a record written. `building.rs`, `crates/ndef_c/specs/Built.antt`, `crates/ndef_c/specs/Growing.antt`: a
 //!   message built in a room. `making.rs`, `crates/ndef_c/specs/Made.antt`, `content.rs`, `crates/ndef_c/specs/Contents.antt`: a record whose
@@ -32,7 +34,7 @@
 //!   selects share. `links.rs`, `references.rs`: all links of a message, all references of an alternative carrier.
 //! - `nested.rs`: records of the messages in payloads. `sought.rs`, `crates/ndef_c/specs/Sought.antt`: what is given for each record
 //!   that is wanted, and their number.
-//! - `room.rs`, `crates/ndef_c/specs/Rooms.antt`: bytes written to the caller's buffer.
+//! - `out.rs`, `room.rs`, `crates/ndef_c/specs/Rooms.antt`: octets written to the caller's buffer, or counted.
 //! - `crates/ndef_c/src/laws.rt`: what holds of the calls together.
 
 mod alternative;
@@ -55,6 +57,7 @@ mod handover_writing;
 mod icons;
 mod items;
 mod kinds;
+mod layout;
 mod limits;
 mod link;
 mod links;
@@ -62,6 +65,7 @@ mod making;
 mod message;
 mod nested;
 mod numbers;
+mod out;
 mod part;
 mod payload;
 mod payload_fields;
@@ -90,6 +94,7 @@ mod uri;
 mod uri_view;
 mod utf16;
 mod version;
+mod walk;
 mod why;
 mod writing;
 
@@ -133,6 +138,14 @@ pub use icons::NdefIcon;
 pub use items::ndef_items;
 pub use items::NdefItem;
 pub use kinds::ndef_kind;
+pub use layout::ndef_check_layout;
+pub use layout::NdefLaidOut;
+pub use layout::NdefLayoutField;
+pub use layout::LAYOUT_COUNTED;
+pub use layout::LAYOUT_OCTETS;
+pub use layout::LAYOUT_REST;
+pub use layout::LAYOUT_UTF8;
+pub use layout::LAYOUT_WITHIN;
 pub use limits::ndef_usual_limits;
 pub use limits::NdefLimits;
 pub use link::ndef_link_at;

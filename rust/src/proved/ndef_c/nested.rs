@@ -1,10 +1,11 @@
 // Written by ports/erase of crates/ndef_c/src/nested.rt, which has the contracts: do not edit.
 //! Records of the messages in payloads, where they lie.
 
+use crate::proved::ndef_c::record::{part_in, tnf_in, type_in};
 use crate::proved::ndef_c::sought::{count_wanted, Wanted};
+use crate::proved::ndef_c::walk::Walk;
 use crate::proved::ndef_lang::Kind;
 use crate::proved::ndef_nest::Table;
-use crate::proved::ndef_piece::{whole_piece, WholePiece};
 use crate::proved::ndef_types::is_kind;
 use crate::proved::ndef_value::Tnf;
 
@@ -17,20 +18,12 @@ pub(crate) struct Found<'a> {
     pub(crate) payload: &'a [u8],
 }
 
-/// The payload of a piece that lies in the bytes.
-pub(crate) fn found_in<'a>(bytes: &'a [u8], piece: &WholePiece<'a>) -> Found<'a> {
-    Found { at: bytes.len() - piece.rest.len() - piece.payload.len(), payload: piece.payload }
-}
-
 /// The payload of the first record of a kind in a nested message, each record of which is in one piece.
 pub(crate) fn first_of(table: Table, bytes: &[u8], kind: Kind) -> Option<Found<'_>> {
-    let mut rest = bytes;
-    while !rest.is_empty() {
-        let Some(piece) = whole_piece(rest) else { unreachable!() };
-        if is_kind(table.kind(piece.tnf(), piece.kind), kind) {
-            return Some(found_in(bytes, &piece));
+    for found in Walk::from(bytes, 0) {
+        if is_kind(table.kind(tnf_in(&found), type_in(bytes, &found)), kind) {
+            return Some(Found { at: found.payload_at, payload: part_in(bytes, &found) });
         }
-        rest = piece.rest;
     }
     None
 }
@@ -41,24 +34,6 @@ pub(crate) fn is_alternative(tnf: Tnf, kind: &[u8]) -> bool {
         Kind::Alternative => true,
         _ => false,
     }
-}
-
-/// The payload of the alternative carrier with an index in a message, each record of which is in one
-/// piece.
-pub(crate) fn alternative_at(bytes: &[u8], index: usize) -> Option<Found<'_>> {
-    let mut rest = bytes;
-    let mut left = index;
-    while !rest.is_empty() {
-        let Some(piece) = whole_piece(rest) else { unreachable!() };
-        if is_alternative(piece.tnf(), piece.kind) {
-            if left == 0 {
-                return Some(found_in(bytes, &piece));
-            }
-            left -= 1;
-        }
-        rest = piece.rest;
-    }
-    None
 }
 
 /// The alternative carriers of a message.

@@ -5,7 +5,7 @@
 use crate::proved::ndef_c::room::give;
 use crate::proved::ndef_c::status::BAD_ARGUMENT;
 
-/// Writes the payload of an Action record, one octet, to the room.
+/// Writes the payload of an Action record, one octet, to the buffer.
 pub fn ndef_write_action(action: u32, room: &mut [u8], count: &mut usize) -> u32 {
     if action > 255 {
         return BAD_ARGUMENT;
@@ -13,12 +13,12 @@ pub fn ndef_write_action(action: u32, room: &mut [u8], count: &mut usize) -> u32
     give(&[action as u8], room, count)
 }
 
-/// Writes the payload of a Size record, four octets, to the room.
+/// Writes the payload of a Size record, four octets, to the buffer.
 pub fn ndef_write_size(bytes: u32, room: &mut [u8], count: &mut usize) -> u32 {
     give(&bytes.to_be_bytes(), room, count)
 }
 
-/// Writes the payload of a Collision Resolution record, two octets, to the room.
+/// Writes the payload of a Collision Resolution record, two octets, to the buffer.
 pub fn ndef_write_collision(number: u32, room: &mut [u8], count: &mut usize) -> u32 {
     if number > 65535 {
         return BAD_ARGUMENT;

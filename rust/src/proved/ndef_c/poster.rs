@@ -76,7 +76,7 @@ fn poster_at(payload: &[u8]) -> NdefPoster {
     NdefPoster { uri_at: uri.at, uri_length: uri.payload.len(), has_action, action, has_size, size }
 }
 
-/// Gives the place of the payload of the URI record of a smart poster, its action and its size.
+/// Gives the offset of the payload of the URI record of a smart poster, its action and its size.
 pub fn ndef_poster(payload: &[u8], flags: u32, out: &mut NdefPoster, why: &mut NdefChecked) -> u32 {
     if flags > 1 {
         return BAD_ARGUMENT;

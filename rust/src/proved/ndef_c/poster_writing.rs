@@ -103,7 +103,7 @@ fn said_of<'a>(poster: &Poster<'a>, numbers: &'a Numbers) -> Option<Said<'a>> {
     })
 }
 
-/// Writes the payload of a Smart Poster record to the room. What the poster is made of are parts of the
+/// Writes the payload of a Smart Poster record to the buffer. All that the poster holds are parts of the
 /// bytes.
 pub fn ndef_write_poster<'a>(
     bytes: &'a [u8],

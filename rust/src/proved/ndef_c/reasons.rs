@@ -38,7 +38,7 @@ fn reason_of(number: u32) -> Option<Reason> {
     Some(reason)
 }
 
-/// Writes the name of the reason with a number, in ASCII and with no NUL after it, to the room.
+/// Writes the name of the reason with a number, in ASCII and with no NUL after it, to the buffer.
 pub fn ndef_reason_name(reason: u32, room: &mut [u8], count: &mut usize) -> u32 {
     let Some(reason) = reason_of(reason) else {
         return BAD_ARGUMENT;
@@ -46,7 +46,7 @@ pub fn ndef_reason_name(reason: u32, room: &mut [u8], count: &mut usize) -> u32 
     give(reason.name(), room, count)
 }
 
-/// Writes what the reason with a number means to the room: a sentence of English, in ASCII and with no NUL after it.
+/// Writes what the reason with a number means to the buffer: a sentence of English, in ASCII and with no NUL after it.
 pub fn ndef_reason_sentence(reason: u32, room: &mut [u8], count: &mut usize) -> u32 {
     let Some(reason) = reason_of(reason) else {
         return BAD_ARGUMENT;

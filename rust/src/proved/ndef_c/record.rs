@@ -3,8 +3,10 @@
 
 use crate::proved::ndef_c::run::first_run;
 use crate::proved::ndef_c::status::{BAD_ARGUMENT, END, OK};
+use crate::proved::ndef_c::writing::tnf_of;
+use crate::proved::ndef_value::Tnf;
 
-/// A record, by places and lengths in the bytes.
+/// A record, by offsets and lengths in the bytes.
 #[repr(C)]
 #[derive(Clone, Copy, Debug, Default, PartialEq, Eq, Hash)]
 pub struct NdefRecord {
@@ -20,13 +22,13 @@ pub struct NdefRecord {
     pub(crate) id_at: usize,
     /// The bytes of its id, at most 255.
     pub(crate) id_length: usize,
-    /// Where the payload of its first piece begins.
+    /// Where the payload of its first chunk begins.
     pub(crate) payload_at: usize,
-    /// The bytes of the payload of its first piece.
+    /// The bytes of the payload of its first chunk.
     pub(crate) part_length: usize,
-    /// The bytes of its payload, the pieces joined.
+    /// The bytes of its payload, the chunks joined.
     pub(crate) payload_length: usize,
-    /// Its pieces.
+    /// The number of its chunks.
     pub(crate) pieces: usize,
     /// The type name format, 0 to 5.
     pub(crate) tnf: u32,
@@ -63,7 +65,28 @@ pub(crate) fn record_at(bytes: &[u8], at: usize) -> Option<NdefRecord> {
     })
 }
 
-/// The record at a place of the bytes.
+/// The type name format of a record (NDEF 1.0, TNF).
+pub(crate) fn tnf_in(found: &NdefRecord) -> Tnf {
+    let Some(tnf) = tnf_of(found.tnf) else { unreachable!() };
+    tnf
+}
+
+/// The type of a record (NDEF 1.0, TYPE).
+pub(crate) fn type_in<'a>(bytes: &'a [u8], found: &NdefRecord) -> &'a [u8] {
+    &bytes[found.type_at..found.type_at + found.type_length]
+}
+
+/// The id of a record, empty where it has none (NDEF 1.0, ID).
+pub(crate) fn id_in<'a>(bytes: &'a [u8], found: &NdefRecord) -> &'a [u8] {
+    &bytes[found.id_at..found.id_at + found.id_length]
+}
+
+/// The payload of the first piece of a record (NDEF 1.0, PAYLOAD).
+pub(crate) fn part_in<'a>(bytes: &'a [u8], found: &NdefRecord) -> &'a [u8] {
+    &bytes[found.payload_at..found.payload_at + found.part_length]
+}
+
+/// The record at an offset of the bytes.
 pub fn ndef_record_at(bytes: &[u8], at: usize, out: &mut NdefRecord) -> u32 {
     if at == bytes.len() {
         return END;

@@ -32,8 +32,8 @@ fn give_references(payload: &[u8], parts: &mut [NdefPart], count: &mut usize) ->
     OK
 }
 
-/// Gives the place of each reference in the payload of an Alternative Carrier record: the carrier data reference first,
-/// then the auxiliary ones.
+/// Gives the offset of each reference in the payload of an Alternative Carrier record: the carrier data reference
+/// first, then the auxiliary ones.
 pub fn ndef_references(payload: &[u8], parts: &mut [NdefPart], count: &mut usize) -> u32 {
     match accept::<Leaf>(Kind::Alternative, Profile::Strict, payload) {
         Ok(()) => give_references(payload, parts, count),

@@ -18,7 +18,7 @@ fn give_remark(remark: Option<Remark>, room: &mut [u8], count: &mut usize) -> u3
     }
 }
 
-/// Writes what is strange in a field of a message that is accepted to the room: a sentence of English, in ASCII and
+/// Writes what is strange in a field of a message that is accepted to the buffer: a sentence of English, in ASCII and
 /// with no NUL after it.
 pub fn ndef_field_remark(name: u32, octets: &[u8], room: &mut [u8], count: &mut usize) -> u32 {
     let Some(name) = name_of(name) else {
@@ -54,8 +54,8 @@ fn remark_at(bytes: &[u8], index: usize) -> Option<Remark> {
     remark_on(&message, &item)
 }
 
-/// Writes what is strange in a record of a message that is accepted, beside the other records, to the room: a sentence
-/// of English, in ASCII and with no NUL after it.
+/// Writes what is strange in a record of a message that is accepted, beside the other records, to the buffer: a
+/// sentence of English, in ASCII and with no NUL after it.
 pub fn ndef_record_remark(bytes: &[u8], index: usize, room: &mut [u8], count: &mut usize) -> u32 {
     give_remark(remark_at(bytes, index), room, count)
 }

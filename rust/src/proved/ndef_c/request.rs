@@ -48,7 +48,7 @@ fn request_at(payload: &[u8]) -> NdefRequest {
     NdefRequest { carriers: alternatives_in(message), major, minor, collision: collision_of(message) }
 }
 
-/// Gives the version of the handover request for which the payload of a Handover Request record stands, its random
+/// Gives the version of the handover request that the payload of a Handover Request record describes, its random
 /// number and its number of alternative carriers.
 pub fn ndef_request(payload: &[u8], flags: u32, out: &mut NdefRequest, why: &mut NdefChecked) -> u32 {
     if flags > 1 {

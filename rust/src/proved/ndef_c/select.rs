@@ -67,8 +67,8 @@ fn select_at(payload: &[u8]) -> NdefSelect {
     }
 }
 
-/// Gives the version of the handover select for which the payload of a Handover Select record
-/// stands, its error and its number of alternative carriers.
+/// Gives the version of the handover select that the payload of a Handover Select record
+/// describes, its error and its number of alternative carriers.
 pub fn ndef_select(payload: &[u8], flags: u32, out: &mut NdefSelect, why: &mut NdefChecked) -> u32 {
     if flags > 1 {
         return BAD_ARGUMENT;

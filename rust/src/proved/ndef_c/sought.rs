@@ -1,8 +1,9 @@
 // Written by ports/erase of crates/ndef_c/src/sought.rt, which has the contracts: do not edit.
 //! What is sought in a message, each record of which is in one piece.
 
-use crate::proved::ndef_c::status::{NO_ROOM, OK};
-use crate::proved::ndef_piece::{whole_piece, WholePiece};
+use crate::proved::ndef_c::record::{tnf_in, type_in, NdefRecord};
+use crate::proved::ndef_c::status::{END, NO_ROOM, OK};
+use crate::proved::ndef_c::walk::Walk;
 use crate::proved::ndef_value::Tnf;
 
 /// Which records of a message are wanted, by their types.
@@ -19,35 +20,51 @@ pub(crate) trait Sought: Wanted {
     /// The message.
     fn message(&self) -> &[u8];
 
-    /// What is given for the record of a piece.
-    fn given(&self, piece: &WholePiece<'_>) -> Self::Given;
+    /// What is given for a record.
+    fn given(&self, found: &NdefRecord) -> Self::Given;
+}
+
+/// Whether a record is wanted, by its type.
+fn wants<W: Wanted>(bytes: &[u8], found: &NdefRecord) -> bool {
+    W::is_wanted(tnf_in(found), type_in(bytes, found))
 }
 
 /// The number of wanted records in a message, each record of which is in one piece.
 pub(crate) fn count_wanted<W: Wanted>(bytes: &[u8]) -> usize {
-    let mut rest = bytes;
     let mut count = 0;
-    while !rest.is_empty() {
-        let Some(piece) = whole_piece(rest) else { unreachable!() };
-        if W::is_wanted(piece.tnf(), piece.kind) {
+    for found in Walk::from(bytes, 0) {
+        if wants::<W>(bytes, &found) {
             count += 1;
         }
-        rest = piece.rest;
     }
     count
 }
 
+/// Gives what is sought of the wanted record at `index`, or END where fewer records are wanted.
+pub(crate) fn give_one<S: Sought>(sought: &S, index: usize, out: &mut S::Given) -> u32 {
+    let message = sought.message();
+    let mut left = index;
+    for found in Walk::from(message, 0) {
+        if wants::<S>(message, &found) {
+            if left == 0 {
+                *out = sought.given(&found);
+                return OK;
+            }
+            left -= 1;
+        }
+    }
+    END
+}
+
 /// Writes what is given for each wanted record to the front of the array.
 fn tell_all<S: Sought>(sought: &S, array: &mut [S::Given]) {
-    let mut rest = sought.message();
+    let message = sought.message();
     let mut index = 0;
-    while !rest.is_empty() {
-        let Some(piece) = whole_piece(rest) else { unreachable!() };
-        if S::is_wanted(piece.tnf(), piece.kind) {
-            array[index] = sought.given(&piece);
+    for found in Walk::from(message, 0) {
+        if wants::<S>(message, &found) {
+            array[index] = sought.given(&found);
             index += 1;
         }
-        rest = piece.rest;
     }
 }
 

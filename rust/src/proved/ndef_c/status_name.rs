@@ -41,7 +41,7 @@ fn text_of(status: Status) -> &'static str {
     }
 }
 
-/// Writes the name of the status with a number, in ASCII and with no NUL after it, to the room.
+/// Writes the name of the status with a number, in ASCII and with no NUL after it, to the buffer.
 pub fn ndef_status_name(status: u32, room: &mut [u8], count: &mut usize) -> u32 {
     let Some(status) = status_of(status) else {
         return BAD_ARGUMENT;

@@ -11,7 +11,7 @@ use crate::proved::ndef_lang::{Kind, Leaf};
 use crate::proved::ndef_types::{accept, split_language, unmark};
 use crate::proved::ndef_value::Profile;
 
-/// A text, by places and lengths in its payload.
+/// A text, by offsets and lengths in its payload.
 #[repr(C)]
 #[derive(Clone, Copy, Debug, Default, PartialEq, Eq, Hash)]
 pub struct NdefText {
@@ -40,7 +40,7 @@ pub(crate) fn text_at(payload: &[u8]) -> NdefText {
     }
 }
 
-/// Gives the places of the parts of the text for which the payload of a Text record stands.
+/// Gives the offsets of the parts of the text that the payload of a Text record holds.
 pub fn ndef_text(payload: &[u8], out: &mut NdefText, why: &mut NdefChecked) -> u32 {
     match accept::<Leaf>(Kind::Text, Profile::Strict, payload) {
         Ok(()) => {
@@ -61,7 +61,7 @@ fn give_text(payload: &[u8], room: &mut [u8], count: &mut usize) -> u32 {
     give_in_utf8(little, octets, room, count)
 }
 
-/// Writes the text for which the payload of a Text record stands to the room in UTF-8, converted where
+/// Writes the text that the payload of a Text record holds to the buffer in UTF-8, converted where
 /// it is UTF-16, without its byte order mark.
 pub fn ndef_text_in_utf8(payload: &[u8], room: &mut [u8], count: &mut usize, why: &mut NdefChecked) -> u32 {
     match accept::<Leaf>(Kind::Text, Profile::Strict, payload) {
@@ -85,7 +85,7 @@ pub(crate) fn text_content<'a>(language: &'a [u8], text: &'a [u8], flags: u32) -
     }
 }
 
-/// Writes the payload of a Text record to the room. The text is given in UTF-8.
+/// Writes the payload of a Text record to the buffer. The text is given in UTF-8.
 pub fn ndef_write_text(language: &[u8], text: &[u8], flags: u32, room: &mut [u8], count: &mut usize) -> u32 {
     let Some(content) = text_content(language, text, flags) else {
         return BAD_ARGUMENT;

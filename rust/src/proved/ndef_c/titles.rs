@@ -2,14 +2,15 @@
 //! The titles and the media type of a smart poster, where they lie (RTD Smart Poster 1.0).
 
 use crate::proved::ndef_c::handover::is_nest;
-use crate::proved::ndef_c::nested::{first_of, found_in, Found};
+use crate::proved::ndef_c::nested::first_of;
 use crate::proved::ndef_c::part::NdefPart;
+use crate::proved::ndef_c::record::{part_in, tnf_in, type_in, NdefRecord};
 use crate::proved::ndef_c::sought::{give_all, Sought, Wanted};
 use crate::proved::ndef_c::status::{BAD_ARGUMENT, END, OK};
 use crate::proved::ndef_c::text::{text_at, NdefText};
+use crate::proved::ndef_c::walk::Walk;
 use crate::proved::ndef_lang::Kind;
 use crate::proved::ndef_nest::Table;
-use crate::proved::ndef_piece::{whole_piece, WholePiece};
 use crate::proved::ndef_value::Tnf;
 
 /// Whether the payload is that of a smart poster, as the standard reads it.
@@ -25,13 +26,13 @@ fn is_title(tnf: Tnf, kind: &[u8]) -> bool {
     }
 }
 
-/// Where the parts of a text lie, by where its payload lies.
-fn text_of(found: &Found<'_>) -> NdefText {
-    let text = text_at(found.payload);
+/// Where the parts of a text lie, which is the payload of a record in one piece.
+fn text_of(bytes: &[u8], found: &NdefRecord) -> NdefText {
+    let text = text_at(part_in(bytes, found));
     NdefText {
-        language_at: found.at + text.language_at,
+        language_at: found.payload_at + text.language_at,
         language_length: text.language_length,
-        text_at: found.at + text.text_at,
+        text_at: found.payload_at + text.text_at,
         text_length: text.text_length,
         utf16: text.utf16,
     }
@@ -56,8 +57,8 @@ impl<'a> Sought for Titles<'a> {
         self.payload
     }
 
-    fn given(&self, piece: &WholePiece<'_>) -> NdefText {
-        text_of(&found_in(self.payload, piece))
+    fn given(&self, found: &NdefRecord) -> NdefText {
+        text_of(self.payload, found)
     }
 }
 
@@ -66,7 +67,7 @@ fn give_titles(payload: &[u8], texts: &mut [NdefText], count: &mut usize) -> u32
     give_all(&Titles { payload }, texts, count)
 }
 
-/// Gives the place of each title of a smart poster, as `ndef_text` gives the parts of a text, but by places in the
+/// Gives the offset of each title of a smart poster, as `ndef_text` gives the parts of a text, but by offsets in the
 /// payload of the poster.
 pub fn ndef_poster_titles(payload: &[u8], texts: &mut [NdefText], count: &mut usize) -> u32 {
     if !is_poster(payload) {
@@ -75,7 +76,7 @@ pub fn ndef_poster_titles(payload: &[u8], texts: &mut [NdefText], count: &mut us
     give_titles(payload, texts, count)
 }
 
-/// Gives the place of the media type to which the URI of a smart poster leads.
+/// Gives the offset of the media type to which the URI of a smart poster leads.
 pub fn ndef_poster_media_type(payload: &[u8], out: &mut NdefPart) -> u32 {
     if !is_poster(payload) {
         return BAD_ARGUMENT;
@@ -95,21 +96,18 @@ fn is_language(bytes: &[u8], text: &NdefText, language: &[u8]) -> bool {
 
 /// Where the first title in a language lies.
 fn title_in(payload: &[u8], language: &[u8]) -> Option<NdefText> {
-    let mut rest = payload;
-    while !rest.is_empty() {
-        let Some(piece) = whole_piece(rest) else { unreachable!() };
-        if is_title(piece.tnf(), piece.kind) {
-            let text = text_of(&found_in(payload, &piece));
+    for found in Walk::from(payload, 0) {
+        if is_title(tnf_in(&found), type_in(payload, &found)) {
+            let text = text_of(payload, &found);
             if is_language(payload, &text, language) {
                 return Some(text);
             }
         }
-        rest = piece.rest;
     }
     None
 }
 
-/// Gives the place of the title of a smart poster in a language, of several the first, as
+/// Gives the offset of the title of a smart poster in a language, of several the first, as
 /// `ndef_poster_titles` gives it. The case of the letters of language codes doesn't matter (RFC
 /// 5646, section 2.1.1).
 pub fn ndef_title(payload: &[u8], language: &[u8], out: &mut NdefText) -> u32 {

@@ -16,7 +16,7 @@ fn give_uri(payload: &[u8], room: &mut [u8], count: &mut usize) -> u32 {
     give_parts(&[], prefix(*code).as_bytes(), rest, room, count)
 }
 
-/// Writes the URI for which the payload of a URI record stands, its prefix written out, to the room.
+/// Writes the URI that the payload of a URI record holds, its prefix written out, to the buffer.
 pub fn ndef_uri(payload: &[u8], flags: u32, room: &mut [u8], count: &mut usize, why: &mut NdefChecked) -> u32 {
     if flags > 1 {
         return BAD_ARGUMENT;
@@ -27,7 +27,7 @@ pub fn ndef_uri(payload: &[u8], flags: u32, room: &mut [u8], count: &mut usize, 
     }
 }
 
-/// Writes the payload of a URI record, by the longest prefix that begins the URI, to the room.
+/// Writes the payload of a URI record, by the longest prefix that begins the URI, to the buffer.
 pub fn ndef_write_uri(uri: &[u8], room: &mut [u8], count: &mut usize) -> u32 {
     let Ok(text) = crate::proved::shim::simdutf8::basic::from_utf8(uri) else {
         return BAD_ARGUMENT;

@@ -27,7 +27,7 @@ pub(crate) fn uri_at(payload: &[u8]) -> NdefUri {
     NdefUri { rest_at: 1, rest_length: rest.len(), code: u32::from(*code) }
 }
 
-/// Gives the code of the prefix and the place of the rest of the URI for which the payload of a URI record stands.
+/// Gives the code of the prefix and the offset of the rest of the URI that the payload of a URI record holds.
 pub fn ndef_uri_view(payload: &[u8], flags: u32, out: &mut NdefUri, why: &mut NdefChecked) -> u32 {
     if flags > 1 {
         return BAD_ARGUMENT;
@@ -41,8 +41,8 @@ pub fn ndef_uri_view(payload: &[u8], flags: u32, out: &mut NdefUri, why: &mut Nd
     }
 }
 
-/// Writes the prefix for which a code stands (RTD URI 1.0, URI identifier codes) to the room; a reserved
-/// code stands for the empty one.
+/// Writes the prefix of a code (RTD URI 1.0, URI identifier codes) to the buffer; a reserved
+/// code has the empty one.
 pub fn ndef_uri_prefix(code: u32, room: &mut [u8], count: &mut usize) -> u32 {
     if code > 255 {
         return BAD_ARGUMENT;

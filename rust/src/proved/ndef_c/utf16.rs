@@ -1,7 +1,7 @@
 // Written by ports/erase of crates/ndef_c/src/utf16.rt, which has the contracts: do not edit.
 //! Texts in UTF-16 (RFC 2781), read and written.
 
-use crate::proved::ndef_c::room::put;
+use crate::proved::ndef_c::out::Out;
 use crate::proved::ndef_c::status::{NO_ROOM, OK};
 
 /// The unit of two octets.
@@ -43,26 +43,13 @@ fn first_character(little: bool, octets: &[u8]) -> (char, &[u8]) {
     (character(code), behind)
 }
 
-/// The number of bytes in UTF-8 of the text that the octets spell.
-fn utf8_length(little: bool, octets: &[u8]) -> usize {
-    let mut count = 0;
-    let mut rest = octets;
-    while !rest.is_empty() {
-        let (c, behind) = first_character(little, rest);
-        count += c.len_utf8();
-        rest = behind;
-    }
-    count
-}
-
-/// Writes the text that the octets spell to the front of the room in UTF-8.
-fn put_in_utf8(room: &mut [u8], little: bool, octets: &[u8]) {
-    let mut at = 0;
+/// Writes the text that the octets spell in UTF-8.
+fn put_in_utf8(out: &mut Out<'_>, little: bool, octets: &[u8]) {
     let mut rest = octets;
     while !rest.is_empty() {
         let (c, behind) = first_character(little, rest);
         let mut buffer = [0; 4];
-        at = put(room, at, c.encode_utf8(&mut buffer).as_bytes());
+        out.put(c.encode_utf8(&mut buffer).as_bytes());
         rest = behind;
     }
 }
@@ -70,32 +57,27 @@ fn put_in_utf8(room: &mut [u8], little: bool, octets: &[u8]) {
 /// Writes the text that the octets spell to the room in UTF-8 where it is large enough, sets `count` to its number of
 /// bytes, and returns the status.
 pub(crate) fn give_in_utf8(little: bool, octets: &[u8], room: &mut [u8], count: &mut usize) -> u32 {
-    let needed = utf8_length(little, octets);
-    *count = needed;
-    if room.len() < needed {
+    let mut counter = Out::new(&mut [], 0);
+    put_in_utf8(&mut counter, little, octets);
+    *count = counter.at();
+    if room.len() < *count {
         return NO_ROOM;
     }
-    put_in_utf8(room, little, octets);
+    put_in_utf8(&mut Out::new(room, 0), little, octets);
     OK
 }
 
-/// Writes the units of a character, big-endian, at a place of the room, and answers the place after
-/// them.
-fn put_character(room: &mut [u8], at: usize, c: char) -> usize {
+/// Writes the units of a character, big-endian.
+fn put_character(out: &mut Out<'_>, c: char) {
     let mut units = [0; 2];
-    let mut end = at;
     for unit in c.encode_utf16(&mut units).iter() {
-        end = put(room, end, &unit.to_be_bytes());
+        out.put(&unit.to_be_bytes());
     }
-    end
 }
 
-/// Writes the units of a text, big-endian, at a place of the room, and answers the place after
-/// them.
-pub(crate) fn put_units(room: &mut [u8], at: usize, text: &str) -> usize {
-    let mut end = at;
+/// Writes the units of a text, big-endian.
+pub(crate) fn put_units(out: &mut Out<'_>, text: &str) {
     for c in text.chars() {
-        end = put_character(room, end, c);
+        put_character(out, c);
     }
-    end
 }

@@ -48,8 +48,8 @@ fn give_hint(bytes: &[u8], limits: Limits, room: &mut [u8], count: &mut usize) -
     }
 }
 
-/// Writes why the bytes are refused to the room: a sentence of English that says what was wanted, in ASCII and with no
-/// NUL after it.
+/// Writes why the bytes are refused to the buffer: a sentence of English that says what was wanted, in ASCII and with
+/// no NUL after it.
 pub fn ndef_why(bytes: &[u8], limits: &NdefLimits, room: &mut [u8], count: &mut usize) -> u32 {
     let Some(limits) = typed_limits(limits) else {
         return BAD_ARGUMENT;
@@ -57,8 +57,8 @@ pub fn ndef_why(bytes: &[u8], limits: &NdefLimits, room: &mut [u8], count: &mut 
     give_why(bytes, limits, room, count)
 }
 
-/// Writes what may help where the bytes are refused to the room: a sentence of English, in ASCII and with no NUL after
-/// it.
+/// Writes what may help where the bytes are refused to the buffer: a sentence of English, in ASCII and with no NUL
+/// after it.
 pub fn ndef_hint(bytes: &[u8], limits: &NdefLimits, room: &mut [u8], count: &mut usize) -> u32 {
     let Some(limits) = typed_limits(limits) else {
         return BAD_ARGUMENT;

@@ -1,7 +1,8 @@
 // Written by ports/erase of crates/ndef_c/src/writing.rt, which has the contracts: do not edit.
 //! Writes a record.
 
-use crate::proved::ndef_c::room::put;
+use crate::proved::ndef_c::making::Ends;
+use crate::proved::ndef_c::out::Out;
 use crate::proved::ndef_c::status::{BAD_ARGUMENT, NO_ROOM, OK};
 use crate::proved::ndef_message::Form;
 use crate::proved::ndef_piece::{write_head, Head};
@@ -15,7 +16,7 @@ pub struct NdefWriting {
     pub(crate) tnf: u32,
     /// 1 for the first record of the message, 2 for the last, 3 for both, and 4 more for the long form.
     pub(crate) flags: u32,
-    /// The payload bytes of a piece, or 0 for one piece.
+    /// The payload bytes of a chunk, or 0 for one chunk.
     pub(crate) chunk: u32,
 }
 
@@ -72,24 +73,32 @@ fn has_lengths(parts: &Parts<'_>) -> bool {
 }
 
 /// Whether a piece of `length` payload bytes is written in the short form.
-pub(crate) fn is_short(form: Form, length: usize) -> bool {
+fn is_short(form: Form, length: usize) -> bool {
     match form {
         Form::Short => length <= 255,
         Form::Long => false,
     }
 }
 
-/// The head of the first piece of a record, which has this part of the payload, alone or not.
-fn first_head(parts: &Parts<'_>, way: Way, alone: bool, part: &[u8]) -> Head {
+/// The head of the first piece of a record, where that piece has `payload` bytes of the payload.
+pub(crate) fn first_head(
+    tnf: Tnf,
+    kind: &[u8],
+    id: &[u8],
+    payload: usize,
+    ends: Ends,
+    alone: bool,
+    form: Form,
+) -> Head {
     Head {
-        first: way.first,
-        last: alone && way.last,
+        first: ends.first,
+        last: alone && ends.last,
         chunked: !alone,
-        short: is_short(way.form, part.len()),
-        tnf: parts.tnf,
-        kind_length: parts.kind.len() as u8,
-        payload_length: part.len() as u32,
-        id_length: if parts.id.is_empty() { None } else { Some(parts.id.len() as u8) },
+        short: is_short(form, payload),
+        tnf,
+        kind_length: kind.len() as u8,
+        payload_length: payload as u32,
+        id_length: if id.is_empty() { None } else { Some(id.len() as u8) },
     }
 }
 
@@ -107,21 +116,15 @@ fn later_head(way: Way, ends: bool, part: &[u8]) -> Head {
     }
 }
 
-/// Writes a piece at a place of the room, and answers the place after it.
-pub(crate) fn put_piece(room: &mut [u8], at: usize, head: &Head, kind: &[u8], id: &[u8], part: &[u8]) -> usize {
+/// Writes a piece.
+#[inline(always)]
+pub(crate) fn put_piece(out: &mut Out<'_>, head: &Head, kind: &[u8], id: &[u8], part: &[u8]) {
     let mut octets = [0; 7];
     let count = write_head(head, &mut octets);
-    let after_head = put(room, at, &octets[..count]);
-    let after_kind = put(room, after_head, kind);
-    let after_id = put(room, after_kind, id);
-    put(room, after_id, part)
-}
-
-/// The bytes of a piece.
-pub(crate) fn piece_length(head: &Head, kind: &[u8], id: &[u8], part: &[u8]) -> usize {
-    let mut octets = [0; 7];
-    let count = write_head(head, &mut octets);
-    count + kind.len() + id.len() + part.len()
+    out.put(&octets[..count]);
+    out.put(kind);
+    out.put(id);
+    out.put(part);
 }
 
 /// The first part of a payload, and what is left of it.
@@ -129,33 +132,21 @@ fn first_part(payload: &[u8], size: usize) -> (&[u8], &[u8]) {
     payload.split_at(payload.len().min(size))
 }
 
-/// The bytes of a record that is written so.
-pub(crate) fn record_length(parts: &Parts<'_>, way: Way) -> usize {
+/// Writes a record so, and answers where its last piece begins.
+#[inline(always)]
+pub(crate) fn put_record(out: &mut Out<'_>, parts: &Parts<'_>, way: Way) -> usize {
     let (part, behind) = first_part(parts.payload, way.size);
-    let head = first_head(parts, way, behind.is_empty(), part);
-    let mut total = piece_length(&head, parts.kind, parts.id, part);
+    let ends = Ends { first: way.first, last: way.last };
+    let alone = behind.is_empty();
+    let head = first_head(parts.tnf, parts.kind, parts.id, part.len(), ends, alone, way.form);
+    let mut last = out.at();
+    put_piece(out, &head, parts.kind, parts.id, part);
     let mut rest = behind;
     while !rest.is_empty() {
         let (part, later) = first_part(rest, way.size);
         let head = later_head(way, later.is_empty(), part);
-        total += piece_length(&head, &[], &[], part);
-        rest = later;
-    }
-    total
-}
-
-/// Writes a record so at a place of the room, and answers where its last piece begins.
-pub(crate) fn put_record(room: &mut [u8], from: usize, parts: &Parts<'_>, way: Way) -> usize {
-    let (part, behind) = first_part(parts.payload, way.size);
-    let head = first_head(parts, way, behind.is_empty(), part);
-    let mut last = from;
-    let mut at = put_piece(room, from, &head, parts.kind, parts.id, part);
-    let mut rest = behind;
-    while !rest.is_empty() {
-        let (part, later) = first_part(rest, way.size);
-        let head = later_head(way, later.is_empty(), part);
-        last = at;
-        at = put_piece(room, at, &head, &[], &[], part);
+        last = out.at();
+        put_piece(out, &head, &[], &[], part);
         rest = later;
     }
     last
@@ -183,7 +174,7 @@ pub(crate) fn asked_parts<'a>(kind: &'a [u8], id: &'a [u8], payload: &'a [u8], h
     Some(parts)
 }
 
-/// Writes a record to the room (NDEF 1.0, record layout and chunked payloads), as the numbers say; an
+/// Writes a record to the buffer (NDEF 1.0, record layout and chunked payloads), as the numbers say; an
 /// empty id isn't written.
 pub fn ndef_write_record(
     kind: &[u8],
@@ -197,11 +188,12 @@ pub fn ndef_write_record(
         return BAD_ARGUMENT;
     };
     let way = way_of(how);
-    let needed = record_length(&parts, way);
-    *count = needed;
-    if room.len() < needed {
+    let mut counter = Out::new(&mut [], 0);
+    let _last = put_record(&mut counter, &parts, way);
+    *count = counter.at();
+    if room.len() < *count {
         return NO_ROOM;
     }
-    let _last = put_record(room, 0, &parts, way);
+    let _last = put_record(&mut Out::new(room, 0), &parts, way);
     OK
 }

@@ -56,6 +56,11 @@ impl Message {
         self.records.as_slice()
     }
 
+    /// The records, 1 to 65535 of them, moved out. It allocates no memory.
+    pub fn into_records(self) -> Vec<Record> {
+        self.records
+    }
+
     /// The record at a place, counted from 0; none from `len` on.
     pub fn get(&self, index: usize) -> Option<&Record> {
         self.records.get(index)

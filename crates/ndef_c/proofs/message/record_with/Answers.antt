@@ -1,72 +1,58 @@
-use Rattle.std.proofs.Common.{◌-◌, ◌++◌, ◌∷◌, [], length, length-append, length-drop, refl, sym, ◌∙◌, ap, subst, arith, true≢false, inr}
-use Rattle.ndef_c.specs.Runs.{HasRun}
+use Rattle.std.proofs.Common.{◌++◌, ◌∷◌, [], length-append, map, refl, sym, ◌∙◌, subst, arith, true≢false, inr}
 use Rattle.std.proofs.lemmas.Slice.Eq.{bytes_eq-Decides}
+use Rattle.ndef_format.specs.Messages.{run_record}
 use Rattle.ndef_message.specs.WrittenLaws.{some_left}
-use Rattle.ndef_c.proofs.Messages.{id_of, index_of, left_at, next_at, lack_all, none_with, onward, place_of, run_there}
-use Rattle.ndef_c.proofs.Walked.{between_on}
+use Rattle.ndef_types.specs.Contents.{Lack}
+use Rattle.ndef_types.specs.Links.{HasId}
+use Rattle.ndef_c.proofs.Messages.{index_of, lack_all, place_of}
+use Rattle.ndef_c.proofs.Walking.{all_passed, begins, begins_here, here, left_at, onward}
 use Rattle.ndef_c.proofs.message.record_with.Goals as goal
 
 pub loop-found-init : goal.loop-found-init
-loop-found-init c = record { at = 0; within = omega arith; rest_is = refl; counted = omega arith; left = λ runs b. ([], left_at c.args.bytes.now runs b, refl, refl, tt) }
+loop-found-init c =
+    let s = begins c.into_iter-found-iterator.ensures.into_iter_gives c.from-found-items.ensures.bytes c.from-found-items.ensures.at c.from-found-items.ensures.going in
+    record { same = s.same; counted = omega arith; left = λ runs b. ([], left_at runs b s, refl, tt) }
 
-pub unreachable-requires : goal.unreachable-requires
-unreachable-requires c =
-    let i = c.loop-found.invariant in
-    c.in_default.ensures.none (subst HasRun (sym i.rest_is) (run_there (i.left c.requires.0 c.requires.1).1))
+pub id_in-requires : goal.id_in-requires
+id_in-requires c = let h = here c.args.bytes.now _ c.in-Some.found _ c.in-Some.ensures.steps c.loop-found.invariant.same in (_, h.there)
+
+pub overflow_add-index : goal.overflow_add-index
+overflow_add-index c =
+    let h = here c.args.bytes.now _ c.in-Some.found _ c.in-Some.ensures.steps c.loop-found.invariant.same in
+    omega (arith, c.loop-found.invariant.counted, h.there.onward, h.there.within)
 
 pub returns-then-eq : goal.returns-then-eq
 returns-then-eq c = λ runs b.
     let bytes = c.args.bytes.now in
     let i = c.loop-found.invariant in
-    let x = c.in-Some.ensures.some in
-    let n = next_at x.run bytes c.loop-found.rest.now c.in-Some.found.rest.now i.at i.within i.rest_is x.begins in
+    let h = here bytes _ c.in-Some.found _ c.in-Some.ensures.steps i.same in
     let l = i.left runs b in
-    let o = onward c.heads_are_apart.ensures.apart l.1 _ x.run n.begins in
-    let some = some_left c.args.id.now _ c.is_empty.ensures c.if-is_empty.false in
-    let left = ap length i.rest_is ∙ length-drop i.at bytes in
-    let within = i.within in (
-      index_of runs l.0 x.run o.more c.args.id.now c.loop-found.index o.all some l.3 l.4 (id_of c.in-Some.found x ∙ (bytes_eq-Decides c.in-Some.found.first.id.now c.args.id.now).0 (sym c.eq.ensures ∙ c.if-eq.true)),
-      place_of bytes runs l.0 x.run o.more i.at _ _ o.all l.2 n.begins l.3 (omega (arith, left, within)),
+    let o = onward l.1 h in
+    let has = sym (c.id_in.ensures _ h.there) ∙ (bytes_eq-Decides c.id_in.result.now c.args.id.now).0 (sym c.eq.ensures ∙ c.if-eq.true) in (
+      index_of runs l.0 h.there.run o.more c.args.id.now c.loop-found.index o.all (some_left c.args.id.now _ c.is_empty.ensures c.if-is_empty.false) l.2 l.3 has,
+      place_of bytes runs l.0 h.there.run o.more _ _ _ o.all l.1.before (begins_here h) l.2 h.there.at_is,
     )
-
-pub returns-then-found : goal.returns-then-found
-returns-then-found c = λ runs b.
-    let bytes = c.args.bytes.now in
-    let i = c.loop-found.invariant in
-    let x = c.in-Some.ensures.some in
-    let n = next_at x.run bytes c.loop-found.rest.now c.in-Some.found.rest.now i.at i.within i.rest_is x.begins in
-    let l = i.left runs b in
-    let o = onward c.heads_are_apart.ensures.apart l.1 _ x.run n.begins in
-    inr (none_with runs l.0 x.run c.args.id.now o.more o.all (sym o.ends ∙ sym x.last ∙ c.if-found.true) l.4 (λ e. true≢false (sym ((bytes_eq-Decides c.in-Some.found.first.id.now c.args.id.now).1 (sym (id_of c.in-Some.found x) ∙ e)) ∙ sym c.eq.ensures ∙ c.if-eq.false)))
 
 pub loop-found-preserved : goal.loop-found-preserved
 loop-found-preserved c =
     let bytes = c.args.bytes.now in
     let i = c.loop-found.invariant in
-    let x = c.in-Some.ensures.some in
-    let n = next_at x.run bytes c.loop-found.rest.now c.in-Some.found.rest.now i.at i.within i.rest_is x.begins in
-    let shorter = n.shorter in
-    let counted = i.counted in
+    let h = here bytes _ c.in-Some.found _ c.in-Some.ensures.steps i.same in
     record {
-      at = length bytes - length c.in-Some.found.rest.now;
-      within = n.within;
-      rest_is = n.rest_is;
-      counted = omega (arith, shorter, counted);
+      same = h.same;
+      counted = omega (arith, i.counted, h.there.onward, h.next);
       left = λ runs b.
           let l = i.left runs b in
-          let o = onward c.heads_are_apart.ensures.apart l.1 _ x.run n.begins in
-          let count = l.3 in
-          let more = length-append l.0 (x.run ∷ []) in (
-            l.0 ++ x.run ∷ [],
-            o.left (sym x.last ∙ c.if-found.false),
-            between_on bytes 0 i.at _ l.0 x.run l.2 n.begins,
+          let count = l.2 in
+          let more = length-append l.0 (h.there.run ∷ []) in (
+            l.0 ++ h.there.run ∷ [],
+            (onward l.1 h).left,
             omega (arith, count, more),
-            lack_all l.0 x.run c.args.id.now l.4 (λ e. true≢false (sym ((bytes_eq-Decides c.in-Some.found.first.id.now c.args.id.now).1 (sym (id_of c.in-Some.found x) ∙ e)) ∙ sym c.eq.ensures ∙ c.if-eq.false)),
+            lack_all l.0 h.there.run c.args.id.now l.3 (λ e. true≢false (sym ((bytes_eq-Decides c.id_in.result.now c.args.id.now).1 (c.id_in.ensures _ h.there ∙ e)) ∙ sym c.eq.ensures ∙ c.if-eq.false)),
           );
     }
 
-pub loop-found-smaller : goal.loop-found-smaller
-loop-found-smaller c =
-    let i = c.loop-found.invariant in
-    let x = c.in-Some.ensures.some in
-    (next_at x.run c.args.bytes.now c.loop-found.rest.now c.in-Some.found.rest.now i.at i.within i.rest_is x.begins).shorter
+pub returns : goal.returns
+returns c = λ runs b.
+    let l = c.loop-found.invariant.left runs b in
+    inr (subst (λ rs. Lack (HasId c.args.id.now) (map run_record rs)) (sym (all_passed l.1 c.in-None.ensures.steps).are) l.3)

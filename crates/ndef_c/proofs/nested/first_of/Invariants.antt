@@ -1,18 +1,14 @@
-use Rattle.std.proofs.Common.{◌≡◌, ℕ, List, length, drop}
+use Rattle.std.proofs.Common.{◌≡◌, List}
 use Rattle.ndef_format.specs.Messages.{Item}
 use Rattle.ndef_format.specs.declared.profile.Profile.{Profile}
 use Rattle.ndef_types.specs.Contents.{IsOfKind, Lack}
 use Rattle.ndef_c.specs.Nested.{MayBeInPieces}
-use Rattle.ndef_c.proofs.Ahead.{Ahead, Before}
+use Rattle.ndef_c.proofs.Ahead.{Ahead}
 use Rattle.ndef_c.proofs.nested.first_of.Given as goal
 
-abbrev pub invariant-loop-rest : goal.invariant-loop-rest
-invariant-loop-rest l = record {
-  at : ℕ;
-  rest_is : l.rest ≡ drop at l.bytes;
+abbrev pub invariant-loop-found : goal.invariant-loop-found
+invariant-loop-found l = record {
+  same : l.found-iterator.bytes.now ≡ l.bytes;
   ahead : (profile : Profile) (items : List Item) → MayBeInPieces profile items l.bytes
-      → (done : List Item) × Ahead items l.rest done × Before l.bytes at done × Lack (IsOfKind l.table l.kind) done;
+      → (done : List Item) × Ahead items l.bytes l.found-iterator done × Lack (IsOfKind l.table l.kind) done;
 }
-
-abbrev pub decreases-loop-rest : goal.decreases-loop-rest
-decreases-loop-rest l = length l.rest

@@ -1,22 +1,17 @@
-use Rattle.std.proofs.Common.{◌≡◌, ◌+◌, ℕ, List, length}
-use Rattle.ndef_format.specs.Records.{Run}
-use Rattle.ndef_format.specs.Messages.{run_record}
-use Rattle.ndef_c.specs.Rooms.{IsPut}
+use Rattle.std.proofs.Common.{ℕ, List}
+use Rattle.ndef_format.specs.Records.{Piece, Run, pieces}
+use Rattle.ndef_format.specs.Messages.{payload_of}
+use Rattle.ndef_c.specs.Rooms.{Puts}
 use Rattle.ndef_c.specs.Walks.{BeginsWithRun}
-use Rattle.ndef_c.proofs.Copied.{Copying}
+use Rattle.ndef_c.proofs.PieceParts.{Passing}
 use Rattle.ndef_c.proofs.payload.copy_pieces.Given as goal
 
-abbrev pub invariant-loop-piece : goal.invariant-loop-piece
-invariant-loop-piece l = record {
+abbrev pub invariant-loop-part : goal.invariant-loop-part
+invariant-loop-part l = record {
   run : Run;
   end : List ℕ;
   begins : BeginsWithRun run end l.bytes;
-  done : List ℕ;
-  copying : Copying (run_record run).payload end l.rest done;
-  put : IsPut l.from done l.fn.room l.room;
-  at : l.at ≡ l.from + length done;
-  size : length l.room ≡ length l.fn.room;
+  passed : List Piece;
+  passing : Passing l.bytes (pieces run) l.part-iterator passed;
+  puts : Puts l.fn.out (payload_of passed) l.out;
 }
-
-abbrev pub decreases-loop-piece : goal.decreases-loop-piece
-decreases-loop-piece l = length l.rest

@@ -1,29 +1,18 @@
-use Rattle.std.proofs.Common.{length, refl, ap, subst, arith}
-use Rattle.ndef_format.specs.Messages.{run_record}
+use Rattle.std.proofs.Common.{refl, rules, subst, sym}
 use Rattle.ndef_c.specs.Walks.{BeginsWithRun}
-use Rattle.ndef_c.proofs.Puts.{put_all}
+use Rattle.ndef_c.proofs.Puts.{gives_puts}
 use Rattle.ndef_c.proofs.payload.ndef_payload.Goals as goal
 
-pub copy_pieces-end-requires-clause-room : goal.copy_pieces-end-requires-clause-room
-copy_pieces-end-requires-clause-room c = λ run rest b.
-    let x = c.in-Some.ensures.some in
-    let same = ap (λ r. length (run_record r).payload) (c.one_record_is_there.ensures x.run run _ _ _ x.begins b).0 in
-    let size = x.payload in
-    let room = c.if-room-found.false in
-    omega (arith, same, size, room)
+pub copy_pieces-requires : goal.copy_pieces-requires
+copy_pieces-requires c = let x = c.in-Some.ensures.some in (x.run, _, subst (BeginsWithRun x.run _) (sym c.split_at.ensures.back) x.begins)
 
 pub returns-clause-payload : goal.returns-clause-payload
 returns-clause-payload c = λ _.
     let x = c.in-Some.ensures.some in
-    let size = x.payload in
-    let room = c.if-room-found.false in
+    let put = c.copy_pieces.ensures x.run _ (subst (BeginsWithRun x.run _) (sym c.split_at.ensures.back) x.begins) in
     record {
       run = x.run;
-      rest = c.in-Some.found.rest.now;
-      begins = subst (BeginsWithRun x.run c.in-Some.found.rest.now) c.split_at.ensures.back x.begins;
-      gives = record {
-        count_is = x.payload;
-        fits = λ _. (refl, put_all _ _ _ _ refl (c.copy_pieces-end.ensures.put x.run _ x.begins));
-        too_small = λ h. absurd (omega (arith, size, room, h));
-      };
+      rest = _;
+      begins = x.begins;
+      gives = gives_puts _ _ _ _ refl x.payload c.if-room-found.false c.new.ensures.at c.new.ensures.room (search rules) put;
     }

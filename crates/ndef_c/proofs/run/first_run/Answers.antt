@@ -1,7 +1,8 @@
 use Rattle.std.proofs.Common.{true≢false, refl, sym, subst, ◌∙◌, arith}
 use Rattle.ndef_format.specs.Records.{IsLater}
 use Rattle.ndef_piece.specs.Whole.{shown}
-use Rattle.ndef_c.proofs.Followed.{begins_with, begins_with_piece, from_piece, goes_on, is_read, reading_at, reading_on, same_split, split_size}
+use Rattle.ndef_message.specs.Machine.SeenLaws.{same_split}
+use Rattle.ndef_c.proofs.Followed.{begins_with, begins_with_piece, from_piece, goes_on, is_read, reading_at, reading_on, split_size}
 use Rattle.ndef_c.proofs.run.first_run.Goals as goal
 
 pub returns-in_default-clause-none : goal.returns-in_default-clause-none
@@ -10,7 +11,7 @@ returns-in_default-clause-none c = λ h. c.in_default.ensures.none (begins_with_
 pub returns-then-not-is_initial-clause-none : goal.returns-then-not-is_initial-clause-none
 returns-then-not-is_initial-clause-none c = λ h.
     let p = c.in-Some.ensures.piece in
-    let f = from_piece c.heads_are_apart.ensures.apart _ _ _ _ p h.0 h.1 h.2 in
+    let f = from_piece _ _ _ _ p h.0 h.1 h.2 in
     true≢false (sym (c.is_initial.ensures.1 f.is_initial) ∙ c.if-not-is_initial.true)
 
 pub loop-piece-init : goal.loop-piece-init
@@ -21,16 +22,15 @@ loop-piece-init c =
 
 pub returns-in_default-whole_piece-clause-none : goal.returns-in_default-whole_piece-clause-none
 returns-in_default-whole_piece-clause-none c = λ h.
-    let f = from_piece c.heads_are_apart.ensures.apart _ _ _ _ c.in-Some.ensures.piece h.0 h.1 h.2 in
+    let f = from_piece _ _ _ _ c.in-Some.ensures.piece h.0 h.1 h.2 in
     let n = goes_on c.loop-piece.invariant.reading (sym c.is_chunked.ensures ∙ c.loop-piece-test.true) _ _ f.others in
     c.in_default-whole_piece.ensures.none (record { piece = n.1.piece; short = n.1.short; rest = n.1.behind; split = n.1.split })
 
 pub returns-then-not-is_later-clause-none : goal.returns-then-not-is_later-clause-none
 returns-then-not-is_later-clause-none c = λ h.
-    let apart = c.heads_are_apart.ensures.apart in
-    let f = from_piece apart _ _ _ _ c.in-Some.ensures.piece h.0 h.1 h.2 in
+    let f = from_piece _ _ _ _ c.in-Some.ensures.piece h.0 h.1 h.2 in
     let n = goes_on c.loop-piece.invariant.reading (sym c.is_chunked.ensures ∙ c.loop-piece-test.true) _ _ f.others in
-    let s = same_split apart _ _ _ _ _ _ _ n.1.split c.in-Some-whole_piece.ensures.piece in
+    let s = same_split _ _ _ _ _ _ _ n.1.split c.in-Some-whole_piece.ensures.piece in
     true≢false (sym (c.is_later.ensures.1 (subst IsLater s.0 n.1.is_later)) ∙ c.if-not-is_later.true)
 
 pub loop-piece-preserved : goal.loop-piece-preserved
@@ -40,7 +40,7 @@ loop-piece-preserved c =
     let k = c.loop-piece.invariant.counted in
     record {
       counted = omega (arith, n, k);
-      reading = reading_on c.heads_are_apart.ensures.apart _ c.loop-piece.invariant.reading (sym c.is_chunked.ensures ∙ c.loop-piece-test.true)
+      reading = reading_on _ c.loop-piece.invariant.reading (sym c.is_chunked.ensures ∙ c.loop-piece-test.true)
           (c.is_later.ensures.0 c.if-not-is_later.false) i;
     }
 

@@ -1,13 +1,15 @@
-use Rattle.std.proofs.Common.{arith}
-use Rattle.ndef_c.specs.Series.{series_items}
+use Rattle.std.proofs.Common.{◌∙◌, ap, length, length-append, take, get_or, arith}
+use Rattle.ndef_c.specs.Series.{all_items, series_items}
 use Rattle.ndef_c.specs.declared.series.Series.TheVariants.{Nothing}
-use Rattle.ndef_c.proofs.Several.{items_within}
+use Rattle.ndef_c.proofs.Several.{items_more}
 use Rattle.ndef_c.proofs.series_writing.all_count.Goals as goal
 
-pub overflow_add-count : goal.overflow_add-count
-overflow_add-count c =
-    let w = items_within series_items c.args.several.now c.loop-series.series-index Nothing c.loop-series-test.true in
+pub loop-series-preserved : goal.loop-series-preserved
+loop-series-preserved c =
+    let several = c.args.several.now in
+    let k = c.loop-series.series-index in
+    let e = ap length (items_more series_items several k Nothing c.loop-series-test.true) ∙ length-append (all_items (take k several)) (series_items (get_or several k Nothing)) in
     let i = c.loop-series.invariant in
-    let n = c.series_count-count.ensures in
-    let few = c.requires in
-    omega (arith, w, i, n, few)
+    let n = c.series_count.ensures in
+    let sum = c.saturating_add-count.ensures in
+    omega (arith, e, i, n, sum)

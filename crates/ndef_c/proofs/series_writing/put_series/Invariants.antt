@@ -1,6 +1,9 @@
-use Rattle.std.proofs.Common.{take}
-use Rattle.ndef_c.specs.Series.{IsWritten, series_items}
+use Rattle.std.proofs.Common.{◌<◌, ℕ, take}
+use Rattle.ndef_c.specs.Series.{IsWritten, MayBeIn, series_items}
 use Rattle.ndef_c.proofs.series_writing.put_series.Given as goal
 
 abbrev pub invariant-loop-index : goal.invariant-loop-index
-invariant-loop-index l = IsWritten l.fn.place (take l.index (series_items l.series)) l.fn.room l.room l.next
+invariant-loop-index l = record {
+  may : (k : ℕ) → k < l.index → MayBeIn l.series k;
+  written : IsWritten l.fn.place (take l.index (series_items l.series)) l.fn.out l.out l.next;
+}

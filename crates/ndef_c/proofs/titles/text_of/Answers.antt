@@ -1,15 +1,34 @@
-use Rattle.std.proofs.Common.{arith}
+use Rattle.std.proofs.Common.{length, sym, ap, subst, arith}
+use Rattle.ndef_format.specs.Texts.{IsText}
+use Rattle.ndef_c.specs.Payloads.{IsTextAt}
 use Rattle.ndef_c.proofs.TitleTexts.{lies_deeper}
 use Rattle.ndef_c.proofs.titles.text_of.Goals as goal
 
+pub part_in-requires : goal.part_in-requires
+part_in-requires c = (c.requires.text.0, c.requires.text.1)
+
+pub text_at-text-requires-clause-text : goal.text_at-text-requires-clause-text
+text_at-text-requires-clause-text c =
+    let t = c.requires.text in
+    subst IsText (sym (c.part_in.ensures t.0 t.1)) t.2
+
+pub text_at-text-requires-clause-short : goal.text_at-text-requires-clause-short
+text_at-text-requires-clause-short c =
+    let t = c.requires.text in
+    let e = ap length (c.part_in.ensures t.0 t.1) in
+    let n = t.1.part.count_is in
+    let l = t.1.part.within in
+    let bound = c.requires.bound in
+    omega (arith, e, n, l, bound)
+
 pub returns : goal.returns
-returns c = λ bytes l.
-    let t = c.text_at-text.ensures in
+returns c = λ at r.
+    let t = subst (λ p. IsTextAt p c.text_at-text.result) (c.part_in.ensures at r) c.text_at-text.ensures in
     let from = t.language_place in
     let behind = t.text_place in
     record {
-      language = lies_deeper bytes _ _ _ _ _ _ l t.language;
-      text = lies_deeper bytes _ _ _ _ _ _ l t.text;
+      language = lies_deeper _ _ _ _ _ _ _ r.part t.language;
+      text = lies_deeper _ _ _ _ _ _ _ r.part t.text;
       language_place = omega (arith, from);
       text_place = omega (arith, behind);
       utf16 = t.utf16;

@@ -1,31 +1,27 @@
-use Rattle.std.proofs.Common.{◌≡◌, Err, Ok, inl, inr, map, refl, rules}
+use Rattle.std.proofs.Common.{◌≡◌, ◌∙◌, ◌++◌, Err, Ok, ap, inl, inr, map, refl, rules, sym}
+use Rattle.std.specs.List.{flat_map}
 use Rattle.ndef_make_tool.specs.Asked.{asked_part}
-use Rattle.ndef_make_tool.specs.Editing.{edit_map}
-use Rattle.ndef_make_tool.proofs.EditedMessages.{message_made, message_unmade, numbers_for}
+use Rattle.ndef_make_tool.specs.Editing.{added_by, edit_map}
+use Rattle.ndef_make_tool.proofs.EditedMessages.{all_edited, message_made, numbers_for}
 use Rattle.ndef_make_tool.proofs.edited.edit_message.Goals as goal
 
 pub returns-in_err-check_numbers : goal.returns-in_err-check_numbers
 returns-in_err-check_numbers g c =
     let fault = c.in_err-check_numbers.field-0.0 in
     let is : c.from_residual.result ≡ Err fault = search rules in
-    rw is (inl (refl, numbers_for asked_part c.args.old.now c.len.result c.args.edits.now (Err fault) c.len.ensures.value c.in_err-check_numbers.ensures))
+    rw is (inl (refl, numbers_for asked_part c.args.old c.len-count.result c.args.edits.now (Err fault) c.len-count.ensures.value c.in_err-check_numbers.ensures))
 
-pub returns-in_err-made : goal.returns-in_err-made
-returns-in_err-made g c =
-    let fault = c.in_err-made.field-0.0 in
-    let is : c.from_residual-in_err-made.result ≡ Err fault = search rules in
-    rw is (inr (numbers_for asked_part c.args.old.now c.len.result c.args.edits.now (Ok tt) c.len.ensures.value c.in_ok-check_numbers.ensures, inl c.in_err-made.ensures))
-
-pub returns-in_err-records : goal.returns-in_err-records
-returns-in_err-records g c =
-    let fault = c.in_err-records.field-0.0 in
-    let is : c.from_residual-in_err-records.result ≡ Err fault = search rules in
-    let numbers = numbers_for asked_part c.args.old.now c.len.result c.args.edits.now (Ok tt) c.len.ensures.value c.in_ok-check_numbers.ensures in
-    rw is (message_unmade g.I.Inputs.gives (map (edit_map asked_part) c.args.edits.now) c.args.writing c.args.old.now _ _ c.in_ok-made.made.items fault numbers c.in_ok-made.ensures
-    (rw c.as_slice.ensures.value at c.in_err-records.ensures))
+pub returns-in_err-others : goal.returns-in_err-others
+returns-in_err-others g c =
+    let fault = c.in_err-others.field-0.0 in
+    let is : c.from_residual-in_err-others.result ≡ Err fault = search rules in
+    rw is (inr (numbers_for asked_part c.args.old c.len-count.result c.args.edits.now (Ok tt) c.len-count.ensures.value c.in_ok-check_numbers.ensures, inl c.in_err-others.ensures))
 
 pub returns : goal.returns
 returns g c =
-    let numbers = numbers_for asked_part c.args.old.now c.len.result c.args.edits.now (Ok tt) c.len.ensures.value c.in_ok-check_numbers.ensures in
-    message_made g.I.Inputs.gives (map (edit_map asked_part) c.args.edits.now) c.args.writing c.args.old.now _ _ c.in_ok-made.made.items c.in_ok-records.records.items c.write_edited.result numbers c.in_ok-made.ensures
-    (rw c.as_slice.ensures.value at c.in_ok-records.ensures) c.write_edited.ensures
+    let old = c.args.old in
+    let made = c.in_ok-others.ensures in
+    let numbers = numbers_for asked_part old c.len-count.result c.args.edits.now (Ok tt) c.len-count.ensures.value c.in_ok-check_numbers.ensures in
+    message_made g.I.Inputs.gives (map (edit_map asked_part) c.args.edits.now) c.args.writing old _ _ made.0 c.put_all.new.records.items c.write_edited.result numbers made.1
+    (all_edited old (flat_map added_by made.0) c.put_all.new.records.items c.in_ok-others.others.items made.0
+    (c.put_all.ensures old (flat_map added_by made.0) (made.2 ∙ ap (λ t. t ++ flat_map added_by made.0) c.into_records-records.ensures.value) (sym c.len-count.ensures.value)) made.3 refl) c.write_edited.ensures
