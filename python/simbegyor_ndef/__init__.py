@@ -3,7 +3,7 @@
     records = list(message_decoder(octets))
     octets = b''.join(message_encoder(records))
 """
-from . import handover, message, record, smartposter, text, uri
+from . import handover, layout, message, record, smartposter, text, uri
 from ._checker import Checked, Checker
 from ._fields import Field, fields
 from ._many import decode_many

@@ -1,10 +1,10 @@
 """The messages in files: simbegyor-ndef [show|check|explain] [--hex] [--json] [FILE..]
 
-`show`, which is meant where the first word is none of the three, prints a line for each record; `check` one for each
+`show`, the default where the first argument is none of the three, prints a line for each record; `check` one for each
 message; `explain` one for each field, with its octets. `python3 -m simbegyor_ndef` is the same program.
 
-Exit status: 0, the files hold messages to their end; 1, one doesn't, and a line says where and why; 2, the words don't
-parse; 3, reading or writing failed.
+Exit status: 0, the files hold messages to their end; 1, one doesn't, and a line says where and why; 2, the arguments
+are invalid; 3, reading or writing failed.
 """
 from __future__ import annotations
 
@@ -20,11 +20,11 @@ from ._lines import COMMANDS
 from .errors import DecodeError
 
 _COMMANDS = """what is printed:
-  show     a line for each record; this is meant where the first word is none of these
+  show     a line for each record; the default where the first argument is none of these
   check    a line for each message: where it begins, its records and its bytes
   explain  a line for each field, with its octets, up to the octet that is refused
 
-Exit status: 0 all are messages, 1 one is refused, 2 bad words, 3 reading or writing failed."""
+Exit status: 0 all are messages, 1 one is refused, 2 bad arguments, 3 reading or writing failed."""
 
 
 class _BadHexadecimal(Exception):

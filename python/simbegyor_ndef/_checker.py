@@ -30,13 +30,13 @@ class Checker:
 
     @property
     def place(self) -> int:
-        """The length of the whole message, the place of the refused octet, or else the number of octets that were fed."""
+        """The length of the whole message, the offset of the refused octet, or else the number of octets that were fed."""
         return int(self._found.place)
 
     def feed(self, octets: Octets) -> Optional[Checked]:
         """Checks the next octets, of which there may be none. None: the message goes on. Else the octets that were fed begin with a
         message, of which this says the length and the records; others may follow it. DecodeError where they are refused, with the
-        place counted from the first octet that was fed. After either, each later call answers the same."""
+        offset counted from the first octet that was fed. After either, each later call answers the same."""
         given = given_of(octets, 'strict')[0]
         status = library.feed(library.byref(self._state), given, library.size_of(len(given)), library.byref(self._found))
         if status == library.REFUSED:

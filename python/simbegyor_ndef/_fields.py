@@ -1,4 +1,4 @@
-"""In which field each octet of a message stands."""
+"""To which field each octet of a message belongs."""
 from __future__ import annotations
 
 from typing import Any, List, NamedTuple, Tuple, Union
@@ -8,9 +8,9 @@ from .record import Record
 
 
 class Field(NamedTuple):
-    """Octets of a message that stand in one field.
+    """Octets of a message that belong to one field.
 
-    at: the place of the first of them, counted from 0.
+    at: the offset of the first of them, counted from 0.
     length: how many they are, at least 1.
     depth: 0 in the message itself, 1 in a message within a payload.
     name: the name of the field, as ndef.h gives it ('TYPE_LENGTH').

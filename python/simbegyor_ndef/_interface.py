@@ -87,6 +87,13 @@ AS_UTF16 = 1
 REQUEST = 0
 SELECT = 1
 
+# What a field of a layout holds.
+LAYOUT_OCTETS = 1
+LAYOUT_WITHIN = 2
+LAYOUT_COUNTED = 3
+LAYOUT_UTF8 = 4
+LAYOUT_REST = 5
+
 # The names of fields.
 FIELD_HEADER = 1
 FIELD_TYPE_LENGTH = 2
@@ -137,7 +144,7 @@ class Checker(ctypes.Structure):
 
 
 class Record(ctypes.Structure):
-    """A record, by places and lengths in the bytes."""
+    """A record, by offsets and lengths in the bytes."""
     _fields_ = [('at', u64), ('end', u64), ('type_at', u64), ('type_length', u64), ('id_at', u64), ('id_length', u64),
                 ('payload_at', u64), ('part_length', u64), ('payload_length', u64), ('pieces', u64), ('tnf', u32),
                 ('last', u32)]
@@ -149,12 +156,12 @@ class Writing(ctypes.Structure):
 
 
 class TextParts(ctypes.Structure):
-    """A text, by places and lengths in its payload."""
+    """A text, by offsets and lengths in its payload."""
     _fields_ = [('language_at', u64), ('language_length', u64), ('text_at', u64), ('text_length', u64), ('utf16', u32)]
 
 
 class CarrierParts(ctypes.Structure):
-    """A handover carrier, by places and lengths in its payload."""
+    """A handover carrier, by offsets and lengths in its payload."""
     _fields_ = [('type_at', u64), ('type_length', u64), ('data_at', u64), ('data_length', u64), ('format', u32)]
 
 
@@ -192,7 +199,7 @@ class PosterParts(ctypes.Structure):
 
 
 class ErrorParts(ctypes.Structure):
-    """A handover error, its data by their place and length in its payload."""
+    """A handover error, its data by their offset and length in its payload."""
     _fields_ = [('data_at', u64), ('data_length', u64), ('reason', u32), ('has_number', u32), ('number', u32)]
 
 
@@ -207,7 +214,7 @@ class UriParts(ctypes.Structure):
 
 
 class Built(ctypes.Structure):
-    """What is known of a message that is being built in a room; all 0: no record is there yet."""
+    """What is known of a message that is being built in a buffer; all 0: no record is there yet."""
     _fields_ = [('length', u64), ('last_at', u64), ('records', u32)]
 
 
@@ -243,10 +250,20 @@ class SelectWriting(ctypes.Structure):
 
 
 class Item(ctypes.Structure):
-    """A record, by places and lengths in the bytes."""
+    """A record, by offsets and lengths in the bytes."""
     _fields_ = [('at', u32), ('end', u32), ('tnf', u32), ('kind', u32), ('type_at', u32), ('type_length', u32),
                 ('id_length', u32), ('payload_at', u32), ('payload_length', u32), ('pieces', u32), ('form', u32),
                 ('number', u32), ('language_at', u32), ('language_length', u32), ('text_at', u32), ('text_length', u32)]
+
+
+class LayoutField(ctypes.Structure):
+    """A field of the layout of a payload."""
+    _fields_ = [('form', u32), ('least', u32), ('most', u32)]
+
+
+class LaidOut(ctypes.Structure):
+    """What a check of a payload by its layout answers."""
+    _fields_ = [('place', u64), ('reason', u32), ('length_fits', u32)]
 
 
 # The calls that return nothing; the others return a number.
@@ -275,8 +292,7 @@ class Calls(Protocol):
     """What each call takes and returns. ctypes does not look at the arguments; mypy does."""
 
     def usual_limits(self, out: Reference) -> None:
-        """Writes the limits for usual tags: 1048576 bytes, 1024 records and 4096 pieces, strict, with a look into
-        payloads."""
+        """Writes the default limits: 1048576 bytes, 1024 records and 4096 chunks, strict, with a look into payloads."""
 
     def check(self, bytes: Octets, length: Size, limits: Reference, out: Reference) -> int:
         """Checks the message with which the bytes begin."""
@@ -288,78 +304,79 @@ class Calls(Protocol):
         """Feeds the next bytes to a checker, and writes what is known of all the bytes that it was fed."""
 
     def reason_name(self, reason: u32, room: Octets, size: Size, count: Reference) -> int:
-        """Writes the name of the reason with a number, in ASCII and with no NUL after it, to the room."""
+        """Writes the name of the reason with a number, in ASCII and with no NUL after it, to the buffer."""
 
     def reason_sentence(self, reason: u32, room: Octets, size: Size, count: Reference) -> int:
-        """Writes what the reason with a number means to the room: a sentence of English, in ASCII and with no NUL after
-        it."""
+        """Writes what the reason with a number means to the buffer: a sentence of English, in ASCII and with no NUL
+        after it."""
 
     def why(self, bytes: Octets, length: Size, limits: Reference, room: Octets, size: Size, count: Reference) -> int:
-        """Writes why the bytes are refused to the room: a sentence of English that says what was wanted, in ASCII and
+        """Writes why the bytes are refused to the buffer: a sentence of English that says what was wanted, in ASCII and
         with no NUL after it."""
 
     def hint(self, bytes: Octets, length: Size, limits: Reference, room: Octets, size: Size, count: Reference) -> int:
-        """Writes what may help where the bytes are refused to the room: a sentence of English, in ASCII and with no NUL
-        after it."""
+        """Writes what may help where the bytes are refused to the buffer: a sentence of English, in ASCII and with no
+        NUL after it."""
 
     def record_at(self, bytes: Octets, length: Size, at: Size, out: Reference) -> int:
-        """The record at a place of the bytes."""
+        """The record at an offset of the bytes."""
 
     def kind(self, bytes: Octets, length: Size, record: Reference, within: u32) -> int:
         """Says what the payload of a record is, by its type: the number of its kind, 0 for any other."""
 
     def payload(self, bytes: Octets, length: Size, at: Size, room: Octets, size: Size, count: Reference) -> int:
-        """Writes the payload of the record at a place of the bytes, the payloads of its pieces joined, to the room."""
+        """Writes the payload of the record at an offset of the bytes, the payloads of its chunks joined, to the
+        buffer."""
 
     def write_record(self, type: Octets, type_length: Size, id: Octets, id_length: Size, payload: Octets,
                      payload_length: Size, how: Reference, room: Octets, size: Size, count: Reference) -> int:
-        """Writes a record to the room (NDEF 1.0, record layout and chunked payloads), as the numbers say; an empty id
+        """Writes a record to the buffer (NDEF 1.0, record layout and chunked payloads), as the numbers say; an empty id
         isn't written."""
 
     def uri(self, payload: Octets, length: Size, flags: u32, room: Octets, size: Size, count: Reference,
             why: Reference) -> int:
-        """Writes the URI for which the payload of a URI record stands, its prefix written out, to the room."""
+        """Writes the URI that the payload of a URI record holds, its prefix written out, to the buffer."""
 
     def write_uri(self, uri: Octets, length: Size, room: Octets, size: Size, count: Reference) -> int:
-        """Writes the payload of a URI record, by the longest prefix that begins the URI, to the room."""
+        """Writes the payload of a URI record, by the longest prefix that begins the URI, to the buffer."""
 
     def text(self, payload: Octets, length: Size, out: Reference, why: Reference) -> int:
-        """Gives the places of the parts of the text for which the payload of a Text record stands."""
+        """Gives the offsets of the parts of the text that the payload of a Text record holds."""
 
     def text_in_utf8(self, payload: Octets, length: Size, room: Octets, size: Size, count: Reference,
                      why: Reference) -> int:
-        """Writes the text for which the payload of a Text record stands to the room in UTF-8, converted where it is
-        UTF-16, without its byte order mark."""
+        """Writes the text that the payload of a Text record holds to the buffer in UTF-8, converted where it is UTF-16,
+        without its byte order mark."""
 
     def write_text(self, language: Octets, language_length: Size, text: Octets, text_length: Size, flags: u32,
                    room: Octets, size: Size, count: Reference) -> int:
-        """Writes the payload of a Text record to the room."""
+        """Writes the payload of a Text record to the buffer."""
 
     def carrier(self, payload: Octets, length: Size, out: Reference, why: Reference) -> int:
-        """Gives the places of the parts of the carrier for which the payload of a Handover Carrier record stands."""
+        """Gives the offsets of the parts of the carrier that the payload of a Handover Carrier record describes."""
 
     def write_carrier(self, format: u32, type: Octets, type_length: Size, data: Octets, data_length: Size, room: Octets,
                       size: Size, count: Reference) -> int:
-        """Writes the payload of a Handover Carrier record, its reserved bits 0, to the room."""
+        """Writes the payload of a Handover Carrier record, its reserved bits 0, to the buffer."""
 
     def alternative(self, payload: Octets, length: Size, out: Reference, why: Reference) -> int:
-        """Gives the power state of the alternative carrier for which the payload of an Alternative Carrier record
-        stands, and its number of references."""
+        """Gives the power state of the alternative carrier that the payload of an Alternative Carrier record describes,
+        and its number of references."""
 
     def reference(self, payload: Octets, length: Size, index: Size, out: Reference) -> int:
-        """Gives the place of the reference with an index in the payload of an Alternative Carrier record: 0 is the
+        """Gives the offset of the reference with an index in the payload of an Alternative Carrier record: 0 is the
         carrier data reference, and the auxiliary ones follow."""
 
     def write_alternative(self, power: u32, bytes: Octets, length: Size, parts: Reference, parts_count: Size,
                           room: Octets, size: Size, count: Reference) -> int:
-        """Writes the payload of an Alternative Carrier record, its reserved bits 0, to the room."""
+        """Writes the payload of an Alternative Carrier record, its reserved bits 0, to the buffer."""
 
     def request(self, payload: Octets, length: Size, flags: u32, out: Reference, why: Reference) -> int:
-        """Gives the version of the handover request for which the payload of a Handover Request record stands, its
-        random number and its number of alternative carriers."""
+        """Gives the version of the handover request that the payload of a Handover Request record describes, its random
+        number and its number of alternative carriers."""
 
     def select(self, payload: Octets, length: Size, flags: u32, out: Reference, why: Reference) -> int:
-        """Gives the version of the handover select for which the payload of a Handover Select record stands, its error
+        """Gives the version of the handover select that the payload of a Handover Select record describes, its error
         and its number of alternative carriers."""
 
     def link_at(self, bytes: Octets, length: Size, payload: Octets, payload_length: Size, index: Size,
@@ -368,38 +385,38 @@ class Calls(Protocol):
         handover, and the record of the message at the front of the bytes to which it refers."""
 
     def poster(self, payload: Octets, length: Size, flags: u32, out: Reference, why: Reference) -> int:
-        """Gives the place of the payload of the URI record of a smart poster, its action and its size."""
+        """Gives the offset of the payload of the URI record of a smart poster, its action and its size."""
 
     def write_action(self, action: u32, room: Octets, size: Size, count: Reference) -> int:
-        """Writes the payload of an Action record, one octet, to the room."""
+        """Writes the payload of an Action record, one octet, to the buffer."""
 
     def write_size(self, bytes: u32, room: Octets, size: Size, count: Reference) -> int:
-        """Writes the payload of a Size record, four octets, to the room."""
+        """Writes the payload of a Size record, four octets, to the buffer."""
 
     def write_collision(self, number: u32, room: Octets, size: Size, count: Reference) -> int:
-        """Writes the payload of a Collision Resolution record, two octets, to the room."""
+        """Writes the payload of a Collision Resolution record, two octets, to the buffer."""
 
     def error(self, payload: Octets, length: Size, out: Reference, why: Reference) -> int:
-        """Gives the reason of the error for which the payload of an Error record stands, where its data lie, and the
+        """Gives the reason of the error that the payload of an Error record describes, where its data lie, and the
         number that they give."""
 
     def write_error(self, reason: u32, data: Octets, length: Size, room: Octets, size: Size, count: Reference) -> int:
-        """Writes the payload of an Error record, the reason and its data, to the room."""
+        """Writes the payload of an Error record, the reason and its data, to the buffer."""
 
     def write_error_number(self, reason: u32, number: u32, room: Octets, size: Size, count: Reference) -> int:
-        """Writes the payload of an Error record of a defined reason, whose data are a number, to the room."""
+        """Writes the payload of an Error record of a defined reason, whose data are a number, to the buffer."""
 
     def write_handover(self, handover: u32, major: u32, minor: u32, message: Octets, length: Size, room: Octets,
                        size: Size, count: Reference) -> int:
-        """Writes the payload of a handover record, a version octet and the bytes of a message, to the room."""
+        """Writes the payload of a handover record, a version octet and the bytes of a message, to the buffer."""
 
     def pieces(self, bytes: Octets, length: Size, at: Size, parts: Reference, size: Size, count: Reference) -> int:
-        """Gives the place of the payload of each piece of the record at a place of the bytes (NDEF 1.0, chunked
+        """Gives the offset of the payload of each chunk of the record at an offset of the bytes (NDEF 1.0, chunked
         payloads): writes them to the front of the parts, in their order, where these are enough."""
 
     def references(self, payload: Octets, length: Size, parts: Reference, size: Size, count: Reference) -> int:
-        """Gives the place of each reference in the payload of an Alternative Carrier record: the carrier data reference
-        first, then the auxiliary ones."""
+        """Gives the offset of each reference in the payload of an Alternative Carrier record: the carrier data
+        reference first, then the auxiliary ones."""
 
     def links(self, bytes: Octets, length: Size, payload: Octets, payload_length: Size, links: Reference, size: Size,
               count: Reference) -> int:
@@ -408,11 +425,11 @@ class Calls(Protocol):
 
     def find_type(self, bytes: Octets, length: Size, at: Size, tnf: u32, type: Octets, type_length: Size,
                   out: Reference) -> int:
-        """Gives the first record with a type (NDEF 1.0, TNF and TYPE) from the one at a place on, up to the one that is
-        the last of its message."""
+        """Gives the first record with a type (NDEF 1.0, TNF and TYPE) from the one at an offset on, up to the one that
+        is the last of its message."""
 
     def find_id(self, bytes: Octets, length: Size, at: Size, id: Octets, id_length: Size, out: Reference) -> int:
-        """Gives the first record with an id (NDEF 1.0, ID) from the one at a place on, up to the one that is the last
+        """Gives the first record with an id (NDEF 1.0, ID) from the one at an offset on, up to the one that is the last
         of its message."""
 
     def fields(self, bytes: Octets, length: Size, limits: Reference, fields: Reference, size: Size, count: Reference,
@@ -422,11 +439,11 @@ class Calls(Protocol):
 
     def field_at(self, bytes: Octets, length: Size, limits: Reference, place: Size, out: Reference,
                  why: Reference) -> int:
-        """Gives the field of the byte at a place of the message with which the bytes begin, or of those before the
+        """Gives the field of the byte at an offset of the message with which the bytes begin, or of those before the
         refused byte, and what a check answers."""
 
     def next_field(self, bytes: Octets, length: Size, limits: Reference, field: Reference, why: Reference) -> int:
-        """Steps to the field after this one, of which the length 0 and the place 0 are before the first."""
+        """Steps to the field after this one, of which the length 0 and the offset 0 are before the first."""
 
     def payload_fields(self, tnf: u32, type: Octets, type_length: Size, payload: Octets, length: Size,
                        fields: Reference, size: Size, count: Reference) -> int:
@@ -434,16 +451,16 @@ class Calls(Protocol):
         (RTD Text 1.0, RTD URI 1.0, RTD Smart Poster 1.0 and Connection Handover 1.2)."""
 
     def field_name(self, name: u32, room: Octets, size: Size, count: Reference) -> int:
-        """Writes the name of the field with a number, in ASCII and with no NUL after it, to the room."""
+        """Writes the name of the field with a number, in ASCII and with no NUL after it, to the buffer."""
 
     def field_remark(self, name: u32, octets: Octets, octets_length: Size, room: Octets, size: Size,
                      count: Reference) -> int:
-        """Writes what is strange in a field of a message that is accepted to the room: a sentence of English, in ASCII
-        and with no NUL after it."""
+        """Writes what is strange in a field of a message that is accepted to the buffer: a sentence of English, in
+        ASCII and with no NUL after it."""
 
     def record_remark(self, bytes: Octets, length: Size, index: Size, room: Octets, size: Size,
                       count: Reference) -> int:
-        """Writes what is strange in a record of a message that is accepted, beside the other records, to the room: a
+        """Writes what is strange in a record of a message that is accepted, beside the other records, to the buffer: a
         sentence of English, in ASCII and with no NUL after it."""
 
     def version(self) -> int:
@@ -451,19 +468,18 @@ class Calls(Protocol):
         the last 8."""
 
     def status_name(self, status: u32, room: Octets, size: Size, count: Reference) -> int:
-        """Writes the name of the status with a number, in ASCII and with no NUL after it, to the room."""
+        """Writes the name of the status with a number, in ASCII and with no NUL after it, to the buffer."""
 
     def uri_view(self, payload: Octets, length: Size, flags: u32, out: Reference, why: Reference) -> int:
-        """Gives the code of the prefix and the place of the rest of the URI for which the payload of a URI record
-        stands."""
+        """Gives the code of the prefix and the offset of the rest of the URI that the payload of a URI record holds."""
 
     def uri_prefix(self, code: u32, room: Octets, size: Size, count: Reference) -> int:
-        """Writes the prefix for which a code stands (RTD URI 1.0, URI identifier codes) to the room; a reserved code
-        stands for the empty one."""
+        """Writes the prefix of a code (RTD URI 1.0, URI identifier codes) to the buffer; a reserved code has the empty
+        one."""
 
     def append(self, built: Reference, type: Octets, type_length: Size, id: Octets, id_length: Size, payload: Octets,
                payload_length: Size, how: Reference, room: Octets, size: Size, count: Reference) -> int:
-        """Appends a record (NDEF 1.0, record layout and chunked payloads) to the message with which the room begins,
+        """Appends a record (NDEF 1.0, record layout and chunked payloads) to the message with which the buffer begins,
         and updates what is known of the message."""
 
     def append_text(self, built: Reference, id: Octets, id_length: Size, language: Octets, language_length: Size,
@@ -475,40 +491,44 @@ class Calls(Protocol):
         """Appends the record of a URI (RTD URI 1.0), by the longest prefix that begins the URI."""
 
     def poster_titles(self, payload: Octets, length: Size, titles: Reference, size: Size, count: Reference) -> int:
-        """Gives the place of each title of a smart poster, as `ndef_text` gives the parts of a text, but by places in
+        """Gives the offset of each title of a smart poster, as `ndef_text` gives the parts of a text, but by offsets in
         the payload of the poster."""
 
     def title(self, payload: Octets, length: Size, language: Octets, language_length: Size, out: Reference) -> int:
-        """Gives the place of the title of a smart poster in a language, of several the first, as `ndef_poster_titles`
+        """Gives the offset of the title of a smart poster in a language, of several the first, as `ndef_poster_titles`
         gives it."""
 
     def poster_media_type(self, payload: Octets, length: Size, out: Reference) -> int:
-        """Gives the place of the media type to which the URI of a smart poster leads."""
+        """Gives the offset of the media type to which the URI of a smart poster leads."""
 
     def poster_icons(self, payload: Octets, length: Size, icons: Reference, size: Size, count: Reference) -> int:
-        """Gives the places of the media type and the image of each icon of a smart poster, in the payload of the
+        """Gives the offsets of the media type and the image of each icon of a smart poster, in the payload of the
         poster."""
 
     def rewrite(self, bytes: Octets, length: Size, flags: u32, room: Octets, size: Size, count: Reference) -> int:
-        """Writes the message with which the bytes begin again, each record in one piece (NDEF 1.0, record layout), to
-        the room; without a flag that is its canonical spelling."""
+        """Writes the message with which the bytes begin again, each record in one chunk (NDEF 1.0, record layout), to
+        the buffer; without a flag that is its canonical spelling."""
 
     def write_poster(self, bytes: Octets, length: Size, how: Reference, titles: Reference, titles_count: Size,
                      icons: Reference, icons_count: Size, room: Octets, size: Size, count: Reference) -> int:
-        """Writes the payload of a Smart Poster record to the room."""
+        """Writes the payload of a Smart Poster record to the buffer."""
 
     def write_request(self, minor: u32, collision: u32, bytes: Octets, length: Size, references: Reference,
                       references_count: Size, alternatives: Reference, alternatives_count: Size, room: Octets,
                       size: Size, count: Reference) -> int:
-        """Writes the payload of a Handover Request record to the room: the collision resolution with the number, and
+        """Writes the payload of a Handover Request record to the buffer: the collision resolution with the number, and
         then the alternative carriers, whose references are parts of the bytes."""
 
     def write_select(self, how: Reference, bytes: Octets, length: Size, references: Reference, references_count: Size,
                      alternatives: Reference, alternatives_count: Size, room: Octets, size: Size,
                      count: Reference) -> int:
-        """Writes the payload of a Handover Select record to the room: the alternative carriers, whose references are
+        """Writes the payload of a Handover Select record to the buffer: the alternative carriers, whose references are
         parts of the bytes, and then the error."""
 
     def items(self, bytes: Octets, length: Size, limits: Reference, out: Reference, items: Reference,
               size: Size) -> int:
         """Checks the message with which the bytes begin, and gives all its records."""
+
+    def check_layout(self, payload: Octets, length: Size, fields: Reference, fields_count: Size, out: Reference) -> int:
+        """Checks a payload by a layout, for a record type of the program's own: the fields of the layout follow one
+        another up to the end of the payload."""

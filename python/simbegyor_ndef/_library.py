@@ -10,7 +10,7 @@ import ctypes
 import functools
 import os
 import struct
-from typing import Any, Callable, Deque, Dict, List, Optional, Tuple
+from typing import Any, Callable, Deque, Dict, Iterator, List, Optional, Tuple
 
 from . import _interface as interface
 from ._interface import BAD_ARGUMENT as BAD_ARGUMENT, END as END, MORE as MORE, NO_ROOM as NO_ROOM, OK as OK, REFUSED as REFUSED
@@ -44,16 +44,38 @@ def size_of(value: int) -> Any:
 
 RecordParts, FieldParts = interface.Record, interface.Field
 
-# The fields of a RecordParts, a TextParts or a Checked, or of the octets that it lies in, all of them at once. Octets are read
-# faster than the struct itself.
+# The fields of a RecordParts or a TextParts, or of the octets that it lies in, all of them at once. Octets are read faster than the struct
+# itself.
 record_fields = struct.Struct('@10N2I').unpack_from
-# Of those the octets of the type, the length of the id, the octets of the first payload, the number of pieces, the type name format and
-# whether the record ends its message.
-lone_fields = struct.Struct('@16x2N8x3N8xN2I').unpack_from
 text_fields = struct.Struct('@4NI').unpack_from
 
-# A Checked and a reference to it, then octets and a reference to them, in which a RecordParts or a TextParts lies.
-Desk = Tuple[Checked, Any, bytearray, Any]
+# A block is a Checked and after it the items of a message, of which a desk has a few. The fields of the first item; and of a block the number
+# of records, with the length of the first one's id and the parts of its value.
+FEW_ITEMS = 8
+_HEAD, _ITEM = ctypes.sizeof(Checked), ctypes.sizeof(interface.Item)
+first_item = struct.Struct('@16x16I').unpack_from
+lone_item = struct.Struct('@8xI4x24xI12x6I').unpack_from
+_each_item = struct.Struct('@16I').iter_unpack
+
+
+def new_block(count: int) -> bytearray:
+    """A block for so many items."""
+    return bytearray(_HEAD + _ITEM * count)
+
+
+def items_in(block: bytearray) -> Any:
+    """A reference to the items of a block."""
+    return byref(ctypes.c_char.from_buffer(block, _HEAD))
+
+
+def all_items(block: bytearray, count: int) -> Iterator[Tuple[int, ...]]:
+    """The fields of each of so many items, which stay as they are where others are written to the block."""
+    return _each_item(bytes(memoryview(block)[_HEAD:_HEAD + _ITEM * count]))
+
+
+# A Checked and a reference to it, the block that it begins and a reference to the items there; then octets and a reference to them, in which
+# a RecordParts or a TextParts lies.
+Desk = Tuple[Checked, Any, bytearray, Any, bytearray, Any]
 
 # Desks that nobody works at now. Who needs one takes it out, so that no two threads share one, and puts it back.
 desks: Deque[Desk] = collections.deque()
@@ -62,8 +84,9 @@ _MOST_DESKS = 16
 
 def new_desk() -> Desk:
     """A new desk."""
-    checked, octets = Checked(), bytearray(ctypes.sizeof(RecordParts))
-    return checked, byref(checked), octets, byref(RecordParts.from_buffer(octets))
+    block, octets = new_block(FEW_ITEMS), bytearray(ctypes.sizeof(RecordParts))
+    checked = Checked.from_buffer(block)
+    return checked, byref(checked), block, items_in(block), octets, byref(RecordParts.from_buffer(octets))
 
 
 # These two take a desk out, where there is one, and put it back. Python calls a bound method faster than it looks one up.
@@ -108,17 +131,13 @@ _reason_sentence = _short.reason_sentence
 _field_name = _short.field_name
 _fields = _long.fields
 check = _long.check
-# For octets that are few: no other thread runs meanwhile.
-check_short = _short.check
 begin = _short.begin
 feed = _long.feed
 record_at = _short.record_at
-# The same of a record that is known to be there: Python makes no number of the answer.
-record_there: Any = _loaded(ctypes.PyDLL).record_at
-record_there.restype = None
 payload = _long.payload
 write_record = _short.write_record
 uri = _short.uri
+_uri_prefix = _short.uri_prefix
 write_uri = _short.write_uri
 text = _short.text
 text_in_utf8 = _short.text_in_utf8
@@ -141,6 +160,22 @@ write_handover = _short.write_handover
 # The library of release 0.2.0 has no sentences about octets, and no remarks.
 has_sentences = hasattr(_long, 'why')
 has_remarks = hasattr(_long, 'record_remark')
+
+
+def items_of_none(octets: bytes, size: Any, within: Any, checked: Any, *_: Any) -> int:
+    """What the call `items` answers where there are fewer items than records; also with a library that lacks it."""
+    return check(octets, size, within, checked) or NO_ROOM
+
+
+# The library of release 0.3.0 gives no message with its records.
+has_items = hasattr(_long, 'items')
+items: Any = _long.items if has_items else items_of_none
+# For octets that are few: no other thread runs meanwhile.
+items_short: Any = _short.items if has_items else items_of_none
+
+# Nor does it check payloads by layouts.
+has_layouts = hasattr(_long, 'check_layout')
+check_layout: Any = _long.check_layout if has_layouts else None
 
 
 @functools.lru_cache
@@ -213,6 +248,12 @@ def number(value: int, what: str) -> ctypes.c_uint32:
     if not 0 <= value < U32_END:
         raise ValueError(what)
     return u32(value)
+
+
+@functools.lru_cache(maxsize=None)
+def uri_prefix(code: int) -> str:
+    """The prefix for which a code of URIs stands."""
+    return put(_uri_prefix, u32(code))[1].decode('ascii')
 
 
 @functools.lru_cache(maxsize=None)

@@ -4,9 +4,9 @@ from __future__ import annotations
 from typing import Any, Iterable, Iterator, List, Mapping, Optional, Type, Union
 
 from . import _library as library
-from ._library import record_fields, taken_desk
+from ._library import taken_desk
 from .errors import DecodeError
-from .message import Known, Told, known_of, lone_record, records_of
+from .message import Known, Told, known_of, lone_record, records_from
 from .record import Record
 
 Octets = Union[bytes, bytearray, memoryview]
@@ -28,7 +28,7 @@ def decode_many(messages: Iterable[Octets], known_types: Optional[Mapping[str, T
 def _answers(messages: Iterable[Octets], limits: Any, known: Known, told: Told) -> Iterator[Answer]:
     """The answers. What the calls write to is made once."""
     desk = taken_desk()
-    checked, _, room, _ = desk
+    checked = desk[0]
     for octets in messages:
         if type(octets) is not bytes:
             octets = _bytes_of(octets)
@@ -39,7 +39,7 @@ def _answers(messages: Iterable[Octets], limits: Any, known: Known, told: Told) 
             elif checked.reason:
                 answer = library.refused_octets(checked, octets, limits) if octets else []
             else:
-                answer = list(records_of(octets, 0, checked.place, known, told, record_fields(room)))
+                answer = list(records_from(octets, desk, limits, known, told))
         except DecodeError as error:
             # Of a class of one's own. Without what the one that was raised holds: its frames.
             answer = DecodeError(error.reason, error.place, error.number)

@@ -9,7 +9,7 @@ class DecodeError(Exception):
     """Octets are refused.
 
     reason: the name of the reason, as ndef.h gives it ('EndOfInput'), or the text of a record class of one's own.
-    place: the place of the first octet with which no message goes on, counted from 0.
+    place: the offset of the first octet with which no message goes on, counted from 0.
     number: the number of the reason in ndef.h, 1 to 25; 0 where a record class of one's own refuses.
     sentence: what was wanted there, in a sentence of English, or what the reason means; the reason itself where its number is 0.
     hint: a sentence that may help; None where nothing is known to.
@@ -25,6 +25,8 @@ class DecodeError(Exception):
         self.fields: List[Any] = []
         # The octets and the limits within which they are refused, where they are at hand.
         self._refused: Optional[Tuple[bytes, Any]] = None
+        # Whether no payload of a layout has the length of this one.
+        self._is_of_length = False
 
     @functools.cached_property
     def sentence(self) -> str:
@@ -51,11 +53,11 @@ class EncodeError(Exception):
     """A record can't be written, or no decoder would take it.
 
     what: what is wrong with it; of a record that a decoder refuses what is wanted at `at`, in a sentence of English.
-    place: the place in the message at which its octets would begin, counted from 0.
+    place: the offset in the message at which its octets would begin, counted from 0.
     reason: the name of the reason for which a decoder refuses it, as 'PayloadTooLarge'; 'BadArgument' where it has no octets.
     number: the number of that reason in ndef.h; 0 for 'BadArgument'.
     record: its index in the message, counted from 0; None where it was no part of one.
-    at: the place of the first octet of it that a decoder refuses, counted from its first; None where it has no octets.
+    at: the offset of the first octet of it that a decoder refuses, counted from its first; None where it has no octets.
     """
 
     def __init__(self, what: str = '', place: int = 0, reason: str = 'BadArgument', number: int = 0, record: Optional[int] = None,

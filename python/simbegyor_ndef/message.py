@@ -5,8 +5,9 @@ import io
 from typing import Any, BinaryIO, Dict, Generator, Iterable, Iterator, Mapping, Optional, Tuple, Type, Union, overload
 
 from . import _library as library
-from ._library import OK, SIZES, USUAL_SIZES, Desk, check_short, lone_fields, new_desk, pop_desk, push_desk, record_at, record_fields
-from ._library import record_there, size_of, taken_desk
+from . import layout
+from ._library import FEW_ITEMS, OK, SIZES, U32_END, USUAL_SIZES, Desk, first_item, items_short, lone_item, new_desk, pop_desk, push_desk
+from ._library import record_at, record_fields, size_of, taken_desk
 from .errors import DecodeError, EncodeError, left_out
 from .record import READ_LATE, Parts, Record, parts_of
 
@@ -17,12 +18,15 @@ _LOOK = 64
 _new = object.__new__
 # A record that ends a message. Fed to a checker, it shows whether another record may begin there.
 _ENDING = Record()._written(library.LAST, 0)
-_AT_FRONT = SIZES[0]
+_FEW = SIZES[FEW_ITEMS]
+# The types of the values whose parts an item has, by their forms: a text in UTF-16 has to be converted.
+_NONE: Parts = (-1, b'')
+_FORMS = _NONE, parts_of('urn:nfc:wkt:T'), _NONE, parts_of('urn:nfc:wkt:U')
 Known = Mapping[Parts, Type[Record]]
 Told = Optional[Dict[Type[Record], Any]]
 # The limits of a message, the classes that are known, and what `records_of` is given as `told`.
 Reading = Tuple[Any, Known, Told]
-# The fields of a RecordParts.
+# The fields of a RecordParts, or of an item.
 Fields = Tuple[int, ...]
 # How messages are read where no types are given, by the limit of a payload.
 _usual: Dict[int, Reading] = {}
@@ -48,6 +52,7 @@ def _known_class(spelled: Any, record_class: Any) -> Tuple[Parts, Type[Record]]:
     """A type and its class, as `known_types` has them."""
     if not isinstance(spelled, str) or not (isinstance(record_class, type) and issubclass(record_class, Record)):
         raise TypeError('known_types has record classes by the spelling of their types, not %r: %r' % (spelled, record_class))
+    layout.look_at(record_class._layout)
     return parts_of(spelled), record_class
 
 
@@ -86,7 +91,6 @@ def message_decoder(stream_or_bytes: Union[bytes, bytearray, memoryview, BinaryI
     if errors not in ('strict', 'relax'):
         raise left_out('errors=%r' % errors) if errors == 'ignore' else ValueError("errors is 'strict' or 'relax', not %r" % (errors,))
     limits, known, told = known_of(known_types, errors == 'relax')
-    records: Iterable[Record]
     given: Any = stream_or_bytes
     octets = given if type(given) is bytes else _octets_of(given)
     if octets is not None:
@@ -116,40 +120,73 @@ def _octets_of(given: Any) -> Optional[bytes]:
 
 def lone_record(octets: bytes, desk: Desk, limits: Any, known: Known, told: Told) -> Optional[Record]:
     """The record of a message of one record, as most are; None for others. The desk has what a check gives for the octets, and
-    where they are a message, its first record."""
-    _, why, room, out = desk
+    where they are a message of few records, their items."""
+    _, why, block, items, _, _ = desk
     count = len(octets)
     if count < USUAL_SIZES:
-        size = SIZES[count]
-        status = check_short(octets, size, limits, why)
+        status = items_short(octets, SIZES[count], limits, why, items, _FEW)
+    elif count < U32_END:
+        status = library.items(octets, size_of(count), limits, why, items, _FEW)
     else:
-        size = size_of(count)
-        status = library.check(octets, size, limits, why)
+        status = library.items_of_none(octets, size_of(count), limits, why)
     if status != OK:
         return None
-    record_there(octets, size, _AT_FRONT, out)
-    type_at, type_length, id_length, at, length, pieces, tnf, is_last = lone_fields(room)
-    if is_last and pieces == 1 and not id_length and told is not None:
-        record_class = known.get((tnf, octets[type_at:type_at + type_length]))
+    records, id_length, form, number, language_at, language_length, text_at, text_length = lone_item(block)
+    if records != 1:
+        return None
+    if form and not id_length:
+        record_class = known.get(_FORMS[form])
         if record_class in READ_LATE:
             made = _new(record_class)
-            made._unread = octets[at:at + length]
+            made._unread = number, octets[language_at:language_at + language_length], octets[text_at:text_at + text_length]
             return made
-    return record_of(octets, record_fields(room), known, 0, True, told) if is_last else None
+    return record_of(octets, _parts(first_item(block)), known, 0, True, told)
+
+
+def _parts(item: Fields) -> Fields:
+    """The fields of a RecordParts, of those of an item."""
+    at, end, tnf, _, type_at, type_length, id_length, payload_at, length, pieces, _, _, _, _, _, _ = item
+    return at, end, type_at, type_length, payload_at - id_length, id_length, payload_at, length, length, pieces, tnf, 0
+
+
+def records_from(octets: bytes, desk: Desk, limits: Any, known: Known, told: Told) -> Iterator[Record]:
+    """The records of a message of which the desk has what `lone_record` leaves there, and is free then. The message is walked where its places
+    don't fit items, and where the library has none."""
+    checked, why, block, _, _, _ = desk
+    count, size = checked.records, len(octets)
+    if size >= U32_END or not library.has_items:
+        return records_of(octets, 0, checked.place, known, told)
+    if count > FEW_ITEMS:
+        block = library.new_block(count)
+        library.items(octets, size_of(size), limits, why, library.items_in(block), size_of(count))
+    return _of_items(octets, library.all_items(block, count), known, told)
+
+
+def _of_items(octets: bytes, items: Iterable[Fields], known: Known, told: Told) -> Iterator[Record]:
+    """The records with these items."""
+    classes = [record_class if record_class in READ_LATE else None for record_class in map(known.get, _FORMS)]
+    for item in items:
+        _, _, _, _, _, _, id_length, payload_at, _, _, form, number, language_at, language_length, text_at, text_length = item
+        record_class = classes[form]
+        if record_class is None:
+            yield record_of(octets, _parts(item), known, 0, not item[0], told)
+            continue
+        made = _new(record_class)
+        made._unread = number, octets[language_at:language_at + language_length], octets[text_at:text_at + text_length]
+        if id_length:
+            made._name = octets[payload_at - id_length:payload_at]
+        yield made
 
 
 def _from_octets(octets: bytes, desk: Desk, limits: Any, known: Known, told: Told) -> Iterator[Record]:
     """The records of the message of several with which the octets begin, or of the one that is refused: the desk has what
     `lone_record` leaves there."""
-    checked, _, room, _ = desk
-    place, fields, error = checked.place, None, None
-    if not checked.reason:
-        fields = record_fields(room)
-    elif octets:
-        error = library.refused_octets(checked, octets, limits)
+    checked = desk[0]
+    place, error = checked.place, library.refused_octets(checked, octets, limits) if checked.reason and octets else None
+    records = iter(()) if checked.reason else records_from(octets, desk, limits, known, told)
     # From here on another thread may work at the desk.
     push_desk(desk)
-    return _refused(octets, place, error, known, told) if error else records_of(octets, 0, place, known, told, fields)
+    return _refused(octets, place, error, known, told) if error else records
 
 
 def _refused(octets: bytes, place: int, error: DecodeError, known: Known, told: Told) -> Iterator[Record]:
@@ -256,19 +293,15 @@ def _from_stream(stream: BinaryIO, limits: Any, known: Known, told: Told) -> Ite
             yield record_of(octets, library.record_fields(incoming.parts), known, before, not before, told)
 
 
-def records_of(octets: bytes, start: int, end: int, known: Known, told: Told, fields: Optional[Fields] = None) -> Iterator[Record]:
+def records_of(octets: bytes, start: int, end: int, known: Known, told: Told) -> Iterator[Record]:
     """The records of a message that has been checked and that lies between two places. `told` is None where payloads weren't
-    looked into; else it has, for classes of which the library gave the first record's value with the whole, what it gave.
-    `fields` are those of the first record, where they are known."""
+    looked into; else it has, for classes of which the library gave the first record's value with the whole, what it gave."""
     desk, size, at = taken_desk(), size_of(end), start
-    _, _, room, out = desk
-    while at != end:
-        if fields is None:
-            if record_at(octets, size, SIZES[at] if at < USUAL_SIZES else size_of(at), out) != OK:
-                break
-            fields = record_fields(room)
+    _, _, _, _, room, out = desk
+    while at != end and record_at(octets, size, size_of(at), out) == OK:
+        fields = record_fields(room)
         yield record_of(octets, fields, known, 0, at == start, told)
-        at, fields = fields[1], None
+        at = fields[1]
     library.put_back(desk)
 
 
@@ -292,7 +325,7 @@ def record_of(octets: bytes, fields: Fields, known: Known, before: int, is_first
         try:
             made = record_class._from_payload(data)
         except DecodeError as error:
-            place = payload_at + error.place
+            place = type_at + type_length - 1 if error._is_of_length else payload_at + error.place
             if pieces > 1:
                 place = at + _place_in_pieces(octets[at:end], is_first, error, payload_at - at)
             raise DecodeError(error.reason, before + place, error.number) from None

@@ -7,6 +7,7 @@ import struct
 from typing import Any, Dict, Optional, Set, Tuple, Type, Union
 
 from . import _library as library
+from . import layout
 from ._structs import packed, unpacked
 from .errors import DecodeError, EncodeError, left_out
 
@@ -14,6 +15,7 @@ __all__ = ['DecodeError', 'EncodeError', 'GlobalRecord', 'LocalRecord', 'Record'
 
 Octets = Union[bytes, bytearray]
 Parts = Tuple[int, bytes]
+Unread = Union[bytes, Tuple[int, bytes, bytes]]
 
 _PREFIXES = {'urn:nfc:wkt:': 1, 'urn:nfc:ext:': 4}
 _WORDS = {'': library.EMPTY, 'unknown': library.UNKNOWN}
@@ -110,9 +112,11 @@ class Record:
     _known_parts: Dict[Parts, Type['Record']] = {}
     _decode_min_payload_length: int = 0
     _decode_max_payload_length: int = 0xffffffff
+    _layout: Optional[Tuple[layout.LayoutField, ...]] = None
     _name: bytes = b''
-    # A checked payload that wasn't looked at yet, of a class in `READ_LATE`.
-    _unread: Optional[bytes] = None
+    # What of a checked payload wasn't made a value yet, of a class in `READ_LATE`: all of it, or what the library gave of a value: the code
+    # of a URI, the language of a text, and the text or the rest of the URI.
+    _unread: Optional[Unread] = None
     # Where and why the payload is none of the type, counted from its first octet: of a record that errors='relax' gave.
     refusal: Optional[DecodeError] = None
     _parts: Parts
@@ -128,9 +132,11 @@ class Record:
     @classmethod
     def register_type(cls, record_class: Type['Record']) -> None:
         """Lets records of the class's `_type` be decoded by its `_decode_payload`. A poster's or a handover's class registers
-        for the records within it, any other for all messages."""
+        for the records within it, any other for all messages. A `_layout` that is none is refused with TypeError or ValueError, and any
+        with NotImplementedError where the library is older than 0.4."""
         if not (isinstance(record_class, type) and issubclass(record_class, Record)):
             raise TypeError('a record class is needed, not %r' % (record_class,))
+        layout.look_at(record_class._layout)
         cls._known_parts[parts_of(getattr(record_class, '_type'))] = record_class
 
     @classmethod
@@ -141,7 +147,10 @@ class Record:
 
     @classmethod
     def _from_payload(cls, octets: bytes) -> 'Record':
-        """The record for a payload, by `_decode_payload`."""
+        """The record for a payload, by `_decode_payload`; DecodeError where it is none of the `_layout`."""
+        refusal = layout.refusal_of(cls._layout, octets) if cls._layout is not None else None
+        if refusal:
+            raise refusal
         if not cls._decode_min_payload_length <= len(octets) <= cls._decode_max_payload_length:
             raise cls._decode_error('payload length is {} to {}, not {}', cls._decode_min_payload_length,
                                     cls._decode_max_payload_length, len(octets))
@@ -286,8 +295,8 @@ class _TypedRecord(Record):
     def __init__(self) -> None:
         pass
 
-    def _read(self, octets: bytes) -> None:
-        """Sets the attributes by a payload; of the classes that have this."""
+    def _read(self, given: Unread) -> None:
+        """Sets the attributes by a payload, or by what the library gave of its value; of the classes that have this."""
 
     def _look(self) -> None:
         """Sets the attributes by the payload that wasn't looked at yet."""
@@ -317,8 +326,13 @@ class GlobalRecord(_TypedRecord):
     """A record of the type `_type` anywhere in a message.
 
     A class of one's own has `_type`; `_encode_payload()`, the payload for the attributes; `_decode_payload(octets, errors)` of
-    the class, a record for a payload; and where it wants, `_decode_min_payload_length`, `_decode_max_payload_length` and
-    `__format__`. `Record.register_type` has the decoder use it.
+    the class, a record for a payload; and where it wants, `_layout`, `_decode_min_payload_length`, `_decode_max_payload_length`
+    and `__format__`. `Record.register_type` has the decoder use it.
+
+    `_layout` is a tuple of fields that the functions of `layout` give. A payload that is none of the layout is refused before
+    `_decode_payload` is called: at the first octet after which no payload of the same length is one of the layout, or where
+    none has its length at the last octet of the type. Of a record in several chunks the place is that of the payload of its
+    first one.
     """
 
 

@@ -2,17 +2,16 @@
 from __future__ import annotations
 
 import functools
-from typing import Optional
+from typing import Any, Optional
 
 from . import _library as library
-from ._library import OK, SIZES, USUAL_SIZES, new_desk, pop_desk, push_desk, text_fields
+from ._library import OK, push_desk, size_of, taken_desk, text_fields
 from .errors import EncodeError
-from .record import READ_LATE, GlobalRecord, Record, text_of
+from .record import READ_LATE, GlobalRecord, Record, Unread, text_of
 
 __all__ = ['TextRecord']
 
 _ENCODINGS = ('UTF-8', 'UTF-16')
-_text = library.text
 
 
 def _write(language: bytes, text: bytes, flags: int, raised: type) -> bytes:
@@ -99,15 +98,16 @@ class TextRecord(GlobalRecord):
         made._read(octets)
         return made
 
-    def _read(self, octets: bytes) -> None:
-        try:
-            desk = pop_desk()
-        except IndexError:
-            desk = new_desk()
-        checked, why, room, out = desk
+    def _read(self, given: Unread) -> None:
+        if type(given) is tuple:
+            _, language, text = given
+            self._language, self._encoding, self._text = language.decode(), 'UTF-8', text.decode()
+            return
+        checked, why, _, _, room, out = desk = taken_desk()
+        octets: Any = given
         count = len(octets)
-        size = SIZES[count] if count < USUAL_SIZES else library.size_of(count)
-        if _text(octets, size, out, why) != OK:
+        size = size_of(count)
+        if library.text(octets, size, out, why) != OK:
             raise library.refused(checked)
         language_at, language_length, at, length, is_utf16 = text_fields(room)
         text = octets[at:at + length]

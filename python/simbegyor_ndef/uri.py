@@ -2,12 +2,12 @@
 from __future__ import annotations
 
 import re
-from typing import Optional
+from typing import Any, Optional
 from urllib.parse import quote
 
 from . import _library as library
 from .errors import EncodeError
-from .record import READ_LATE, GlobalRecord, Record, text_of
+from .record import READ_LATE, GlobalRecord, Record, Unread, text_of
 
 __all__ = ['UriRecord']
 
@@ -77,7 +77,12 @@ class UriRecord(GlobalRecord):
         made._read(octets)
         return made
 
-    def _read(self, octets: bytes) -> None:
+    def _read(self, given: Unread) -> None:
+        if type(given) is tuple:
+            code, _, rest = given
+            self._iri = library.uri_prefix(code) + rest.decode()
+            return
+        octets: Any = given
         desk, count = library.taken_desk(), len(octets)
         status, spelled = library.put(library.uri, octets, library.size_of(count), 0, given=count, behind=(desk[1],))
         if status != library.OK:

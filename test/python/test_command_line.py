@@ -208,7 +208,7 @@ class CommandLine(unittest.TestCase):
         """The exit status that is said is that of docs/COMMAND.md."""
         done = self.run_in(None, ['--help'])
         said = ' '.join(done.stdout.decode().split())
-        self.assertIn('Exit status: 0 all are messages, 1 one is refused, 2 bad words, 3 reading or writing failed.', said)
+        self.assertIn('Exit status: 0 all are messages, 1 one is refused, 2 bad arguments, 3 reading or writing failed.', said)
         self.assertIn('a file, or - for standard input, which is the default', said)
         self.assertEqual(done.returncode, 0)
         self.assertEqual((self.run_in(None, ['--version']).stdout.decode().strip(), self.run_in(None, ['--none']).returncode),

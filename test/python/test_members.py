@@ -202,6 +202,15 @@ class Records(unittest.TestCase):
                     decoded(octets_of, known_types=known)
                 self.assertEqual((caught.exception.reason, caught.exception.place), ('UriCode', len(before) + 4))
 
+    def test_places_in_pieces_after_other_records(self):
+        """A class that is given refuses a text in pieces where the library does, in the first record and in a later one."""
+        for before in (b'', b'\x90\0\0', b'\x91\1\1xa\x10\0\0'):
+            pieces = bytes([0x31 if before else 0xb1]) + b'\1\3T\2en' + b'\x56\0\2a\xff'
+            for words in ({}, {'known_types': {'urn:nfc:wkt:T': ndef.TextRecord}}):
+                with self.assertRaises(ndef.DecodeError) as caught:
+                    decoded(before + pieces, **words)
+                self.assertEqual((caught.exception.place, caught.exception.reason), (len(before) + 11, 'Utf8'))
+
     def test_every_octet_of_names_and_types(self):
         """Latin-1 has a character for each octet."""
         high = bytes(range(128, 256))
@@ -401,13 +410,37 @@ class Rooms(unittest.TestCase):
         record, pieces = ndef.Record('unknown', '', bytes(size)), b'\xa5\0\0\0\x10\0' + bytes(4096) + b'\x46\0\0\0\x10\0\0' + bytes(4096)
         text, wide = ndef.TextRecord(long), ndef.TextRecord(long, encoding='UTF-16')
         for name, work in (('write_text', lambda: text.data), ('write_text', lambda: wide.data),
-                           ('write_uri', lambda: ndef.UriRecord(long).data), ('uri', lambda: decoded(octets(ndef.UriRecord(long)))[0].iri),
+                           ('write_uri', lambda: ndef.UriRecord(long).data), ('uri', lambda: ndef.UriRecord._decode_payload(b'\0' + long.encode(), 'strict')),
                            ('text_in_utf8', lambda: decoded(octets(ndef.TextRecord(size * '\u4e00', encoding='UTF-16')))[0].text),
                            ('write_carrier', lambda: ndef.HandoverCarrierRecord('a/b', bytes(size)).data), ('write_alternative', lambda: carrier.data),
                            ('write_error', lambda: ErrorRecord(9, bytes(size))), ('write_handover', lambda: select.data),
                            ('write_record', lambda: octets(record)), ('payload', lambda: decoded(pieces))):
             with self.subTest(name):
                 self.assertEqual(self.calls_of(name, work), 1)
+
+    @unittest.skipUnless(library.has_items, 'the library gives no message with its records')
+    def test_no_call_for_a_record_or_a_value(self):
+        """A message with its texts and URIs takes one call, and two where it has more records than a desk; only UTF-16 is converted."""
+        for count in (1, 2, 8, 9, 300):
+            message = octets(*(ndef.TextRecord('x%d' % at) if at % 2 else ndef.UriRecord('http://%d' % at) for at in range(count)))
+
+            def read(message=message):
+                return [getattr(record, 'text', None) or record.iri for record in ndef.message_decoder(message)]
+
+            wanted = ['x%d' % at if at % 2 else 'http://%d' % at for at in range(count)]
+            self.assertEqual(read(), wanted)
+            for name in ('record_at', 'text', 'uri', 'check'):
+                self.assertEqual(self.calls_of(name, read), 0)
+            self.assertEqual(self.calls_of('items', read), 1 if count > 8 else 0)
+
+    def test_messages_that_are_walked(self):
+        """As those are whose places don't fit the items, and those of a library without items."""
+        message = octets(ndef.TextRecord('a'), ndef.UriRecord('tel:1'), ndef.Record('a/b', 'c', b'd'))
+        wanted = [repr(record) for record in ndef.message_decoder(message)]
+        for name, changed in ((ndef.message.__name__ + '.U32_END', 4), (library.__name__ + '.has_items', False)):
+            with mock.patch(name, changed):
+                self.assertEqual([repr(record) for record in ndef.message_decoder(message)], wanted)
+                self.assertEqual([list(map(repr, records)) for records in ndef.decode_many([message, message])], [wanted, wanted])
 
     def test_few_limits_are_kept(self):
         """A program that sets a limit of its own for each message keeps no more of them than before."""

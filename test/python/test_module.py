@@ -464,7 +464,10 @@ class Fields(unittest.TestCase):
 
 class Readme(unittest.TestCase):
     def test_examples(self):
-        failed, tried = doctest.testfile(str(TOP / 'python/README.md'), module_relative=False)
+        page = (TOP / 'python/README.md').read_text()
+        if not library.has_layouts:
+            page = re.sub('^### The layout of a payload$.*?(?=^## )', '', page, flags=re.M | re.S)
+        failed, tried = doctest.DocTestRunner().run(doctest.DocTestParser().get_doctest(page, {}, 'README.md', 'python/README.md', 0))
         self.assertEqual(failed, 0)
         self.assertGreater(tried, 10)
 

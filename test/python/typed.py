@@ -1,6 +1,6 @@
 """What mypy --strict says of programs that use the module: each `type: ignore` hides an error that has to be there."""
 import io
-from typing import Iterator, List, Optional, Union
+from typing import Iterator, List, Optional, Tuple, Union
 
 import simbegyor_ndef as ndef
 
@@ -19,6 +19,7 @@ strange: List[Optional[str]] = [*(ndef.field_remark(field.name, field.octets) fo
 names: Iterator[str] = (field.name for field in fields)
 ndef.Record('text/plain', b'name', bytearray(3)).name = 'a'
 ndef.HandoverCarrierRecord('a/b', b'x', 'a').carrier_data.extend(b'y')
+own_layout: Tuple[ndef.layout.LayoutField, ...] = (ndef.layout.octets(2), ndef.layout.within(0, 9), ndef.layout.rest())
 
 wrong_sizes: List[int] = list(ndef.message_encoder(records))  # type: ignore[arg-type]
 wrong_octets: List[bytes] = list(ndef.message_encoder(records, io.BytesIO()))  # type: ignore[arg-type]
@@ -31,3 +32,4 @@ wrong_said: str = ndef.why(octets)  # type: ignore[assignment]
 ndef.hint('text')  # type: ignore[arg-type]
 ndef.field_remark(3, b'')  # type: ignore[arg-type]
 wrong_remark: str = ndef.record_remark(octets, 0)  # type: ignore[assignment]
+ndef.layout.octets('2')  # type: ignore[arg-type]
