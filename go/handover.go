@@ -14,7 +14,7 @@ const (
 	UnknownPower Power = 3
 )
 
-// String returns the power state in a word, such as "active", or "Power(4)" where it has none.
+// String returns the name of the power state, such as "active", or "Power(4)" where it has none.
 func (power Power) String() string {
 	return named("Power", int(power), "inactive", "active", "activating", "unknown")
 }

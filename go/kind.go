@@ -1,6 +1,6 @@
 package ndef
 
-// #include "ndef.h"
+// #include "calls.h"
 import "C"
 
 // Kind says what a payload is, as the type of its record says: an ndef_kinds of ndef.h.
@@ -20,7 +20,7 @@ const (
 	kindError       Kind = C.NDEF_KIND_ERROR
 )
 
-// String returns what the payload is in words, such as "smart poster", or "Kind(99)" where there is no such kind.
+// String returns the name of what the payload is, such as "smart poster", or "Kind(99)" where there is no such kind.
 func (kind Kind) String() string {
 	return named("Kind", int(kind), "other", "text", "URI", "smart poster", "handover request", "handover select", "handover carrier",
 		"action", "size", "media type", "alternative carrier", "collision resolution", "error")
@@ -33,9 +33,7 @@ func (record *Record) Kind() Kind { return record.kindWithin(KindOther) }
 
 // kindWithin returns what the payload is of a record of the message within a payload of a kind.
 func (record *Record) kindWithin(kind Kind) Kind {
-	name := []byte(record.Type)
-	parts := C.ndef_record{tnf: C.uint32_t(record.TNF), type_length: size(name)}
-	return Kind(C.ndef_kind(first(name), size(name), &parts, C.uint32_t(kind)))
+	return Kind(C.go_kind(C.uint32_t(record.TNF), record.Type, C.uint32_t(kind)))
 }
 
 // Value is what a payload means: a Text, a URI, a *SmartPoster, a *HandoverRequest, a *HandoverSelect or a
@@ -45,16 +43,20 @@ type Value interface {
 }
 
 // Value reads the payload by the strict profile. It is nil for a record of KindOther. The error is a *Refusal, whose
-// place counts from the first byte of the payload.
+// offset counts from the first byte of the payload.
 func (record *Record) Value() (Value, error) { return Options{}.Value(record) }
 
 // Value reads the payload as the method Value of the record does, by the profile of the options.
 func (options Options) Value(record *Record) (Value, error) {
-	switch record.Kind() {
+	value := C.go_value_of(C.uint32_t(record.TNF), record.Type, first(record.Payload), size(record.Payload), options.flags())
+	if value.status != C.NDEF_OK {
+		return nil, refused(&value.why)
+	}
+	switch Kind(value.kind) {
 	case KindText:
-		return valued[Text](textOf(record.Payload))
+		return valued[Text](textIn(record.Payload, &value.text))
 	case KindURI:
-		return valued[URI](uriOf(record.Payload, options.flags()))
+		return uriIn(record.Payload, &value.uri), nil
 	case KindSmartPoster:
 		return valued[*SmartPoster](posterOf(record.Payload, options.flags()))
 	case KindRequest:

@@ -21,11 +21,11 @@ func size(bytes []byte) C.ndef_size { return C.ndef_size(len(bytes)) }
 // within returns the bytes of a part.
 func within(bytes []byte, at, length C.ndef_size) []byte { return bytes[at : at+length : at+length] }
 
-// A filling is a call that writes bytes to a room and their number to count. It answers NDEF_NO_ROOM, with the number
-// that is needed, where the room is too small.
+// A filling is a call that writes bytes to a buffer and their number to count. It answers NDEF_NO_ROOM, with the number
+// that is needed, where the buffer is too small.
 type filling func(room *C.uint8_t, size C.ndef_size, count *C.ndef_size) C.uint32_t
 
-// filled appends to bytes what a call writes to a room.
+// filled appends to bytes what a call writes to a buffer.
 func filled(bytes []byte, call filling) ([]byte, C.uint32_t) {
 	var count C.ndef_size
 	status := call(nil, 0, &count)

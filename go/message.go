@@ -5,11 +5,12 @@
 // no memory and has no state, so all functions may be called by any number of goroutines at once.
 package ndef
 
-// #include "ndef.h"
+// #include "calls.h"
 import "C"
 
 import (
 	"fmt"
+	"math"
 	"sync"
 )
 
@@ -59,16 +60,16 @@ type Limits struct {
 	Pieces  uint32 // chunks of one record, 1 to 65535
 }
 
-// UsualLimits returns limits that suit usual tags: 1048576 bytes of payload, 1024 records and 4096 chunks.
+// UsualLimits returns limits that suit most tags: 1048576 bytes of payload, 1024 records and 4096 chunks.
 func UsualLimits() Limits {
 	var limits C.ndef_limits
 	C.ndef_usual_limits(&limits)
 	return Limits{Payload: uint32(limits.payload), Records: uint32(limits.records), Pieces: uint32(limits.pieces)}
 }
 
-// Options say how messages are read. The zero value reads by the strict profile within the usual limits.
+// Options say how messages are read. The zero value reads by the strict profile within the default limits.
 type Options struct {
-	Limits   *Limits // nil for the usual limits
+	Limits   *Limits // nil for the default limits
 	Standard bool    // read reserved values as the standards say; docs/FORMAT.md lists them
 	Opaque   bool    // don't look into payloads
 }
@@ -106,38 +107,94 @@ func (options Options) Parse(bytes []byte) (*Message, error) {
 
 // ParsePrefix reads a message as the function ParsePrefix does. Where the limits are out of range the error is ErrLimits.
 func (options Options) ParsePrefix(bytes []byte) (*Message, int, error) {
-	length, _, err := options.Check(bytes)
-	if err != nil {
-		return nil, 0, err
+	if uint64(len(bytes)) > math.MaxUint32 { // Items have places of 32 bits.
+		length, _, err := options.Check(bytes)
+		if err != nil {
+			return nil, 0, err
+		}
+		return &Message{Records: recordsOf(append([]byte(nil), bytes[:length]...))}, length, nil
 	}
-	return &Message{Records: recordsOf(append([]byte(nil), bytes[:length]...))}, length, nil
+	desk := taken()
+	defer desk.putBack()
+	desk.limits = options.limits()
+	status := desk.fill(bytes)
+	if status == C.NDEF_NO_ROOM {
+		desk.items = make([]C.ndef_item, desk.found.records)
+		status = desk.fill(bytes)
+	}
+	if status != C.NDEF_OK {
+		return nil, 0, desk.wrong(status)
+	}
+	length := int(desk.found.place)
+	return &Message{Records: desk.recordsOf(append([]byte(nil), bytes[:length]...))}, length, nil
+}
+
+// Check returns the length of the message that the bytes begin with, and the number of its records. It allocates
+// nothing where they do. The error is a *Refusal or ErrLimits.
+func (options Options) Check(bytes []byte) (length, records int, err error) {
+	desk := taken()
+	defer desk.putBack()
+	desk.limits = options.limits()
+	if status := C.ndef_check(first(bytes), size(bytes), &desk.limits, &desk.found); status != C.NDEF_OK {
+		return 0, 0, desk.wrong(status)
+	}
+	return int(desk.found.place), int(desk.found.records), nil
 }
 
 // A desk is what a check is given and what it finds. A call of C makes what it is given escape, so desks are kept.
 type desk struct {
 	limits C.ndef_limits
 	found  C.ndef_checked
+	items  []C.ndef_item
 }
 
-var desks = sync.Pool{New: func() any { return new(desk) }}
+const (
+	fewItems  = 8
+	mostItems = 1024 // that are kept
+)
 
-// Check returns the length of the message that the bytes begin with, and the number of its records. It allocates
-// nothing where they do. The error is a *Refusal or ErrLimits.
-func (options Options) Check(bytes []byte) (length, records int, err error) {
-	desk := desks.Get().(*desk)
-	defer desks.Put(desk)
-	desk.limits = options.limits()
-	switch C.ndef_check(first(bytes), size(bytes), &desk.limits, &desk.found) {
-	case C.NDEF_OK:
-		return int(desk.found.place), int(desk.found.records), nil
-	case C.NDEF_REFUSED:
-		return 0, 0, refused(&desk.found)
-	default:
-		return 0, 0, ErrLimits
+var desks = sync.Pool{New: func() any { return &desk{items: make([]C.ndef_item, fewItems)} }}
+
+func taken() *desk { return desks.Get().(*desk) }
+
+func (desk *desk) putBack() {
+	if len(desk.items) <= mostItems {
+		desks.Put(desk)
 	}
 }
 
-// recordsOf returns the records of a message that was checked. A record in one piece shares its payload.
+// fill checks the bytes, and gives the items of their records where there are enough.
+func (desk *desk) fill(bytes []byte) C.uint32_t {
+	return C.ndef_items(first(bytes), size(bytes), &desk.limits, &desk.found, &desk.items[0], C.ndef_size(len(desk.items)))
+}
+
+// wrong is the error for a check that doesn't find a message.
+func (desk *desk) wrong(status C.uint32_t) error {
+	if status == C.NDEF_REFUSED {
+		return refused(&desk.found)
+	}
+	return ErrLimits
+}
+
+// recordsOf returns the records of the message, which the items describe.
+func (desk *desk) recordsOf(message []byte) []Record {
+	records := make([]Record, desk.found.records)
+	for index := range records {
+		item, record := &desk.items[index], &records[index]
+		id := item.payload_at - item.id_length
+		record.TNF = TNF(item.tnf)
+		record.Type = string(message[item.type_at : item.type_at+item.type_length])
+		record.ID = string(message[id:item.payload_at])
+		if end := item.payload_at + item.payload_length; item.pieces == 1 {
+			record.Payload = message[item.payload_at:end:end]
+		} else {
+			record.Payload = joined(message, C.ndef_size(item.at))
+		}
+	}
+	return records
+}
+
+// recordsOf returns the records of a message within a payload, or of one that a reader checked. A record in one piece shares its payload.
 func recordsOf(message []byte) []Record {
 	var records []Record
 	var parts C.ndef_record
@@ -153,8 +210,13 @@ func payloadOf(message []byte, parts *C.ndef_record) []byte {
 	if parts.pieces == 1 {
 		return within(message, parts.payload_at, parts.payload_length)
 	}
+	return joined(message, parts.at)
+}
+
+// joined returns the payload of the record at a place, its chunks joined.
+func joined(message []byte, at C.ndef_size) []byte {
 	payload, _ := filled(nil, func(room *C.uint8_t, most C.ndef_size, count *C.ndef_size) C.uint32_t {
-		return C.ndef_payload(first(message), size(message), parts.at, room, most, count)
+		return C.ndef_payload(first(message), size(message), at, room, most, count)
 	})
 	return payload
 }

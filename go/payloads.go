@@ -6,6 +6,7 @@ import "C"
 import (
 	"fmt"
 	"strings"
+	"sync/atomic"
 )
 
 // Text is the payload of a Text record (RTD Text 1.0).
@@ -21,14 +22,23 @@ func textOf(payload []byte) (Text, error) {
 	if C.ndef_text(first(payload), size(payload), &parts, &why) != C.NDEF_OK {
 		return Text{}, refused(&why)
 	}
+	return textIn(payload, &parts)
+}
+
+// textIn returns the text of a payload, whose parts are given.
+func textIn(payload []byte, parts *C.ndef_text_parts) (Text, error) {
+	if parts.utf16 == 0 {
+		all := string(payload) // in one allocation
+		return Text{Language: all[parts.language_at:][:parts.language_length], Text: all[parts.text_at:][:parts.text_length]}, nil
+	}
+	var why C.ndef_checked
 	text, status := filled(nil, func(room *C.uint8_t, most C.ndef_size, count *C.ndef_size) C.uint32_t {
 		return C.ndef_text_in_utf8(first(payload), size(payload), room, most, count, &why)
 	})
 	if status != C.NDEF_OK {
 		return Text{}, refused(&why)
 	}
-	return Text{Language: string(within(payload, parts.language_at, parts.language_length)), Text: string(text),
-		UTF16: parts.utf16 == 1}, nil
+	return Text{Language: string(within(payload, parts.language_at, parts.language_length)), Text: string(text), UTF16: true}, nil
 }
 
 // Record makes the record of the text.
@@ -45,14 +55,33 @@ func (text Text) Record() (Record, error) {
 type URI string
 
 func uriOf(payload []byte, flags C.uint32_t) (URI, error) {
+	var parts C.ndef_uri_parts
 	var why C.ndef_checked
-	uri, status := filled(nil, func(room *C.uint8_t, most C.ndef_size, count *C.ndef_size) C.uint32_t {
-		return C.ndef_uri(first(payload), size(payload), flags, room, most, count, &why)
-	})
-	if status != C.NDEF_OK {
+	if C.ndef_uri_view(first(payload), size(payload), flags, &parts, &why) != C.NDEF_OK {
 		return "", refused(&why)
 	}
-	return URI(uri), nil
+	return uriIn(payload, &parts), nil
+}
+
+// uriIn returns the URI of a payload, whose parts are given.
+func uriIn(payload []byte, parts *C.ndef_uri_parts) URI {
+	return URI(prefixOf(uint8(parts.code)) + string(within(payload, parts.rest_at, parts.rest_length)))
+}
+
+// prefixes are those of the codes that were asked for.
+var prefixes [256]atomic.Pointer[string]
+
+// prefixOf returns the prefix for which a code of URIs stands.
+func prefixOf(code uint8) string {
+	if known := prefixes[code].Load(); known != nil {
+		return *known
+	}
+	bytes, _ := filled(nil, func(room *C.uint8_t, most C.ndef_size, count *C.ndef_size) C.uint32_t {
+		return C.ndef_uri_prefix(C.uint32_t(code), room, most, count)
+	})
+	prefix := string(bytes)
+	prefixes[code].Store(&prefix)
+	return prefix
 }
 
 // Record makes the record of the URI, with the longest prefix code that fits it.
@@ -160,7 +189,7 @@ func iconsOf(payload []byte) []Icon {
 	return icons
 }
 
-// A shelf holds parts for calls that take places within an array of bytes.
+// A shelf holds parts for calls that take offsets within an array of bytes.
 type shelf struct{ bytes []byte }
 
 func (shelf *shelf) put(text string) C.ndef_part {

@@ -49,7 +49,7 @@ func (checker *Checker) Feed(bytes []byte) (whole bool, err error) {
 	}
 }
 
-// Place returns the length of the whole message, the place of the refused byte, or else the number of bytes fed.
+// Place returns the length of the whole message, the offset of the refused byte, or else the number of bytes fed.
 func (checker *Checker) Place() int { return int(checker.fed.place) }
 
 // Reader reads messages that follow one another in a source. The zero value has no source: its Next returns io.EOF.
@@ -70,7 +70,7 @@ func NewReader(source io.Reader, options Options) *Reader {
 
 // Next reads the next message. At the end of the source the error is io.EOF. Where the source fails within a message the
 // error is that of the source, and the bytes of the message so far are consumed. Where bytes are refused, also because
-// the source ends within a message, the error is a *Refusal whose place counts from the first byte of the message; the
+// the source ends within a message, the error is a *Refusal whose offset counts from the first byte of the message; the
 // bytes before the refused one are consumed.
 func (reader *Reader) Next() (*Message, error) {
 	if reader.source == nil {

@@ -3,15 +3,15 @@ package ndef
 // #include "ndef.h"
 import "C"
 
-// Why returns what was wanted where the strict profile refuses the bytes within the usual limits, as the method Why of
-// Options does.
+// Why returns what was wanted where the strict profile refuses the bytes within the default limits, as the method Why
+// of Options does.
 func Why(bytes []byte) string {
 	sentence, _ := Options{}.Why(bytes)
 	return sentence
 }
 
-// Hint returns what may help where the strict profile refuses the bytes within the usual limits, as the method Hint of
-// Options does.
+// Hint returns what may help where the strict profile refuses the bytes within the default limits, as the method Hint
+// of Options does.
 func Hint(bytes []byte) string {
 	sentence, _ := Options{}.Hint(bytes)
 	return sentence
@@ -27,8 +27,8 @@ func (options Options) Why(bytes []byte) (string, error) {
 	}, ErrLimits)
 }
 
-// Hint returns a sentence of English that may help where the bytes are refused: a message begins at one of the places 1
-// to 16, the identifier code of a URI may be missing, or the standard profile reads them. It is empty where nothing is
+// Hint returns a sentence of English that may help where the bytes are refused: a message begins at one of the offsets
+// 1 to 16, the identifier code of a URI may be missing, or the standard profile reads them. It is empty where nothing is
 // known to help, and where a message begins with the bytes. It may take 17 times as long as Check. The rest is as for
 // Why.
 func (options Options) Hint(bytes []byte) (string, error) {

@@ -6,10 +6,10 @@ import "C"
 import "fmt"
 
 // Form says how a message is written. The zero value writes the shortest spelling of a message that the strict profile
-// accepts within the usual limits.
+// accepts within the default limits.
 type Form struct {
 	Long      bool    // write payload lengths in four bytes even where one would do
-	Chunk     uint32  // the bytes of payload of each chunk but the last; 0 to write each record in one piece
+	Chunk     uint32  // the bytes of payload of each chunk but the last; 0 to write each record in one chunk
 	Options   Options // what is written has to be a message by these
 	Unchecked bool    // write it also where it isn't
 }

@@ -185,3 +185,48 @@ func TestCheckAllocatesNothing(t *testing.T) {
 		}
 	}
 }
+
+// A message takes three allocations: it, its bytes and its records. A value takes one for its text and one as an interface.
+func TestParseAllocatesLittle(t *testing.T) {
+	given := []byte{0xD1, 1, 8, 'T', 2, 'e', 'n', 'H', 'e', 'l', 'l', 'o'}
+	message, err := Parse(given)
+	if count := testing.AllocsPerRun(1000, func() { message, err = Parse(given) }); count > 3 || err != nil {
+		t.Errorf("%v allocations, %v", count, err)
+	}
+	var value Value
+	if count := testing.AllocsPerRun(1000, func() { value, err = message.Records[0].Value() }); count > 2 || err != nil {
+		t.Errorf("%v allocations for %v, %v", count, value, err)
+	}
+}
+
+// Messages of as many records as are kept room for, and of more.
+func TestParseManyRecords(t *testing.T) {
+	for _, count := range []int{1, 8, 9, 1024, 1025, 65535} {
+		given := []byte(strings.Repeat("\x11\x01\x01xy", count))
+		given[0] |= 0x80
+		given[5*count-5] |= 0x40
+		message, length, err := Options{Limits: &Limits{Payload: 1, Records: 65535, Pieces: 1}}.ParsePrefix(append(given, 1, 2))
+		if err != nil || length != 5*count || len(message.Records) != count {
+			t.Fatal(count, length, err)
+		}
+		for _, record := range message.Records {
+			if record.TNF != WellKnown || record.Type != "x" || record.ID != "" || string(record.Payload) != "y" {
+				t.Fatal(count, record)
+			}
+		}
+	}
+}
+
+// More bytes follow the message than 32 bits count.
+func TestParsePrefixOfManyBytes(t *testing.T) {
+	many := uint64(1) << 32
+	if testing.Short() || uint64(int(many)) != many {
+		t.Skip("it takes 4 GiB of addresses")
+	}
+	given := make([]byte, many)
+	copy(given, "\xd1\x01\x01xy")
+	message, length, err := ParsePrefix(given)
+	if err != nil || length != 5 || len(message.Records) != 1 || string(message.Records[0].Payload) != "y" {
+		t.Error(message, length, err)
+	}
+}

@@ -78,7 +78,7 @@ impl<'a> AlternativeCarrier<'a> {
     ///
     /// # Errors
     ///
-    /// The payload is not that of an alternative carrier. The place counts from its first byte.
+    /// The payload is not that of an alternative carrier. The offset counts from its first byte.
     pub fn parse(payload: &'a [u8]) -> Result<Self, Refusal> {
         Self::of(payload.into())
     }
@@ -138,7 +138,7 @@ impl fmt::Debug for AlternativeCarrier<'_> {
     }
 }
 
-/// When the library gives the places of the references.
+/// When the library gives the offsets of the references.
 #[derive(Clone)]
 enum Told {
     /// Each one when it is asked for, which looks at those before it.

@@ -67,7 +67,7 @@ pub(crate) fn feed(checker: &mut Checker, bytes: &[u8]) -> (u32, Checked) {
 
 // ---- records
 
-/// Gives the record that begins at a place. An error is the status.
+/// Gives the record that begins at an offset. An error is the status.
 #[inline]
 pub(crate) fn record_at(bytes: &[u8], at: usize, out: &mut Record) -> Result<(), u32> {
     match c::ndef_record_at(bytes, at, out) {
@@ -81,14 +81,14 @@ pub(crate) fn kind(bytes: &[u8], record: &Record, within: u32) -> u32 {
     c::ndef_kind(bytes, record, within)
 }
 
-/// The first record with an id, from the one that begins at a place on.
+/// The first record with an id, from the one that begins at an offset on.
 pub(crate) fn find_id(bytes: &[u8], at: usize, id: &[u8]) -> Option<Record> {
     let mut out = Record::default();
     let status = c::ndef_find_id(bytes, at, id, &mut out);
     (status == OK).then_some(out)
 }
 
-/// Where the payload of each chunk of the record that begins at a place lies.
+/// Where the payload of each chunk of the record that begins at an offset lies.
 pub(crate) fn pieces(bytes: &[u8], at: usize, parts: &mut [Part]) -> Result<usize, Unfilled> {
     let mut count = 0;
     let status = c::ndef_pieces(bytes, at, parts, &mut count);
@@ -107,12 +107,12 @@ pub(crate) fn fields(bytes: &[u8], limits: &Limits, fields: &mut [Field], why: &
     }
 }
 
-// ---- rooms
+// ---- buffers
 
-/// Why a room is not filled.
+/// Why a buffer is not filled.
 #[derive(Debug, PartialEq, Eq)]
 pub(crate) enum Unfilled {
-    /// The room is too small. This many bytes, or elements, are needed.
+    /// The buffer is too small. This many bytes, or elements, are needed.
     NoRoom(usize),
     /// The payload is not one of its type.
     Refused(Checked),
@@ -120,7 +120,7 @@ pub(crate) enum Unfilled {
     BadArgument,
 }
 
-/// The answer of a call that fills a room.
+/// The answer of a call that fills a buffer.
 fn filled(status: u32, count: usize, why: Checked) -> Result<usize, Unfilled> {
     match status {
         OK => Ok(count),
@@ -159,7 +159,7 @@ impl Room for Vec<u8> {
     }
 }
 
-/// Calls that fill a room.
+/// Calls that fill a buffer.
 macro_rules! fills {
     ($($name:ident ($($argument:ident: $kind:ty),*) = $call:ident ($($given:expr),*);)*) => { $(
         pub(crate) fn $name($($argument: $kind,)* room: &mut (impl Room + ?Sized)) -> Result<usize, Unfilled> {
@@ -211,7 +211,7 @@ pub(crate) fn uri_length(payload: &[u8], flags: u32) -> Result<usize, Checked> {
     }
 }
 
-/// The URI of a payload, in a room.
+/// The URI of a payload, in a buffer.
 pub(crate) fn uri_in<'r>(payload: &[u8], flags: u32, room: &'r mut [u8]) -> Result<&'r str, Unfilled> {
     let count = uri(payload, flags, room)?;
     Ok(utf8(&room[..count]))
@@ -319,7 +319,7 @@ impl<'a> TextPayload<'a> {
         (!self.is_utf16()).then(|| utf8(text))
     }
 
-    /// The text in UTF-8, in a room.
+    /// The text in UTF-8, in a buffer.
     pub(crate) fn utf8_in<'r>(&self, room: &'r mut [u8]) -> Result<&'r str, Unfilled> {
         let count = text_in_utf8(&self.bytes, room)?;
         Ok(utf8(&room[..count]))

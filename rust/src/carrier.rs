@@ -21,7 +21,7 @@ impl<'a> HandoverCarrier<'a> {
     ///
     /// # Errors
     ///
-    /// The payload is not that of a handover carrier. The place counts from its first byte.
+    /// The payload is not that of a handover carrier. The offset counts from its first byte.
     pub fn parse(payload: &'a [u8]) -> Result<Self, Refusal> {
         Self::of(payload.into())
     }
@@ -44,7 +44,7 @@ impl<'a> HandoverCarrier<'a> {
         Ok(promised(HandoverCarrier::of(Bytes::Owned(payload))))
     }
 
-    /// A handover carrier whose payload is written to the room.
+    /// A handover carrier whose payload is written to the buffer.
     ///
     /// # Errors
     ///

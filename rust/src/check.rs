@@ -69,7 +69,7 @@ impl Checker {
     ///
     /// # Errors
     ///
-    /// The refusal is the one that [`check`] gives for all bytes so far. Its place counts from the first of them.
+    /// The refusal is the one that [`check`] gives for all bytes so far. Its offset counts from the first of them.
     pub fn feed(&mut self, bytes: &[u8]) -> Result<Option<Checked>, Refusal> {
         match calls::feed(&mut self.0, bytes) {
             (calls::OK, checked) => Ok(Some(Checked::of(checked))),

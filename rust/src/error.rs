@@ -3,13 +3,13 @@ use crate::calls::Unfilled;
 use crate::Refusal;
 use core::fmt;
 
-/// Why a payload is not decoded to a room.
+/// Why a payload is not decoded to a buffer.
 #[derive(Clone, Copy, Debug, PartialEq, Eq, Hash)]
 #[non_exhaustive]
 pub enum DecodeError {
     /// The payload is not one of its type.
     Refused(Refusal),
-    /// The room is too small. This many bytes are needed, or elements where the room is one of [`Part`](crate::Part)s.
+    /// The buffer is too small. This many bytes are needed, or elements where it is an array of [`Part`](crate::Part)s.
     NoRoom(usize),
 }
 
@@ -68,16 +68,16 @@ pub enum EncodeError {
     Alternative,
     /// The error of a handover has data that its reason does not allow.
     HandoverError,
-    /// The records are not those of a smart poster. The place counts from the first byte of its payload.
+    /// The records are not those of a smart poster. The offset counts from the first byte of its payload.
     Poster(Refusal),
     /// The minor version of a handover is above 15, or its records are not those of a handover.
     Handover,
-    /// The room is too small. This many bytes are needed.
+    /// The buffer is too small. This many bytes are needed.
     NoRoom(usize),
 }
 
 impl EncodeError {
-    /// The error of a call that fills a room, and refuses its arguments for one reason.
+    /// The error of a call that fills a buffer, and refuses its arguments for one reason.
     pub(crate) fn of(unfilled: Unfilled, why: Self) -> Self {
         match unfilled {
             Unfilled::NoRoom(needed) => Self::NoRoom(needed),

@@ -88,7 +88,7 @@ impl fmt::Display for FieldName {
 #[derive(Clone, Copy, Debug, PartialEq, Eq, Hash)]
 #[non_exhaustive]
 pub struct Field<'a> {
-    /// The place of the first of them.
+    /// The offset of the first of them.
     pub at: usize,
     /// The bytes, at least one.
     pub bytes: &'a [u8],
@@ -139,7 +139,7 @@ impl<'a> Fields<'a> {
         Self { bytes, told: Told::Owned(told), refusal: refusal_of(why), next: 0 }
     }
 
-    /// The same, in a room that needs an element for each field.
+    /// The same, in a buffer that needs an element for each field.
     ///
     /// # Errors
     ///
@@ -156,7 +156,7 @@ impl<'a> Fields<'a> {
         self.refusal
     }
 
-    /// The field in which the byte at a place stands; none after the message, or from a refused byte on.
+    /// The field to which the byte at an offset belongs; none after the message, or from a refused byte on.
     #[must_use]
     pub fn at(&self, place: usize) -> Option<Field<'a>> {
         let index = self.all().partition_point(|told| told.at <= place).checked_sub(1)?;
@@ -266,7 +266,7 @@ mod tests {
         assert_eq!((fields.len(), fields.refusal().unwrap().at), (3, 3));
     }
 
-    /// What `of` keeps in memory that it allocates is what `of_in` keeps in a room.
+    /// What `of` keeps in memory that it allocates is what `of_in` keeps in a buffer.
     #[cfg(feature = "alloc")]
     #[test]
     fn fields_in_memory() {

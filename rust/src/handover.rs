@@ -28,7 +28,7 @@ macro_rules! handovers {
             ///
             /// # Errors
             ///
-            /// The payload is not one of its type. The place counts from its first byte.
+            /// The payload is not one of its type. The offset counts from its first byte.
             pub fn parse(payload: &'a [u8], profile: Profile) -> Result<Self, Refusal> {
                 Self::of(payload.into(), profile)
             }

@@ -21,7 +21,7 @@ impl<'a> HandoverError<'a> {
     ///
     /// # Errors
     ///
-    /// The payload is not that of an error. The place counts from its first byte.
+    /// The payload is not that of an error. The offset counts from its first byte.
     pub fn parse(payload: &'a [u8]) -> Result<Self, Refusal> {
         let parts = calls::error(payload).map_err(Refusal::of)?;
         Ok(Self {

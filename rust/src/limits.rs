@@ -54,7 +54,7 @@ pub struct Limits {
 }
 
 impl Limits {
-    /// Limits that suit usual tags: at most 1048576 bytes of payload in a record, 1024 records in a message and 4096
+    /// Limits that suit most tags: at most 1048576 bytes of payload in a record, 1024 records in a message and 4096
     /// chunks in a record. Reserved values are refused, and payloads are looked into.
     pub const fn new() -> Self {
         Self {

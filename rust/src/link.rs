@@ -56,7 +56,7 @@ impl<'a> Links<'a> {
         Ok(Self::new(message, payload))
     }
 
-    /// The same, with the place of each id, so that the message is walked once for all of them.
+    /// The same, with the offset of each id, so that the message is walked once for all of them.
     #[cfg(feature = "alloc")]
     pub(crate) fn with_ids(mut self) -> Self {
         let mut ids = BTreeMap::new();

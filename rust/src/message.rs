@@ -94,7 +94,7 @@ impl<'a> Message<'a> {
     ///
     /// # Errors
     ///
-    /// The payload of the handover is not one of its type. The place counts from the first byte of the payload. This
+    /// The payload of the handover is not one of its type. The offset counts from the first byte of the payload. This
     /// happens only if the message was parsed with [`Payloads::Opaque`](crate::Payloads::Opaque).
     #[cfg(feature = "alloc")]
     pub fn links(&self) -> Result<Links<'a>, Refusal> {
@@ -104,8 +104,8 @@ impl<'a> Message<'a> {
         }
     }
 
-    /// The same. The payload of a handover that lies in several chunks is joined in the room. Each step reads the message
-    /// from its start, up to the record.
+    /// The same. The payload of a handover that lies in several chunks is joined in the buffer. Each step reads the
+    /// message from its start, up to the record.
     ///
     /// # Errors
     ///
@@ -120,7 +120,7 @@ impl<'a> Message<'a> {
         }
     }
 
-    /// The record that begins at a place.
+    /// The record that begins at an offset.
     #[cfg(feature = "alloc")]
     pub(crate) fn record_at(&self, at: usize) -> Record<'a> {
         Record::at(self.bytes, at, self.profile)

@@ -52,7 +52,7 @@ impl<'a> MessageBuilder<'a> {
         self
     }
 
-    /// Checks the message within other limits than the usual ones: what is built has to be a message within these.
+    /// Checks the message within other limits than the default ones: what is built has to be a message within these.
     pub fn limits(mut self, limits: Limits) -> Self {
         self.form.limits = Some(limits);
         self

@@ -14,7 +14,7 @@ pub struct Form {
     pub limits: Option<Limits>,
 }
 
-/// The shortest spelling, checked within the usual limits.
+/// The shortest spelling, checked within the default limits.
 impl Default for Form {
     fn default() -> Self {
         Self { chunk: None, long: false, limits: Some(Limits::new()) }
@@ -156,12 +156,12 @@ impl<'a> From<Record<'a>> for NewRecord<'a> {
     }
 }
 
-/// Writes the message of these records to the room, and answers how many bytes it has.
+/// Writes the message of these records to the buffer, and answers how many bytes it has.
 ///
 /// # Errors
 ///
 /// [`EncodeError::NoRecord`], [`EncodeError::Record`], or [`EncodeError::Refused`] by the limits of the form.
-/// [`EncodeError::NoRoom`] has the size that the whole message needs. After an error the room may hold some of the
+/// [`EncodeError::NoRoom`] has the size that the whole message needs. After an error the buffer may hold some of the
 /// records.
 ///
 /// ```

@@ -91,7 +91,7 @@ impl<'a> Payload<'a> {
     ///
     /// # Errors
     ///
-    /// The payload is not one of its type. The place counts from its first byte.
+    /// The payload is not one of its type. The offset counts from its first byte.
     pub fn parse(tnf: Tnf, kind: &[u8], payload: &'a [u8], profile: Profile) -> Result<Self, Refusal> {
         Self::of(tnf, kind, payload.into(), profile)
     }

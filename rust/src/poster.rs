@@ -72,7 +72,7 @@ impl<'a> SmartPoster<'a> {
     ///
     /// # Errors
     ///
-    /// The payload is not that of a smart poster. The place counts from its first byte.
+    /// The payload is not that of a smart poster. The offset counts from its first byte.
     pub fn parse(payload: &'a [u8], profile: Profile) -> Result<Self, Refusal> {
         Self::of(payload.into(), profile)
     }

@@ -49,7 +49,7 @@ impl From<Refusal> for ReadError {
 ///
 /// # Errors
 ///
-/// [`ReadError::Refused`]: the place counts from the first byte that was read. The reader stands at the refused byte.
+/// [`ReadError::Refused`]: the offset counts from the first byte that was read. The reader stands at the refused byte.
 /// [`ReadError::Io`]: the reader stands where it failed.
 ///
 /// ```
@@ -89,7 +89,7 @@ pub fn read_message<R: BufRead + ?Sized>(reader: &mut R, limits: &Limits) -> Res
     }
 }
 
-/// How many of the bytes that are shown lie before a place, where those before them were taken.
+/// How many of the bytes that are shown lie before an offset, where those before them were taken.
 fn within(place: u64, taken: &[u8]) -> usize {
     (place - taken.len() as u64) as usize
 }

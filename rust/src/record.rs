@@ -30,7 +30,7 @@ pub struct Record<'a> {
 }
 
 impl<'a> Record<'a> {
-    /// The record that begins at a place of a message or of one within a payload. It is always inlined, so that parts
+    /// The record that begins at an offset of a message or of one within a payload. It is always inlined, so that parts
     /// which nobody looks at are not made: that halves the time of a walk beyond the library's own.
     #[inline(always)]
     pub(crate) fn at(message: &'a [u8], at: usize, profile: Profile) -> Self {
@@ -135,7 +135,7 @@ impl<'a> Record<'a> {
         }
     }
 
-    /// Its payload. One that lies in several chunks is joined in the room.
+    /// Its payload. One that lies in several chunks is joined in the buffer.
     ///
     /// # Errors
     ///
@@ -162,8 +162,8 @@ impl<'a> Record<'a> {
         Chunks::owned(self.message, parts)
     }
 
-    /// The part of the payload that each chunk has. The room needs [`pieces`](Self::pieces) elements, or none if there
-    /// is one chunk.
+    /// The part of the payload that each chunk has. The array needs [`pieces`](Self::pieces) elements, or none if
+    /// there is one chunk.
     ///
     /// # Errors
     ///
@@ -183,7 +183,7 @@ impl<'a> Record<'a> {
     ///
     /// # Errors
     ///
-    /// The payload is not one of its type. The place counts from the first byte of the payload. A record of a message
+    /// The payload is not one of its type. The offset counts from the first byte of the payload. A record of a message
     /// has no such payload, unless the message was parsed with [`Payloads::Opaque`](crate::Payloads::Opaque). A record
     /// within a payload may have one.
     #[cfg(feature = "alloc")]
@@ -191,7 +191,7 @@ impl<'a> Record<'a> {
         Payload::of(self.tnf, self.kind, self.payload_cow().into(), self.profile)
     }
 
-    /// The value of its payload. A payload in several chunks is joined in the room first.
+    /// The value of its payload. A payload in several chunks is joined in the buffer first.
     ///
     /// # Errors
     ///

@@ -92,7 +92,7 @@ impl core::error::Error for Reason {}
 /// Where and why bytes are refused.
 #[derive(Clone, Copy, Debug, PartialEq, Eq, Hash)]
 pub struct Refusal {
-    /// The place of the first byte after which no continuation is a message (or a payload), counted from 0. Where the
+    /// The offset of the first byte after which no continuation is a message (or a payload), counted from 0. Where the
     /// bytes end too early, it is their number.
     pub at: u64,
     /// Why that byte is refused.

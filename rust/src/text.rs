@@ -37,7 +37,7 @@ impl<'a> Text<'a> {
     ///
     /// # Errors
     ///
-    /// The payload is not that of a text. The place counts from its first byte.
+    /// The payload is not that of a text. The offset counts from its first byte.
     pub fn parse(payload: &'a [u8]) -> Result<Self, Refusal> {
         Self::of(payload.into())
     }
@@ -69,7 +69,7 @@ impl<'a> Text<'a> {
         Ok(promised(Text::of(Bytes::Owned(payload))))
     }
 
-    /// A text whose payload is written to the room.
+    /// A text whose payload is written to the buffer.
     ///
     /// # Errors
     ///
@@ -102,7 +102,7 @@ impl<'a> Text<'a> {
         self.0.utf8()
     }
 
-    /// The text. One in UTF-16 is converted, and its byte order mark is left out.
+    /// The text. One in UTF-16 is converted, and its byte order mark is skipped.
     #[cfg(feature = "alloc")]
     #[must_use]
     pub fn text(&self) -> Cow<'_, str> {
@@ -122,7 +122,7 @@ impl<'a> Text<'a> {
         }
     }
 
-    /// The text. One in UTF-16 is converted to the room.
+    /// The text. One in UTF-16 is converted to the buffer.
     ///
     /// # Errors
     ///

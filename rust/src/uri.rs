@@ -22,7 +22,7 @@ impl<'a> Uri<'a> {
     ///
     /// # Errors
     ///
-    /// The payload is not that of a URI. The place counts from its first byte.
+    /// The payload is not that of a URI. The offset counts from its first byte.
     pub fn parse(payload: &'a [u8], profile: Profile) -> Result<Self, Refusal> {
         Self::of(payload.into(), profile)
     }
@@ -49,7 +49,7 @@ impl<'a> Uri<'a> {
         Ok(Uri { payload: Bytes::Owned(payload), length: uri.len(), profile: Profile::Strict })
     }
 
-    /// A URI whose payload is written to the room.
+    /// A URI whose payload is written to the buffer.
     ///
     /// # Errors
     ///
@@ -59,7 +59,7 @@ impl<'a> Uri<'a> {
         Ok(Uri { payload: Bytes::Borrowed(&room[..count]), length: uri.len(), profile: Profile::Strict })
     }
 
-    /// How many bytes the URI has: the size of the room that [`uri_in`](Self::uri_in) needs.
+    /// How many bytes the URI has: the size of the buffer that [`uri_in`](Self::uri_in) needs.
     #[must_use]
     pub fn uri_len(&self) -> usize {
         self.length
@@ -72,7 +72,7 @@ impl<'a> Uri<'a> {
         calls::uri_string(&self.payload, self.profile.flags())
     }
 
-    /// The URI, in the room.
+    /// The URI, in the buffer.
     ///
     /// # Errors
     ///

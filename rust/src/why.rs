@@ -20,8 +20,8 @@ pub fn why(bytes: &[u8], limits: &Limits) -> Option<String> {
     said(|room| calls::why(bytes, &limits.with_payloads(Payloads::Typed).raw(), room))
 }
 
-/// A sentence that may help where the bytes are refused: a message begins at one of the places 1 to 16, the identifier code
-/// of a URI may be missing, or [`Profile::Standard`](crate::Profile::Standard) reads them. `None`: nothing is known to help,
+/// A sentence that may help where the bytes are refused: a message begins at one of the offsets 1 to 16, the identifier
+/// code of a URI may be missing, or [`Profile::Standard`](crate::Profile::Standard) reads them. `None`: nothing is known to help,
 /// or they begin with a message. It may take 17 times as long as [`check`](crate::check()); the rest is as for [`why`].
 ///
 /// ```
