@@ -7,10 +7,19 @@ plugins {
 group = "org.simbegyor"
 version = "0.4.0-SNAPSHOT"
 
+java {
+    withSourcesJar()
+    withJavadocJar()
+}
+
+dependencies {
+    compileOnly("org.jspecify:jspecify:1.0.0")
+}
+
 tasks.withType<JavaCompile> {
     options.release.set(11)
     options.encoding = "UTF-8"
-    options.compilerArgs.addAll(listOf("-Xlint:all", "-Werror"))
+    options.compilerArgs.addAll(listOf("-Xlint:all", "-Werror", "-XDstringConcat=inline"))
 }
 
 tasks.processResources {

@@ -3,7 +3,8 @@
  * It has no rule of the format. Each method takes arrays of Java, calls the library, and answers with an array of Java.
  * The bounds are those of the Java arrays. While an array is held (GetPrimitiveArrayCritical) nothing but the library
  * runs: no function of JNI, and no malloc. What it runs looks at each byte a fixed number of times. ndef_links, whose
- * time may grow faster, gets copies. Each answer of JNI that may be an exception is looked at. */
+ * time may grow faster, gets copies, and a short message is copied, which takes less time. Each answer of JNI that may be
+ * an exception is looked at. */
 #include <jni.h>
 #include <limits.h>
 #include <stdlib.h>
@@ -19,11 +20,13 @@ enum {
     FIELD_REMARK, RECORD_REMARK
 };
 /* What `list` and `name` are asked for. */
-enum { MESSAGE, RECORDS, REFERENCES, ICONS, TITLE, MEDIA_TYPE, LINKS, FIELDS };
-enum { REASON_NAME, REASON_SENTENCE, FIELD_NAME };
+enum { RECORDS, REFERENCES, ICONS, TITLE, MEDIA_TYPE, LINKS, FIELDS };
+enum { REASON_NAME, REASON_SENTENCE, FIELD_NAME, URI_PREFIX };
 enum { CHECKER_WORDS = sizeof(ndef_checker) / sizeof(uint64_t) };
 /* Whether the header declares ndef_why, ndef_hint and the calls for remarks: that of release 0.2.0 doesn't. */
 #define HAS_SENTENCES (NDEF_VERSION_MAJOR > 0 || NDEF_VERSION_MINOR >= 3)
+/* Whether it declares ndef_items. */
+#define HAS_ITEMS (NDEF_VERSION_MAJOR > 0 || NDEF_VERSION_MINOR >= 4)
 
 /* ---- exceptions */
 
@@ -90,7 +93,7 @@ static int hold(JNIEnv *env, span *spans, int count) {
 
 /* ---- numbers */
 
-/* Writes the place, the reason and the number of records to an array of Java. */
+/* Writes the offset, the reason and the number of records to an array of Java. */
 static void give_checked(JNIEnv *env, jlongArray to, const ndef_checked *checked) {
     const jlong told[] = { (jlong)checked->place, (jlong)checked->reason, (jlong)checked->records };
     (*env)->SetLongArrayRegion(env, to, 0, 3, told);
@@ -122,15 +125,6 @@ static uint32_t walk(const uint8_t *bytes, ndef_size length, ndef_record *record
     return *count > size ? NDEF_NO_ROOM : NDEF_OK;
 }
 
-static uint32_t check_and_walk(const span *in, const ndef_limits *limits, ndef_record *records, ndef_size size,
-                               ndef_size *count, ndef_checked *why) {
-    uint32_t status = ndef_check(in->bytes, in->length, limits, why);
-    if (status != NDEF_OK) return status;
-    *count = why->records;
-    if (*count > size) return NDEF_NO_ROOM;
-    return walk(in->bytes, (ndef_size)why->place, records, size, count);
-}
-
 /* A part, if there is one, as an array. */
 static uint32_t list_part(uint32_t status, ndef_size at, ndef_size length, ndef_part *parts, ndef_size *count) {
     *count = status == NDEF_OK;
@@ -146,7 +140,6 @@ static uint32_t list_items(const question *what, const span *in, void *items, nd
     ndef_part part = { 0, 0 };
     uint32_t status;
     switch (what->call) {
-        case MESSAGE: return check_and_walk(in, &what->limits, items, size, count, why);
         case RECORDS: return walk(bytes, length, items, size, count);
         case REFERENCES: return ndef_references(bytes, length, items, size, count);
         case ICONS: return ndef_poster_icons(bytes, length, items, size, count);
@@ -165,7 +158,7 @@ static uint32_t list_items(const question *what, const span *in, void *items, nd
 /* The size of an item in memory, at most that of a record. */
 static size_t item_size(jint call) {
     switch (call) {
-        case MESSAGE: case RECORDS: return sizeof(ndef_record);
+        case RECORDS: return sizeof(ndef_record);
         case ICONS: return sizeof(ndef_icon);
         case LINKS: return sizeof(ndef_link);
         case FIELDS: return sizeof(ndef_field);
@@ -178,7 +171,7 @@ enum { MOST_COLUMNS = 7, FEW = 24 };
 /* How many numbers an item has for Java. */
 static int columns(jint call) {
     switch (call) {
-        case MESSAGE: case RECORDS: return MOST_COLUMNS;
+        case RECORDS: return MOST_COLUMNS;
         case ICONS: case LINKS: case FIELDS: return 4;
         default: return 2;
     }
@@ -204,7 +197,7 @@ static void field_row(const ndef_field *it, jint *row) {
 /* The numbers of an item for Java. */
 static void item_row(jint call, const void *items, ndef_size index, ndef_size base, jint *row) {
     switch (call) {
-        case MESSAGE: case RECORDS: record_row((const ndef_record *)items + index, base, row); break;
+        case RECORDS: record_row((const ndef_record *)items + index, base, row); break;
         case ICONS:
             part_row(&((const ndef_icon *)items)[index].media_type, row);
             part_row(&((const ndef_icon *)items)[index].data, row + 2);
@@ -217,22 +210,25 @@ static void item_row(jint call, const void *items, ndef_size index, ndef_size ba
 
 /* The items as rows of numbers, one after another. */
 static jintArray give_rows(JNIEnv *env, jint call, const void *items, ndef_size count, ndef_size base) {
-    jint row[MOST_COLUMNS];
-    int width = columns(call);
+    jint some[FEW * MOST_COLUMNS];
+    int width = columns(call), filled = 0;
     if (count > INT_MAX / MOST_COLUMNS) {
         raise_no_memory(env);
         return NULL;
     }
     jintArray rows = (*env)->NewIntArray(env, (jsize)count * width);
     for (ndef_size i = 0; rows != NULL && i < count; i++) {
-        item_row(call, items, i, base, row);
-        (*env)->SetIntArrayRegion(env, rows, (jsize)i * width, width, row);
+        item_row(call, items, i, base, some + filled);
+        filled += width;
+        if (i + 1 < count && filled < FEW * width) continue;
+        (*env)->SetIntArrayRegion(env, rows, (jsize)(i + 1) * width - filled, filled, some);
         if ((*env)->ExceptionCheck(env)) return NULL;
+        filled = 0;
     }
     return rows;
 }
 
-/* Asks the library; where the room is too small, once more with memory. The items are then in `*items`. */
+/* Asks the library; where the buffer is too small, once more with memory. The items are then in `*items`. */
 static uint32_t ask(JNIEnv *env, const question *what, span *in, void **items, ndef_size size, ndef_size *count,
                     ndef_checked *why) {
     void *few = *items;
@@ -272,6 +268,83 @@ METHOD(jintArray, list)(JNIEnv *env, jclass type, jint call, jbyteArray one, jby
     return rows;
 }
 
+/* ---- a message and all its records */
+
+#if !HAS_ITEMS
+typedef struct ndef_item {
+    uint32_t at, end, tnf, kind, type_at, type_length, id_length, payload_at, payload_length, pieces;
+    uint32_t form, number, language_at, language_length, text_at, text_length;
+} ndef_item;
+
+/* What ndef_items does, over the calls of older releases; but no item has a form. */
+static uint32_t ndef_items(const uint8_t *bytes, ndef_size length, const ndef_limits *limits, ndef_checked *out,
+                           ndef_item *items, ndef_size size) {
+    ndef_record it = { .end = 0 };
+    uint32_t status = ndef_check(bytes, length, limits, out);
+    if (status == NDEF_OK && out->records > size) return NDEF_NO_ROOM;
+    for (ndef_size i = 0; status == NDEF_OK && i < out->records; i++) {
+        status = ndef_record_at(bytes, length, it.end, &it);
+        items[i] = (ndef_item){
+            (uint32_t)it.at, (uint32_t)it.end, it.tnf, ndef_kind(bytes, length, &it, 0), (uint32_t)it.type_at,
+            (uint32_t)it.type_length, (uint32_t)it.id_length, (uint32_t)it.payload_at, (uint32_t)it.payload_length,
+            (uint32_t)it.pieces, 0, 0, 0, 0, 0, 0
+        };
+    }
+    return status;
+}
+#endif
+
+enum { HEAD = 4, SHORT = 512 };
+
+/* A room of Java, an array of ints: what a check says, and the items of the records. */
+typedef struct read_room {
+    jint head[HEAD];
+    ndef_item items[FEW];
+} read_room;
+
+static void tell_head(jint *head, uint32_t status, const ndef_checked *said) {
+    head[0] = (jint)status, head[1] = (jint)said->place, head[2] = (jint)said->reason, head[3] = (jint)said->records;
+}
+
+/* Reads a short message into the room, if it has few records. */
+static uint32_t read_short(JNIEnv *env, const span *in, const ndef_limits *limits, jintArray room, jsize size) {
+    uint8_t bytes[SHORT];
+    read_room few;
+    ndef_checked said = { 0, 0, 0 };
+    (*env)->GetByteArrayRegion(env, in->array, (jsize)in->at, (jsize)in->length, (jbyte *)bytes);
+    uint32_t status = ndef_items(bytes, in->length, limits, &said, few.items, (ndef_size)(size < FEW ? size : FEW));
+    jsize count = status == NDEF_OK ? (jsize)said.records : 0;
+    tell_head(few.head, status, &said);
+    (*env)->SetIntArrayRegion(env, room, 0, HEAD + count * (jsize)(sizeof(ndef_item) / sizeof(jint)), few.head);
+    return status;
+}
+
+/* Reads any message into the room, while that and the bytes are held. */
+static void read_long(JNIEnv *env, span *in, const ndef_limits *limits, jintArray room, jsize size) {
+    ndef_checked said = { 0, 0, 0 };
+    if (!hold(env, in, 1)) return;
+    read_room *held = (*env)->GetPrimitiveArrayCritical(env, room, NULL);
+    if (held != NULL) {
+        uint32_t status = ndef_items(in->bytes, in->length, limits, &said, held->items, (ndef_size)size);
+        tell_head(held->head, status, &said);
+        (*env)->ReleasePrimitiveArrayCritical(env, room, held, 0);
+    }
+    release(env, in, 1, JNI_ABORT);
+    if (held == NULL) raise_no_memory(env);
+}
+
+/* Reads the message with which the bytes begin into a room for `size` records. It has then the status, the place, the
+ * reason, the number of records, and their items, if there is room for them. */
+METHOD(void, read)(JNIEnv *env, jclass type, jbyteArray bytes, jint at, jint length, jint payload, jint records,
+                   jint pieces, jint flags, jintArray room, jint size) {
+    const ndef_limits limits = { (uint32_t)payload, (uint32_t)records, (uint32_t)pieces, (uint32_t)flags };
+    span in;
+    (void)type;
+    if (!find_part(env, &in, bytes, at, length)) return;
+    if (length <= SHORT && (read_short(env, &in, &limits, room, size) != NDEF_NO_ROOM || size <= FEW)) return;
+    if (!(*env)->ExceptionCheck(env)) read_long(env, &in, &limits, room, size);
+}
+
 /* ---- records */
 
 METHOD(jint, kind)(JNIEnv *env, jclass type, jint tnf, jbyteArray name, jint within) {
@@ -284,7 +357,7 @@ METHOD(jint, kind)(JNIEnv *env, jclass type, jint tnf, jbyteArray name, jint wit
     return (jint)kind;
 }
 
-/* Writes a record to the room from a place on, and answers the bytes that it has; without a room it asks for them
+/* Writes a record to the buffer from an offset on, and answers the bytes that it has; without a buffer it asks for them
  * alone. -1: it is no record. */
 METHOD(jlong, record)(JNIEnv *env, jclass type, jintArray how, jbyteArray name, jbyteArray id, jbyteArray payload,
                       jbyteArray room, jint at) {
@@ -307,7 +380,7 @@ METHOD(jlong, record)(JNIEnv *env, jclass type, jintArray how, jbyteArray name, 
     return status == NDEF_OK || status == NDEF_NO_ROOM ? (jlong)count : -1;
 }
 
-/* ---- what is written to a room */
+/* ---- what is written to a buffer */
 
 typedef struct asked {
     jint call;
@@ -347,7 +420,7 @@ static uint32_t call_library(const asked *what, const span *in, uint8_t *room, n
     }
 }
 
-/* Calls again with a room of the size that is needed. */
+/* Calls again with a buffer of the size that is needed. */
 static jbyteArray make_larger(JNIEnv *env, const asked *what, const span *in, ndef_size count) {
     ndef_checked why = { 0, 0, 0 };
     if (count > INT_MAX) {
@@ -441,7 +514,8 @@ static int tell_simple(jint kind, const span *in, jint *out, uint32_t *status, n
         case NDEF_KIND_TEXT:
             *status = ndef_text(in->bytes, in->length, &text, why);
             out[0] = (jint)text.language_at, out[1] = (jint)text.language_length, out[2] = (jint)text.utf16;
-            return 3;
+            out[3] = (jint)text.text_at, out[4] = (jint)text.text_length;
+            return 5;
         case NDEF_KIND_CARRIER:
             *status = ndef_carrier(in->bytes, in->length, &carrier, why);
             out[0] = (jint)carrier.type_at, out[1] = (jint)carrier.type_length;
@@ -558,6 +632,7 @@ METHOD(jstring, name)(JNIEnv *env, jclass type, jint list, jint number) {
     if (list == REASON_NAME) status = ndef_reason_name(of, room, sizeof room - 1, &count);
     if (list == REASON_SENTENCE) status = ndef_reason_sentence(of, room, sizeof room - 1, &count);
     if (list == FIELD_NAME) status = ndef_field_name(of, room, sizeof room - 1, &count);
+    if (list == URI_PREFIX) status = ndef_uri_prefix(of, room, sizeof room - 1, &count);
     if (status != NDEF_OK) return NULL;
     room[count] = 0;
     return (*env)->NewStringUTF(env, (const char *)room);

@@ -7,6 +7,7 @@ import java.util.ArrayList;
 import java.util.Arrays;
 import java.util.List;
 import java.util.concurrent.Callable;
+import java.util.concurrent.CyclicBarrier;
 import java.util.concurrent.ExecutorService;
 import java.util.concurrent.Executors;
 import java.util.concurrent.Future;
@@ -22,6 +23,7 @@ final class Load {
     public static void main(String[] words) throws Exception {
         int rounds = Integer.parseInt(words[0]);
         Cases.check("threads", () -> threadsAgree(rounds / 100));
+        Cases.check("one checker", () -> threadsFeed(Math.max(5, rounds / 5000)));
         Cases.check("memory", () -> memoryIsFlat(rounds));
         Cases.check("one payload of 1 MB", () -> largePayload(1000000));
         Cases.check("many chunks", () -> manyChunks(4000, 240));
@@ -71,6 +73,39 @@ final class Load {
         }
         for (Future<Integer> done : threads.invokeAll(tasks)) {
             Cases.same("rounds", rounds, done.get());
+        }
+        threads.shutdown();
+    }
+
+    /**
+     * Threads that feed one checker take turns: the bytes are alike, so whoever feeds them, the check ends as one of them all.
+     * A check that two change at once loses some of them. Each call looks long enough at the letters that others begin meanwhile.
+     */
+    private static void threadsFeed(int rounds) throws Exception {
+        int each = 500;
+        byte[] head = Cases.unhex("c10100f42403" + "54" + "02656e");
+        byte[] letters = Suite.bytes("ü".repeat(2000));
+        Limits limits = Limits.usual().withPayload(16000003);
+        ExecutorService threads = Executors.newFixedThreadPool(THREADS);
+        CyclicBarrier begin = new CyclicBarrier(THREADS);
+        for (int round = 0; round < rounds; round++) {
+            Checker checker = new Checker(limits, Profile.STRICT);
+            checker.feed(head);
+            List<Callable<Integer>> tasks = new ArrayList<>();
+            for (int i = 0; i < THREADS; i++) {
+                tasks.add(() -> {
+                    begin.await();
+                    for (int fed = 0; fed < each; fed++) {
+                        checker.feed(letters);
+                    }
+                    return each;
+                });
+            }
+            for (Future<Integer> done : threads.invokeAll(tasks)) {
+                done.get();
+            }
+            Cases.same("fed", head.length + 16000000L, checker.length());
+            Cases.same("records", 1, checker.records());
         }
         threads.shutdown();
     }

@@ -70,6 +70,51 @@ class RecordTest {
         refuses(() -> NdefRecord.createMime("a/b", NONE).withId(new byte[256]));
     }
 
+    private static String why(Executable call) {
+        return assertThrows(IllegalArgumentException.class, call).getMessage();
+    }
+
+    /** The messages name the part that is wrong, and no bytes. */
+    @Test
+    void whatIsWrongWithARecord() {
+        byte[] large = new byte[1000000];
+        assertEquals("a record of the type name format 0 has no payload",
+                why(() -> new NdefRecord((short) 0, null, null, large)));
+        assertEquals("a record of the type name format 0 has no id", why(() -> new NdefRecord((short) 0, null, bytes("x"), large)));
+        assertEquals("a record of the type name format 0 has no type",
+                why(() -> new NdefRecord((short) 0, bytes("x"), null, large)));
+        assertEquals("a record of the type name format 5 has no type",
+                why(() -> new NdefRecord((short) 5, bytes("x"), null, large)));
+        for (short tnf = 1; tnf < 5; tnf++) {
+            short own = tnf;
+            assertEquals("a record of the type name format " + tnf + " needs a type",
+                    why(() -> new NdefRecord(own, null, null, large)));
+        }
+        for (short tnf : new short[] {-1, 6, 7, 8, 256, 257, Short.MAX_VALUE}) {
+            assertEquals("no record has the type name format " + tnf, why(() -> new NdefRecord(tnf, bytes("x"), null, large)));
+        }
+        assertEquals("a type of 256 bytes is too long", why(() -> new NdefRecord((short) 2, new byte[256], null, large)));
+        assertEquals("an id of 1000000 bytes is too long", why(() -> new NdefRecord((short) 2, bytes("a/b"), large, null)));
+        assertEquals("an id of 1000000 bytes is too long", why(() -> NdefRecord.createUri("a:b").withId(large)));
+        assertEquals("a type of 300 bytes is too long", why(() -> NdefRecord.createExternal("d", "t".repeat(298), large)));
+        assertEquals("the media type lacks what stands before or after its slash",
+                why(() -> NdefRecord.createMime("a".repeat(1000000) + "/", null)));
+    }
+
+    @Test
+    void whatIsWrongWithOthers() {
+        assertEquals("no handover has the minor version 16", why(() -> HandoverSelect.builder(16).build()));
+        assertEquals("the records are none of a handover", why(() -> HandoverRequest.builder(2, 1)
+                .record(new NdefRecord((short) 1, bytes("ac"), null, new byte[1])).build()));
+        assertEquals("an error with the reason 4 has no number 1", why(() -> HandoverError.ofNumber(4, 1)));
+        assertEquals("an error with the reason 1 has no such data", why(() -> HandoverError.of(1, new byte[1000000])));
+        assertEquals("a carrier has a format of 0 to 7 and a type of at most 255 bytes",
+                why(() -> Carrier.of(1, new byte[1000000], NONE)));
+        byte[] two = new NdefMessage(times(2, NdefRecord.createUri("a:b"))).toByteArray();
+        assertEquals("the message has 2 records instead of one",
+                assertThrows(FormatException.class, () -> new NdefRecord(two)).getMessage());
+    }
+
     @Test
     void uris() throws FormatException {
         is(NdefRecord.createUri("http://www.example.com"), 1, "U", "\1example.com");
@@ -480,6 +525,21 @@ class RecordTest {
         }
     }
 
+    /** Chunks in a part of an array, and more records than short messages usually have: those before and after keep their places. */
+    @Test
+    void chunksAndManyRecords() throws FormatException {
+        byte[] chunked = Cases.unhex("ffff" + "b20302612f620102" + "56000103" + "ff");
+        NdefRecord record = NdefMessage.parsePrefix(chunked, 2, chunked.length - 2, Limits.usual(), Profile.STRICT).message().getRecords()[0];
+        assertArrayEquals(new byte[] {1, 2, 3}, record.getPayload());
+        for (int count : new int[] {23, 24, 25, 100, 170, 171, 1024}) {
+            NdefRecord[] records = times(count, new NdefRecord((short) 0, null, null, null));
+            records[count - 1] = NdefRecord.createTextRecord("en", "last");
+            NdefMessage read = new NdefMessage(new NdefMessage(records).toByteArray());
+            assertArrayEquals(records, read.getRecords());
+            assertEquals("last", ((TextRecord) read.getRecords()[count - 1].decode()).text());
+        }
+    }
+
     @Test
     void limitsOutOfRange() throws FormatException {
         for (long wrong : new long[] {0, -1, 1L << 32, Long.MIN_VALUE}) {
@@ -515,6 +575,21 @@ class RecordTest {
         }
         isNull(() -> new Checker().feed((ByteBuffer) null), () -> new Checker().feed((byte[]) null),
                 () -> new Checker(null, Profile.STRICT));
+    }
+
+    /** A slice of a buffer begins within the array that both have, and a view that is read only shows no array. */
+    @Test
+    void buffersOfAllKinds() throws FormatException {
+        byte[] around = Cases.unhex("ffffff d101085402656e48656c6c6f ffff");
+        ByteBuffer direct = ByteBuffer.allocateDirect(around.length).put(around);
+        for (ByteBuffer whole : new ByteBuffer[] {ByteBuffer.wrap(around), direct, ByteBuffer.wrap(around).asReadOnlyBuffer()}) {
+            ByteBuffer slice = whole.position(2).slice().position(1);
+            assertEquals(true, new Checker().feed(slice));
+            assertEquals(13, slice.position());
+            ByteBuffer wrong = whole.position(1).slice();
+            assertEquals(0, assertThrows(FormatException.class, () -> new Checker().feed(wrong)).place());
+            assertEquals(0, wrong.position());
+        }
     }
 
     // ---- payloads

@@ -1,8 +1,9 @@
 package android.nfc;
 
 import android.net.Uri;
+import java.nio.ByteBuffer;
 
-/** The signatures of Android's class, without those of Parcelable. */
+/** The signatures of Android's class, without those of Parcelable. It writes short records of one chunk. */
 public final class NdefRecord {
     public static final short TNF_EMPTY = 0;
     public static final short TNF_WELL_KNOWN = 1;
@@ -19,8 +20,16 @@ public final class NdefRecord {
     public static final byte[] RTD_HANDOVER_REQUEST = {};
     public static final byte[] RTD_HANDOVER_SELECT = {};
 
+    private final short tnf;
+    private final byte[] type;
+    private final byte[] id;
+    private final byte[] payload;
+
     public NdefRecord(short tnf, byte[] type, byte[] id, byte[] payload) {
-        throw new UnsupportedOperationException();
+        this.tnf = tnf;
+        this.type = type;
+        this.id = id == null ? new byte[0] : id;
+        this.payload = payload;
     }
 
     public NdefRecord(byte[] data) throws FormatException {
@@ -52,23 +61,29 @@ public final class NdefRecord {
     }
 
     public short getTnf() {
-        throw new UnsupportedOperationException();
+        return tnf;
     }
 
     public byte[] getType() {
-        throw new UnsupportedOperationException();
+        return type;
     }
 
     public byte[] getId() {
-        throw new UnsupportedOperationException();
+        return id;
     }
 
     public byte[] getPayload() {
-        throw new UnsupportedOperationException();
+        return payload;
     }
 
     public byte[] toByteArray() {
-        throw new UnsupportedOperationException();
+        boolean hasId = id.length > 0;
+        ByteBuffer bytes = ByteBuffer.allocate((hasId ? 4 : 3) + type.length + id.length + payload.length);
+        bytes.put((byte) (0xd0 | (hasId ? 8 : 0) | tnf)).put((byte) type.length).put((byte) payload.length);
+        if (hasId) {
+            bytes.put((byte) id.length);
+        }
+        return bytes.put(type).put(id).put(payload).array();
     }
 
     public String toMimeType() {

@@ -46,7 +46,7 @@ public final class Carrier extends Payload {
     public static Carrier of(int format, byte[] type, byte[] data) {
         byte[] ownType = type.clone();
         byte[] ownData = data.clone();
-        String refusal = "there is no such carrier";
+        String refusal = "a carrier has a format of 0 to 7 and a type of at most 255 bytes";
         byte[] payload = Library.written(refusal, Library.WRITE_CARRIER, ownType, ownData, format, 0);
         return new Carrier(payload, format, ownType, ownData);
     }

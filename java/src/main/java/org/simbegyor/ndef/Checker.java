@@ -8,11 +8,11 @@ import java.nio.ByteBuffer;
  */
 public final class Checker {
     private final long[] state = new long[Library.CHECKER_WORDS];
-    /** What the library answered last: a place, a reason and the number of records. */
+    /** What the library answered last: an offset, a reason and the number of records. */
     private final long[] told = new long[3];
     private long fed;
 
-    /** Begins a check within the usual limits, with the strict profile. */
+    /** Begins a check within the default limits, with the strict profile. */
     public Checker() {
         this(Limits.usual(), Profile.STRICT);
     }
@@ -33,7 +33,7 @@ public final class Checker {
      *
      * @param bytes the bytes
      * @return true, if the message is whole; false, if more bytes must follow
-     * @throws FormatException if a byte is refused; its place counts from the first byte that was fed
+     * @throws FormatException if a byte is refused; its offset counts from the first byte that was fed
      */
     public synchronized boolean feed(ByteBuffer bytes) throws FormatException {
         int length = bytes.remaining();
@@ -57,7 +57,7 @@ public final class Checker {
      *
      * @param bytes the bytes
      * @return true, if the message is whole; false, if more bytes must follow
-     * @throws FormatException if a byte is refused; its place counts from the first byte that was fed
+     * @throws FormatException if a byte is refused; its offset counts from the first byte that was fed
      */
     public synchronized boolean feed(byte[] bytes) throws FormatException {
         return isWhole(Library.feed(state, bytes, 0, bytes.length, told), bytes.length);
@@ -74,7 +74,7 @@ public final class Checker {
     /**
      * How far the message goes.
      *
-     * @return its length where it is whole, the place of the refused byte, or else the number of bytes fed
+     * @return its length where it is whole, the offset of the refused byte, or else the number of bytes fed
      */
     public synchronized long length() {
         return told[0];

@@ -2,6 +2,7 @@ package org.simbegyor.ndef;
 
 import java.util.Arrays;
 import java.util.Objects;
+import org.jspecify.annotations.Nullable;
 
 /** Bytes of a message that stand in one field. */
 public final class Field {
@@ -20,7 +21,7 @@ public final class Field {
     /**
      * Where the field begins.
      *
-     * @return the place of its first byte, counted from 0
+     * @return the offset of its first byte, counted from 0
      */
     public int at() {
         return at;
@@ -63,7 +64,7 @@ public final class Field {
     }
 
     @Override
-    public boolean equals(Object other) {
+    public boolean equals(@Nullable Object other) {
         if (!(other instanceof Field)) {
             return false;
         }

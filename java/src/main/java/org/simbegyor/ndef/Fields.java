@@ -22,7 +22,7 @@ public final class Fields extends AbstractList<Field> implements RandomAccess {
     }
 
     /**
-     * The fields of bytes, within the usual limits, with the strict profile.
+     * The fields of bytes, within the default limits, with the strict profile.
      *
      * @param bytes the bytes; others may follow the message
      * @return the fields

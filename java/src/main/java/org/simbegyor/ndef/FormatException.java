@@ -1,6 +1,7 @@
 package org.simbegyor.ndef;
 
 import java.util.Objects;
+import org.jspecify.annotations.Nullable;
 
 /**
  * Bytes are not what they have to be: {@link #place()} gives the first byte that is wrong, and {@link #reason()} why.
@@ -8,32 +9,32 @@ import java.util.Objects;
 public class FormatException extends Exception {
     private static final long serialVersionUID = 1;
 
-    /** The place of the first refused byte, or -1. */
+    /** The offset of the first refused byte, or -1. */
     private final long place;
     /** Why it is refused. */
     private final Reason reason;
 
-    /** Makes an exception that the program itself throws. It has no place. */
+    /** Makes an exception that the program itself throws. It has no offset. */
     public FormatException() {
         this(null, null);
     }
 
     /**
-     * Makes an exception that the program itself throws. It has no place.
+     * Makes an exception that the program itself throws. It has no offset.
      *
      * @param message what {@link #getMessage()} returns, or null
      */
-    public FormatException(String message) {
+    public FormatException(@Nullable String message) {
         this(message, null);
     }
 
     /**
-     * Makes an exception that the program itself throws. It has no place.
+     * Makes an exception that the program itself throws. It has no offset.
      *
      * @param message what {@link #getMessage()} returns, or null
      * @param cause what {@link #getCause()} returns, or null
      */
-    public FormatException(String message, Throwable cause) {
+    public FormatException(@Nullable String message, @Nullable Throwable cause) {
         super(message, cause);
         place = -1;
         reason = Reason.OTHER;
@@ -45,10 +46,14 @@ public class FormatException extends Exception {
         this.reason = reason;
     }
 
-    /** What the library refuses: the place, the reason and a count. */
+    /** What the library refuses: the offset, the reason and a count. */
     static FormatException of(long[] why) {
-        Reason reason = Reason.of(why[1]);
-        return new FormatException(why[0], reason, why[1] + " " + reason + ": " + reason.sentence());
+        return of(why[0], why[1]);
+    }
+
+    static FormatException of(long place, long number) {
+        Reason reason = Reason.of(number);
+        return new FormatException(place, reason, number + " " + reason + ": " + reason.sentence());
     }
 
     /** Bytes follow where none may follow. */
@@ -57,10 +62,10 @@ public class FormatException extends Exception {
     }
 
     /**
-     * The place of the first refused byte, counted from 0. No continuation of the bytes up to and with this one is
+     * The offset of the first refused byte, counted from 0. No continuation of the bytes up to and with this one is
      * right. If the bytes end too early, it is their number.
      *
-     * @return the place, or -1 where the program made the exception itself
+     * @return the offset, or -1 where the program made the exception itself
      */
     public long place() {
         return place;

@@ -117,7 +117,13 @@ public abstract class Handover extends Payload {
         byte[] payload(int handover) {
             NdefRecord[] all = records.toArray(new NdefRecord[0]);
             byte[] message = all.length == 0 ? new byte[0] : NdefMessage.unchecked(all).toByteArray();
-            return Library.written("there is no such handover", Library.WRITE_HANDOVER, message, null, handover, minor);
+            byte[] written = Library.bytes(Library.WRITE_HANDOVER, message, null, handover, minor, null);
+            if (written == null) {
+                boolean isMinor = Library.bytes(Library.WRITE_HANDOVER, message, null, handover, 0, null) != null;
+                throw new IllegalArgumentException(
+                        isMinor ? "no handover has the minor version " + minor : "the records are none of a handover");
+            }
+            return written;
         }
     }
 }

@@ -33,7 +33,8 @@ public final class HandoverError extends Payload {
      */
     public static HandoverError of(int reason, byte[] data) {
         Objects.requireNonNull(data, "the data are null");
-        return ofPayload(Library.written("there is no such error", Library.WRITE_ERROR, data, null, reason, 0));
+        String refusal = "an error with the reason " + reason + " has no such data";
+        return ofPayload(Library.written(refusal, Library.WRITE_ERROR, data, null, reason, 0));
     }
 
     /**
@@ -45,11 +46,12 @@ public final class HandoverError extends Payload {
      * @throws IllegalArgumentException if the reason has no such number
      */
     public static HandoverError ofNumber(int reason, long number) {
+        String refusal = "an error with the reason " + reason + " has no number " + number;
         if (number != (number & 0xffffffffL)) {
-            throw new IllegalArgumentException("there is no such error");
+            throw new IllegalArgumentException(refusal);
         }
         int call = Library.WRITE_ERROR_NUMBER;
-        return ofPayload(Library.written("there is no such error", call, null, null, reason, (int) number));
+        return ofPayload(Library.written(refusal, call, null, null, reason, (int) number));
     }
 
     private static HandoverError ofPayload(byte[] payload) {

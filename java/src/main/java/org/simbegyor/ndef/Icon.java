@@ -2,6 +2,7 @@ package org.simbegyor.ndef;
 
 import java.util.Arrays;
 import java.util.Objects;
+import org.jspecify.annotations.Nullable;
 
 /** An icon of a smart poster. */
 public final class Icon {
@@ -33,7 +34,7 @@ public final class Icon {
     }
 
     @Override
-    public boolean equals(Object other) {
+    public boolean equals(@Nullable Object other) {
         return other instanceof Icon && mediaType.equals(((Icon) other).mediaType)
                 && Arrays.equals(data, ((Icon) other).data);
     }

@@ -16,15 +16,14 @@ final class Library {
     /** What {@link #remark} is asked for. */
     static final int FIELD_REMARK = 15, RECORD_REMARK = 16;
     /** What {@link #list} is asked for. */
-    static final int MESSAGE = 0, RECORDS = 1, REFERENCES = 2, ICONS = 3, TITLE = 4, MEDIA_TYPE = 5, LINKS = 6,
-            FIELDS = 7;
+    static final int RECORDS = 0, REFERENCES = 1, ICONS = 2, TITLE = 3, MEDIA_TYPE = 4, LINKS = 5, FIELDS = 6;
     /** What {@link #name} is asked for. */
-    static final int REASON_NAME = 0, REASON_SENTENCE = 1, FIELD_NAME = 2;
+    static final int REASON_NAME = 0, REASON_SENTENCE = 1, FIELD_NAME = 2, URI_PREFIX = 3;
     /** What a payload is, as {@code ndef_kinds} of {@code ndef.h} numbers it. */
     static final int OTHER = 0, TEXT = 1, URI = 2, SMART_POSTER = 3, REQUEST = 4, SELECT = 5, CARRIER = 6,
             ALTERNATIVE = 10, ERROR = 12;
-    /** The answers of {@link #feed}. */
-    static final int OK = 0, MORE = 5;
+    /** The answers of {@link #feed}, and of {@link #read}. */
+    static final int OK = 0, NO_ROOM = 2, MORE = 5;
     /** How a record is written. */
     static final int FIRST = 1, LAST = 2, LONG = 4;
     /** The words of the state of a check. */
@@ -38,9 +37,15 @@ final class Library {
     }
 
     /**
-     * Lists the records of the message with which some of the bytes begin, or what else the call names: rows of
-     * numbers. Null where the library refuses the bytes; then {@code why}, if it is there, has the place, the reason
-     * and a count.
+     * Reads the message with which some of the bytes begin into a room for {@code size} records, as {@link Room} has it.
+     * The numbers are those of {@code ndef_limits}.
+     */
+    static native void read(byte[] bytes, int at, int length, int payload, int records, int pieces, int flags,
+            int[] room, int size);
+
+    /**
+     * Lists what the call names: rows of numbers. Null where the library refuses the bytes; then {@code why}, if it is
+     * there, has the place, the reason and a count.
      */
     static native int[] list(int call, byte[] one, byte[] two, int at, int length, int[] limits, long[] why);
 
@@ -48,7 +53,7 @@ final class Library {
     static native int kind(int tnf, byte[] type, int within);
 
     /**
-     * Writes a record, and answers its length; without a room that alone. {@code how} is the TNF, flags and the
+     * Writes a record, and answers its length; without a buffer that alone. {@code how} is the TNF, flags and the
      * chunk.
      */
     static native long record(int[] how, byte[] type, byte[] id, byte[] payload, byte[] room, int at);

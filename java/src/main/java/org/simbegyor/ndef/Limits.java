@@ -1,6 +1,7 @@
 package org.simbegyor.ndef;
 
 import java.util.Arrays;
+import org.jspecify.annotations.Nullable;
 
 /** How large a message may be, and whether its payloads are checked. */
 public final class Limits {
@@ -20,7 +21,7 @@ public final class Limits {
     }
 
     /**
-     * Limits that suit usual tags: 1048576 bytes of payload, 1024 records, 4096 pieces; payloads are checked.
+     * Limits that suit most tags: 1048576 bytes of payload, 1024 records, 4096 chunks; payloads are checked.
      *
      * @return these limits
      */
@@ -117,13 +118,18 @@ public final class Limits {
         return this;
     }
 
+    /** The flags of {@code ndef_limits}. */
+    int flags(Profile profile) {
+        return flags | profile.flags();
+    }
+
     /** The four words of {@code ndef_limits}. */
     int[] words(Profile profile) {
-        return new int[] {(int) payload, records, pieces, flags | profile.flags()};
+        return new int[] {(int) payload, records, pieces, flags(profile)};
     }
 
     @Override
-    public boolean equals(Object other) {
+    public boolean equals(@Nullable Object other) {
         return other instanceof Limits && payload == ((Limits) other).payload
                 && Arrays.equals(words(Profile.STRICT), ((Limits) other).words(Profile.STRICT));
     }

@@ -5,6 +5,7 @@ import java.util.Collections;
 import java.util.List;
 import java.util.Objects;
 import java.util.Optional;
+import org.jspecify.annotations.Nullable;
 
 /** A link of a message: an alternative carrier of its handover, and the record to which it refers. */
 public final class Link {
@@ -46,7 +47,7 @@ public final class Link {
     }
 
     @Override
-    public boolean equals(Object other) {
+    public boolean equals(@Nullable Object other) {
         return other instanceof Link && alternative.equals(((Link) other).alternative)
                 && Objects.equals(record, ((Link) other).record);
     }

@@ -4,6 +4,7 @@ import java.util.Arrays;
 import java.util.Collections;
 import java.util.List;
 import java.util.Objects;
+import org.jspecify.annotations.Nullable;
 
 /**
  * A message: at least one record. Its methods are those of {@code android.nfc.NdefMessage}. Each message is one that a
@@ -16,13 +17,13 @@ public final class NdefMessage {
     private final Profile profile;
 
     /**
-     * Reads a message within the usual limits. The message has to be all of the bytes, and its payloads are checked.
+     * Reads a message within the default limits. The message has to be all of the bytes, and its payloads are checked.
      *
      * @param data the bytes
      * @throws FormatException if they are refused
      */
     public NdefMessage(byte[] data) throws FormatException {
-        this(parse(data, Limits.usual(), Profile.STRICT).records, Limits.usual(), Profile.STRICT);
+        this(whole(data, Limits.usual(), Profile.STRICT), Limits.usual(), Profile.STRICT);
     }
 
     /**
@@ -139,34 +140,36 @@ public final class NdefMessage {
      * @throws FormatException if the bytes are refused
      */
     public static NdefMessage parse(byte[] bytes, Limits limits, Profile profile) throws FormatException {
-        Prefix prefix = parsePrefix(bytes, 0, bytes.length, limits, profile);
-        if (prefix.length() != bytes.length) {
-            throw FormatException.ofRest(prefix.length());
+        return new NdefMessage(whole(bytes, limits, profile), limits, profile);
+    }
+
+    /** The records of a message that has to be all of the bytes. */
+    private static NdefRecord[] whole(byte[] bytes, Limits limits, Profile profile) throws FormatException {
+        Room room = Room.read(bytes, 0, bytes.length, limits, profile);
+        if (room.length() != bytes.length) {
+            throw FormatException.ofRest(room.length());
         }
-        return prefix.message();
+        return room.records(bytes, 0, profile);
     }
 
     /**
      * Reads the message with which some bytes begin; others may follow.
      *
      * @param bytes an array, which no other thread may change meanwhile
-     * @param at the place in it where the message begins
+     * @param at the offset in it where the message begins
      * @param length how many bytes may be read
      * @param limits how large the message may be
      * @param profile what becomes of reserved values
      * @return the message and its length
-     * @throws FormatException if no message begins there; its place counts from {@code at}
+     * @throws FormatException if no message begins there; its offset counts from {@code at}
      * @throws IndexOutOfBoundsException if the array has fewer bytes
      */
     public static Prefix parsePrefix(byte[] bytes, int at, int length, Limits limits, Profile profile)
             throws FormatException {
         Objects.requireNonNull(bytes, "the bytes are null");
-        long[] told = new long[3];
-        int[] rows = Library.list(Library.MESSAGE, bytes, null, at, length, limits.words(profile), told);
-        if (rows == null) {
-            throw FormatException.of(told);
-        }
-        return new Prefix(new NdefMessage(NdefRecord.listOf(bytes, rows, profile), limits, profile), (int) told[0]);
+        Room room = Room.read(bytes, at, length, limits, profile);
+        int end = room.length();
+        return new Prefix(new NdefMessage(room.records(bytes, at, profile), limits, profile), end);
     }
 
     /**
@@ -271,7 +274,7 @@ public final class NdefMessage {
     }
 
     @Override
-    public boolean equals(Object other) {
+    public boolean equals(@Nullable Object other) {
         return other instanceof NdefMessage && Arrays.equals(records, ((NdefMessage) other).records);
     }
 

@@ -4,6 +4,7 @@ import java.nio.charset.StandardCharsets;
 import java.util.Arrays;
 import java.util.Locale;
 import java.util.Objects;
+import org.jspecify.annotations.Nullable;
 
 /** A record of a message, its chunks joined: its methods are those of {@code android.nfc.NdefRecord}. */
 public final class NdefRecord {
@@ -40,12 +41,17 @@ public final class NdefRecord {
     private static final byte[] NONE = {};
     /** How many numbers the library gives for each record. */
     private static final int COLUMNS = 7;
+    private static final int UNKNOWN = -1;
 
     private final short tnf;
     private final byte[] type;
     private final byte[] id;
     private final byte[] payload;
     private final Profile profile;
+    /** What the record is outside of a payload, as the library numbers it; {@link #UNKNOWN} where it wasn't asked. */
+    private final int kind;
+    /** How its value lies in the payload. */
+    private final int value;
 
     /**
      * Makes a record. Null stands for no bytes.
@@ -58,11 +64,9 @@ public final class NdefRecord {
      * than
      *     255 bytes, or a type, an id or a payload where the type name format has none, or no type where it has one
      */
-    public NdefRecord(short tnf, byte[] type, byte[] id, byte[] payload) {
+    public NdefRecord(short tnf, byte @Nullable [] type, byte @Nullable [] id, byte @Nullable [] payload) {
         this(tnf, copy(type), copy(id), copy(payload), Profile.STRICT);
-        if (write(Library.FIRST | Library.LAST, 0, null, 0) < 0) {
-            throw new IllegalArgumentException("there is no such record: " + this);
-        }
+        refuseOther();
     }
 
     /**
@@ -76,25 +80,32 @@ public final class NdefRecord {
     }
 
     private NdefRecord(NdefRecord other, byte[] id) {
-        this(other.tnf, other.type, id == null ? other.id : id, other.payload, other.profile);
+        this(other.tnf, other.type, id == null ? other.id : id, other.payload, other.profile, other.kind, other.value);
     }
 
     /** A record of arrays that nobody else changes. */
     private NdefRecord(int tnf, byte[] type, byte[] id, byte[] payload, Profile profile) {
+        this(tnf, type, id, payload, profile, UNKNOWN, Value.NONE);
+    }
+
+    /** The same, of which the library told what it is, and how its value lies in the payload. */
+    NdefRecord(int tnf, byte[] type, byte[] id, byte[] payload, Profile profile, int kind, int value) {
         this.tnf = (short) tnf;
         this.type = type;
         this.id = id;
         this.payload = payload;
         this.profile = profile;
+        this.kind = kind;
+        this.value = value;
     }
 
-    private static byte[] copy(byte[] bytes) {
+    private static byte[] copy(byte @Nullable [] bytes) {
         return bytes == null ? NONE : bytes.clone();
     }
 
     private static NdefRecord only(NdefMessage message) throws FormatException {
         if (message.count() != 1) {
-            throw new FormatException("the message has " + message.count() + " records");
+            throw new FormatException("the message has " + message.count() + " records instead of one");
         }
         return message.getRecords()[0];
     }
@@ -121,7 +132,7 @@ public final class NdefRecord {
         return new NdefRecord(rows[row + 1], type, part(bytes, idAt, payloadAt - idAt), payload, profile);
     }
 
-    /** Where the payload of each record ends, which lies in one piece. */
+    /** Where the payload of each record ends, which lies in one chunk. */
     static int[] endsOf(int[] rows) {
         int[] ends = new int[rows.length / COLUMNS];
         for (int i = 0; i < ends.length; i++) {
@@ -184,11 +195,11 @@ public final class NdefRecord {
      * @return the record
      * @throws IllegalArgumentException if the type is empty or not ASCII, or nothing stands before or after its slash
      */
-    public static NdefRecord createMime(String mimeType, byte[] mimeData) {
+    public static NdefRecord createMime(String mimeType, byte @Nullable [] mimeData) {
         String type = normalized(mimeType);
         refuseEmpty(type, "the media type is empty");
         if (type.startsWith("/") || type.indexOf('/') == type.length() - 1) {
-            throw new IllegalArgumentException("the media type lacks a part: " + type);
+            throw new IllegalArgumentException("the media type lacks what stands before or after its slash");
         }
         return new NdefRecord(TNF_MIME_MEDIA, Strings.ascii(type), null, mimeData);
     }
@@ -202,7 +213,7 @@ public final class NdefRecord {
      * @return the record
      * @throws IllegalArgumentException if either is empty, or the two are too long
      */
-    public static NdefRecord createExternal(String domain, String type, byte[] data) {
+    public static NdefRecord createExternal(String domain, String type, byte @Nullable [] data) {
         String issuer = domain.trim().toLowerCase(Locale.ROOT);
         String name = type.trim().toLowerCase(Locale.ROOT);
         refuseEmpty(issuer, "the domain is empty");
@@ -220,7 +231,7 @@ public final class NdefRecord {
      * spells
      *     the text
      */
-    public static NdefRecord createTextRecord(String languageCode, String text) {
+    public static NdefRecord createTextRecord(@Nullable String languageCode, String text) {
         Objects.requireNonNull(text, "the text is null");
         boolean isGiven = languageCode != null && !languageCode.isEmpty();
         return TextRecord.of(isGiven ? languageCode : Locale.getDefault().getLanguage(), text).toRecord();
@@ -284,9 +295,7 @@ public final class NdefRecord {
      */
     public NdefRecord withId(byte[] newId) {
         NdefRecord changed = new NdefRecord(this, newId.clone());
-        if (changed.write(Library.FIRST | Library.LAST, 0, null, 0) < 0) {
-            throw new IllegalArgumentException("there is no such record: " + changed);
-        }
+        changed.refuseOther();
         return changed;
     }
 
@@ -295,7 +304,7 @@ public final class NdefRecord {
      *
      * @return that of the record, in lower case and without parameters; {@code text/plain} for a text; null for others
      */
-    public String toMimeType() {
+    public @Nullable String toMimeType() {
         if (kind(Library.OTHER) == Library.TEXT) {
             return "text/plain";
         }
@@ -308,7 +317,7 @@ public final class NdefRecord {
      *
      * @return the URI, or null where the record has none or its payload is refused
      */
-    public Uri toUri() {
+    public @Nullable Uri toUri() {
         if (tnf == TNF_ABSOLUTE_URI) {
             return Uri.parse(Strings.ofUtf8(type)).normalizeScheme();
         }
@@ -331,7 +340,7 @@ public final class NdefRecord {
      * with the profile with which the message was read.
      *
      * @return the payload
-     * @throws FormatException if it is no payload of its type; its place counts from the first byte of the payload
+     * @throws FormatException if it is no payload of its type; its offset counts from the first byte of the payload
      */
     public Payload decode() throws FormatException {
         return Payload.of(this);
@@ -339,7 +348,12 @@ public final class NdefRecord {
 
     /** What the record is, in a payload of a kind or outside. */
     int kind(int within) {
-        return Library.kind(tnf, type, within);
+        return within == Library.OTHER && kind != UNKNOWN ? kind : Library.kind(tnf, type, within);
+    }
+
+    /** How its value lies in the payload, as {@link Value} has it. */
+    int value() {
+        return value;
     }
 
     /** The payload itself, which nobody may change. */
@@ -361,13 +375,43 @@ public final class NdefRecord {
         return new NdefMessage(this).toByteArray();
     }
 
-    /** Writes the record to the room, or asks for its length where there is none; -1 where there is no such record. */
+    /** Writes the record to the buffer, or asks for its length where there is none; -1 where it is no record. */
     long write(int flags, int chunk, byte[] room, int at) {
         return Library.record(new int[] {tnf, flags, chunk}, type, id, payload, room, at);
     }
 
+    /** Refuses parts of which there is no record. */
+    private void refuseOther() {
+        if (!isOne(tnf, type, id, payload)) {
+            throw new IllegalArgumentException(fault());
+        }
+    }
+
+    private static boolean isOne(int tnf, byte[] type, byte[] id, byte[] payload) {
+        int[] how = {tnf, Library.FIRST | Library.LAST, 0};
+        return Library.record(how, type, id, payload, null, 0) >= 0;
+    }
+
+    /** Why there is no such record: the library is asked for records with some of the parts. */
+    private String fault() {
+        String such = "a record of the type name format " + tnf;
+        if (!isOne(TNF_UNKNOWN, NONE, id, NONE)) {
+            return "an id of " + id.length + " bytes is too long";
+        }
+        if (type.length > 0 && !isOne(TNF_MIME_MEDIA, type, NONE, NONE)) {
+            return "a type of " + type.length + " bytes is too long";
+        }
+        if (!isOne(tnf, NONE, NONE, NONE)) {
+            return isOne(tnf, new byte[1], NONE, NONE) ? such + " needs a type" : "no record has the type name format " + tnf;
+        }
+        if (!isOne(tnf, type, NONE, NONE)) {
+            return such + " has no type";
+        }
+        return such + (isOne(tnf, type, id, NONE) ? " has no payload" : " has no id");
+    }
+
     @Override
-    public boolean equals(Object other) {
+    public boolean equals(@Nullable Object other) {
         if (!(other instanceof NdefRecord)) {
             return false;
         }

@@ -2,6 +2,7 @@ package org.simbegyor.ndef;
 
 import java.util.Arrays;
 import java.util.Objects;
+import org.jspecify.annotations.Nullable;
 
 /**
  * What the payload of a record says. The classes in this package alone extend it. Two are equal if they are of the same
@@ -21,9 +22,11 @@ public abstract class Payload {
         byte[] payload = record.payload();
         switch (record.kind(Library.OTHER)) {
             case Library.TEXT:
-                return new TextRecord(payload);
+                TextRecord text = Value.text(record.value(), payload);
+                return text != null ? text : new TextRecord(payload);
             case Library.URI:
-                return new UriRecord(payload, record.profile());
+                UriRecord uri = Value.uri(record.value(), payload);
+                return uri != null ? uri : new UriRecord(payload, record.profile());
             case Library.SMART_POSTER:
                 return new SmartPoster(payload, record.profile());
             case Library.REQUEST:
@@ -80,7 +83,7 @@ public abstract class Payload {
     }
 
     @Override
-    public boolean equals(Object other) {
+    public boolean equals(@Nullable Object other) {
         return other != null && getClass() == other.getClass() && Arrays.equals(payload, ((Payload) other).payload);
     }
 
@@ -109,7 +112,7 @@ public abstract class Payload {
         }
 
         @Override
-        public boolean equals(Object other) {
+        public boolean equals(@Nullable Object other) {
             return other instanceof Other && record.equals(((Other) other).record);
         }
 

@@ -6,7 +6,7 @@ public final class RecordException extends IllegalArgumentException {
 
     /** The index of the record in the message. */
     private final int record;
-    /** The place of the refused byte in the record. */
+    /** The offset of the refused byte in the record. */
     private final long place;
     /** Why it is refused. */
     private final Reason reason;
@@ -31,9 +31,9 @@ public final class RecordException extends IllegalArgumentException {
     }
 
     /**
-     * The place of the refused byte.
+     * The offset of the refused byte.
      *
-     * @return the place, counted from the first byte of the record
+     * @return the offset, counted from the first byte of the record
      */
     public long place() {
         return place;

@@ -16,7 +16,7 @@ public final class Sentences {
     }
 
     /**
-     * What was wanted where bytes are refused within the usual limits, with the strict profile.
+     * What was wanted where bytes are refused within the default limits, with the strict profile.
      *
      * @param bytes the bytes
      * @return the sentence; none where a message begins with the bytes
@@ -39,7 +39,7 @@ public final class Sentences {
     }
 
     /**
-     * What may help where bytes are refused within the usual limits, with the strict profile.
+     * What may help where bytes are refused within the default limits, with the strict profile.
      *
      * @param bytes the bytes
      * @return the sentence; none where nothing is known to help, or a message begins with the bytes
@@ -49,8 +49,8 @@ public final class Sentences {
     }
 
     /**
-     * What may help where bytes are refused: a message begins at one of the places 1 to 16, the identifier code of a URI
-     * may be missing, or {@link Profile#STANDARD} reads them. Payloads are looked into, whatever the limits say. It may
+     * What may help where bytes are refused: a message begins at one of the offsets 1 to 16, the identifier code of a
+     * URI may be missing, or {@link Profile#STANDARD} reads them. Payloads are looked into, whatever the limits say. It may
      * take 17 times as long as to check the bytes.
      *
      * @param bytes the bytes, which no other thread may change meanwhile

@@ -44,6 +44,11 @@ final class Strings {
         return new String(bytes, StandardCharsets.UTF_8);
     }
 
+    /** The text of some bytes that the library found to be UTF-8. */
+    static String ofUtf8(byte[] bytes, int at, int length) {
+        return new String(bytes, at, length, StandardCharsets.UTF_8);
+    }
+
     /** Two hexadecimal digits for each byte. */
     static String hexadecimal(byte[] bytes) {
         char[] digits = new char[2 * bytes.length];

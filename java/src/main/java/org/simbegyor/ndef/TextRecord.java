@@ -9,12 +9,13 @@ public final class TextRecord extends Payload {
     TextRecord(byte[] payload) throws FormatException {
         super(Types.TEXT, payload);
         int[] told = Library.told(Library.TEXT, payload, Profile.STRICT);
-        language = Strings.ofUtf8(part(told[0], told[1]));
+        language = Strings.ofUtf8(payload, told[0], told[1]);
         isUtf16 = told[2] != 0;
-        text = Strings.ofUtf8(Library.bytes(Library.READ_TEXT, payload, null, 0, 0, null));
+        text = isUtf16 ? Strings.ofUtf8(Library.bytes(Library.READ_TEXT, payload, null, 0, 0, null))
+                : Strings.ofUtf8(payload, told[3], told[4]);
     }
 
-    private TextRecord(byte[] payload, String language, String text, boolean isUtf16) {
+    TextRecord(byte[] payload, String language, String text, boolean isUtf16) {
         super(Types.TEXT, payload);
         this.language = language;
         this.text = text;

@@ -4,6 +4,7 @@ import java.net.URI;
 import java.net.URISyntaxException;
 import java.util.Locale;
 import java.util.Objects;
+import org.jspecify.annotations.Nullable;
 
 /** A URI as a record has it: any text, as {@code android.net.Uri} takes any text. */
 public final class Uri {
@@ -28,7 +29,7 @@ public final class Uri {
      *
      * @return the scheme, such as https, or null where there is no colon
      */
-    public String getScheme() {
+    public @Nullable String getScheme() {
         int colon = text.indexOf(':');
         return colon < 0 ? null : text.substring(0, colon);
     }
@@ -54,7 +55,7 @@ public final class Uri {
     }
 
     @Override
-    public boolean equals(Object other) {
+    public boolean equals(@Nullable Object other) {
         return other instanceof Uri && text.equals(((Uri) other).text);
     }
 

@@ -14,7 +14,7 @@ public final class UriRecord extends Payload {
         uri = Strings.ofUtf8(told);
     }
 
-    private UriRecord(byte[] payload, String uri) {
+    UriRecord(byte[] payload, String uri) {
         super(Types.URI, payload);
         this.uri = uri;
     }

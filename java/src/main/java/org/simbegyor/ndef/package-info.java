@@ -10,4 +10,7 @@
  * of is copied, and so is each array that a method returns. All values are immutable, so threads may share them; a
  * checker takes one call at a time.
  */
+@NullMarked
 package org.simbegyor.ndef;
+
+import org.jspecify.annotations.NullMarked;
