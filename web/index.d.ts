@@ -8,11 +8,11 @@ export type Name = string | Uint8Array;
 
 /** Limits and rules of a check. A number out of range is a RangeError. */
 export interface Options {
-    /** The most bytes of one record's payload: 1 to 4294967295, usually 1048576. */
+    /** The most bytes of one record's payload: 1 to 4294967295, by default 1048576. */
     payload?: number;
-    /** The most records of a message: 1 to 65535, usually 1024. */
+    /** The most records of a message: 1 to 65535, by default 1024. */
     records?: number;
-    /** The most chunks of a record: 1 to 65535, usually 4096. */
+    /** The most chunks of a record: 1 to 65535, by default 4096. */
     pieces?: number;
     /** Reads the reserved type name format 7 and reserved URI codes as the standards say, instead of refusing them. */
     standard?: boolean;
@@ -280,11 +280,11 @@ export function smartPoster(poster: Writable<Omit<SmartPoster, "titles" | "icons
     uri: string; titles?: (Omit<Text, "utf16"> & { utf16?: boolean })[]; icons?: { mediaType: string | Bytes; data: Bytes }[];
 }, id?: string): NDEFRecord;
 type NewCarrier = Omit<Carrier, "reference" | "auxiliary"> & { reference: string | Bytes; auxiliary?: (string | Bytes)[] };
-/** A record of a handover request of version 1.`minor`, usually 1.2. Throws RangeError where it can't be written. */
+/** A record of a handover request of version 1.`minor`, by default 1.2. Throws RangeError where it can't be written. */
 export function handoverRequest(request: {
     major?: number; minor?: number; collision: number; carriers?: NewCarrier[];
 }, id?: string): NDEFRecord;
-/** A record of a handover select of version 1.`minor`, usually 1.2. Throws RangeError where it can't be written. */
+/** A record of a handover select of version 1.`minor`, by default 1.2. Throws RangeError where it can't be written. */
 export function handoverSelect(select: {
     major?: number; minor?: number; carriers?: NewCarrier[];
     error?: { reason: number; data: string | Bytes } | { reason: number; number: number } | HandoverError | null;

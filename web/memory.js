@@ -1,5 +1,6 @@
 // The memory of the library in WebAssembly: what is laid into it, and what is read from it.
 import { utf8 } from "./given.js";
+import { LAYOUT } from "./interface.js";
 
 const STRUCTS = 1024; // memory for structs, before the bytes
 const SHORT = 48; // bytes up to which a loop takes less time than a call of the engine
@@ -12,11 +13,9 @@ function copied(bytes, from, to) {
     return copy;
 }
 
-// The members of each struct of a layout, ready to be read one after another.
-function membersOf(layout) {
-    return Object.fromEntries(Object.entries(layout).map(([name, { members }]) =>
-        [name, Object.entries(members).map(([member, [place, size]]) => ({ member, place, size }))]));
-}
+// The members of each struct, ready to be read one after another.
+const MEMBERS = Object.fromEntries(Object.entries(LAYOUT).map(([name, { members }]) =>
+    [name, Object.entries(members).map(([member, [place, size]]) => ({ member, place, size }))]));
 
 // The word of 32 bits at which each member of a struct begins, counted from the front of the struct. Of a place or a length, which lie in a memory
 // of 32 bits, this word has all.
@@ -53,15 +52,10 @@ export class Memory {
     #memory;
     #octets;
     #words;
-    #layout;
-    #members;
 
-    constructor(memory, base, layout) {
+    constructor(memory, base) {
         this.base = base;
-        this.held = null; // the message that was laid last, as the bytes of its items
         this.#memory = memory;
-        this.#layout = layout;
-        this.#members = membersOf(layout);
         this.#look();
         this.reach(base + STRUCTS);
     }
@@ -102,18 +96,27 @@ export class Memory {
         let end = this.front;
         const places = arrays.map((bytes) => { const at = end; end = (end + (bytes.length ?? bytes) + 15) & ~15; return at; });
         this.reach(end);
-        this.held = null;
         arrays.forEach((bytes, index) => { if (typeof bytes !== "number") this.put(bytes, places[index]); });
         return places;
     }
 
     // The same for one array; answers its address.
     layOne(bytes) {
-        const at = this.front;
-        this.reach(at + bytes.length);
-        this.held = null;
-        this.put(bytes, at);
-        return at;
+        this.reach(this.front + bytes.length);
+        this.put(bytes, this.front);
+        return this.front;
+    }
+
+    // The same; answers a copy where the bytes are few, which takes one loop for both, or else null.
+    layAndCopy(bytes) {
+        const { length } = bytes, at = this.front;
+        if (length > SHORT) {
+            this.layOne(bytes);
+            return null;
+        }
+        const { octets } = this, copy = new Uint8Array(length);
+        for (let index = 0; index < length; index++) octets[at + index] = copy[index] = bytes[index];
+        return copy;
     }
 
     // A copy of bytes, and characters in UTF-8, at an address.
@@ -129,7 +132,7 @@ export class Memory {
     // The members of a struct at an offset, by their names, each a number.
     struct(name, offset) {
         const { words } = this, told = {};
-        for (const { member, place, size } of this.#members[name]) {
+        for (const { member, place, size } of MEMBERS[name]) {
             const at = (this.base + offset + place) >> 2;
             if (size === 4) told[member] = words[at];
             else if (size === 8) told[member] = words[at] + words[at + 1] * 2 ** 32;
@@ -140,7 +143,7 @@ export class Memory {
 
     // The structs of an array at an offset.
     structs(name, offset, count) {
-        const { size } = this.#layout[name];
+        const { size } = LAYOUT[name];
         return Array.from({ length: count }, (_, index) => this.struct(name, offset + size * index));
     }
 }

@@ -105,6 +105,7 @@ export class Ndef {
 
     check(bytes: Bytes, options?: Limits): Checked;
     checkAll(bytes: Bytes, options?: Limits): (Checked & { at: number })[];
+    checkFrom(bytes: Bytes, place: number, most: number, options?: Limits): (Checked & { at: number })[];
     begin(options?: Limits): Uint8Array;
     feed(state: Uint8Array, bytes: Bytes): Checked;
     feedAll(state: Uint8Array, bytes: Bytes, options?: Limits): (Checked & { at: number })[];

@@ -26,19 +26,34 @@ const SAMPLES = {
     "cut off": "D1 01 08 54 02 65 6E 48 65",
 };
 const LIMITS = ["payload", "records", "pieces"];
+const MOST_CHECKED = 10000; // messages that are checked in one slice
 const MOST_AT_ONCE = 4096; // bytes; where more were read, their rows are made in the next slice
 const MOST_LINKED = 16384; // bytes that a link has
+const MOST_SPELLED = 65536; // bytes of a file that the field for bytes shows; the layout of more takes a second
 const slices = new Slices();
 
 // ---- what is shown
 
-// The messages one after another, each with its place and what the check answers, up to the first refused one. They have
-// their bytes; a refused one has all that follow.
-function messagesOf(ndef, bytes, options) {
-    return ndef.checkAll(bytes, options).map((answer) => {
-        const { at, status, place } = answer;
-        return { at, answer, bytes: bytes.subarray(at, status === Ndef.OK ? at + place : bytes.length) };
-    });
+// A message with its place, what the check answers, and its bytes; a refused one has all that follow.
+function messageOf(bytes, answer) {
+    const { at, status, place } = answer;
+    return { at, answer, bytes: bytes.subarray(at, status === Ndef.OK ? at + place : bytes.length) };
+}
+
+// Work that checks the messages one after another, up to the first refused one, and answers them.
+function* messagesOf(ndef, bytes, options) {
+    const messages = [];
+    for (let at = 0; ;) {
+        const answers = ndef.checkFrom(bytes, at, MOST_CHECKED, options), last = answers[answers.length - 1];
+        answers.forEach((answer) => messages.push(messageOf(bytes, answer)));
+        at = last.at + last.place;
+        if (last.status !== Ndef.OK || at === bytes.length) return messages;
+        clear();
+        sayBusy(true);
+        byId("verdict").className = "";
+        byId("verdict").textContent = `${messages.length} messages are good so far.`;
+        yield Infinity;
+    }
 }
 
 // What the library says of bytes that are refused: what was wanted, and what may help. The place in a hint counts from where
@@ -85,7 +100,7 @@ function clear() {
 
 // Work that shows the messages of the bytes: the verdict first, then the bytes, the records and the fields side by side.
 function* showMessages(ndef, bytes, options) {
-    const messages = messagesOf(ndef, bytes, options), last = messages[messages.length - 1];
+    const messages = yield* messagesOf(ndef, bytes, options), last = messages[messages.length - 1];
     const refused = last.answer.status === Ndef.REFUSED, place = refused ? last.at + last.answer.place : Infinity;
     const fields = new Fields(bytes.length + (place === bytes.length ? 1 : 0));
     const painting = () => paintMessages(ndef, messages, options, fields, place);
@@ -127,8 +142,21 @@ function* showAnswer(ndef, bytes, options) {
     }
 }
 
+// The bytes of a file that the field doesn't show, or null. What is entered there takes their place.
+let kept = null;
+
+// The bytes that are looked at and the form in which they were entered, or what is wrong with them.
+const given = () => kept ?? bytesOf(byId("hex").value);
+
+// Takes the text of the field for bytes, or bytes that it doesn't show and what is said of them there.
+function take(text, bytes = null, said = "") {
+    kept = bytes;
+    byId("hex").value = text;
+    byId("hex").placeholder = said;
+}
+
 function show(ndef) {
-    const { bytes, form, wrong } = bytesOf(byId("hex").value), options = optionsOf();
+    const { bytes, form, wrong } = given(), options = optionsOf();
     if (wrong) return showFault(wrong);
     const words = [bytes.length > MOST_LINKED ? "" : Array.from(bytes, twoDigits).join("")];
     byId("link").hidden = bytes.length > MOST_LINKED;
@@ -140,7 +168,7 @@ function show(ndef) {
 }
 
 function showTheseBytes(ndef, bytes) {
-    byId("hex").value = toHex(bytes);
+    take(toHex(bytes));
     show(ndef);
 }
 
@@ -149,15 +177,16 @@ function takeAddress() {
     const [digits, ...words] = location.hash.slice(1).split("&");
     if (!digits) return false;
     const bytes = bytesOfHex(digits);
-    byId("hex").value = typeof bytes === "string" ? digits : toHex(bytes);
+    take(typeof bytes === "string" ? digits : toHex(bytes));
     byId("profile").value = words.includes("standard") ? "standard" : "strict";
     byId("payloads").value = words.includes("opaque") ? "opaque" : "typed";
     return true;
 }
 
 async function takeFile(ndef, file) {
-    const bytes = new Uint8Array(await file.arrayBuffer());
-    byId("hex").value = textOfFile(bytes) ?? toHex(bytes);
+    const bytes = new Uint8Array(await file.arrayBuffer()), text = textOfFile(bytes);
+    if (bytes.length <= MOST_SPELLED) take(text ?? toHex(bytes));
+    else take("", text === null ? { bytes, form: "hexadecimal" } : bytesOf(text), `${bytes.length} bytes of the file ${file.name}`);
     show(ndef);
 }
 
@@ -173,10 +202,11 @@ function listenToFiles(ndef) {
 }
 
 function listen(ndef) {
+    byId("hex").addEventListener("input", () => take(byId("hex").value));
     ["hex", "profile", "payloads", ...LIMITS].forEach((id) => byId(id).addEventListener("input", () => show(ndef)));
     Object.entries(SAMPLES).forEach(([name, hex]) => {
         const button = element("button", { type: "button", text: name });
-        button.addEventListener("click", () => { byId("hex").value = hex; show(ndef); });
+        button.addEventListener("click", () => { take(hex); show(ndef); });
         byId("samples").append(button);
     });
     listenToFiles(ndef);
@@ -200,7 +230,7 @@ function listenToJumps(composer) {
     byId("jump").addEventListener("click", (event) => { event.preventDefault(); go(); });
     byId("load").addEventListener("click", () => {
         const { flags, ...limits } = optionsOf(), options = { ...limits, standard: (flags & Ndef.STANDARD) !== 0 };
-        composer.take(decodePrefix(bytesOf(byId("hex").value).bytes, options).message.records, options);
+        composer.take(decodePrefix(given().bytes, options).message.records, options);
         go();
     });
 }
@@ -217,5 +247,5 @@ const composer = new Composer({
 });
 listenToTags(ndef, composer);
 listenToJumps(composer);
-if (!takeAddress()) byId("hex").value = SAMPLES["two records"];
+if (!takeAddress()) take(SAMPLES["two records"]);
 show(ndef);

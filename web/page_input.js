@@ -63,17 +63,40 @@ function ofBase64(text) {
     return Uint8Array.from(atob(bare), (letter) => letter.charCodeAt(0));
 }
 
-// The number that a hexadecimal digit stands for, by its character code.
-const valueOf = (code) => (code <= 0x39 ? code - 0x30 : (code & 0xdf) - 0x37);
+// What a character of ASCII is in hexadecimal text: the number of a digit, SIGN between digits, or OTHER.
+const SIGN = 16, OTHER = 17;
+const MEANT = Uint8Array.from({ length: 128 }, (_, code) => {
+    const letter = String.fromCharCode(code);
+    if (/[\s,:;{}[\]-]/.test(letter)) return SIGN;
+    return /[0-9a-f]/i.test(letter) ? parseInt(letter, 16) : OTHER;
+});
 
-// The bytes of hexadecimal text, or what is wrong with it.
+// What the character at a place is; a character outside of ASCII may be a space.
+function meantAt(text, place) {
+    const code = text.charCodeAt(place);
+    if (code < 128) return MEANT[code];
+    return /\s/.test(text[place]) ? SIGN : OTHER;
+}
+
+// Whether 0x or \x stands at a place: what is before a byte.
+const isBefore = (text, place) => (text.charCodeAt(place + 1) | 0x20) === 0x78 && (text[place] === "0" || text[place] === "\\");
+
+// The bytes of hexadecimal text, or what is wrong with it. Looks at each character once, since a text may have millions.
 export function bytesOfHex(text) {
-    const digits = text.replace(/0x|\\x|[\s,:;{}[\]-]/gi, ""), wrong = digits.search(/[^0-9a-f]/i);
-    if (wrong >= 0) return `"${digits[wrong]}" is no hexadecimal digit.`;
-    if (digits.length % 2) return "There is an odd number of hexadecimal digits.";
-    const bytes = new Uint8Array(digits.length / 2);
-    for (let at = 0; at < bytes.length; at++) bytes[at] = 16 * valueOf(digits.charCodeAt(2 * at)) + valueOf(digits.charCodeAt(2 * at + 1));
-    return bytes;
+    const bytes = new Uint8Array(text.length >> 1);
+    let digits = 0, wrong = null;
+    for (let place = 0; place < text.length; place++) {
+        const meant = meantAt(text, place);
+        if (meant === SIGN) continue;
+        if ((meant === 0 || meant === OTHER) && isBefore(text, place)) place++;
+        else if (meant === OTHER) wrong ??= text[place];
+        else {
+            bytes[digits >> 1] |= digits & 1 ? meant : 16 * meant;
+            digits++;
+        }
+    }
+    if (wrong !== null) return `"${wrong}" is no hexadecimal digit.`;
+    return digits % 2 ? "There is an odd number of hexadecimal digits." : bytes.slice(0, digits / 2);
 }
 
 // The bytes of a text and the form in which it has them; or what is wrong with it.

@@ -160,6 +160,9 @@ function showsMessages() {
     look("their titles", [...document.querySelectorAll("#record-part h2")].map((title) => title.textContent),
         ["Message 1, at byte 0", "Message 2, at byte 3", "Message 3, at byte 6"]);
     look("the third one's bytes", spans()[7].getAttribute("aria-label"), "Byte 7: 01, record 1, TYPE_LENGTH");
+    const boxes = (hex) => { enter(hex); return [...document.querySelectorAll("#record-part > *")].map((box) => `${box.localName}${box.open ? " open" : ""}`).join(", "); };
+    look("eight messages", [boxes("D00000".repeat(8)).includes("details"), rows(true).length], [false, 8]);
+    look("of more the first and a refused one are open", boxes(`${"D00000".repeat(9)} 900000 D7`), `details open${", details".repeat(8)}, details open`);
     enter(TEXT);
     look("one title", [...document.querySelectorAll("#record-part h2")].map((title) => title.textContent), ["Records"]);
     enter("D00000 D70000");
@@ -221,6 +224,10 @@ function showsSlices() {
     beginWith("D1 0G");
     while (putOff.length > 0) doNext();
     look("a wrong digit too", [countShown().elements, textOf("verdict")], [0, '"G" is no hexadecimal digit.']);
+    beginWith("D00000".repeat(10001));
+    const soFar = textOf("verdict");
+    while (putOff.length > 0) doNext();
+    look("many messages are checked in slices", [soFar, textOf("verdict")], ["10000 messages are good so far.", "10001 messages, 10001 records, 30003 bytes"]);
 }
 
 function takesDigits() {
@@ -332,6 +339,21 @@ async function takesFiles() {
     await later(() => find("hex").value !== "D0 00 00");
     look("a file that is dropped", [find("hex").value, textOf("verdict"), document.body.classList.contains("drop"), drop.defaultPrevented],
         ["D5 00 01 07", "1 message, 1 record, 4 bytes", false, true]);
+    await takesLargeFile(file(0xc5, 0, 0, 1, 0, 0, ...new Array(65536).fill(7)));
+}
+
+// The bytes of a large file aren't spelled out, and are looked at until others are entered.
+async function takesLargeFile(large) {
+    const given = new DataTransfer(), told = () => [find("hex").value, find("hex").placeholder, textOf("verdict"), find("link").hidden];
+    given.items.add(large);
+    document.dispatchEvent(new DragEvent("drop", { dataTransfer: given, cancelable: true }));
+    await later(() => find("hex").placeholder !== "");
+    const wanted = ["", "65542 bytes of the file tag", "1 message, 1 record, 65542 bytes", true];
+    look("a large file", told(), wanted);
+    find("payload").dispatchEvent(new Event("input"));
+    look("another limit", told(), wanted);
+    enter("D00000");
+    look("bytes after it", told(), ["D00000", "", "1 message, 1 record, 3 bytes", false]);
 }
 
 async function takesAddresses() {

@@ -161,6 +161,20 @@ function records(bytes, profiles, chosen) {
     for (const at of [1, bytes.length, bytes.length + 1]) look(`recordAt ${at}`, ndef.recordAt(bytes, at), record(bytes, at, 0), bytes);
 }
 
+// What `read` gives of bytes, by ndef_items and by the walk that stands in for it: the answer of the check, the records, and the values of texts and URIs.
+const walking = new Ndef({ ...(await WebAssembly.instantiate(code)).instance.exports, ndef_items: undefined });
+const partsOf = ({ tnf, kind, type, id, payload }) => ({ tnf, kind, type, id, payload });
+const valueOf = ({ status, language, text, utf16, place, reason }) => ({ status, language, text, utf16, place, reason });
+function reads(bytes, options, flags) {
+    const how = { ...options, flags }, answer = ndef.check(bytes, how), wanted = answer.status === Ndef.OK ? recordsOf(bytes, 0) : null;
+    const values = wanted?.filter(({ kind }) => kind === 1 || kind === 2).map(({ kind, payload }) => valueOf(kind === 1 ? texts(payload) : uris(payload, flags & 1)));
+    for (const calls of [ndef, walking]) {
+        const { items, ...told } = calls.read(bytes, how), given = items?.filter(({ kind }) => kind === 1 || kind === 2);
+        look(`what is read with ${flags}`, [told, items?.map(partsOf)], [answer, wanted?.map(partsOf)], bytes);
+        look(`values with ${flags}`, given?.map((item) => valueOf(item.kind === 1 ? calls.textOf(item) : calls.uriOf(item, flags & 1))), values, bytes);
+    }
+}
+
 const named = (call, value) => (c[call](value, base + ROOM, 80n, base + COUNT) === 0 ? textAt(ROOM, u64(COUNT)) : null);
 const FIELD_NAMES = Array.from({ length: 64 }, (_, value) => named("ndef_field_name", value));
 
@@ -192,7 +206,10 @@ for (const line of readFileSync(0, "utf8").split("\n").filter(Boolean)) {
     for (let round = 0; round < 4; round++) {
         const given = bytes.slice(0, round === 3 ? below(bytes.length + 1) : bytes.length);
         if (round === 1 || round === 2) if (given.length) given[below(given.length)] = below(256);
-        for (const flags of ALL) checks(given, round === 2 ? SMALL : {}, flags);
+        for (const flags of ALL) {
+            checks(given, round === 2 ? SMALL : {}, flags);
+            reads(given, round === 2 ? SMALL : {}, flags);
+        }
         records(given, [0, 1, 2], () => true);
     }
 }
@@ -210,6 +227,7 @@ for (let made = 0; made < most; made++) {
     answered.refused += status === Ndef.REFUSED;
     answered.cut += reason === 24 && place === bytes.length;
     checks(bytes, options, flags);
+    reads(bytes, options, flags);
     records(bytes, [flags & 1], (_, index) => index === looked);
     answered.chunked += ndef.recordAt(bytes, 0).pieces > 1;
 }
@@ -255,6 +273,8 @@ look("usualLimits", ndef.usualLimits(), { payload: u32(0), records: u32(4), piec
 
 // A byte order mark is a character of a text in UTF-8, and the memory grows by what is given.
 look("text", ndef.text(fromHex("02656EEFBBBF61")).text, "\ufeffa", []);
+const many = fromHex(`900000${"100000".repeat(2998)}550001 07`);
+look("many records by a walk", walking.read(many, { records: 3000 }).items.map(({ tnf, payload }) => [tnf, payload.length]).slice(2997), [[0, 0], [0, 0], [5, 1]], many);
 const large = new Uint8Array(3000006), fresh = await Ndef.load(code);
 large.set([0xc5, 0, 0, 45, 0xc6, 0xc0]);
 look("a message of 3 MB", [fresh.check(large, { payload: 3000000 }).place, fresh.records(large)[0].payload.length], [3000006, 3000000], []);

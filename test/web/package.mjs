@@ -359,6 +359,21 @@ await test("the payloads of records that were read unchecked are refused where t
 });
 await test("console.log shows all of a message where no depth is given", () =>
     same(inspect(decode(bytesOf("D1 01 05 54 02 656E 4869")), { depth: null }).includes("Hi"), true));
+await test("a message takes one call of the library, and its texts and URIs none", async () => {
+    if (calls.lacks.has("ndef_items")) return;
+    const { exports } = (await WebAssembly.instantiate(code)).instance, made = [];
+    const counting = new Ndef(Object.fromEntries(Object.entries(exports).map(([name, one]) =>
+        [name, typeof one === "function" ? (...given) => { made.push(name); return one(...given); } : one])));
+    const bytes = encode({ records: [{ recordType: "text", data: "grüß" }, { recordType: "url", data: "https://a" }, { recordType: "url", data: "https://b" }] });
+    made.length = 0;
+    const { items } = counting.read(bytes), values = items.map((item) => (item.kind === Ndef.KIND.TEXT ? counting.textOf(item) : counting.uriOf(item)).text);
+    same([values, made], [["grüß", "https://a", "https://b"], ["ndef_items", "ndef_uri_prefix"]]);
+});
+await test("a message has more records than there is memory for at first", () => {
+    const bytes = bytesOf(`900000${"100000".repeat(4998)}${recordHex("51", "T", "02656E 78")}`);
+    const { records } = decode(bytes, { records: 65535 });
+    same([records.length, records[0].recordType, records[4999].text, check(bytes, { records: 65535 }).records], [5000, "empty", "x", 5000]);
+});
 await test("records are read within the usual limits without options", () => same(calls.read(bytesOf("D00000")).items.length, 1));
 
 await test("the library is loaded once, whenever it is needed", async () => { await ready(); await ready(); same(decode(bytesOf("D00000")).records.length, 1); });

@@ -304,7 +304,7 @@ async function forced() {
 
 async function looks() {
     const bytes = "91021148721291020263721234510204616301013000110108540265 6E48656C6C6F5101075402656EC3286F6B".replaceAll(" ", "");
-    for (const [name, width, colours] of [["page", 1100, "light"], ["page-dark", 1100, "dark"], ["page-narrow", 320, "light"], ["page-narrow-dark", 320, "dark"]]) {
+    for (const [name, width, colours] of [["page", 1280, "light"], ["page-dark", 1280, "dark"], ["page-narrow", 390, "light"], ["page-narrow-dark", 390, "dark"], ["page-least", 320, "light"]]) {
         await browser.size(width, 900);
         await browser.colours(colours);
         await browser.open(`${PAGE}#${bytes}`, READY);

@@ -107,10 +107,16 @@ test("all messages are checked, one after another", () => {
     bytes[300] = 0xff;
     const answers = ndef.checkAll(bytes), last = answers.pop();
     return answers.length === 100 && answers.every((answer, index) => answer.at === 3 * index && same(
-        { ...answer, at: 0 }, { at: 0, ...ndef.check(EMPTY) })) && same(last, { at: 300, ...ndef.check(bytes.subarray(300)) })
+        { ...answer, at: 0 }, { ...ndef.check(EMPTY), at: 0 })) && same(last, { ...ndef.check(bytes.subarray(300)), at: 300 })
         && last.status === Ndef.REFUSED && last.place === 0 && last.reason === 1;
 });
-test("no bytes are one answer", () => same(ndef.checkAll(new Uint8Array()), [{ at: 0, ...ndef.check(new Uint8Array()) }]));
+test("a part of the messages is checked", () => {
+    const given = Uint8Array.from({ length: 15 }, (_, index) => (index % 3 ? 0 : 0xd0)), all = ndef.checkAll(given);
+    return all.length === 5 && same(ndef.checkFrom(given, 3, 2), all.slice(1, 3)) && same(ndef.checkFrom(given, 9, 5), all.slice(3))
+        && same(ndef.checkFrom(given, 15, 1), [{ ...ndef.check(new Uint8Array()), at: 15 }])
+        && [16, -1, 0.5].every((place) => throws(RangeError, () => ndef.checkFrom(given, place, 1)));
+});
+test("no bytes are one answer", () => same(ndef.checkAll(new Uint8Array()), [{ ...ndef.check(new Uint8Array()), at: 0 }]));
 
 test("records have bytes of their own", () => {
     const given = HELLO.slice(), record = ndef.recordAt(given, 0);
