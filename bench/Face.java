@@ -4,7 +4,7 @@ import java.nio.file.Files;
 import java.nio.file.Path;
 import org.simbegyor.ndef.*;
 
-/** Face FOLDER MILLISECONDS: times the module for Java: a message, and the same with the value of each record. */
+/** Face FOLDER MILLISECONDS: times the module for Java, and a parser by hand: a message, and the same with each value. */
 final class Face {
     private static final ThreadMXBean THREADS = ManagementFactory.getThreadMXBean();
 
@@ -44,12 +44,22 @@ final class Face {
         return count;
     }
 
+    private static int valuesByHand(byte[] bytes) {
+        int count = 0;
+        for (Hand record : Hand.parse(bytes)) {
+            count += record.value() == null ? 0 : 1;
+        }
+        return count;
+    }
+
     public static void main(String[] words) throws Exception {
         double milliseconds = Double.parseDouble(words[1]);
         for (String name : new String[] {"hello", "uri", "poster", "records-1000", "ascii-1M", "wide-1M"}) {
             byte[] bytes = Files.readAllBytes(Path.of(words[0], name));
             time("read", name, milliseconds, () -> new NdefMessage(bytes).getRecords().length);
             time("value", name, milliseconds, () -> values(bytes));
+            time("hand-read", name, milliseconds, () -> Hand.parse(bytes).length);
+            time("hand-value", name, milliseconds, () -> valuesByHand(bytes));
         }
     }
 }

@@ -1,4 +1,4 @@
-// face FOLDER MILLISECONDS: times the package for Go: a message, and the same with the value of each record.
+// face FOLDER MILLISECONDS: times the package for Go and the parser of hand.go: a message, and the same with the value of each record.
 package main
 
 import (
@@ -44,6 +44,9 @@ func report(operation, name string, milliseconds float64, call func() error) {
 	}
 }
 
+// What a call gives is kept here, so that it isn't left out.
+var held any
+
 func main() {
 	milliseconds, err := strconv.ParseFloat(os.Args[2], 64)
 	if err != nil {
@@ -53,6 +56,17 @@ func main() {
 		bytes, err := os.ReadFile(filepath.Join(os.Args[1], name))
 		if err != nil {
 			log.Fatal(err)
+		}
+		report("check", name, milliseconds, func() error { _, _, err := ndef.Options{}.Check(bytes); return err })
+		report("hand-read", name, milliseconds, func() error { _, err := parse(bytes); return err })
+		if name != "poster" {
+			report("hand-value", name, milliseconds, func() error {
+				records, err := parse(bytes)
+				for index := range records {
+					held = records[index].value()
+				}
+				return err
+			})
 		}
 		report("read", name, milliseconds, func() error { _, err := ndef.Parse(bytes); return err })
 		report("value", name, milliseconds, func() error {

@@ -16,18 +16,20 @@ function now() {
     return (user + system) * 1000;
 }
 
-// Prints the nanoseconds of a call: the least of batches of five milliseconds or of one call.
-function time(operation, name, call) {
-    const begun = now();
-    let least = Infinity, batch = 1;
-    while (now() - begun < milliseconds * 1e6) {
-        const from = now();
-        for (let i = 0; i < batch; i++) call();
-        const took = now() - from;
-        if (took >= 5e6) least = Math.min(least, took / batch);
-        else batch *= 2;
-    }
-    if (least < Infinity) console.log(`${operation} ${name} ${least.toFixed(1)}`);
+// Prints the nanoseconds of each call: the least of batches of five milliseconds or of one call. The calls take turns, so that other work on the
+// machine meets all of them.
+function time(name, calls) {
+    const rows = Object.entries(calls).map(([operation, call]) => ({ operation, call, batch: 1, least: Infinity }));
+    for (const begun = now(); now() - begun < rows.length * milliseconds * 1e6;) rows.forEach(runBatch);
+    for (const { operation, least } of rows) if (least < Infinity) console.log(`${operation} ${name} ${least.toFixed(1)}`);
+}
+
+function runBatch(row) {
+    const from = now();
+    for (let i = 0; i < row.batch; i++) row.call();
+    const took = now() - from;
+    if (took >= 5e6) row.least = Math.min(row.least, took / row.batch);
+    else row.batch *= 2;
 }
 
 function read(bytes) {
@@ -38,8 +40,8 @@ function read(bytes) {
 const values = { hello: "text", uri: "uri", poster: "poster", "ascii-1M": "text", "wide-1M": "text" };
 for (const name of ["hello", "uri", "poster", "records-1000", "ascii-1M", "wide-1M"]) {
     const bytes = new Uint8Array(readFileSync(`${folder}/${name}`));
-    time("read", name, () => read(bytes));
-    if (values[name]) time("value", name, () => ndef[values[name]](read(bytes)[0].payload));
+    time(name, { read: () => read(bytes) });
+    if (values[name]) time(name, { value: () => ndef[values[name]](read(bytes)[0].payload) });
 }
 
 function refused(call) {
@@ -51,10 +53,9 @@ function refused(call) {
     throw new Error("not refused");
 }
 
-// The same by the package and by hand, in turn.
+// The same by the package and by hand.
 function both(what, name, call) {
-    time(what, name, () => call(decode));
-    time(`hand-${what}`, name, () => call(parse));
+    time(name, { [what]: () => call(decode), [`hand-${what}`]: () => call(parse) });
 }
 
 await ready();

@@ -16,7 +16,7 @@ SIMDUTF8 = pathlib.Path(os.environ.get('CARGO_REGISTRY', '/usr/share/cargo/regis
 
 
 # All programs, by the name of the method that builds each.
-NAMES = ('c', 'c_v2', 'c_gcc', 'c_clang', 'hand', 'plain', 'utf8', 'qt', 'rust', 'rust_lto', 'rust_simd', 'python', 'javascript', 'java', 'go', 'page', 'commands')
+NAMES = ('c', 'c_v2', 'c_gcc', 'c_clang', 'hand', 'plain', 'utf8', 'qt', 'rust', 'rust_lto', 'rust_simd', 'cpp', 'python', 'javascript', 'java', 'go', 'page', 'commands')
 
 
 class Missing(Exception):
@@ -149,7 +149,7 @@ class Bench:
         needed('cargo', 'cargo')
         crate = self.folder / name
         (crate / 'src').mkdir(parents=True, exist_ok=True)
-        for name, copy in (('face.rs', 'main.rs'), ('clock.rs', 'clock.rs')):
+        for name, copy in (('face.rs', 'main.rs'), ('clock.rs', 'clock.rs'), ('hand.rs', 'hand.rs')):
             shutil.copy(HERE / name, crate / 'src' / copy)
         (crate / 'Cargo.toml').write_text('[package]\nname = "face"\nversion = "0.0.0"\nedition = "2021"\n\n[dependencies]\n'
                                           'simbegyor-ndef = { path = "%s" }\n\n[workspace]\n%s' % (TOP / 'rust', profile))
@@ -171,6 +171,12 @@ class Bench:
         run(['rustc', '-O', '--edition', '2021', '--extern', 'simbegyor_ndef=%s' % library, '-L', self.bin, '-o', program, HERE / 'face.rs'])
         return [program, self.messages]
 
+    def cpp(self):
+        compiler, program = needed(os.environ.get('CXX', 'c++'), 'g++'), self.bin / 'cpp'
+        run([compiler, '-std=c++17', '-O2', '-Wall', '-Wextra', '-I%s' % self.header(), '-I%s' % (TOP / 'include'), HERE / 'face.cpp', self.archives()[0],
+             '-o', program])
+        return [program, self.messages]
+
     def python(self):
         self.make('python')
         return [sys.executable, HERE / 'face.py', self.messages]
@@ -178,20 +184,22 @@ class Bench:
     def javascript(self):
         node = needed('node', 'nodejs')
         self.make('web')
-        return [node, HERE / 'face.mjs', TOP / 'out/web', self.messages]
+        # Code is compiled when it is due: beside the calls it would come late on a machine with other work.
+        return [node, '--no-concurrent-recompilation', HERE / 'face.mjs', TOP / 'out/web', self.messages]
 
     def java(self):
         needed('javac', 'openjdk-17-jdk-headless')
         self.make('java')
         jar = TOP / 'out/java/simbegyor-ndef.jar'
-        run(['javac', '-cp', jar, '-d', self.folder / 'java', HERE / 'Face.java'])
+        run(['javac', '-cp', jar, '-d', self.folder / 'java', HERE / 'Face.java', HERE / 'Hand.java'])
         return ['java', '-cp', '%s:%s' % (jar, self.folder / 'java'), 'Face', self.messages]
 
     def go(self):
         needed('go', 'golang-go')
         module = self.folder / 'go'
         module.mkdir(exist_ok=True)
-        shutil.copy(HERE / 'face.go', module / 'main.go')
+        for name in ('face.go', 'hand.go'):
+            shutil.copy(HERE / name, module / name)
         (module / 'go.mod').write_text('module face\n\ngo 1.19\n\nrequire simbegyor/ndef v0.0.0\n\nreplace simbegyor/ndef => %s\n' % (TOP / 'go'))
         run(['go', 'build', '-o', self.bin / 'face-go', '.'], cwd=module,
             env={**os.environ, 'GOFLAGS': '-mod=mod', 'GOPROXY': 'off', 'GOTOOLCHAIN': 'local'})

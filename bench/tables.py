@@ -12,9 +12,10 @@ import sys
 WORKLOADS = {'hello': ('the text "Hello"', 12), 'umlauts': ('the text "Grüße"', 14), 'uri': ('a URI', 16), 'poster': ('a poster', 40),
              'records-1000': ('1000 short records', 17000), 'opaque-1M': ('one opaque record', 1000009), 'ascii-1M': ('one text, ASCII', 1000010),
              'wide-1M': ('one text, not ASCII', 1000000), 'chunks-4000': ('4000 chunks', 972003)}
-FACES = {'c': 'C, check and walk', 'rust': 'Rust', 'go': 'Go', 'java': 'Java', 'javascript': 'JavaScript', 'python': 'Python'}
+FACES = {'c': 'C, check and walk', 'cpp': 'C++', 'rust': 'Rust', 'go': 'Go', 'java': 'Java', 'javascript': 'JavaScript', 'python': 'Python'}
 READ = ('hello', 'uri', 'poster', 'records-1000', 'ascii-1M', 'wide-1M')
 NONE = ''
+UNMEASURED = 'Not measured.'
 
 
 def shown(nanoseconds):
@@ -37,7 +38,7 @@ def ratio(ours, theirs):
 def table(head, rows):
     """A table, without the columns that are empty; or a line that says that nothing was measured."""
     if not any(cell != NONE for row in rows for cell in row[1:]):
-        return 'Not measured.'
+        return UNMEASURED
     kept = [at for at in range(len(head)) if any(row[at] != NONE for row in rows)]
     lines = [[head[at] for at in kept], ['---'] * len(kept)] + [[row[at] for at in kept] for row in rows]
     return '\n'.join('| ' + ' | '.join(cells) + ' |' for cells in lines).replace('| --- | ', '|---|').replace('|--- | ', '|---|').replace('--- |', '---|')
@@ -98,15 +99,38 @@ class Results:
                 rows.append([spoken + ', `decode_many`', *(shown(self.time(program, 'many', name)) for name in READ), NONE])
         return table(['from', *(WORKLOADS[name][0] for name in READ), '"Hello" with its value'], rows)
 
-    def javascript(self):
+    def languages(self):
+        """Each language beside a parser by hand in it."""
         rows = []
-        for call, name, spoken in (('decode', 'hello', 'the text "Hello"'), ('values', 'hello', 'and its value'), ('values', 'uri', 'a URI with its value'),
-                                   ('decode', 'records-1000', '1000 short records'), ('values', 'records-1000', 'and their values'),
-                                   ('decode', 'cut', 'a message that is cut off')):
-            ours, hand = self.time('javascript', call, name), self.time('javascript', 'hand-' + call, name)
+        for program in ('cpp', 'rust', 'go', 'python'):
+            cells = []
+            for call, name in (('read', 'hello'), ('value', 'hello'), ('value', 'uri'), ('read', 'records-1000'), ('value', 'records-1000')):
+                ours, hand = self.time(program, call, name), self.time(program, 'hand-' + call, name)
+                cells.append('%s (%s)' % (ratio(ours, hand), shown(hand)) if ours and hand else NONE)
+            if cells[0]:
+                rows.append([FACES[program], *cells])
+        return table(['from', 'the text "Hello"', 'with its value', 'a URI with its value', '1000 short records', 'with their values'], rows)
+
+    def by_hand(self, program, column, asked):
+        """A binding beside a parser by hand in its language; asked are the call, the message, and its words."""
+        rows = []
+        for call, name, spoken in asked:
+            ours, hand = self.time(program, call, name), self.time(program, 'hand-' + call, name)
             if ours is not None:
                 rows.append([spoken, shown(ours), shown(hand), ratio(ours, hand)])
-        return table(['message', '`decode`', 'by hand', 'ratio'], rows)
+        return table(['message', column, 'by hand', 'ratio'], rows)
+
+    def javascript(self):
+        return self.by_hand('javascript', '`decode`', (
+            ('decode', 'hello', 'the text "Hello"'), ('values', 'hello', 'and its value'), ('values', 'uri', 'a URI with its value'),
+            ('decode', 'records-1000', '1000 short records'), ('values', 'records-1000', 'and their values'),
+            ('decode', 'cut', 'a message that is cut off')))
+
+    def java(self):
+        return self.by_hand('java', '`new NdefMessage`', (
+            ('read', 'hello', 'the text "Hello"'), ('value', 'hello', 'and its value'), ('value', 'uri', 'a URI with its value'),
+            ('read', 'records-1000', '1000 short records'), ('value', 'records-1000', 'and their values'),
+            ('value', 'wide-1M', 'one text, not ASCII, and its value')))
 
     def page(self):
         rows = []
@@ -150,7 +174,7 @@ class Results:
         return 'Made of %s; on %s; %s.' % (what, self.all['machine'], self.all['load'])
 
 
-NAMES = ('made', 'files', 'peers', 'rust', 'utf8', 'faces', 'javascript', 'page', 'commands', 'instructions', 'growth', 'peaks')
+NAMES = ('made', 'files', 'peers', 'rust', 'utf8', 'faces', 'languages', 'javascript', 'java', 'page', 'commands', 'instructions', 'growth', 'peaks')
 
 
 def written(results):
@@ -160,13 +184,17 @@ def written(results):
 
 
 def filled(page, results):
-    """The page with each table between its lines. ValueError where a table has no place, or a place no table."""
+    """The page with each table between its lines; one of which nothing was measured stays, and then so does the line that says of what all are made.
+    ValueError where a table has no place, or a place no table."""
     measured = Results(results)
+    tables = {name: getattr(measured, name)() for name in NAMES}
+    if UNMEASURED in tables.values():
+        tables['made'] = UNMEASURED
     places = re.findall(r'^<!-- bench (\w+) -->$', page, re.M)
     if sorted(places) != sorted(NAMES):
         raise ValueError('the page has places for %s, and needs them for %s' % (', '.join(sorted(places)), ', '.join(sorted(NAMES))))
-    return re.sub(r'^(<!-- bench (\w+) -->\n).*?^(<!-- end -->)$', lambda found: '%s%s\n%s' % (found[1], getattr(measured, found[2])(), found[3]),
-                  page, flags=re.M | re.S)
+    return re.sub(r'^(<!-- bench (\w+) -->\n).*?^(<!-- end -->)$', lambda found: found[0] if tables[found[2]] == UNMEASURED
+                  else '%s%s\n%s' % (found[1], tables[found[2]], found[3]), page, flags=re.M | re.S)
 
 
 def write(path, results):
