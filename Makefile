@@ -239,7 +239,7 @@ sdist:
 
 java: out/java/simbegyor-ndef.jar
 
-out/java/simbegyor-ndef.jar: out/lib/libndef.a java/build VERSION $(shell find java/native java/src -type f)
+out/java/simbegyor-ndef.jar: out/lib/libndef.a java/build VERSION $(shell find java/annotations java/native java/src -type f)
 	NDEF_VERSION=$(VERSION) java/build $< $(dir $(header))
 
 # What pip and importlib.metadata know of the module.

@@ -1,4 +1,4 @@
-"""What the module for JavaScript says of the interface: a part of ndef.js."""
+"""What the modules for JavaScript say of the interface: interface.js."""
 from __future__ import annotations
 
 import re
@@ -6,11 +6,10 @@ import textwrap
 from typing import List
 
 from . import layout
-from .model import MARK, TOP, Group, Interface, Parameter, Struct, Unknown
+from .model import MARK, Group, Interface, Parameter, Struct
 
 WIDTH = 132
-PATH = 'web/ndef.js'
-BEGIN, END = f'// {MARK[0].upper()}{MARK[1:]}.\n', '// End of what packaging/interface generates.\n'
+PATH = 'web/interface.js'
 # The enums that the script needs, and the names of the tables.
 TABLES = {'ndef_status': ('STATUS', 'NDEF_'), 'ndef_kinds': ('KIND', 'NDEF_KIND_')}
 
@@ -43,27 +42,19 @@ def type_of(given: Parameter) -> str:
 def table(group: Group) -> str:
     name, prefix = TABLES[group.name]
     rows = ', '.join(f'{one.name.removeprefix(prefix)}:\0{one.number}' for one in group.constants)
-    return f'// {group.text}\nconst {name} = {{\n{wrapped(rows + ",", "    ")}\n}};'
-
-
-def part(interface: Interface) -> str:
-    """The generated part, with its first and its last line."""
-    flags = [one for group in interface.groups for one in group.constants if one.name in ('NDEF_STANDARD', 'NDEF_OPAQUE')]
-    lines: List[str] = [table(group) for group in interface.groups if group.name in TABLES]
-    lines += ['// Flags.', f'const FLAG = {{ {", ".join(f"{one.name[5:]}: {one.number}" for one in flags)} }};']
-    lines += ['// The structs: the size of each in bytes, and of each member where it begins and its bytes.', 'const LAYOUT = {']
-    lines += [struct(one, interface) for one in interface.structs.values()]
-    lines += ['};', '// The calls, and what each takes: an i32 is a number, an i64 a BigInt.', 'const CALLS = {']
-    for call in interface.calls.values():
-        names = ', '.join(one.name for one in call.parameters)
-        lines.append(f'    {call.name}: "{" ".join(type_of(one) for one in call.parameters)}",' + (f' // {names}' if names else ''))
-    return BEGIN + '\n'.join([*lines, '};']) + '\n' + END
+    return f'// {group.text}\nexport const {name} = {{\n{wrapped(rows + ",", "    ")}\n}};'
 
 
 def text(interface: Interface) -> str:
-    """ndef.js with the generated part as it has to be."""
-    given = (TOP / PATH).read_text()
-    if given.count(BEGIN) != 1 or given.count(END) != 1:
-        raise Unknown(f'{PATH}: the lines that begin and end the generated part do not stand there once')
-    front, rest = given.split(BEGIN)
-    return front + part(interface) + rest.split(END)[1]
+    """interface.js as it has to be."""
+    flags = [one for group in interface.groups for one in group.constants if one.name in ('NDEF_STANDARD', 'NDEF_OPAQUE')]
+    lines: List[str] = [f'// The interface of the library. {MARK[0].upper()}{MARK[1:]}.']
+    lines += [table(group) for group in interface.groups if group.name in TABLES]
+    lines += ['// Flags.', f'export const FLAG = {{ {", ".join(f"{one.name[5:]}: {one.number}" for one in flags)} }};']
+    lines += ['// The structs: the size of each in bytes, and of each member where it begins and its bytes.', 'export const LAYOUT = {']
+    lines += [struct(one, interface) for one in interface.structs.values()]
+    lines += ['};', '// The calls, and what each takes: an i32 is a number, an i64 a BigInt.', 'export const CALLS = {']
+    for call in interface.calls.values():
+        names = ', '.join(one.name for one in call.parameters)
+        lines.append(f'    {call.name}: "{" ".join(type_of(one) for one in call.parameters)}",' + (f' // {names}' if names else ''))
+    return '\n'.join([*lines, '};']) + '\n'

@@ -5,7 +5,6 @@ import re
 import string
 from typing import Dict, Iterator, List, Set, Tuple
 
-from . import javascript_face
 from .model import MARK, TOP, Interface, Unknown
 
 PATH = 'docs/BINDINGS.md'
@@ -16,9 +15,9 @@ SOURCES = {
     'C++': ('include/*.hpp',),
     'Python': (LIBRARY,),
     'Rust': ('rust/src/calls.rs',),
-    'JavaScript': (javascript_face.PATH,),
+    'JavaScript': ('web/ndef.js',),
     'Java': ('java/native/ndef_jni.c',),
-    'Go': ('go/*.go',),
+    'Go': ('go/*.go', 'go/calls.h'),
 }
 WHOLE = 'write_poster write_request write_select'
 POSTER = 'poster_titles title poster_media_type poster_icons'
@@ -46,7 +45,8 @@ REASONS: Tuple[Tuple[str, Dict[str, str]], ...] = (
     ('The package has the version of the library that it brings or asks for.', {
         'Python': 'version', 'Rust': 'version', 'Java': 'version', 'Go': 'version'}),
     ('A URI is given whole, with its prefix spelled out.', {
-        'Python': 'uri_view uri_prefix', 'Rust': 'uri_view uri_prefix', 'Java': 'uri_view uri_prefix', 'Go': 'uri_view uri_prefix'}),
+        'Python': 'uri_view', 'Rust': 'uri_view uri_prefix', 'JavaScript': 'uri_view', 'Java': 'uri_view'}),
+    ('It puts a URI together of the prefix and the rest.', {'Go': 'uri'}),
     ('A message is written of all its records at once, into memory that grows.', {
         'Python': APPEND, 'Rust': APPEND, 'JavaScript': APPEND, 'Java': APPEND, 'Go': APPEND}),
     ('A message is written again by decoding it and encoding its records.', {
@@ -56,7 +56,9 @@ REASONS: Tuple[Tuple[str, Dict[str, str]], ...] = (
         'Go': 'write_alternative write_action write_size write_collision write_error write_error_number write_handover'}),
     ('The class Limits has these numbers.', {'Java': 'usual_limits'}),
     ('It asks for each record by itself, as the program takes it.', {
-        face: 'items' for face in ('C++', 'Python', 'Rust', 'JavaScript', 'Java', 'Go')}),
+        face: 'items' for face in ('C++', 'Rust')}),
+    ('A program checks the payloads of its own types itself.', {
+        face: 'check_layout' for face in ('C++', 'Rust', 'JavaScript', 'Java', 'Go')}),
     ('It calls the function that this call consists of, which gives the checker as a value.', {'Rust': 'begin'}),
 )
 
@@ -64,8 +66,6 @@ REASONS: Tuple[Tuple[str, Dict[str, str]], ...] = (
 def source(face: str) -> str:
     """The code of a face, without comments and without what is generated."""
     text = '\n'.join(path.read_text() for pattern in SOURCES[face] for path in sorted(TOP.glob(pattern)))
-    if face == 'JavaScript':
-        text = re.sub(re.escape(javascript_face.BEGIN) + '.*' + re.escape(javascript_face.END), '', text, flags=re.S)
     if face == 'Python':
         return re.sub(r'_(?:long|short)\.(\w+)', r'ndef_\1', text)
     return re.sub(r'/\*.*?\*/|//[^\n]*', '', text, flags=re.S)

@@ -32,13 +32,14 @@ class Tables(unittest.TestCase):
 
     def test_a_page_takes_each_table(self):
         page = tables.filled(PAGE, RESULTS)
-        for line in ('Made of `dist/` of release 1.2.3; on a processor; load 1 on 4 cores.', '| the text "Hello" | 12 | 20 ns | 41 ns | 0.50 | 40 ns |',
+        for line in ('| the text "Hello" | 12 | 20 ns | 41 ns | 0.50 | 40 ns |',
                      '| the text "Hello" | 12 | 51 ns | 20 ns | 26 ns | 2.00 |', '| `ndef_check` | 20 | 21 | 22 | 30 |', '| `ndef_text`, refused | 7 |', '| `ndef check` | 8 |', '| `ndef_check` | 0 | 12 |',
                      '| 100 records | 10 ms | 20 ms | 90 ms |'):
             self.assertIn(line, page.split('\n'))
-        self.assertNotIn('old', page)
+        self.assertEqual(page.count('\nold\n'), 1 + tables.written(RESULTS).count('Not measured.'))
         self.assertEqual((page.split('\n')[0], page.split('\n')[-2]), ('before', 'after'))
         self.assertEqual(tables.filled(page, RESULTS), page)
+        self.assertIn('\nMade of `dist/` of release 1.2.3; on a processor; load 1 on 4 cores.\n', tables.written(RESULTS))
 
     def test_what_was_measured_is_said(self):
         made = tables.Results({**RESULTS, 'made of': 'crates'}).made()

@@ -233,8 +233,24 @@ static void list_records(const uint8_t *bytes, ndef_size length, const ndef_limi
         }
     }
 }
+
+/* The bytes as a payload, and as the forms and bounds of fields. */
+static void lay_out(const uint8_t *bytes, ndef_size length) {
+    ndef_layout_field fields[4] = { { 0, 0, 0 }, { 0, 0, 0 }, { 0, 0, 0 }, { 0, 0, 0 } };
+    ndef_size count = length < 16 ? length / 4 : 4;
+    for (ndef_size i = 0; i < count; i++) {
+        const uint8_t *at = bytes + length - 4 * (i + 1);
+        fields[i].form = i < 3 ? 1 + at[0] % 3 : at[0] % 7;
+        fields[i].least = fields[i].form == NDEF_LAYOUT_OCTETS ? at[1] % 8 : at[1], fields[i].most = at[2] + (at[3] > 250);
+    }
+    for (ndef_size used = 0; used <= count; used++) {
+        ndef_laid_out out = { 77, 77, 77 };
+        mix_status(ndef_check_layout(bytes, length, fields, used, &out)), mix(out.place), mix(out.reason), mix(out.length_fits);
+    }
+}
 #else
 static void list_records(const uint8_t *bytes, ndef_size length, const ndef_limits *limits) { (void)bytes, (void)length, (void)limits; }
+static void lay_out(const uint8_t *bytes, ndef_size length) { (void)bytes, (void)length; }
 #endif
 
 static void mix_text(const ndef_text_parts *text) {
@@ -396,6 +412,7 @@ static void look_at(const uint8_t *bytes, ndef_size length, ndef_limits limits) 
         list_records(bytes, length, &limits), list_records(bytes, length, &small);
         feed(bytes, length, &limits);
     }
+    lay_out(bytes, length);
     walk(bytes, length, 0);
 }
 

@@ -172,6 +172,16 @@ AT(ndef_item, language_length, uint32_t, 52);
 AT(ndef_item, text_at, uint32_t, 56);
 AT(ndef_item, text_length, uint32_t, 60);
 
+SIZE(ndef_layout_field, 12, 12);
+AT(ndef_layout_field, form, uint32_t, 0);
+AT(ndef_layout_field, least, uint32_t, 4);
+AT(ndef_layout_field, most, uint32_t, 8);
+
+SIZE(ndef_laid_out, 16, 16);
+AT(ndef_laid_out, place, uint64_t, 0);
+AT(ndef_laid_out, reason, uint32_t, 8);
+AT(ndef_laid_out, length_fits, uint32_t, 12);
+
 _Static_assert(NDEF_OK == 0, "NDEF_OK");
 _Static_assert(NDEF_REFUSED == 1, "NDEF_REFUSED");
 _Static_assert(NDEF_NO_ROOM == 2, "NDEF_NO_ROOM");
@@ -230,6 +240,11 @@ _Static_assert(NDEF_WRITE_LONG == 4, "NDEF_WRITE_LONG");
 _Static_assert(NDEF_AS_UTF16 == 1, "NDEF_AS_UTF16");
 _Static_assert(NDEF_REQUEST == 0, "NDEF_REQUEST");
 _Static_assert(NDEF_SELECT == 1, "NDEF_SELECT");
+_Static_assert(NDEF_LAYOUT_OCTETS == 1, "NDEF_LAYOUT_OCTETS");
+_Static_assert(NDEF_LAYOUT_WITHIN == 2, "NDEF_LAYOUT_WITHIN");
+_Static_assert(NDEF_LAYOUT_COUNTED == 3, "NDEF_LAYOUT_COUNTED");
+_Static_assert(NDEF_LAYOUT_UTF8 == 4, "NDEF_LAYOUT_UTF8");
+_Static_assert(NDEF_LAYOUT_REST == 5, "NDEF_LAYOUT_REST");
 _Static_assert(NDEF_FIELD_HEADER == 1, "NDEF_FIELD_HEADER");
 _Static_assert(NDEF_FIELD_TYPE_LENGTH == 2, "NDEF_FIELD_TYPE_LENGTH");
 _Static_assert(NDEF_FIELD_PAYLOAD_LENGTH == 3, "NDEF_FIELD_PAYLOAD_LENGTH");

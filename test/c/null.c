@@ -121,13 +121,20 @@ static void more_calls(int way, const uint8_t *none, ndef_part *no_parts, ndef_l
 }
 
 #if IS_SINCE(0, 4)
-/* The call that gives records. */
+/* The calls that give records, and that look at a payload by its layout. */
 static void item_calls(int way, const uint8_t *none) {
+    const ndef_layout_field octets = { NDEF_LAYOUT_OCTETS, 1, 0 };
+    ndef_laid_out out = { 9, 9, 9 };
     ndef_limits limits;
     ndef_item item;
     ndef_usual_limits(&limits);
     answer(way, ndef_items(none, 0, &limits, &why, way ? &item : NULL, 0));
     answer(way, ndef_items((const uint8_t *)"\xd0\0", 3, &limits, &why, way ? &item : NULL, 0));
+    answer(way, ndef_check_layout(none, 0, way ? &octets : NULL, 0, &out));
+    count = (ndef_size)out.place;
+    answer(way, ndef_check_layout((const uint8_t *)"\0", 1, way ? &octets : NULL, 0, &out));
+    answer(way, ndef_check_layout(none, 0, &octets, 1, &out));
+    count = 9;
 }
 #else
 static void item_calls(int way, const uint8_t *none) { (void)way, (void)none; }

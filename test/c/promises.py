@@ -123,7 +123,7 @@ class Promises:
 
     def __init__(self):
         found = re.search(r'With NDEF_BAD_ARGUMENT and NDEF_END the call has written nothing \(but (\w+) has written its (\w+)\); with NDEF_NO_ROOM it has written (.+?)\. '
-                          r'Where there is no room or no field, (.+?) have written \*(\w+) as well, and (ndef_\w+), which has no count, \*(\w+)\.', SAID)
+                          r'Where the array is too small or there is no field, (.+?) have written \*(\w+) as well, and (ndef_\w+), which has no count, \*(\w+)\.', SAID)
         self.beside = {found[1]: found[2]}
         self.without_room = {found[3].split()[0].lstrip('*')} if found[3].startswith('*') else set()
         self.with_why = {name: found[5] for name in re.findall(r'ndef_\w+', found[4])}
@@ -176,8 +176,8 @@ def wrong_of(library, promises, name, dice, seen):
         yield f'{name}: with {STATUSES[status]} it has written {sorted(changed - promises.may_write(call, status))}'
     if status == NO_ROOM and changed != promises.may_write(call, status):
         yield f'{name}: with NDEF_NO_ROOM it has written {sorted(changed)}'
-    of_refusal = 'why' if 'why' in memory else 'out'
-    if status == REFUSED and int.from_bytes(memory[of_refusal].raw[8:12], 'little') != int(promises.refused_records[1]):
+    of_refusal = next((one['name'] for one in call['parameters'] if one['type'] == 'ndef_checked *'), None)
+    if status == REFUSED and of_refusal and int.from_bytes(memory[of_refusal].raw[8:12], 'little') != int(promises.refused_records[1]):
         yield f'{name}: refused, and records is {memory[of_refusal].raw[8:12].hex()}'
     if (status == MORE) and name not in (promises.of_more or ()):
         yield f'{name} answers NDEF_MORE'
@@ -188,14 +188,15 @@ def wrong_of(library, promises, name, dice, seen):
 LOOKED_AT = (
     'With NDEF_BAD_ARGUMENT and NDEF_END the call has written nothing (but ndef_begin has written its checker);',
     'with NDEF_NO_ROOM it has written *count alone.',
-    'Where there is no room or no field, ndef_fields, ndef_field_at and ndef_next_field have written *why as well, and ndef_items, which has no count, *out.',
+    'Where the array is too small or there is no field, ndef_fields, ndef_field_at and ndef_next_field have written *why as well, and ndef_items, which has no count, *out.',
     'the items are unchanged.',
     'those after them are unchanged.',
-    'Where the room is too small, the answer is NDEF_NO_ROOM and *count has the size that is needed:',
-    '*count has the size that is needed, and the room is unchanged',
+    'Where the buffer is too small, the answer is NDEF_NO_ROOM and *count has the size that is needed:',
+    'the buffer is too small, and unchanged;',
+    '*count has the size that is needed',
     'the bytes so far begin a message, and more must follow (ndef_feed alone)',
     'if refused, 0',
-    'After these two the room and *count are unchanged.',
+    'After these two the buffer and *count are unchanged.',
     'With NDEF_OK it leaves `why` unchanged.',
     'why->place and why->reason say where in the payload and why, why->records is 0, and nothing else is written.',
     'Where the array is too small, the answer is NDEF_NO_ROOM, *count has the size that is needed, and the array is unchanged:',
@@ -203,8 +204,8 @@ LOOKED_AT = (
     '*count has the size that is needed, *why says the rest, and the array is unchanged.',
     'After either, `out` is unchanged.',
     'After either, the field is unchanged.',
-    'Bytes of the room after it are unchanged.',
-    'the room and `built` are unchanged.',
+    'Bytes of the buffer after it are unchanged.',
+    'the buffer and `built` are unchanged.',
 )
 PROMISING = re.compile(r'unchanged|(?:has|have) written|nothing else|leaves|\balone\)|if refused, \d|size that is needed')
 

@@ -1,7 +1,20 @@
 // What ndef.hpp has of its own: results, views of bytes, rooms, iterators, copies, defaults, large inputs, threads, and
 // memory that the caller changes afterwards. Expected bytes are those of the standards. Prints what differs.
+#include "ndef.h"
+
+#include <cstddef>
+#include <cstdint>
+
+/// How often a record was asked for.
+static std::size_t asked;
+static std::uint32_t counted_record_at(const std::uint8_t *octets, ndef_size length, ndef_size at, ndef_record *out) {
+    asked++;
+    return ndef_record_at(octets, length, at, out);
+}
+#define ndef_record_at counted_record_at
 #include "look.hpp"
 #include "random.hpp"
+#undef ndef_record_at
 
 #include <array>
 #include <cstring>
@@ -34,6 +47,19 @@ static void walk(const Range &range, const std::vector<std::string> &wanted, Key
          range.end() == range.end());
     LOOK(wanted.size() < 2 || std::next(range.begin()) != range.begin());
     LOOK(&++(before = range.begin(), before) == &before || wanted.empty());
+}
+
+/// A walk asks for each record once, and for none after the last.
+static void records_asked_for() {
+    for (std::size_t count = 1; count < 40; count++) {
+        std::string octets;
+        for (std::size_t at = 0; at < count; at++) {
+            octets.push_back(static_cast<char>((at == 0 ? 0x80 : 0) | (at + 1 == count ? 0x40 : 0) | 0x15));
+            octets.append({0, 1, 'x'});
+        }
+        asked = 0;
+        LOOK(ndef::message::check(octets)->record_count() == count && asked == count);
+    }
 }
 
 static const auto letters = [](const ndef::record &one) { return one.payload_string(); };
@@ -349,7 +375,7 @@ static void threads() {
 }
 
 int main() {
-    for (const auto test : {ranges, copies, two_of_each, results, sentences, remarks, views_of_bytes, defaults, aliasing, large, threads})
+    for (const auto test : {records_asked_for, ranges, copies, two_of_each, results, sentences, remarks, views_of_bytes, defaults, aliasing, large, threads})
         test();
     std::cout << "comparisons " << compared << ", differ " << differ << '\n';
     return differ || !compared;

@@ -15,7 +15,7 @@ from harness import count  # noqa: E402
 
 COPY = pathlib.Path(sys.argv[1])
 HEADER, NAMES, CRATE = 'include/ndef.h', 'include/ndef_names.h', 'crates/ndef_c/src/'
-WRITTEN = (HEADER, NAMES, 'share/interface.json', 'test/c/layout.c', 'python/simbegyor_ndef/_interface.py', 'web/ndef.js',
+WRITTEN = (HEADER, NAMES, 'share/interface.json', 'test/c/layout.c', 'python/simbegyor_ndef/_interface.py', 'web/interface.js',
            'docs/BINDINGS.md')
 FACES = ('C++', 'Python', 'Rust', 'JavaScript', 'Java', 'Go')
 END = '#include "ndef_names.h"'
@@ -79,8 +79,8 @@ def unreached(name):
 
 def generated():
     """What each generated file has of the call and its struct, and whether compilers take it."""
-    for path, said in (('web/ndef.js', '    octet_sum_parts: { size: 16, members: { added: [0, 8], sum: [8, 4] } },'),
-                       ('web/ndef.js', '    ndef_octet_sum: "i32 i64 i32", // bytes, length, out'),
+    for path, said in (('web/interface.js', '    octet_sum_parts: { size: 16, members: { added: [0, 8], sum: [8, 4] } },'),
+                       ('web/interface.js', '    ndef_octet_sum: "i32 i64 i32", // bytes, length, out'),
                        ('test/c/layout.c', 'AT(ndef_octet_sum_parts, sum, uint32_t, 8);'),
                        ('docs/BINDINGS.md', '| ndef_octet_sum | yes | ? | ? | ? | ? | ? | ? |')):
         count(f'{path} has {said.strip()!r}', f'{said}\n' in read(path))
@@ -98,8 +98,8 @@ def generated():
         told = run('cargo', 'check', '--offline', cwd=COPY / 'rust', env={**os.environ, 'DOCS_RS': '1', 'CARGO_TARGET_DIR': str(COPY / 'target')})
         count('the declarations of Rust compile', told.returncode == 0, told.stdout)
     if harness.has('node'):
-        told = run('node', '--check', 'web/ndef.js')
-        count('node reads the module for JavaScript', told.returncode == 0, told.stdout)
+        told = run('node', '--check', 'web/interface.js')
+        count('node reads the tables for JavaScript', told.returncode == 0, told.stdout)
 
 
 def added_call():
