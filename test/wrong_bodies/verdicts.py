@@ -1,9 +1,10 @@
-"""The verdicts on wrong bodies that test/wrong_bodies/run keeps: verdicts.txt has a line 'CRATE KEY COUNT' for each crate of which each wrong body
-was tried and refused, and how many these are.
+"""The verdicts on wrong bodies that test/wrong_bodies/run keeps: verdicts.txt has a line 'CRATE KEY OWN_KEY COUNT' for each crate of which each wrong
+body was tried and refused, and how many these are.
 
 A key is the SHA-256 of all on which a verdict rests: the logic (`rt version` names it; kits of one logic differ in a letter), the two scripts,
 the crate's line of crates.txt, its src/, specs/ and proofs/, its wrong bodies and rows of without_answers.txt, and src/ and specs/ of the crates
-below it. Where one of these changes, the key is another, and all wrong bodies of the crate are tried again."""
+below it. The own key is the same without the crates below. While the key stands, one wrong body in twenty is tried. While the own key alone stands,
+something changed below: one in four is tried. Where the crate itself changed, each is tried again."""
 import hashlib
 import math
 import os
@@ -11,11 +12,12 @@ import re
 import subprocess
 
 FILE = "test/wrong_bodies/verdicts.txt"
-ONE_IN = 20
+# One wrong body in this number is tried while the key stands, and while the own key alone does.
+ONE_IN, OWN_ONE_IN = 20, 4
 HEAD = """\
-# Verdicts on the wrong bodies of test/wrong_bodies: a line is a crate, the key of what the verdict rests on, and how many wrong bodies the prover
-# refused. `test/wrong_bodies/run --record` and `.ci/run --keep` write the lines of crates of which each was tried; verdicts.py says what a key is. The
-# gate tries one in twenty of a crate whose key stands, and each of another.
+# Verdicts on the wrong bodies of test/wrong_bodies: a line is a crate, the key of what the verdict rests on, that of what of this is the crate's own, and
+# how many wrong bodies the prover refused. `test/wrong_bodies/run --record` and `.ci/run --keep` write the lines of crates of which each was tried;
+# verdicts.py says what a key is. The gate tries one in twenty of a crate whose key stands, one in four where a crate below changed, and else each.
 """
 
 
@@ -53,17 +55,24 @@ def key(top, name, below):
 
 
 def rows(top):
-    """The key and the count of each crate that the file has."""
+    """The key, the own key and the count of each crate that the file has."""
     if not os.path.exists(f"{top}/{FILE}"):
         return {}
-    found = [re.fullmatch(r"(\w+) ([0-9a-f]{64}) (\d+)\n", it) for it in lines_of(f"{top}/{FILE}", r"[^#\n]")]
-    return {it[1]: (it[2], int(it[3])) for it in found if it}
+    found = [re.fullmatch(r"(\w+) ([0-9a-f]{64}) ([0-9a-f]{64}) (\d+)\n", it) for it in lines_of(f"{top}/{FILE}", r"[^#\n]")]
+    return {it[1]: (it[2], it[3], int(it[4])) for it in found if it}
+
+
+def share(row, now):
+    """One wrong body in how many is tried, by the row that was kept, if there is one, and the row as it is now."""
+    if row is None or row[1:] != now[1:]:
+        return 1
+    return ONE_IN if row[0] == now[0] else OWN_ONE_IN
 
 
 def write(path, found):
     os.makedirs(os.path.dirname(path), exist_ok=True)
     with open(path, "w", encoding="utf-8") as file:
-        file.write(HEAD + "".join(f"{name} {key} {count}\n" for name, (key, count) in sorted(found.items())))
+        file.write(HEAD + "".join(f"{name} {key} {own} {count}\n" for name, (key, own, count) in sorted(found.items())))
 
 
 def seed(top):
@@ -72,7 +81,7 @@ def seed(top):
     return os.environ.get("WRONG_BODIES_SEED") or said.strip() or "none"
 
 
-def sample(seed_word, names):
-    """One name in twenty, rounded up, by chance."""
+def sample(seed_word, names, one_in):
+    """One name in this number, rounded up, by chance."""
     by_chance = sorted(names, key=lambda it: hashlib.sha256(f"{seed_word} {it}".encode()).digest())
-    return sorted(by_chance[: math.ceil(len(names) / ONE_IN)])
+    return sorted(by_chance[: math.ceil(len(names) / one_in)])
