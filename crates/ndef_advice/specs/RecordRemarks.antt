@@ -146,7 +146,7 @@ is_carrier_loose payload message =
     || has_loose (slice_index (drop (2 + slice_index payload 1) payload) 0)
     (drop (3 + slice_index payload 1) payload) message
 
--- Connection Handover 1.2, Alternative Carrier record: the record is one that refers to no record of the message
+-- Connection Handover 1.2, Alternative Carrier record: the record is one of which a reference is to no record
 abbrev pub is_loose_in : Run → (message : List Run) → Bool
 is_loose_in run message =
     is_carrier_kind (run_kind_in tables.Request run) && is_carrier_loose (whole_payload run) message

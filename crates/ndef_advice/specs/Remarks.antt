@@ -30,9 +30,10 @@ action_remark action = if nat_lt 2 action then Some (remarks.ReservedAction acti
 abbrev pub error_remark : ℕ → Option Remark
 error_remark reason = if reason == 0 || nat_lt 3 reason then Some (remarks.ReservedError reason) else None
 
--- Connection Handover 1.2, Handover Carrier record: the formats 5 to 7, in bits 2 to 0, are reserved
+-- Connection Handover 1.2, Handover Carrier record: the formats 0 and 5 to 7, in bits 2 to 0, are reserved
 abbrev pub format_remark : ℕ → Option Remark
-format_remark octet = if nat_lt 4 (octet % 8) then Some (remarks.ReservedFormat (octet % 8)) else None
+format_remark octet =
+    if octet % 8 == 0 || nat_lt 4 (octet % 8) then Some (remarks.ReservedFormat (octet % 8)) else None
 
 -- Connection Handover 1.2, Alternative Carrier record: bits 7 to 2 of the octet with the power state are reserved
 abbrev pub power_remark : ℕ → Option Remark
@@ -76,7 +77,8 @@ plain_text remarks.RepeatedId = codes "Another record has the same id."
 plain_text remarks.SameLanguage = codes "Two titles of the smart poster have the same language."
 plain_text remarks.NoCarrier = codes "The request has no alternative carrier (`ac`)."
 plain_text remarks.SecondCollision = codes "The request has a second collision record (`cr`)."
-plain_text remarks.LooseReference = codes "An alternative carrier (`ac`) refers to no record of the message."
+plain_text remarks.LooseReference =
+    codes "A reference of an alternative carrier (`ac`) is to no record of the message."
 plain_text remark = []
 
 -- the sentence for a remark

@@ -4,7 +4,6 @@ use Rattle.ndef_format.specs.HeadReasons.{is_set, width}
 use Rattle.ndef_format.specs.Kinds.{outer_kind}
 use Rattle.ndef_format.specs.Nested.{is_table, kind_in, table_in}
 use Rattle.ndef_format.specs.declared.kind.Kind.{Kind}
-use Rattle.ndef_format.specs.declared.kind.Kind.TheVariants as kinds
 use Rattle.ndef_format.specs.declared.reason.Reason.{Reason}
 use Rattle.ndef_format.specs.declared.reason.Reason.TheVariants as reasons
 use Rattle.ndef_format.specs.declared.refusal.Refusal.{Refusal}
@@ -12,7 +11,7 @@ use Rattle.ndef_format.specs.declared.table.Table.{Table}
 use Rattle.ndef_format.specs.declared.table.Table.TheVariants as tables
 use Rattle.ndef_fields.specs.Fronts.{content_come, kind_begun, kind_come, tnf_come}
 use Rattle.ndef_fields.specs.Messages.{version_length}
-use Rattle.ndef_fields.specs.Refusals.{AreWholeBefore}
+use Rattle.ndef_fields.specs.Refusals.{AreWholeBefore, ends_in_chunk}
 use Rattle.ndef_fields.specs.declared.name.FieldName.TheVariants as names
 use Rattle.ndef_advice.specs.Begun.{before_payload, head_length, id_length, is_kind_whole, is_lengths_whole, is_payload_begun, least_record, payload_length, through}
 use Rattle.ndef_advice.specs.Lengths.{least_nest}
@@ -33,16 +32,17 @@ after_two s =
     else (if nat_lt (length s) (before_payload s) then wanted.Missing names.Id (before_payload s - length s)
     else wanted.Missing names.Payload (least_record s - length s))))
 
--- NDEF 1.0, record layout: what is missing of a piece of which these octets have come
-abbrev pub missing : List ℕ → Wanted
-missing [] = wanted.NextRecord
-missing (header ∷ []) = wanted.Missing names.KindLength 1
-missing (header ∷ kind ∷ s) = after_two (header ∷ kind ∷ s)
+-- NDEF 1.0, record layout and chunked payloads: what is missing of a piece of which these octets have come, after a
+-- chunk or after none
+abbrev pub missing : (in_chunks : Bool) → List ℕ → Wanted
+missing in_chunks [] = if in_chunks then wanted.NextChunk else wanted.NextRecord
+missing in_chunks (header ∷ []) = wanted.Missing names.KindLength 1
+missing in_chunks (header ∷ kind ∷ s) = after_two (header ∷ kind ∷ s)
 
 -- NDEF 1.0, messages: the same of an input, which ends with these octets of a piece
-abbrev pub missing_after : (input : List ℕ) → List ℕ → Wanted
-missing_after [] s = wanted.Message
-missing_after (b ∷ input) s = missing s
+abbrev pub missing_after : (input : List ℕ) → (in_chunks : Bool) → List ℕ → Wanted
+missing_after [] in_chunks s = wanted.Message
+missing_after (b ∷ input) in_chunks s = missing in_chunks s
 
 -- ---- in a message itself
 
@@ -83,12 +83,24 @@ of_size known last size left =
     if nat_lt left size then wanted.ShorterRecord size left
     else (if known then of_end last size left else wanted.Nothing)
 
--- Connection Handover 1.2: what was wanted after these octets of the head of a collision record, of which TYPE and the
--- payload have two octets each
+-- NDEF 1.0, ME: a collision record that is the last ends with the payload, and after any other comes another record
+abbrev pub of_collision_end : (last : Bool) → (size left : ℕ) → Wanted
+of_collision_end last size left =
+    if last then wanted.LastCollision size left
+    else (if nat_lt (left - size) 3 then wanted.AfterCollision (left - size) else wanted.Nothing)
+
+-- NDEF 1.0, record layout: a collision record of at least this size, which is known to be its size or not
+abbrev pub of_collision_size : (known last : Bool) → (size left : ℕ) → Wanted
+of_collision_size known last size left =
+    if nat_lt left size then wanted.ShorterCollision size left
+    else (if known then of_collision_end last size left else wanted.Nothing)
+
+-- Connection Handover 1.2: what was wanted after these octets of the head of the first record of a request, which is a
+-- collision record: its TYPE and its payload have two octets each
 abbrev pub of_collision : (left : ℕ) → List ℕ → Wanted
 of_collision left s =
-    if is_lengths_whole s && not (payload_length s == 2) then wanted.FixedLength kinds.Collision 2 (payload_length s)
-    else of_size (not (is_set 3 (slice_index s 0)) || is_lengths_whole s) (is_set 6 (slice_index s 0))
+    if is_lengths_whole s && not (payload_length s == 2) then wanted.CollisionLength (payload_length s)
+    else of_collision_size (not (is_set 3 (slice_index s 0)) || is_lengths_whole s) (is_set 6 (slice_index s 0))
     (head_length s + 4 + id_length s) left
 
 -- NDEF 1.0, record layout, and Connection Handover 1.2: what was wanted after these octets of a head, where this is
@@ -146,13 +158,13 @@ abbrev pub is_end : Reason → Bool
 is_end reasons.EndOfInput = true
 is_end reason = false
 
--- the same, or where the input has ended
-abbrev pub IsWantedBy : (ended : Bool) → (bytes : List ℕ) → Refusal → (come : List ℕ) → Wanted → Type 0
-IsWantedBy true bytes refusal come w = w ≡ missing_after (take refusal.at bytes) come
-IsWantedBy false bytes refusal come w = IsWantedIn (nest_begun come) bytes refusal come w
+-- the same, or where the input has ended, after a chunk or after none
+abbrev pub IsWantedBy : Bool → (bytes : List ℕ) → Refusal → (in_chunks : Bool) → (come : List ℕ) → Wanted → Type 0
+IsWantedBy true bytes refusal in_chunks come w = w ≡ missing_after (take refusal.at bytes) in_chunks come
+IsWantedBy false bytes refusal in_chunks come w = IsWantedIn (nest_begun come) bytes refusal come w
 
 -- NDEF 1.0, messages: what was wanted where these bytes are refused
 abbrev pub IsWanted : (bytes : List ℕ) → Refusal → Wanted → Type 0
 IsWanted bytes refusal w =
     (come : List ℕ) × (whole : AreWholeBefore (take refusal.at bytes) come)
-    × IsWantedBy (is_end refusal.reason) bytes refusal come w
+    × IsWantedBy (is_end refusal.reason) bytes refusal (ends_in_chunk whole.pieces) come w

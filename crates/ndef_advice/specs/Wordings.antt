@@ -115,12 +115,37 @@ poster_text number =
 abbrev pub second_text : (number : ℕ) → List ℕ
 second_text number = codes "Record " ++ decimal number ++ codes " is a second URI (`U`) in this smart poster."
 
+-- Connection Handover 1.2, Collision Resolution record: it begins a request
+abbrev pub begins_text : List ℕ
+begins_text = codes "A request begins with a collision record (`cr`)"
+
+-- Connection Handover 1.2, Collision Resolution record: it has two octets
+abbrev pub collision_text : (given : ℕ) → List ℕ
+collision_text given = begins_text ++ codes " of 2 octets; " ++ given_text given
+
+-- Connection Handover 1.2, Collision Resolution record: it doesn't fit the payload
+abbrev pub long_collision_text : (least left : ℕ) → List ℕ
+long_collision_text least left =
+    begins_text ++ codes ", here of at least " ++ octets_text least ++ codes "; " ++ left_text left
+
+-- Connection Handover 1.2, Collision Resolution record: it is the last record, and ends before the payload
+abbrev pub last_collision_text : (size left : ℕ) → List ℕ
+last_collision_text size left =
+    begins_text ++ codes ", which as the last (ME) has " ++ octets_text size ++ codes "; " ++ left_text left
+
+-- Connection Handover 1.2, Collision Resolution record: another record after it doesn't fit the payload
+abbrev pub after_collision_text : (left : ℕ) → List ℕ
+after_collision_text left =
+    codes "After its collision record (`cr`) another record has to follow (ME is clear), of at least 3 octets; "
+    ++ left_text left
+
 -- NDEF 1.0, RTD Text 1.0, RTD URI 1.0, RTD Smart Poster 1.0 and Connection Handover 1.2: the sentence for what was
 -- wanted, or what the reason means
 abbrev pub wanted_text : Reason → Wanted → List ℕ
 wanted_text reason wanted.Nothing = reason_sentence reason
 wanted_text reason wanted.Message = codes "A message is missing: the input has no bytes."
 wanted_text reason wanted.NextRecord = codes "Another record is missing: none of those before has ME set."
+wanted_text reason wanted.NextChunk = codes "Another chunk of the record is missing: the last one has CF set."
 wanted_text reason (wanted.Missing name n) = missing_text name n
 wanted_text reason (wanted.FixedLength kind there given) = length_text kind there given
 wanted_text reason (wanted.LeastLength kind least given) = least_text kind least given
@@ -139,3 +164,7 @@ wanted_text reason (wanted.UriInPoster number) = poster_text number
 wanted_text reason (wanted.OneUri number) = second_text number
 wanted_text reason wanted.CollisionFirst =
     codes "This request must begin with a collision record (`cr`); it has none."
+wanted_text reason (wanted.CollisionLength given) = collision_text given
+wanted_text reason (wanted.ShorterCollision least left) = long_collision_text least left
+wanted_text reason (wanted.LastCollision size left) = last_collision_text size left
+wanted_text reason (wanted.AfterCollision left) = after_collision_text left

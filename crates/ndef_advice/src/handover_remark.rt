@@ -84,14 +84,14 @@ fn is_carrier_loose(payload: &[u8], message: &View<'_>) -> bool
     has_loose(1, after(payload, 1), message) || has_loose(count, after(payload, 3 + size), message)
 }
 
-/// Whether a record of a handover is an alternative carrier that refers to no record of the message.
+/// Whether a record of a handover is an alternative carrier of which a reference is to no record of the message.
 fn is_loose(item: &Item<'_>, message: &View<'_>) -> bool
     ensures { result ≡ is_loose_in item.now message.now.runs }
 {
     is_carrier(item) && is_carrier_loose(whole_payload(item), message)
 }
 
-/// Whether an alternative carrier refers to no record of the message.
+/// Whether a reference of an alternative carrier is to no record of the message.
 fn has_loose_carrier(handover: &View<'_>, message: &View<'_>) -> bool
     ensures { result ≡ has_loose_carrier handover.now.runs message.now.runs }
 {

@@ -12,6 +12,8 @@ pub enum Wanted {
     Message,
     /// Another record: the input ends between records, before one with ME.
     NextRecord,
+    /// Another chunk of the last record: the input ends between chunks, before the last one.
+    NextChunk,
     /// Octets of a field: their number.
     Missing(FieldName, u64),
     /// A payload of a kind with a fixed length: that length, and the one that was given.
@@ -44,4 +46,14 @@ pub enum Wanted {
     OneUri(u64),
     /// A collision record at the front of a request.
     CollisionFirst,
+    /// A collision record at the front of a request, which has two octets: the length that was given.
+    CollisionLength(u64),
+    /// A shorter head of the collision record at the front of a request: the least length of that record, and what is
+    /// left in the payload.
+    ShorterCollision(u64, u64),
+    /// A request that ends with its collision record, which is its last one: the length of that record, and what is
+    /// left in the payload.
+    LastCollision(u64, u64),
+    /// Octets for a record after the collision record of a request: what is left in the payload after that record.
+    AfterCollision(u64),
 }

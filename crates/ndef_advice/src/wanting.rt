@@ -5,7 +5,8 @@ ghost use Rattle.ndef_fields.specs.Fronts.{content_come, kind_begun};
 ghost use Rattle.ndef_fields.specs.Messages.{version_length};
 ghost use Rattle.ndef_advice.specs.Wants.{IsWanted, IsWantedBy, IsWantedIn, after_two, in_head, in_message};
 ghost use Rattle.ndef_advice.specs.Wants.{in_nested, is_collision, is_end, missing, missing_after, nest_after};
-ghost use Rattle.ndef_advice.specs.Wants.{nest_begun, nested_wanted, of_collision, of_end, of_nest, of_size};
+ghost use Rattle.ndef_advice.specs.Wants.{nest_begun, nested_wanted, of_collision, of_collision_end};
+ghost use Rattle.ndef_advice.specs.Wants.{of_collision_size, of_end, of_nest, of_size};
 ghost use Rattle.ndef_advice.specs.Wants.{outer_misfit, outer_wanted};
 
 use crate::Wanted;
@@ -48,24 +49,25 @@ fn after_two(octets: &[u8]) -> Wanted
     )
 }
 
-/// What is missing of a piece of which these octets have come.
-fn missing(octets: &[u8]) -> Wanted
-    ensures { result ≡ missing octets.now }
+/// What is missing of a piece of which these octets have come, after a chunk or after none.
+fn missing(in_chunks: bool, octets: &[u8]) -> Wanted
+    ensures { result ≡ missing in_chunks octets.now }
 {
     match octets {
+        [] if in_chunks => Wanted::NextChunk,
         [] => Wanted::NextRecord,
         [_] => Wanted::Missing(FieldName::KindLength, 1),
         [_, _, ..] => after_two(octets),
     }
 }
 
-/// What is missing of an input, which ends with these octets of a piece.
-fn missing_after(input: &[u8], come: &[u8]) -> Wanted
-    ensures { result ≡ missing_after input.now come.now }
+/// What is missing of an input, which ends with these octets of a piece, after a chunk or after none.
+fn missing_after(input: &[u8], in_chunks: bool, come: &[u8]) -> Wanted
+    ensures { result ≡ missing_after input.now in_chunks come.now }
 {
     match input {
         [] => Wanted::Message,
-        [_, ..] => missing(come),
+        [_, ..] => missing(in_chunks, come),
     }
 }
 
@@ -154,19 +156,47 @@ fn of_size(known: bool, last: bool, size: u64, left: u64) -> Wanted
     }
 }
 
-/// What was wanted after these octets of the head of a collision record.
+/// A collision record that is the last ends with the payload, and any other leaves octets for another record.
+fn of_collision_end(last: bool, size: u64, left: u64) -> Wanted
+    ensures { result ≡ of_collision_end last size left }
+{
+    if last {
+        return Wanted::LastCollision(size, left);
+    }
+    let rest = left.saturating_sub(size);
+    if rest < 3 {
+        Wanted::AfterCollision(rest)
+    } else {
+        Wanted::Nothing
+    }
+}
+
+/// A collision record of at least this size, which is known to be its size or not.
+fn of_collision_size(known: bool, last: bool, size: u64, left: u64) -> Wanted
+    ensures { result ≡ of_collision_size known last size left }
+{
+    if left < size {
+        Wanted::ShorterCollision(size, left)
+    } else if known {
+        of_collision_end(last, size, left)
+    } else {
+        Wanted::Nothing
+    }
+}
+
+/// What was wanted after these octets of the head of the first record of a request.
 fn of_collision(left: u64, octets: &[u8]) -> Wanted
     ensures { result ≡ of_collision left octets.now }
 {
     let whole = is_lengths_whole(octets);
     let given = payload_length(octets);
     if whole && given != 2 {
-        return Wanted::FixedLength(Kind::Collision, 2, given);
+        return Wanted::CollisionLength(given);
     }
     let header = octet_at(octets, 0);
     let size = head_length(octets) + 4 + usize::from(id_length(octets));
     let known = !is_set(ID_THERE, header) || whole;
-    of_size(known, is_set(END, header), size as u64, left)
+    of_collision_size(known, is_set(END, header), size as u64, left)
 }
 
 /// What was wanted after these octets of a head of a nested message.
@@ -280,12 +310,13 @@ fn is_end(reason: Reason) -> bool
     matches!(reason, Reason::EndOfInput)
 }
 
-/// What was wanted where a byte after these octets of a piece is refused, or the input has ended.
-fn wanted_after(bytes: &[u8], refusal: Refusal, come: &[u8]) -> Wanted
-    ensures { IsWantedBy (is_end refusal.reason) bytes.now refusal come.now result }
+/// What was wanted where a byte after these octets of a piece is refused, or the input has ended, after a chunk or
+/// after none.
+fn wanted_after(bytes: &[u8], refusal: Refusal, in_chunks: bool, come: &[u8]) -> Wanted
+    ensures { IsWantedBy (is_end refusal.reason) bytes.now refusal in_chunks come.now result }
 {
     if is_end(refusal.reason) {
-        missing_after(bytes_before(bytes, refusal.at), come)
+        missing_after(bytes_before(bytes, refusal.at), in_chunks, come)
     } else {
         in_piece(bytes, refusal, come)
     }
@@ -296,6 +327,6 @@ fn wanted_after(bytes: &[u8], refusal: Refusal, come: &[u8]) -> Wanted
 pub fn wanted_at(bytes: &[u8], refusal: Refusal) -> Wanted
     ensures { IsWanted bytes.now refusal result }
 {
-    let come = whole_pieces(bytes_before(bytes, refusal.at)).rest;
-    wanted_after(bytes, refusal, come)
+    let before = whole_pieces(bytes_before(bytes, refusal.at));
+    wanted_after(bytes, refusal, before.ends_in_chunk, before.rest)
 }

@@ -1,5 +1,5 @@
 -- The whole pieces at the front of some bytes.
-use Rattle.std.proofs.Common.{◌≡◌, ◌≤◌, ℕ, ◌+◌, ◌-◌, Bool, refl, sym, ◌∙◌, ap, subst, arith, List, [], ◌∷◌, ◌++◌, length, take, take_at, append_assoc, length-append}
+use Rattle.std.proofs.Common.{◌≡◌, ◌≤◌, ℕ, ◌+◌, ◌-◌, Bool, false, refl, sym, ◌∙◌, ap, subst, arith, List, [], ◌∷◌, ◌++◌, length, take, take_at, append_assoc, length-append}
 use Rattle.std.specs.List.{AllByRecursion}
 use Rattle.std.proofs.lemmas.List.{append-nil}
 use Rattle.ndef_format.specs.Records.{Piece, SpellsPiece}
@@ -10,7 +10,7 @@ use Rattle.ndef_format.specs.Accepted.{IsViable}
 use Rattle.ndef_message.specs.Machine.SeenLaws.{same_split}
 use Rattle.ndef_format.specs.Payloads.{IsTypedPayload}
 use Rattle.ndef_fields.specs.Cursors.{AreOuter, HasPieceContents}
-use Rattle.ndef_fields.specs.Refusals.{AreWholeBefore}
+use Rattle.ndef_fields.specs.Refusals.{AreWholeBefore, ends_in_chunk}
 use Rattle.ndef_fields.proofs.Members.{deep_outer}
 
 -- whole pieces are before the rest
@@ -81,3 +81,24 @@ counted_last bytes rest (ps, x, s, e) h = refl
 pub counted_first : (bytes : List ℕ) → 0 ≡ length (whole_first bytes).0
 unfolding whole_first
 counted_first bytes = refl
+
+-- ---- whether the last is a chunk
+
+last_more : (ps : List Piece) (w : Piece) → ends_in_chunk (ps ++ w ∷ []) ≡ w.chunked
+last_more [] w = refl
+last_more (p ∷ []) w = refl
+last_more (p ∷ q ∷ ps) w = last_more (q ∷ ps) w
+
+pub chunk_more : (bytes rest next : List ℕ) (w : Piece) (short : Bool) (k : KeepsWhole bytes rest) (i : IsSplit w short next rest)
+    → ends_in_chunk (whole_more bytes rest next w short k i).0 ≡ w.chunked
+unfolding whole_more
+chunk_more bytes rest next w short (ps, x, s, e) i = last_more ps w
+
+pub chunk_last : (bytes rest : List ℕ) (k : KeepsWhole bytes rest) (h : ¬ BeginWithPiece rest)
+    → ends_in_chunk (whole_last bytes rest k h).pieces ≡ ends_in_chunk k.0
+unfolding whole_last
+chunk_last bytes rest (ps, x, s, e) h = refl
+
+pub chunk_first : (bytes : List ℕ) → false ≡ ends_in_chunk (whole_first bytes).0
+unfolding whole_first
+chunk_first bytes = refl

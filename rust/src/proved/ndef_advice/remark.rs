@@ -16,7 +16,7 @@ pub enum Remark {
     ReservedAction(u8),
     /// An error reason is reserved: 0, or 4 to 255.
     ReservedError(u8),
-    /// A carrier type format is reserved, 5 to 7.
+    /// A carrier type format is reserved: 0, or 5 to 7.
     ReservedFormat(u8),
     /// Reserved bits of the octet with a carrier power state are set: the octet, 4 to 255.
     ReservedPower(u8),
@@ -35,7 +35,7 @@ pub enum Remark {
     NoCarrier,
     /// A handover request has a second collision resolution record.
     SecondCollision,
-    /// An alternative carrier of a handover refers to no record of the message.
+    /// A reference of an alternative carrier of a handover is to no record of the message.
     LooseReference,
 }
 
@@ -92,7 +92,7 @@ fn error_remark(reason: u8) -> Option<Remark> {
 
 /// An octet with a carrier type format in its low three bits.
 fn format_remark(octet: u8) -> Option<Remark> {
-    if octet % 8 > 4 {
+    if octet % 8 == 0 || octet % 8 > 4 {
         Some(Remark::ReservedFormat(octet % 8))
     } else {
         None
@@ -163,7 +163,7 @@ impl Remark {
             Remark::SameLanguage => b"Two titles of the smart poster have the same language.",
             Remark::NoCarrier => b"The request has no alternative carrier (`ac`).",
             Remark::SecondCollision => b"The request has a second collision record (`cr`).",
-            Remark::LooseReference => b"An alternative carrier (`ac`) refers to no record of the message.",
+            Remark::LooseReference => b"A reference of an alternative carrier (`ac`) is to no record of the message.",
             _ => b"",
         }
     }

@@ -6,6 +6,9 @@ use crate::proved::ndef_fields::FieldName;
 use crate::proved::ndef_format::Reason;
 use crate::proved::ndef_lang::Kind;
 
+/// How a request begins.
+const COLLISION_FIRST: &[u8] = b"A request begins with a collision record (`cr`)";
+
 /// The word for one, or for more or none.
 fn word(count: u64, one: &'static [u8], more: &'static [u8]) -> &'static [u8] {
     if count == 1 {
@@ -200,6 +203,43 @@ fn of_second(number: u64) -> Sentence {
     sentence
 }
 
+/// The sentence for a collision record of another length.
+fn of_collision(given: u64) -> Sentence {
+    let mut sentence = Sentence::of(COLLISION_FIRST);
+    sentence.push(b" of 2 octets; ");
+    sentence.push_given(given);
+    sentence
+}
+
+/// The sentence for a collision record that doesn't fit.
+fn of_long_collision(least: u64, left: u64) -> Sentence {
+    let mut sentence = Sentence::of(COLLISION_FIRST);
+    sentence.push(b", here of at least ");
+    sentence.push_octets(least);
+    sentence.push(b"; ");
+    sentence.push_left(left);
+    sentence
+}
+
+/// The sentence for a collision record that is the last and ends too early.
+fn of_last_collision(size: u64, left: u64) -> Sentence {
+    let mut sentence = Sentence::of(COLLISION_FIRST);
+    sentence.push(b", which as the last (ME) has ");
+    sentence.push_octets(size);
+    sentence.push(b"; ");
+    sentence.push_left(left);
+    sentence
+}
+
+/// The sentence for another record after the collision record, which doesn't fit.
+fn of_after_collision(left: u64) -> Sentence {
+    let mut sentence = Sentence::of(
+        b"After its collision record (`cr`) another record has to follow (ME is clear), of at least 3 octets; ",
+    );
+    sentence.push_left(left);
+    sentence
+}
+
 impl Wanted {
     /// The sentence of English for it, where bytes are refused for this reason: at most 192 bytes of ASCII, the full
     /// stop included. Where nothing more can be said, it is what the reason means.
@@ -208,6 +248,7 @@ impl Wanted {
             Wanted::Nothing => Sentence::of(reason.sentence()),
             Wanted::Message => Sentence::of(b"A message is missing: the input has no bytes."),
             Wanted::NextRecord => Sentence::of(b"Another record is missing: none of those before has ME set."),
+            Wanted::NextChunk => Sentence::of(b"Another chunk of the record is missing: the last one has CF set."),
             Wanted::Missing(name, count) => of_missing(name, count),
             Wanted::FixedLength(kind, there, given) => of_length(kind, there, given),
             Wanted::LeastLength(kind, least, given) => of_least(kind, least, given),
@@ -228,6 +269,10 @@ impl Wanted {
             Wanted::CollisionFirst => {
                 Sentence::of(b"This request must begin with a collision record (`cr`); it has none.")
             }
+            Wanted::CollisionLength(given) => of_collision(given),
+            Wanted::ShorterCollision(least, left) => of_long_collision(least, left),
+            Wanted::LastCollision(size, left) => of_last_collision(size, left),
+            Wanted::AfterCollision(left) => of_after_collision(left),
         }
     }
 }

@@ -3,7 +3,7 @@
 
 use crate::proved::ndef_fields::left::id_width;
 use crate::proved::ndef_fields::FieldName;
-use crate::proved::ndef_format::header::width;
+use crate::proved::ndef_format::header::{is_set, width, CHUNK};
 use crate::proved::ndef_piece::whole_piece;
 
 /// The bytes after the whole pieces at the front.
@@ -20,6 +20,8 @@ pub(crate) fn behind_pieces(bytes: &[u8]) -> &[u8] {
 pub struct WholePieces<'a> {
     /// The number of them.
     pub count: usize,
+    /// Whether the last of them is a chunk that another has to follow (CF is set).
+    pub ends_in_chunk: bool,
     /// The bytes after them, which begin with no whole piece.
     pub rest: &'a [u8],
 }
@@ -28,11 +30,13 @@ pub struct WholePieces<'a> {
 pub fn whole_pieces(bytes: &[u8]) -> WholePieces<'_> {
     let mut rest = bytes;
     let mut count = 0;
+    let mut ends_in_chunk = false;
     while let Some(piece) = whole_piece(rest) {
         rest = piece.rest;
         count += 1;
+        ends_in_chunk = is_set(CHUNK, piece.header);
     }
-    WholePieces { count, rest }
+    WholePieces { count, ends_in_chunk, rest }
 }
 
 /// ID_LENGTH after PAYLOAD_LENGTH; 0 where there is none.
