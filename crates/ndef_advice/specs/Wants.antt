@@ -74,7 +74,7 @@ is_collision table number = is_table tables.Request table && (number == 1)
 -- NDEF 1.0, ME: a last record ends with the payload, and any other leaves room for another
 abbrev pub of_end : (last : Bool) → (size left : ℕ) → Wanted
 of_end last size left =
-    if last then wanted.LongerLast size left
+    if last then (if size == left then wanted.Nothing else wanted.LongerLast size left)
     else (if nat_lt (left - size) 3 then wanted.RoomForNext (left - size) else wanted.Nothing)
 
 -- NDEF 1.0, record layout: a record of at least this size, which is known to be its size or not
@@ -86,7 +86,7 @@ of_size known last size left =
 -- NDEF 1.0, ME: a collision record that is the last ends with the payload, and after any other comes another record
 abbrev pub of_collision_end : (last : Bool) → (size left : ℕ) → Wanted
 of_collision_end last size left =
-    if last then wanted.LastCollision size left
+    if last then (if size == left then wanted.Nothing else wanted.LastCollision size left)
     else (if nat_lt (left - size) 3 then wanted.AfterCollision (left - size) else wanted.Nothing)
 
 -- NDEF 1.0, record layout: a collision record of at least this size, which is known to be its size or not

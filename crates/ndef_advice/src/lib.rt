@@ -34,7 +34,7 @@ mod wording;
 pub use begun::{is_lengths_whole, least_record};
 pub use few::few_records;
 pub use hint::{Hint, hint_at};
-pub use laws::{lengths_are_true, misfits_are_true};
+pub use laws::{lengths_are_true, misfits_are_true, sizes_are_true};
 pub use record_remark::{payload_remark, repeated_remark};
 pub use remark::{Remark, field_remark};
 pub use sentence::{ROOM, Sentence};

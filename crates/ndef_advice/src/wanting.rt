@@ -133,7 +133,11 @@ fn of_end(last: bool, size: u64, left: u64) -> Wanted
     ensures { result ≡ of_end last size left }
 {
     if last {
-        return Wanted::LongerLast(size, left);
+        return if size == left {
+            Wanted::Nothing
+        } else {
+            Wanted::LongerLast(size, left)
+        };
     }
     let room = left.saturating_sub(size);
     if room < 3 {
@@ -161,7 +165,11 @@ fn of_collision_end(last: bool, size: u64, left: u64) -> Wanted
     ensures { result ≡ of_collision_end last size left }
 {
     if last {
-        return Wanted::LastCollision(size, left);
+        return if size == left {
+            Wanted::Nothing
+        } else {
+            Wanted::LastCollision(size, left)
+        };
     }
     let rest = left.saturating_sub(size);
     if rest < 3 {
