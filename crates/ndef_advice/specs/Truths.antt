@@ -76,8 +76,8 @@ RecordsDoNotFit = (table : Table) (number left : ℕ) (s : List ℕ) → 0 < len
     → in_head table number left s ≢ wanted.Nothing → (ps : List Piece) (more : List ℕ) → SpellsPieces ps (s ++ more)
     → EndsWithLast ps → length (s ++ more) ≢ left
 
--- Where a sentence says that the collision record of a request doesn't fit, no records that fill the payload and of which
--- the first has the lengths of one begin with these octets.
+-- Where a sentence says that the collision record of a request doesn't fit, no records that fill the payload, and of
+-- which the first has the lengths of one, begin with these octets.
 abbrev pub CollisionsDoNotFit : Type 0
 CollisionsDoNotFit = (left : ℕ) (s : List ℕ) → 0 < length s → of_collision left s ≢ wanted.Nothing
     → (ps : List Piece) (more : List ℕ) → SpellsPieces ps (s ++ more)
@@ -89,8 +89,8 @@ IsMissing (wanted.Missing names.Payload n) count = count ≡ n
 IsMissing (wanted.Missing name n) count = n ≤ count
 IsMissing w count = ⊤
 
--- Where a sentence says how many octets of a field are missing, each piece that begins with these octets has that number
--- of octets more, or for a payload that number and no other.
+-- Where a sentence says how many octets of a field are missing, each piece that begins with these octets has at least
+-- that number of octets more; where they are missing of the payload, it has that number.
 abbrev pub MissingIsTrue : Type 0
 MissingIsTrue = (in_chunks short : Bool) (p : Piece) (s more : List ℕ) → SpellsPiece p short (s ++ more)
     → IsMissing (missing in_chunks s) (length more)

@@ -98,7 +98,7 @@ fn is_collision(table: Table, number: u64) -> bool {
 /// A last record ends with the payload, and any other leaves room for another.
 fn of_end(last: bool, size: u64, left: u64) -> Wanted {
     if last {
-        return Wanted::LongerLast(size, left);
+        return if size == left { Wanted::Nothing } else { Wanted::LongerLast(size, left) };
     }
     let room = left.saturating_sub(size);
     if room < 3 {
@@ -122,7 +122,7 @@ fn of_size(known: bool, last: bool, size: u64, left: u64) -> Wanted {
 /// A collision record that is the last ends with the payload, and any other leaves octets for another record.
 fn of_collision_end(last: bool, size: u64, left: u64) -> Wanted {
     if last {
-        return Wanted::LastCollision(size, left);
+        return if size == left { Wanted::Nothing } else { Wanted::LastCollision(size, left) };
     }
     let rest = left.saturating_sub(size);
     if rest < 3 {
