@@ -46,11 +46,14 @@ static void nd_store_ptr(unsigned char *to, const unsigned char *p) { nd_store_6
     return v;
 }''',
     'store_part': '''static void nd_store_part(unsigned char *to, uint64_t v, size_t size) { nd_memcpy(to, &v, size); }''',
+    # No object has more bytes than a ptrdiff_t counts. GCC doesn't know that of a sum, and would warn.
     'copy': '''static void nd_copy(unsigned char *to, const unsigned char *from, uint64_t size) {
-    if (size) nd_memcpy(to, from, (size_t)size);
+    size_t count = (size_t)size;
+    if (count - 1 < (size_t)PTRDIFF_MAX) nd_memcpy(to, from, count);
 }''',
     'move': '''static void nd_move(unsigned char *to, const unsigned char *from, uint64_t size) {
-    if (size) nd_memmove(to, from, (size_t)size);
+    size_t count = (size_t)size;
+    if (count - 1 < (size_t)PTRDIFF_MAX) nd_memmove(to, from, count);
 }''',
     'fill': '''static void nd_fill(unsigned char *to, uint8_t octet, uint64_t size) {
     if (size) nd_memset(to, octet, (size_t)size);
