@@ -35,7 +35,11 @@ static unsigned char *nd_load_ptr(const unsigned char *from) { unsigned char *p;
 #else
 static unsigned char *nd_load_ptr(const unsigned char *from) { return (unsigned char *)(uintptr_t)nd_load_64(from); }
 #endif''',
-    'store_ptr': '''#if UINTPTR_MAX == UINT64_MAX
+    'store_ptr': '''#if defined(__GNUC__) && __GNUC__ >= 11
+/* It reads no byte at the address, which may be that of memory to be written. */
+__attribute__((access(none, 2))) static void nd_store_ptr(unsigned char *to, const unsigned char *p);
+#endif
+#if UINTPTR_MAX == UINT64_MAX
 static void nd_store_ptr(unsigned char *to, const unsigned char *p) { nd_memcpy(to, &p, 8); }
 #else
 static void nd_store_ptr(unsigned char *to, const unsigned char *p) { nd_store_64(to, (uintptr_t)p); }
