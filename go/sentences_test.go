@@ -21,16 +21,46 @@ var (
 	onField   = regexp.MustCompile(`^remark: (.*)`)
 	onRecord  = regexp.MustCompile(`^remark: record (\d+): (.*)`)
 	atPlace   = regexp.MustCompile(`^[0-9a-f]{8} `)
+	since     = regexp.MustCompile(`\n# since 0\.(\d+)\n$`)
+	minor     = regexp.MustCompile(`NDEF_VERSION_MINOR (\d+)`)
 )
 
-// rows reads the rows whose inputs are read within the usual limits.
+// ofLibrary returns the second number of the library's version, which is in its header.
+func ofLibrary(t *testing.T) int {
+	header, err := os.ReadFile("ndef.h")
+	if err != nil {
+		t.Fatal(err)
+	}
+	number, err := strconv.Atoi(string(minor.FindSubmatch(header)[1]))
+	if err != nil {
+		t.Fatal(err)
+	}
+	return number
+}
+
+// isNewer says whether what stands above a row says that a later release than this one prints it first.
+func isNewer(above string, release int) bool {
+	found := since.FindStringSubmatch(above)
+	if found == nil {
+		return false
+	}
+	number, err := strconv.Atoi(found[1])
+	return err != nil || number > release
+}
+
+// rows reads the rows whose inputs are read within the usual limits, without those of a later release than the library's.
 func rows(t *testing.T) []row {
 	text, err := os.ReadFile("../test/explain/rows.txt")
 	if err != nil {
 		t.Fatal(err)
 	}
 	var read []row
-	for _, part := range rowBegins.Split(string(text), -1)[1:] {
+	release, places := ofLibrary(t), append(rowBegins.FindAllIndex(text, -1), []int{len(text)})
+	for index, place := range places[:len(places)-1] {
+		if isNewer(string(text[:place[0]]), release) {
+			continue
+		}
+		part := string(text[place[1]:places[index+1][0]])
 		lines := strings.Split(strings.SplitN(part, "\nin ", 2)[0], "\n")
 		given := row{input: unhex(t, strings.ReplaceAll(lines[0], " ", ""))}
 		for _, line := range lines[1:] {
@@ -136,7 +166,7 @@ func TestRowsRemarks(t *testing.T) {
 			ofRecords.is(RecordRemark(given.input, index), onRecords[index], "%x, record %d", given.input, index)
 		}
 	}
-	if ofFields.tried < 7 || ofRecords.tried < 10 {
+	if ofFields.tried < 6 || ofRecords.tried < 6 {
 		t.Errorf("only %d remarks on fields and %d on records were tried", ofFields.tried, ofRecords.tried)
 	}
 }
