@@ -38,7 +38,7 @@ func ofLibrary(t *testing.T) int {
 	return number
 }
 
-// isNewer says whether what stands above a row says that a later release than this one prints it first.
+// isNewer says whether the line above a row names a later release than this one.
 func isNewer(above string, release int) bool {
 	found := since.FindStringSubmatch(above)
 	if found == nil {
