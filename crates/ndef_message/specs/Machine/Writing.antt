@@ -3,7 +3,7 @@ use Rattle.std.specs.Prelude.{ℕ, List, ◌&&◌, not}
 use Rattle.ndef_format.specs.Messages.{Item}
 use Rattle.ndef_format.specs.Records.{Piece}
 use Rattle.ndef_message.specs.Cut.{first_piece}
-use Rattle.ndef_message.specs.declared.writing.Standing.{Standing}
+use Rattle.ndef_message.specs.declared.heads.Standing.{Standing}
 
 -- the first piece of a record that stands there, with this part of its payload
 abbrev pub standing_piece : Standing → Item → List ℕ → Piece

@@ -1,5 +1,5 @@
 use Rattle.std.proofs.Common.{rules}
-use Rattle.ndef_message.proofs.writing.is_short.Goals as goal
+use Rattle.ndef_message.proofs.heads.is_short.Goals as goal
 
 pub returns-in-Short : goal.returns-in-Short
 returns-in-Short c = search rules
