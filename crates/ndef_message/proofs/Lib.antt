@@ -33,9 +33,11 @@ pub mod Parts
 pub mod Placed
 pub mod Places
 pub mod Reaching
+pub mod Putting
 pub mod ReadBack
 pub mod Readers
 pub mod ReadingOn
+pub mod RecordSteps
 pub mod Rests
 pub mod SeenMessages
 pub mod SeenRuns

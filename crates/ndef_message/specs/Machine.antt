@@ -16,6 +16,7 @@ pub mod Seen
 pub mod SeenLaws
 pub mod Slices
 pub mod State
+pub mod Stepping
 pub mod Streams
 pub mod Taken
 pub mod Turns

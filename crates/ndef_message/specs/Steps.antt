@@ -1,0 +1,114 @@
+-- What is left of a record that is written in steps.
+use Rattle.std.specs.Prelude.{true, false, ◌≡◌, ◌≢◌, ℕ, ◌+◌, ◌-◌, ◌%◌, ◌<◌, ◌≤◌, ◌^◌, ◌==◌, ◌&&◌, min, nat_le, nat_lt, Bool, List, [], ◌++◌, length, take, drop, unwrap_or, if◌then◌else◌}
+use Rattle.std.specs.List.{flat_map}
+use Rattle.ndef_format.specs.Messages.{Item}
+use Rattle.ndef_format.specs.Records.{HasShape, HeadFields, octets, pieces}
+use Rattle.ndef_format.specs.declared.tnf.Tnf.TheVariants.{Unchanged}
+use Rattle.ndef_message.specs.Cut.{all_parts, cut_run, later_pieces}
+use Rattle.ndef_message.specs.Heads.{first_fields, later_fields}
+use Rattle.ndef_message.specs.Written.{written_piece}
+use Rattle.ndef_message.specs.declared.plan.Progress.{Progress}
+use Rattle.ndef_message.specs.declared.plan.RecordPlan.{RecordPlan}
+
+-- ---- the record
+
+-- the record of this type, id and payload
+abbrev pub planned_item : RecordPlan → (kind id payload : List ℕ) → Item
+planned_item p kind id payload = record { tnf = p.tnf; kind = kind; id = id; payload = payload }
+
+-- NDEF 1.0, record layout and chunked payloads: its octets, in the pieces of its cut
+abbrev pub planned_octets : RecordPlan → (kind id payload : List ℕ) → List ℕ
+planned_octets p kind id payload =
+    flat_map (written_piece p.form) (pieces (cut_run p.first p.last p.size (planned_item p kind id payload)))
+
+-- NDEF 1.0, TNF and record layout: parts of these lengths go together, and a piece can hold them
+pub record CanBeWritten (p : RecordPlan) : Type 0 where
+  pub changed : p.tnf ≢ Unchanged
+  pub shape : HasShape p.tnf p.kind_length p.id_length p.payload_length
+  pub kind : p.kind_length < 256
+  pub id : p.id_length < 256
+  pub payload : p.payload_length < 2 ^ 32
+
+-- a type and an id of the lengths
+pub record AreNames (p : RecordPlan) (kind id : List ℕ) : Type 0 where
+  pub kind_length : length kind ≡ p.kind_length
+  pub id_length : length id ≡ p.id_length
+
+-- ---- its chunks
+
+-- the payload octets that a chunk can have
+abbrev pub chunk_size : RecordPlan → ℕ
+chunk_size p = unwrap_or p.size 4294967295
+
+-- the octet of the payload with which the chunk begins that is begun
+abbrev pub chunk_begin : RecordPlan → (taken : ℕ) → ℕ
+chunk_begin p taken = taken - taken % chunk_size p
+
+-- the payload octets of the chunk that begins there
+abbrev pub chunk_length : RecordPlan → (begin : ℕ) → ℕ
+chunk_length p begin = min (p.payload_length - begin) (chunk_size p)
+
+-- whether it is the last of its record
+abbrev pub is_last_chunk : RecordPlan → (begin : ℕ) → Bool
+is_last_chunk p begin = nat_le (p.payload_length - begin) (chunk_size p)
+
+-- NDEF 1.0, record layout: what its head says
+abbrev pub chunk_fields : RecordPlan → (begin : ℕ) → HeadFields
+chunk_fields p begin =
+    if begin == 0
+    then first_fields (record { first = p.first; last = p.last; alone = is_last_chunk p 0 }) p.form p.tnf p.kind_length p.id_length (chunk_length p 0)
+    else later_fields p.last (is_last_chunk p begin) p.form (chunk_length p begin)
+
+-- NDEF 1.0, record layout: its octets before the payload; a later chunk has no type and no id
+abbrev pub chunk_front : RecordPlan → (begin : ℕ) → (kind id : List ℕ) → List ℕ
+chunk_front p begin kind id = octets (chunk_fields p begin) ++ (if begin == 0 then kind ++ id else [])
+
+-- ---- what is left of it
+
+-- a payload that has an octet is written
+abbrev pub is_over : RecordPlan → Progress → Bool
+is_over p at = nat_lt 0 p.payload_length && at.taken == p.payload_length
+
+-- NDEF 1.0, chunked payloads: the octets of the chunks after one, where these are left of the payload
+abbrev pub later_octets : RecordPlan → (rest : List ℕ) → List ℕ
+later_octets p rest = flat_map (written_piece p.form) (later_pieces p.last (all_parts (chunk_size p) rest))
+
+-- what is left of the chunk that is begun, and the chunks after it, where `rest` is left of the payload
+abbrev pub unwritten : RecordPlan → Progress → (kind id rest : List ℕ) → List ℕ
+unwritten p at kind id rest =
+    let inside = at.taken % chunk_size p in
+    drop at.head (chunk_front p (chunk_begin p at.taken) kind id)
+    ++ (take (chunk_size p - inside) rest ++ later_octets p (drop (chunk_size p - inside) rest))
+
+-- the octets of the record that are left
+unfoldable pub octets_left : RecordPlan → Progress → (kind id rest : List ℕ) → List ℕ
+octets_left p at kind id rest = if is_over p at then [] else unwritten p at kind id rest
+
+-- the octets of a chunk before the payload, for names of the lengths
+abbrev pub front_length : RecordPlan → (begin : ℕ) → ℕ
+front_length p begin =
+    length (octets (chunk_fields p begin)) + (if begin == 0 then p.kind_length + p.id_length else 0)
+
+-- what writing in steps leaves, however much fitted each time
+pub record IsProgress (p : RecordPlan) (at : Progress) : Type 0 where
+  pub taken : at.taken ≤ p.payload_length
+  pub over : is_over p at ≡ true → at.head ≡ 0
+  pub most : at.head ≤ front_length p (chunk_begin p at.taken)
+  -- payload octets go out after the whole front of their chunk
+  pub inside : is_over p at ≡ false → at.taken % chunk_size p ≢ 0
+      → at.head ≡ front_length p (chunk_begin p at.taken)
+
+-- ---- what a call writes
+
+-- with this part of the payload that is left, these octets go out next, whatever the payload is after it
+pub record Steps (p : RecordPlan) (kind id part : List ℕ) (old new : Progress) (text : List ℕ) : Type 0 where
+  pub from : old.taken ≤ new.taken
+  pub to : new.taken ≤ old.taken + length part
+  pub octets : (more : List ℕ) → old.taken + length (part ++ more) ≡ p.payload_length
+      → octets_left p old kind id (part ++ more)
+      ≡ text ++ octets_left p new kind id (drop (new.taken - old.taken) (part ++ more))
+
+-- the next octet is one of the payload, or none is left
+abbrev pub WantsPayload : RecordPlan → Progress → Type 0
+WantsPayload p at = (kind id rest : List ℕ) → AreNames p kind id → at.taken + length rest ≡ p.payload_length
+    → take 1 (octets_left p at kind id rest) ≡ take 1 rest
