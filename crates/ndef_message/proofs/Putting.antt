@@ -1,6 +1,6 @@
 -- Octets put into a buffer one after another, as far as they fit.
-use Rattle.std.proofs.Common.{◌≡◌, ℕ, ◌+◌, ◌-◌, min, List, ◌++◌, length, take, drop, sym, ap, ap₂, ◌∙◌, inl, inr, arith, subst, length-append, length-take, length-drop, append-nil, append_assoc, take_at, drop_at, take_all}
-use Rattle.std.proofs.lemmas.List.{drop-drop, take-append-le, drop-append-le}
+use Rattle.std.proofs.Common.{◌≡◌, ℕ, ◌+◌, ◌-◌, ◌≤◌, min, List, [], ◌++◌, length, take, drop, refl, sym, ap, ap₂, ◌∙◌, inl, inr, arith, subst, length-append, length-take, length-drop, append-nil, append_assoc, take_at, drop_at, take_all}
+use Rattle.std.proofs.lemmas.List.{take-append-drop, drop-drop, take-append-le, drop-append-le}
 use Rattle.std.proofs.Math.ListN.{drop_of_length-le}
 use Rattle.std.proofs.Math.Seq.{drop-append-add, take-append-add}
 use Rattle.ndef_message.specs.CutLaws.{below_or_not}
@@ -92,3 +92,18 @@ puts_rest {at} {i} {j} {k} {a} {b} {c} {d} out x y z p q r e f g =
         takes (length a - at) (i + j) k (u ++ v) w (omega (arith, e, f, n, s1)) (omega (arith, g, s1, s2)) in
     subst (λ l. PutsAt at l a d (i + j + k)) (ap (λ l. l ++ take k w) two ∙ three ∙ ap (take (i + j + k)) (sym split))
     (puts_on (puts_on p q) (subst (λ n. PutsAt n (take k w) c d k) (let e : at + i + j ≡ at + (i + j) = omega arith in e) r))
+
+pub puts_none : (at : ℕ) (a : List ℕ) → at ≤ length a → PutsAt at [] a a 0
+puts_none at a h = let e : at ≡ at + 0 = omega arith in record {
+  count_is = refl;
+  within = omega (arith, h);
+  is = sym (take-append-drop at a) ∙ ap (λ n. take at a ++ drop n a) e;
+}
+
+-- where no octet was put, all are as they were
+pub nothing_put : {at : ℕ} {x a b : List ℕ} → PutsAt at x a b 0 → b ≡ a
+nothing_put {at} {x} {a} {b} p =
+    let n = p.count_is in
+    let none : x ≡ [] = sym (take_all 0 x (omega (arith, n))) in
+    let e : at + 0 ≡ at = omega arith in
+    p.is ∙ ap₂ (λ l n. take at a ++ (l ++ drop n a)) none e ∙ take-append-drop at a

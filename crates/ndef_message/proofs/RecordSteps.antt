@@ -2,7 +2,7 @@
 use Rattle.std.proofs.Common.{◌≡◌, ◌≢◌, ℕ, zero, suc, ◌+◌, ◌-◌, ◌*◌, ◌/◌, ◌%◌, ◌<◌, ◌≤◌, ◌^◌, ◌==◌, ◌&&◌, ◌⊎◌, not, min, cond, nat_lt, nat_le, Bool, true, false, List, [], ◌∷◌, ◌++◌, length, take, drop, refl, sym, ap, ap₂, ◌∙◌, inl, inr, arith, subst, length-append, length-take, length-drop, append-nil, append_assoc, take_all, ne_eqb, eqb, ltb, if◌then◌else◌, lit≤}
 use Rattle.std.proofs.lemmas.Bool.{eq-eqb, le-ltb, lt-ltb, eqb-true, ltb-true, true≢false}
 use Rattle.std.proofs.lemmas.Bool.Decides.{nat_tests}
-use Rattle.std.proofs.lemmas.List.{drop-drop, drop-take, take-append-le, take-append-drop}
+use Rattle.std.proofs.lemmas.List.{drop-append-le, drop-drop, drop-take, take-append-le, take-append-drop}
 use Rattle.std.proofs.lemmas.Nat.{div-add-mod', mod-mul-add, mod_below}
 use Rattle.std.proofs.Math.ListN.{drop_of_length-le}
 use Rattle.std.proofs.Math.Nat.{mod-le}
@@ -342,3 +342,48 @@ progress_on p at kind id part i j t =
           inside = λ _ m. absurd (m (mod_turn at.taken j s t.size turn));
         })
     ]
+
+-- ---- steps, one after another
+
+pub steps_none : (p : RecordPlan) (kind id part : List ℕ) (at : Progress) → Steps p kind id part at at []
+steps_none p kind id part at = let none : at.taken - at.taken ≡ 0 = omega arith in record {
+  from = omega arith;
+  to = omega arith;
+  octets = λ more _. ap (λ n. octets_left p at kind id (drop n (part ++ more))) (sym none);
+}
+
+pub steps_then : {p : RecordPlan} {kind id part rest : List ℕ} {a b c : Progress} {x y : List ℕ}
+    → Steps p kind id part a b x → rest ≡ drop (b.taken - a.taken) part → Steps p kind id rest b c y
+    → Steps p kind id part a c (x ++ y)
+steps_then {p} {kind} {id} {part} {rest} {a} {b} {c} {x} {y} s e t =
+    let f = s.from in
+    let g = s.to in
+    let h = t.from in
+    let k = t.to in
+    let n = ap length e ∙ length-drop (b.taken - a.taken) part in
+    record {
+      from = omega (arith, f, h);
+      to = omega (arith, f, g, k, n);
+      octets = λ more all.
+        let i : drop (b.taken - a.taken) (part ++ more) ≡ rest ++ more =
+            drop-append-le (b.taken - a.taken) part more (omega (arith, f, g)) ∙ ap (λ l. l ++ more) (sym e) in
+        let l = length-append part more in
+        let m = length-append rest more in
+        let back : (b.taken - a.taken) + (c.taken - b.taken) ≡ c.taken - a.taken = omega (arith, f, h) in
+        s.octets more all
+        ∙ ap (λ r. x ++ octets_left p b kind id r) i
+        ∙ ap (λ r. x ++ r) (t.octets more (omega (arith, all, l, m, n, f, g)))
+        ∙ sym (append_assoc x y (octets_left p c kind id (drop (c.taken - b.taken) (rest ++ more))))
+        ∙ ap (λ r. (x ++ y) ++ octets_left p c kind id r)
+          (ap (drop (c.taken - b.taken)) (sym i) ∙ drop-drop (c.taken - b.taken) (b.taken - a.taken) (part ++ more)
+          ∙ ap (λ n. drop n (part ++ more)) back);
+    }
+
+-- what is left of the part is within the payload
+pub steps_within : {p : RecordPlan} {kind id part : List ℕ} {a b : Progress} {x : List ℕ} → Steps p kind id part a b x
+    → a.taken + length part ≤ p.payload_length → b.taken + length (drop (b.taken - a.taken) part) ≤ p.payload_length
+steps_within {p} {kind} {id} {part} {a} {b} s h =
+    let f = s.from in
+    let g = s.to in
+    let n = length-drop (b.taken - a.taken) part in
+    omega (arith, f, g, n, h)

@@ -190,3 +190,49 @@ fn step(
         count: of_front + of_part,
     }
 }
+
+/// Whether a payload that has a byte is written.
+fn is_over(plan: &RecordPlan, progress: Progress) -> bool
+    ensures { result ≡ is_over plan.now progress }
+{
+    plan.payload_length > 0 && progress.taken == plan.payload_length
+}
+
+/// Writes the next bytes of a record from a place of the buffer on, as many as there are and fit.
+pub(crate) fn fill(
+    plan: &RecordPlan,
+    progress: Progress,
+    kind: &[u8],
+    id: &[u8],
+    part: &[u8],
+    buffer: &mut [u8],
+    at: usize,
+) -> Stepped
+    requires can { CanBeWritten plan.now }
+    requires size { ForSome plan.now.size (λ n. 1 ≤ n) }
+    requires names { AreNames plan.now kind.now id.now }
+    requires is { IsProgress plan.now progress }
+    requires part { progress.taken + length part.now ≤ plan.now.payload_length }
+    requires at { at ≤ length buffer.old }
+    ensures steps { (text : List ℕ) × PutsAt at text buffer.old buffer.new result.count
+        × Steps plan.now kind.now id.now part.now progress result.progress text }
+    ensures is { IsProgress plan.now result.progress }
+    ensures full { at + result.count < length buffer.old
+        → (result.progress.taken ≡ progress.taken + length part.now) × IsWaiting plan.now result.progress }
+{
+    let mut reached = progress;
+    let mut end = at;
+    'steps: while end < buffer.len() && !is_over(plan, reached) {
+        let rest = rest_of(part, reached.taken - progress.taken);
+        let next = step(plan, reached, kind, id, rest, buffer, end);
+        if next.count == 0 {
+            break 'steps;
+        }
+        reached = next.progress;
+        end += next.count;
+    }
+    Stepped {
+        progress: reached,
+        count: end - at,
+    }
+}
