@@ -37,6 +37,7 @@ pub mod Putting
 pub mod ReadBack
 pub mod Readers
 pub mod ReadingOn
+pub mod RecordBegins
 pub mod RecordSteps
 pub mod Rests
 pub mod SeenMessages

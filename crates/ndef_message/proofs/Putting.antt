@@ -107,3 +107,12 @@ nothing_put {at} {x} {a} {b} p =
     let none : x ≡ [] = sym (take_all 0 x (omega (arith, n))) in
     let e : at + 0 ≡ at = omega arith in
     p.is ∙ ap₂ (λ l n. take at a ++ (l ++ drop n a)) none e ∙ take-append-drop at a
+
+-- what was put at the front
+pub front_put : {x a b : List ℕ} {n : ℕ} → PutsAt 0 x a b n → (take n b ≡ x) × (n ≤ length a) × (drop n b ≡ drop n a)
+front_put {x} {a} {b} {n} p =
+    let k = p.count_is in
+    let w = p.within in
+    let e : 0 + n ≡ n = omega arith in
+    let is : b ≡ x ++ drop n a = p.is ∙ ap (λ k. x ++ drop k a) e in
+    (ap (take n) is ∙ take_at x (drop n a) n (sym k), omega (arith, w), ap (drop n) is ∙ drop_at x (drop n a) n (sym k))

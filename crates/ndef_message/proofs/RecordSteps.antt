@@ -86,7 +86,7 @@ pub over_left : (p : RecordPlan) (at : Progress) (kind id rest : List ℕ) → i
 unfolding octets_left
 over_left p at kind id rest h = ap (λ b. if b then [] else unwritten p at kind id rest) h
 
-no_later : (p : RecordPlan) (rest : List ℕ) → 1 ≤ chunk_size p → length rest ≡ 0 → later_octets p rest ≡ []
+pub no_later : (p : RecordPlan) (rest : List ℕ) → 1 ≤ chunk_size p → length rest ≡ 0 → later_octets p rest ≡ []
 no_later p rest some none = ap (λ ps. flat_map (written_piece p.form) (later_pieces p.last ps)) (all_parts-none (chunk_size p) rest some none)
 
 -- ---- one step
@@ -177,7 +177,7 @@ last_on p at kind id part more i j t some end all =
         (ap₂ (λ x y. x ++ y) (take_none ((s - r) - j)) (no_later p (drop (s - r) rest) t.size (omega (arith, k, n, fits)))))
     ∙ append-nil (gone p at kind id part i j)
 
-le_is : (a s d : ℕ) → d ≡ a - s → nat_le a s ≡ (d == 0)
+pub le_is : (a s d : ℕ) → d ≡ a - s → nat_le a s ≡ (d == 0)
 le_is a s d e = grind (arith, nat_tests)
 
 -- a chunk's head and payload, and the chunks after it

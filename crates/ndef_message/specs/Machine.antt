@@ -4,6 +4,7 @@ pub mod Accepted
 pub mod Checkers
 pub mod DecoderState
 pub mod Decoders
+pub mod Encoding
 pub mod Faults
 pub mod Format
 pub mod Fronts

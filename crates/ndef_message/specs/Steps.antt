@@ -1,6 +1,7 @@
 -- What is left of a record that is written in steps.
 use Rattle.std.specs.Prelude.{true, false, ◌≡◌, ◌≢◌, ℕ, ◌+◌, ◌-◌, ◌%◌, ◌<◌, ◌≤◌, ◌^◌, ◌==◌, ◌&&◌, min, nat_le, nat_lt, Bool, List, [], ◌++◌, length, take, drop, unwrap_or, if◌then◌else◌}
 use Rattle.std.specs.List.{flat_map}
+use Rattle.std.specs.Option.{ForSome}
 use Rattle.ndef_format.specs.Messages.{Item}
 use Rattle.ndef_format.specs.Records.{HasShape, HeadFields, octets, pieces}
 use Rattle.ndef_format.specs.declared.tnf.Tnf.TheVariants.{Unchanged}
@@ -112,3 +113,55 @@ pub record Steps (p : RecordPlan) (kind id part : List ℕ) (old new : Progress)
 abbrev pub WantsPayload : RecordPlan → Progress → Type 0
 WantsPayload p at = (kind id rest : List ℕ) → AreNames p kind id → at.taken + length rest ≡ p.payload_length
     → take 1 (octets_left p at kind id rest) ≡ take 1 rest
+
+-- ---- what an encoder of a record holds, and what its calls do
+
+-- nothing is written
+abbrev pub unstarted : Progress
+unstarted = record { taken = 0; head = 0 }
+
+-- a record, and how much of it is written
+pub record Begun : Type 0 where
+  pub plan : RecordPlan
+  pub progress : Progress
+
+-- it is a record, its chunks have payload octets, and writing in steps leaves this much of it
+pub record IsBegun (b : Begun) : Type 0 where
+  pub can : CanBeWritten b.plan
+  pub size : ForSome b.plan.size (λ n. 1 ≤ n)
+  pub is : IsProgress b.plan b.progress
+
+-- all of the record is left, whatever its type, id and payload are
+abbrev pub LeavesAll : Begun → Type 0
+LeavesAll b = (kind id payload : List ℕ) → AreNames b.plan kind id → length payload ≡ b.plan.payload_length
+    → octets_left b.plan b.progress kind id payload ≡ planned_octets b.plan kind id payload
+
+-- nothing of it is left
+abbrev pub LeavesNothing : Begun → (kind id rest : List ℕ) → Type 0
+LeavesNothing b kind id rest = octets_left b.plan b.progress kind id rest ≡ []
+
+-- these are left of its payload, and these are its type and id
+pub record AreLeft (b : Begun) (kind id rest : List ℕ) : Type 0 where
+  pub names : AreNames b.plan kind id
+  pub all : b.progress.taken + length rest ≡ b.plan.payload_length
+
+-- what a call is given: the type, the id, and a part of the payload that is left, from its first octet on
+pub record Given : Type 0 where
+  pub kind : List ℕ
+  pub id : List ℕ
+  pub part : List ℕ
+
+-- they have the lengths that were said
+pub record Continues (b : Begun) (given : Given) : Type 0 where
+  pub names : AreNames b.plan given.kind given.id
+  pub there : b.progress.taken + length given.part ≤ b.plan.payload_length
+
+-- the front of the buffer has the next octets of the record, so many, and the rest of it is as it was
+pub record WritesNext (old : Begun) (given : Given) (before after : List ℕ) (count : ℕ) (new : Begun) : Type 0 where
+  pub plan : new.plan ≡ old.plan
+  pub octets : Steps old.plan given.kind given.id given.part old.progress new.progress (take count after)
+  pub within : count ≤ length before
+  pub kept : drop count after ≡ drop count before
+  -- where there is space left, the whole part is taken, and no octet can come but one of the payload after it
+  pub all : count < length before
+      → (new.progress.taken ≡ old.progress.taken + length given.part) × WantsPayload old.plan new.progress

@@ -4,11 +4,12 @@ ghost use Rattle.std.specs.Option.{ForSome};
 ghost use Rattle.ndef_format.specs.Records.{FitsForm};
 ghost use Rattle.ndef_piece.specs.Heads.{written_fields};
 ghost use Rattle.ndef_message.specs.Machine.Stepping.{IsWaiting, PutsAt, advanced};
-ghost use Rattle.ndef_message.specs.Steps.{AreNames, CanBeWritten, Steps, IsProgress, chunk_begin, chunk_fields, chunk_front, chunk_length, chunk_size, front_length, is_last_chunk, is_over};
+ghost use Rattle.ndef_message.specs.Steps.{AreLeft, AreNames, CanBeWritten, IsBegun, LeavesNothing, Steps, IsProgress, chunk_begin, chunk_fields, chunk_front, chunk_length, chunk_size, front_length, is_last_chunk, is_over};
 
 use crate::heads::{Standing, first_head, later_head};
 use crate::plan::{Progress, RecordPlan};
 use ndef_piece::{Head, write_head};
+use ndef_value::Tnf;
 
 /// A chunk of a record.
 #[derive(Clone, Copy)]
@@ -88,7 +89,7 @@ fn put(bytes: &[u8], buffer: &mut [u8], at: usize) -> usize
 }
 
 /// What is left of bytes of which some are out.
-fn rest_of(bytes: &[u8], out: usize) -> &[u8]
+pub(crate) fn rest_of(bytes: &[u8], out: usize) -> &[u8]
     ensures { result.now ≡ drop out bytes.now }
 {
     &bytes[out.min(bytes.len())..]
@@ -234,5 +235,69 @@ pub(crate) fn fill(
     Stepped {
         progress: reached,
         count: end - at,
+    }
+}
+
+/// Whether a record has such a plan: its lengths go with the type name format, and a head can say them.
+pub(crate) fn can_be_written(plan: &RecordPlan) -> bool
+    ensures { IsTrue result ↔ CanBeWritten plan.now }
+{
+    let goes = match plan.tnf {
+        Tnf::Empty => plan.kind_length == 0 && plan.id_length == 0 && plan.payload_length == 0,
+        Tnf::WellKnown | Tnf::Media | Tnf::AbsoluteUri | Tnf::External => plan.kind_length > 0,
+        Tnf::Unknown => plan.kind_length == 0,
+        Tnf::Unchanged => false,
+    };
+    goes && plan.kind_length <= 255
+        && plan.id_length <= 255
+        && plan.payload_length <= u32::MAX as usize
+}
+
+/// The bytes of a chunk before its payload.
+fn front_length(plan: &RecordPlan, chunk: Chunk) -> usize
+    requires can { CanBeWritten plan.now }
+    requires length { chunk.length ≡ chunk_length plan.now chunk.begin }
+    requires ends { chunk.ends ≡ is_last_chunk plan.now chunk.begin }
+    ensures { result ≡ front_length plan.now chunk.begin }
+{
+    let count = write_head(&head_of(plan, chunk), &mut [0; 7]);
+    if chunk.begin == 0 {
+        count + plan.kind_length + plan.id_length
+    } else {
+        count
+    }
+}
+
+/// Whether writing in steps leaves this much of the record.
+pub(crate) fn is_progress(plan: &RecordPlan, progress: Progress) -> bool
+    requires can { CanBeWritten plan.now }
+    requires size { ForSome plan.now.size (λ n. 1 ≤ n) }
+    ensures { IsTrue result ↔ IsProgress plan.now progress }
+{
+    if progress.taken > plan.payload_length {
+        return false;
+    }
+    if is_over(plan, progress) {
+        return progress.head == 0;
+    }
+    let chunk = chunk_at(plan, progress.taken);
+    let front = front_length(plan, chunk);
+    if progress.taken == chunk.begin {
+        progress.head <= front
+    } else {
+        progress.head == front
+    }
+}
+
+/// Whether the whole record is written.
+pub(crate) fn is_whole(plan: &RecordPlan, progress: Progress) -> bool
+    requires { IsBegun (record { plan = plan.now; progress = progress }) }
+    ensures { (kind id rest : List ℕ) → AreLeft (record { plan = plan.now; progress = progress }) kind id rest
+        → IsTrue result ↔ LeavesNothing (record { plan = plan.now; progress = progress }) kind id rest }
+{
+    if plan.payload_length > 0 {
+        progress.taken == plan.payload_length
+    } else {
+        progress.head == front_length(plan, chunk_at(plan, 0))
     }
 }
