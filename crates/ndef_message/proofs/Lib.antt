@@ -23,6 +23,7 @@ pub mod Led
 pub mod Lent
 pub mod Lists
 pub mod LoneRecords
+pub mod MessageSteps
 pub mod Moved
 pub mod Needing
 pub mod Octets

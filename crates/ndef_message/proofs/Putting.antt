@@ -11,10 +11,10 @@ use Rattle.ndef_message.specs.Machine.Stepping.{PutsAt}
 pub drops : (n : ℕ) (xs ys : List ℕ) → drop n (xs ++ ys) ≡ drop n xs ++ drop (n - length xs) ys
 drops n xs ys = elim (below_or_not n (length xs)) [
   | inl below ↦ let none : n - length xs ≡ 0 = omega arith in
-    drop-append-le n xs ys (omega arith) ∙ ap (λ k. drop n xs ++ drop k ys) (sym none)
+      drop-append-le n xs ys (omega arith) ∙ ap (λ k. drop n xs ++ drop k ys) (sym none)
   | inr beyond ↦ let all : n ≡ length xs + (n - length xs) = omega arith in
-    ap (λ k. drop k (xs ++ ys)) all ∙ drop-append-add xs ys (n - length xs)
-    ∙ ap (λ l. l ++ drop (n - length xs) ys) (sym (drop_of_length-le xs beyond))
+      ap (λ k. drop k (xs ++ ys)) all ∙ drop-append-add xs ys (n - length xs)
+      ∙ ap (λ l. l ++ drop (n - length xs) ys) (sym (drop_of_length-le xs beyond))
 ]
 
 -- as much of both as there is space for
@@ -22,12 +22,12 @@ pub takes : (space n m : ℕ) (xs ys : List ℕ) → n ≡ min (length xs) space
     → take n xs ++ take m ys ≡ take (n + m) (xs ++ ys)
 takes space n m xs ys e f = elim (below_or_not space (length xs)) [
   | inl below ↦ let k : n + m ≡ n = omega (arith, e, f, below) in
-    let none : m ≡ 0 = omega (arith, e, f, below) in
-    ap (λ j. take n xs ++ take j ys) none ∙ append-nil (take n xs)
-    ∙ sym (ap (λ j. take j (xs ++ ys)) k ∙ take-append-le n xs ys (omega (arith, e, below)))
+      let none : m ≡ 0 = omega (arith, e, f, below) in
+      ap (λ j. take n xs ++ take j ys) none ∙ append-nil (take n xs)
+      ∙ sym (ap (λ j. take j (xs ++ ys)) k ∙ take-append-le n xs ys (omega (arith, e, below)))
   | inr fits ↦ let k : n ≡ length xs = omega (arith, e, fits) in
-    ap (λ l. l ++ take m ys) (take_all n xs (omega (arith, k)))
-    ∙ sym (ap (λ j. take (j + m) (xs ++ ys)) k ∙ take-append-add xs ys m)
+      ap (λ l. l ++ take m ys) (take_all n xs (omega (arith, k)))
+      ∙ sym (ap (λ j. take (j + m) (xs ++ ys)) k ∙ take-append-add xs ys m)
 ]
 
 -- ---- what is put
@@ -45,7 +45,7 @@ puts_on {at} {i} {j} {x} {y} {a} {b} {c} p q =
     let before : take (at + i) b ≡ take at a ++ x = ap (take (at + i)) mid ∙ take_at (take at a ++ x) _ (at + i) size in
     let after : drop (at + i) b ≡ drop (at + i) a = ap (drop (at + i)) mid ∙ drop_at (take at a ++ x) _ (at + i) size in
     let beyond : drop (at + i + j) b ≡ drop (at + (i + j)) a =
-        sym (drop-drop j (at + i) b) ∙ ap (drop j) after ∙ drop-drop j (at + i) a ∙ ap (λ k. drop k a) (let e : at + i + j ≡ at + (i + j) = omega arith in e) in
+    sym (drop-drop j (at + i) b) ∙ ap (drop j) after ∙ drop-drop j (at + i) a ∙ ap (λ k. drop k a) (let e : at + i + j ≡ at + (i + j) = omega arith in e) in
     let long = ap length mid in
     let rest = length-append (take at a ++ x) (drop (at + i) a) in
     let same : length b ≡ length a = omega (arith, long, rest, size, length-drop (at + i) a, w) in
@@ -84,12 +84,12 @@ puts_rest {at} {i} {j} {k} {a} {b} {c} {d} out x y z p q r e f g =
     let s1 = put_size p in
     let s2 = put_size q in
     let split : drop out (x ++ (y ++ z)) ≡ (u ++ v) ++ w =
-        drops out x (y ++ z) ∙ ap (λ l. u ++ l) (drops (out - length x) y z) ∙ sym (append_assoc u v w) in
+    drops out x (y ++ z) ∙ ap (λ l. u ++ l) (drops (out - length x) y z) ∙ sym (append_assoc u v w) in
     let n = length-append u v in
     let two : take i u ++ take j v ≡ take (i + j) (u ++ v) =
-        takes (length a - at) i j u v e (omega (arith, f, s1)) in
+    takes (length a - at) i j u v e (omega (arith, f, s1)) in
     let three : take (i + j) (u ++ v) ++ take k w ≡ take (i + j + k) ((u ++ v) ++ w) =
-        takes (length a - at) (i + j) k (u ++ v) w (omega (arith, e, f, n, s1)) (omega (arith, g, s1, s2)) in
+    takes (length a - at) (i + j) k (u ++ v) w (omega (arith, e, f, n, s1)) (omega (arith, g, s1, s2)) in
     subst (λ l. PutsAt at l a d (i + j + k)) (ap (λ l. l ++ take k w) two ∙ three ∙ ap (take (i + j + k)) (sym split))
     (puts_on (puts_on p q) (subst (λ n. PutsAt n (take k w) c d k) (let e : at + i + j ≡ at + (i + j) = omega arith in e) r))
 

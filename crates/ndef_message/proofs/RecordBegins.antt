@@ -1,26 +1,25 @@
 -- What is left of a record before its first step, and after its last.
-use Rattle.std.proofs.Common.{◌≡◌, ◌≢◌, ℕ, ◌+◌, ◌-◌, ◌*◌, ◌%◌, ◌<◌, ◌≤◌, ◌^◌, ◌==◌, ◌&&◌, ◌⊎◌, not, min, Bool, true, false, List, [], ◌∷◌, ◌++◌, length, take, drop, refl, sym, ap, ap₂, ◌∙◌, inl, inr, arith, subst, length-append, length-take, length-drop, append-nil, append_assoc, take_all, ltb, eqb, if◌then◌else◌}
+use Rattle.std.proofs.Common.{◌≡◌, ◌≢◌, ℕ, ◌+◌, ◌-◌, ◌*◌, ◌%◌, ◌<◌, ◌≤◌, ◌^◌, ◌==◌, ◌&&◌, Bool, true, false, List, [], ◌++◌, length, take, drop, refl, sym, ap, ap₂, ◌∙◌, inl, inr, arith, length-append, length-take, length-drop, append_assoc, take_all}
 use Rattle.std.proofs.lemmas.Bool.{le-ltb, true≢false}
 use Rattle.std.proofs.lemmas.List.{take-append-le, take-take}
 use Rattle.std.proofs.lemmas.Nat.{mod-mul-add, mod_below}
 use Rattle.std.proofs.Math.ListN.{drop_of_length-le}
-use Rattle.std.proofs.Math.Nat.{mod-le}
 use Rattle.std.specs.List.{flat_map}
-use Rattle.std.specs.Prelude.{Option, None, Some, unwrap_or, nat_lt, nat_le}
+use Rattle.std.specs.Prelude.{Option, None, Some, unwrap_or}
 use Rattle.ndef_format.specs.Messages.{Item}
 use Rattle.ndef_format.specs.Records.{octets, pieces}
 use Rattle.ndef_message.specs.Cut.{cut_run}
 use Rattle.ndef_message.specs.CutLaws.{below_or_not}
 use Rattle.ndef_message.specs.Heads.{first_fields}
 use Rattle.ndef_message.specs.Machine.Stepping.{IsWaiting}
-use Rattle.ndef_message.specs.Steps.{AreLeft, AreNames, Begun, CanBeWritten, IsBegun, IsProgress, LeavesAll, LeavesNothing, WantsPayload, chunk_begin, chunk_front, chunk_length, chunk_size, front_length, is_last_chunk, is_over, later_octets, octets_left, planned_item, planned_octets, unstarted, unwritten}
+use Rattle.ndef_message.specs.Steps.{AreLeft, AreNames, Begun, CanBeWritten, IsBegun, IsProgress, LeavesAll, LeavesNothing, WantsPayload, chunk_begin, chunk_front, chunk_length, chunk_size, front_length, is_last_chunk, is_over, later_octets, octets_left, planned_item, unstarted}
 use Rattle.ndef_message.specs.Written.{written_piece}
 use Rattle.ndef_message.specs.WrittenLaws.{first_head_is, first-step, whole_run}
 use Rattle.ndef_message.specs.declared.form.Form.{Form}
 use Rattle.ndef_message.specs.declared.heads.Standing.{Standing}
 use Rattle.ndef_message.specs.declared.plan.Progress.{Progress}
 use Rattle.ndef_message.specs.declared.plan.RecordPlan.{RecordPlan}
-use Rattle.ndef_message.proofs.RecordSteps.{front_size, le_is, no_later, not_over, open_left, open_tells, over, over_left, over_tells, some_size}
+use Rattle.ndef_message.proofs.RecordSteps.{front_size, le_is, no_later, not_over, open_left, over, over_left, over_tells, some_size}
 
 -- ---- before the first
 
@@ -32,14 +31,6 @@ unstarted_is_open p = elim (below_or_not 0 p.payload_length) [
   | inl some ↦ not_over p unstarted (omega (arith, some))
   | inr none ↦ ap (λ b. b && 0 == p.payload_length) (le-ltb 0 p.payload_length none)
 ]
-
-pub unstarted_is_progress : (p : RecordPlan) → 1 ≤ chunk_size p → IsProgress p unstarted
-unstarted_is_progress p some = record {
-  taken = omega arith;
-  over = λ _. refl;
-  most = omega arith;
-  inside = λ _ m. absurd (m (zero_mod (chunk_size p) some));
-}
 
 -- a size that no payload goes beyond is none
 sized : (form : Form) (first last : Bool) (size : Option ℕ) (m : Item) → length m.payload < 2 ^ 32
@@ -63,15 +54,15 @@ leaves_all p can some kind id payload names long =
     let full : s - 0 % s ≡ s = omega (arith, zero) in
     let size : chunk_length p 0 ≡ length part = omega (arith, n, long) in
     let fields : first_fields standing p.form p.tnf p.kind_length p.id_length (chunk_length p 0)
-        ≡ first_fields standing p.form p.tnf (length kind) (length id) (length part) =
-        ap₂ (λ k i. first_fields standing p.form p.tnf k i (chunk_length p 0)) (sym names.kind_length) (sym names.id_length)
-        ∙ ap (first_fields standing p.form p.tnf (length kind) (length id)) size in
+    ≡ first_fields standing p.form p.tnf (length kind) (length id) (length part) =
+    ap₂ (λ k i. first_fields standing p.form p.tnf k i (chunk_length p 0)) (sym names.kind_length) (sym names.id_length)
+    ∙ ap (first_fields standing p.form p.tnf (length kind) (length id)) size in
     let front = octets (first_fields standing p.form p.tnf p.kind_length p.id_length (chunk_length p 0)) in
     open_left p unstarted kind id payload (unstarted_is_open p)
     ∙ ap₂ (λ b k. chunk_front p b kind id ++ (take k payload ++ later_octets p (drop k payload))) begin full
     ∙ sym (append_assoc (front ++ (kind ++ id)) part (later_octets p rest))
     ∙ ap (λ l. l ++ later_octets p rest) (append_assoc front (kind ++ id) part ∙ ap (λ l. front ++ l) (append_assoc kind id part)
-      ∙ first_head_is p.form standing m part p.tnf _ kind id fields refl refl refl)
+    ∙ first_head_is p.form standing m part p.tnf _ kind id fields refl refl refl)
     ∙ first-step p.form p.first p.last alone s m payload part rest some refl refl refl (le_is (p.payload_length - 0) s (length rest) (omega (arith, d, long)))
     ∙ sized p.form p.first p.last p.size m (let small = can.payload in omega (arith, long, small))
 

@@ -1,8 +1,8 @@
 -- What is left of a record, from one step of its writing to the next.
-use Rattle.std.proofs.Common.{◌≡◌, ◌≢◌, ℕ, zero, suc, ◌+◌, ◌-◌, ◌*◌, ◌/◌, ◌%◌, ◌<◌, ◌≤◌, ◌^◌, ◌==◌, ◌&&◌, ◌⊎◌, not, min, cond, nat_lt, nat_le, Bool, true, false, List, [], ◌∷◌, ◌++◌, length, take, drop, refl, sym, ap, ap₂, ◌∙◌, inl, inr, arith, subst, length-append, length-take, length-drop, append-nil, append_assoc, take_all, ne_eqb, eqb, ltb, if◌then◌else◌, lit≤}
+use Rattle.std.proofs.Common.{◌≡◌, ◌≢◌, ℕ, suc, ◌+◌, ◌-◌, ◌*◌, ◌/◌, ◌%◌, ◌<◌, ◌≤◌, ◌==◌, ◌&&◌, ◌⊎◌, not, nat_lt, nat_le, Bool, true, false, List, [], ◌++◌, length, take, drop, refl, sym, ap, ap₂, ◌∙◌, inl, inr, arith, subst, length-append, length-take, length-drop, append-nil, append_assoc, take_all, ne_eqb, ltb, if◌then◌else◌, lit≤}
 use Rattle.std.proofs.lemmas.Bool.{eq-eqb, le-ltb, lt-ltb, eqb-true, ltb-true, true≢false}
 use Rattle.std.proofs.lemmas.Bool.Decides.{nat_tests}
-use Rattle.std.proofs.lemmas.List.{drop-append-le, drop-drop, drop-take, take-append-le, take-append-drop}
+use Rattle.std.proofs.lemmas.List.{drop-append-le, drop-drop, take-append-le, take-append-drop}
 use Rattle.std.proofs.lemmas.Nat.{div-add-mod', mod-mul-add, mod_below}
 use Rattle.std.proofs.Math.ListN.{drop_of_length-le}
 use Rattle.std.proofs.Math.Nat.{mod-le}
@@ -10,14 +10,14 @@ use Rattle.std.proofs.Math.Seq.{take-add}
 use Rattle.std.specs.List.{flat_map}
 use Rattle.std.specs.Option.{ForSome}
 use Rattle.std.specs.Prelude.{Option, None, Some, unwrap_or}
-use Rattle.ndef_format.specs.Records.{HeadFields, fields, octets, pieces}
-use Rattle.ndef_message.specs.Cut.{all_parts, cut_run, first_piece, later_piece, later_pieces}
+use Rattle.ndef_format.specs.Records.{fields, octets}
+use Rattle.ndef_message.specs.Cut.{later_piece, later_pieces}
 use Rattle.ndef_message.specs.CutLaws.{all_parts-none, below_or_not}
 use Rattle.ndef_message.specs.Heads.{first_fields, later_fields}
 use Rattle.ndef_message.specs.Machine.Stepping.{advanced}
-use Rattle.ndef_message.specs.Steps.{AreNames, CanBeWritten, IsProgress, Steps, WantsPayload, chunk_begin, chunk_fields, chunk_front, chunk_length, chunk_size, front_length, is_last_chunk, is_over, later_octets, octets_left, planned_item, planned_octets, unwritten}
+use Rattle.ndef_message.specs.Steps.{AreNames, CanBeWritten, IsProgress, Steps, chunk_begin, chunk_fields, chunk_front, chunk_length, chunk_size, front_length, is_last_chunk, is_over, later_octets, octets_left, unwritten}
 use Rattle.ndef_message.specs.Written.{is_short, written_piece}
-use Rattle.ndef_message.specs.WrittenLaws.{later_is, later-step, first_head_is, first-step}
+use Rattle.ndef_message.specs.WrittenLaws.{later_is, later-step}
 use Rattle.ndef_message.specs.declared.plan.Progress.{Progress}
 use Rattle.ndef_message.specs.declared.plan.RecordPlan.{RecordPlan}
 
@@ -58,12 +58,6 @@ over p at some h = ap₂ (λ a b. a && b) (lt-ltb 0 p.payload_length some) (eq-e
 pub over_tells : (p : RecordPlan) (at : Progress) → is_over p at ≡ true → (0 < p.payload_length) × (at.taken ≡ p.payload_length)
 over_tells p at h = let both = and_true _ _ h in (ltb-true 0 p.payload_length both.0, eqb-true at.taken p.payload_length both.1)
 
-pub open_tells : (p : RecordPlan) (at : Progress) → is_over p at ≡ false → (p.payload_length ≡ 0) ⊎ (at.taken ≢ p.payload_length)
-open_tells p at h = elim (below_or_not 0 p.payload_length) [
-  | inl some ↦ inr (λ e. true≢false (sym (over p at some e) ∙ h))
-  | inr none ↦ inl (omega (arith, none))
-]
-
 -- ---- the front of a chunk
 
 names_length : (b : Bool) (kind id : List ℕ) (k i : ℕ) → length kind ≡ k → length id ≡ i → length (if b then kind ++ id else []) ≡ (if b then k + i else 0)
@@ -98,14 +92,14 @@ take_both i j k front rest later h which =
     let t = take (k - j) (drop j rest) in
     let e : k ≡ j + (k - j) = omega arith in
     let split : take k rest ++ later ≡ take j rest ++ (t ++ later) =
-        ap (λ l. l ++ later) (ap (λ n. take n rest) e ∙ take-add j (k - j) rest) ∙ append_assoc (take j rest) t later in
+    ap (λ l. l ++ later) (ap (λ n. take n rest) e ∙ take-add j (k - j) rest) ∙ append_assoc (take j rest) t later in
     ap (λ l. front ++ l) split ∙ elim which [
       | inl none ↦ let nothing : take j rest ≡ [] = ap (λ n. take n rest) none in
-        ap₂ (λ f l. f ++ (l ++ (t ++ later))) (sym (take-append-drop i front)) nothing
-        ∙ append_assoc (take i front) (drop i front) (t ++ later)
-        ∙ ap (λ l. l ++ (drop i front ++ (t ++ later))) (sym (ap (λ l. take i front ++ l) nothing ∙ append-nil (take i front)))
+          ap₂ (λ f l. f ++ (l ++ (t ++ later))) (sym (take-append-drop i front)) nothing
+          ∙ append_assoc (take i front) (drop i front) (t ++ later)
+          ∙ ap (λ l. l ++ (drop i front ++ (t ++ later))) (sym (ap (λ l. take i front ++ l) nothing ∙ append-nil (take i front)))
       | inr whole ↦ sym (append_assoc front (take j rest) (t ++ later))
-        ∙ ap₂ (λ f l. (f ++ take j rest) ++ (l ++ (t ++ later))) (sym (take_all i front whole)) (sym (drop_of_length-le front whole))
+          ∙ ap₂ (λ f l. (f ++ take j rest) ++ (l ++ (t ++ later))) (sym (take_all i front whole)) (sym (drop_of_length-le front whole))
     ]
 
 -- the chunk that is begun, of whose front i octets go out, and of its payload j
@@ -143,12 +137,12 @@ inside_on p at kind id part more i j t h =
     let all : j + ((s - r) - j) ≡ s - r = omega (arith, h) in
     take_both i j (s - r) front rest (later_octets p (drop (s - r) rest)) (omega (arith, h)) t.whole
     ∙ ap (λ l. (take i front ++ l) ++ (drop i front ++ (take ((s - r) - j) (drop j rest) ++ later_octets p (drop (s - r) rest))))
-      (take-append-le j part more t.of_part)
+    (take-append-le j part more t.of_part)
     ∙ ap₂ (λ f l. gone p at kind id part i j ++ (f ++ (take ((s - r) - j) (drop j rest) ++ later_octets p l)))
-      (drop-drop i at.head (chunk_front p b kind id) ∙ ap (λ n. drop (at.head + i) (chunk_front p n kind id)) (sym same))
-      (ap (λ n. drop n rest) (sym all) ∙ sym (drop-drop ((s - r) - j) j rest))
+    (drop-drop i at.head (chunk_front p b kind id) ∙ ap (λ n. drop (at.head + i) (chunk_front p n kind id)) (sym same))
+    (ap (λ n. drop n rest) (sym all) ∙ sym (drop-drop ((s - r) - j) j rest))
     ∙ ap (λ n. gone p at kind id part i j ++ (drop (at.head + i) (chunk_front p ((at.taken + j) - (at.taken + j) % s) kind id)
-      ++ (take n (drop j rest) ++ later_octets p (drop n (drop j rest))))) (sym left)
+    ++ (take n (drop j rest) ++ later_octets p (drop n (drop j rest))))) (sym left)
 
 -- up to the end of the payload
 last_on : (p : RecordPlan) (at : Progress) (kind id part more : List ℕ) (i j : ℕ) → Turn p at kind id part i j
@@ -172,9 +166,9 @@ last_on p at kind id part more i j t some end all =
     let take_none : (m : ℕ) → take m (drop j rest) ≡ [] = λ m. ap (take m) none ∙ take_all m [] (omega arith) in
     take_both i j (s - r) front rest (later_octets p (drop (s - r) rest)) fits t.whole
     ∙ ap₂ (λ l x. (take i front ++ l) ++ x) (take-append-le j part more t.of_part)
-      (ap₂ (λ f l. f ++ l)
-        out
-        (ap₂ (λ x y. x ++ y) (take_none ((s - r) - j)) (no_later p (drop (s - r) rest) t.size (omega (arith, k, n, fits)))))
+    (ap₂ (λ f l. f ++ l)
+    out
+    (ap₂ (λ x y. x ++ y) (take_none ((s - r) - j)) (no_later p (drop (s - r) rest) t.size (omega (arith, k, n, fits)))))
     ∙ append-nil (gone p at kind id part i j)
 
 pub le_is : (a s d : ℕ) → d ≡ a - s → nat_le a s ≡ (d == 0)
@@ -194,10 +188,10 @@ next_front p begin kind id rest size after some all =
     let not_first : (begin == 0) ≡ false = ne_eqb begin 0 (omega (arith, after)) in
     let none : ends ≡ (length later == 0) = le_is (p.payload_length - begin) s (length later) (omega (arith, d, all)) in
     let front : chunk_front p begin kind id ≡ octets (fields (later_piece (ends && p.last) (not ends) part) (is_short p.form (length part))) =
-        ap (λ b. octets (if b then first_fields (record { first = p.first; last = p.last; alone = is_last_chunk p 0 }) p.form p.tnf p.kind_length p.id_length (chunk_length p 0)
-            else later_fields p.last ends p.form (chunk_length p begin)) ++ (if b then kind ++ id else [])) not_first
-        ∙ append-nil (octets (later_fields p.last ends p.form (chunk_length p begin)))
-        ∙ ap (λ n. octets (later_fields p.last ends p.form n)) long in
+    ap (λ b. octets (if b then first_fields (record { first = p.first; last = p.last; alone = is_last_chunk p 0 }) p.form p.tnf p.kind_length p.id_length (chunk_length p 0)
+    else later_fields p.last ends p.form (chunk_length p begin)) ++ (if b then kind ++ id else [])) not_first
+    ∙ append-nil (octets (later_fields p.last ends p.form (chunk_length p begin)))
+    ∙ ap (λ n. octets (later_fields p.last ends p.form n)) long in
     sym (append_assoc (chunk_front p begin kind id) part (later_octets p later))
     ∙ ap (λ f. (f ++ part) ++ later_octets p later) front
     ∙ ap (λ l. l ++ later_octets p later) (later_is p.form (ends && p.last) (not ends) part (fields (later_piece (ends && p.last) (not ends) part) (is_short p.form (length part))) refl)
@@ -224,11 +218,11 @@ chunk_on p at kind id part more i j t some turn below all =
     let out : drop i front ≡ [] = elim t.whole [ inl e ↦ absurd (omega (arith, e, some)) | inr e ↦ drop_of_length-le front e ] in
     take_both i j (s - r) front rest (later_octets p (drop (s - r) rest)) (omega (arith, is)) t.whole
     ∙ ap₂ (λ l x. (take i front ++ l) ++ x) (take-append-le j part more t.of_part)
-      (ap₂ (λ f n. f ++ (take n (drop j rest) ++ later_octets p (drop (s - r) rest)))
-        out none
-      ∙ ap (λ n. later_octets p (drop n rest)) is
-      ∙ sym (next_front p (at.taken + j) kind id (drop j rest) t.size (omega (arith, some)) (omega (arith, d, all, below)) (omega (arith, d, all, below)))
-      ∙ ap₂ (λ n k. chunk_front p n kind id ++ (take k (drop j rest) ++ later_octets p (drop k (drop j rest)))) (sym begin) (sym full))
+    (ap₂ (λ f n. f ++ (take n (drop j rest) ++ later_octets p (drop (s - r) rest)))
+    out none
+    ∙ ap (λ n. later_octets p (drop n rest)) is
+    ∙ sym (next_front p (at.taken + j) kind id (drop j rest) t.size (omega (arith, some)) (omega (arith, d, all, below)) (omega (arith, d, all, below)))
+    ∙ ap₂ (λ n k. chunk_front p n kind id ++ (take k (drop j rest) ++ later_octets p (drop k (drop j rest)))) (sym begin) (sym full))
 
 -- ---- where a step ends
 
@@ -264,19 +258,19 @@ which_end p at kind id part i j t =
     let most = t.is.taken in
     elim (below_or_not 0 j) [
       | inr none ↦ let zero : j ≡ 0 = omega (arith, none) in
-        goes_on (ap (λ b. b && at.taken + j == chunk_end p at) (le-ltb 0 j none))
+          goes_on (ap (λ b. b && at.taken + j == chunk_end p at) (le-ltb 0 j none))
           (ap (λ n. ltb 0 p.payload_length && n == p.payload_length) (let e : at.taken + j ≡ at.taken = omega (arith, zero) in e) ∙ t.unfinished)
           (omega (arith, zero, below))
       | inl some ↦ elim (below_or_not (at.taken + j) (chunk_end p at)) [
         | inl before ↦ goes_on (ap (λ b. ltb 0 j && b) (ne_eqb (at.taken + j) (chunk_end p at) (omega (arith, before))) ∙ and_false (ltb 0 j))
-          (not_over p (record { taken = at.taken + j; head = 0 }) (omega (arith, before, low, most)))
-          (omega (arith, before, low))
+            (not_over p (record { taken = at.taken + j; head = 0 }) (omega (arith, before, low, most)))
+            (omega (arith, before, low))
         | inr reached ↦ let same : at.taken + j ≡ chunk_end p at = omega (arith, reached, w) in
-          let is : is_end p at j ≡ true = ap₂ (λ a b. a && b) (lt-ltb 0 j some) (eq-eqb (at.taken + j) (chunk_end p at) same) in
-          elim (below_or_not (at.taken + j) p.payload_length) [
-          | inl more ↦ ends_chunk is some (omega (arith, same, more, low)) more
-          | inr all ↦ ends_all is some (omega (arith, all, same, low, most))
-        ]
+            let is : is_end p at j ≡ true = ap₂ (λ a b. a && b) (lt-ltb 0 j some) (eq-eqb (at.taken + j) (chunk_end p at) same) in
+            elim (below_or_not (at.taken + j) p.payload_length) [
+              | inl more ↦ ends_chunk is some (omega (arith, same, more, low)) more
+              | inr all ↦ ends_all is some (omega (arith, all, same, low, most))
+            ]
       ]
     ]
 
@@ -288,21 +282,21 @@ turn_on p at kind id part i j t =
       from = omega arith;
       to = let few = t.of_part in omega (arith, few);
       octets = λ more all.
-        let rest = part ++ more in
-        open_left p at kind id rest t.unfinished ∙ elim (which_end p at kind id part i j t) [
-          | goes_on is unfinished h ↦ inside_on p at kind id part more i j t h
-            ∙ ap (λ l. gone p at kind id part i j ++ l) (sym (open_left p (record { taken = at.taken + j; head = at.head + i }) kind id (drop j rest) unfinished))
-            ∙ ap₂ (λ b n. gone p at kind id part i j ++ octets_left p (moved at i j b) kind id (drop n rest)) (sym is) (sym back)
-          | ends_all is some end ↦ last_on p at kind id part more i j t some end all
-            ∙ sym (append-nil (gone p at kind id part i j))
-            ∙ ap (λ l. gone p at kind id part i j ++ l) (sym (over_left p (record { taken = at.taken + j; head = 0 }) kind id (drop j rest)
-              (over p (record { taken = at.taken + j; head = 0 }) (omega (arith, some, end)) end)))
-            ∙ ap₂ (λ b n. gone p at kind id part i j ++ octets_left p (moved at i j b) kind id (drop n rest)) (sym is) (sym back)
-          | ends_chunk is some turn below ↦ chunk_on p at kind id part more i j t some turn below all
-            ∙ ap (λ l. gone p at kind id part i j ++ l) (sym (open_left p (record { taken = at.taken + j; head = 0 }) kind id (drop j rest)
-              (not_over p (record { taken = at.taken + j; head = 0 }) (omega (arith, below)))))
-            ∙ ap₂ (λ b n. gone p at kind id part i j ++ octets_left p (moved at i j b) kind id (drop n rest)) (sym is) (sym back)
-        ];
+          let rest = part ++ more in
+          open_left p at kind id rest t.unfinished ∙ elim (which_end p at kind id part i j t) [
+            | goes_on is unfinished h ↦ inside_on p at kind id part more i j t h
+                ∙ ap (λ l. gone p at kind id part i j ++ l) (sym (open_left p (record { taken = at.taken + j; head = at.head + i }) kind id (drop j rest) unfinished))
+                ∙ ap₂ (λ b n. gone p at kind id part i j ++ octets_left p (moved at i j b) kind id (drop n rest)) (sym is) (sym back)
+            | ends_all is some end ↦ last_on p at kind id part more i j t some end all
+                ∙ sym (append-nil (gone p at kind id part i j))
+                ∙ ap (λ l. gone p at kind id part i j ++ l) (sym (over_left p (record { taken = at.taken + j; head = 0 }) kind id (drop j rest)
+                (over p (record { taken = at.taken + j; head = 0 }) (omega (arith, some, end)) end)))
+                ∙ ap₂ (λ b n. gone p at kind id part i j ++ octets_left p (moved at i j b) kind id (drop n rest)) (sym is) (sym back)
+            | ends_chunk is some turn below ↦ chunk_on p at kind id part more i j t some turn below all
+                ∙ ap (λ l. gone p at kind id part i j ++ l) (sym (open_left p (record { taken = at.taken + j; head = 0 }) kind id (drop j rest)
+                (not_over p (record { taken = at.taken + j; head = 0 }) (omega (arith, below)))))
+                ∙ ap₂ (λ b n. gone p at kind id part i j ++ octets_left p (moved at i j b) kind id (drop n rest)) (sym is) (sym back)
+          ];
     }
 
 pub progress_on : (p : RecordPlan) (at : Progress) (kind id part : List ℕ) (i j : ℕ) → Turn p at kind id part i j
@@ -318,29 +312,29 @@ progress_on p at kind id part i j t =
     let there = t.there in
     elim (which_end p at kind id part i j t) [
       | goes_on is unfinished h ↦
-        let same = ap (front_length p) (begin_on p at j h) in
-        subst (λ b. IsProgress p (moved at i j b)) (sym is) (record {
-          taken = omega (arith, some_part, there);
-          over = λ e. absurd (true≢false (sym e ∙ unfinished));
-          most = omega (arith, same, size, left, few, most);
-          inside = λ _ m. elim t.whole [
-            | inl none ↦ let old = t.is.inside t.unfinished (λ e. m (mod_on at.taken j s h ∙ omega (arith, e, none))) in
-              omega (arith, old, same, size, left, few)
-            | inr whole ↦ omega (arith, whole, same, size, left, few, most)
-          ];
-        })
+          let same = ap (front_length p) (begin_on p at j h) in
+          subst (λ b. IsProgress p (moved at i j b)) (sym is) (record {
+            taken = omega (arith, some_part, there);
+            over = λ e. absurd (true≢false (sym e ∙ unfinished));
+            most = omega (arith, same, size, left, few, most);
+            inside = λ _ m. elim t.whole [
+              | inl none ↦ let old = t.is.inside t.unfinished (λ e. m (mod_on at.taken j s h ∙ omega (arith, e, none))) in
+                  omega (arith, old, same, size, left, few)
+              | inr whole ↦ omega (arith, whole, same, size, left, few, most)
+            ];
+          })
       | ends_all is some end ↦ subst (λ b. IsProgress p (moved at i j b)) (sym is) (record {
-          taken = omega (arith, end);
-          over = λ _. refl;
-          most = omega arith;
-          inside = λ o _. absurd (true≢false (sym (over p (record { taken = at.taken + j; head = 0 }) (omega (arith, some, end)) end) ∙ o));
-        })
+        taken = omega (arith, end);
+        over = λ _. refl;
+        most = omega arith;
+        inside = λ o _. absurd (true≢false (sym (over p (record { taken = at.taken + j; head = 0 }) (omega (arith, some, end)) end) ∙ o));
+      })
       | ends_chunk is some turn below ↦ subst (λ b. IsProgress p (moved at i j b)) (sym is) (record {
-          taken = omega (arith, below);
-          over = λ _. refl;
-          most = omega arith;
-          inside = λ _ m. absurd (m (mod_turn at.taken j s t.size turn));
-        })
+        taken = omega (arith, below);
+        over = λ _. refl;
+        most = omega arith;
+        inside = λ _ m. absurd (m (mod_turn at.taken j s t.size turn));
+      })
     ]
 
 -- ---- steps, one after another
@@ -365,16 +359,16 @@ steps_then {p} {kind} {id} {part} {rest} {a} {b} {c} {x} {y} s e t =
       from = omega (arith, f, h);
       to = omega (arith, f, g, k, n);
       octets = λ more all.
-        let i : drop (b.taken - a.taken) (part ++ more) ≡ rest ++ more =
-            drop-append-le (b.taken - a.taken) part more (omega (arith, f, g)) ∙ ap (λ l. l ++ more) (sym e) in
-        let l = length-append part more in
-        let m = length-append rest more in
-        let back : (b.taken - a.taken) + (c.taken - b.taken) ≡ c.taken - a.taken = omega (arith, f, h) in
-        s.octets more all
-        ∙ ap (λ r. x ++ octets_left p b kind id r) i
-        ∙ ap (λ r. x ++ r) (t.octets more (omega (arith, all, l, m, n, f, g)))
-        ∙ sym (append_assoc x y (octets_left p c kind id (drop (c.taken - b.taken) (rest ++ more))))
-        ∙ ap (λ r. (x ++ y) ++ octets_left p c kind id r)
+          let i : drop (b.taken - a.taken) (part ++ more) ≡ rest ++ more =
+          drop-append-le (b.taken - a.taken) part more (omega (arith, f, g)) ∙ ap (λ l. l ++ more) (sym e) in
+          let l = length-append part more in
+          let m = length-append rest more in
+          let back : (b.taken - a.taken) + (c.taken - b.taken) ≡ c.taken - a.taken = omega (arith, f, h) in
+          s.octets more all
+          ∙ ap (λ r. x ++ octets_left p b kind id r) i
+          ∙ ap (λ r. x ++ r) (t.octets more (omega (arith, all, l, m, n, f, g)))
+          ∙ sym (append_assoc x y (octets_left p c kind id (drop (c.taken - b.taken) (rest ++ more))))
+          ∙ ap (λ r. (x ++ y) ++ octets_left p c kind id r)
           (ap (drop (c.taken - b.taken)) (sym i) ∙ drop-drop (c.taken - b.taken) (b.taken - a.taken) (part ++ more)
           ∙ ap (λ n. drop n (part ++ more)) back);
     }
@@ -387,3 +381,9 @@ steps_within {p} {kind} {id} {part} {a} {b} s h =
     let g = s.to in
     let n = length-drop (b.taken - a.taken) part in
     omega (arith, f, g, n, h)
+
+-- the same of equal parts
+pub steps_of : {p : RecordPlan} {kind k id i part x text : List ℕ} {a b : Progress} → kind ≡ k → id ≡ i → part ≡ x
+    → Steps p kind id part a b text → Steps p k i x a b text
+steps_of {p} {kind} {k} {id} {i} {part} {x} {text} {a} {b} e f g s =
+    subst (λ z. Steps p k i z a b text) g (subst (λ z. Steps p k z part a b text) f (subst (λ z. Steps p z id part a b text) e s))

@@ -69,7 +69,15 @@ fn fill_record(
     let record = message.get(spot.index).unwrap();
     let plan = plan_of(record, spot.index == 0, spot.index + 1 == count, form, size);
     let rest = rest_of(record.payload(), spot.progress.taken);
-    let next = fill(&plan, spot.progress, record.kind(), record.id(), rest, buffer, at);
+    let next = fill(
+        &plan,
+        spot.progress,
+        record.kind(),
+        record.id(),
+        rest,
+        buffer,
+        at,
+    );
     let spot = if is_whole(&plan, next.progress) {
         Spot {
             index: spot.index + 1,

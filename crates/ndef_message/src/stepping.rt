@@ -96,14 +96,7 @@ pub(crate) fn rest_of(bytes: &[u8], out: usize) -> &[u8]
 }
 
 /// Puts what is left of a head, a type and an id, as far as it fits.
-fn put_front(
-    head: &[u8],
-    kind: &[u8],
-    id: &[u8],
-    out: usize,
-    buffer: &mut [u8],
-    at: usize,
-) -> usize
+fn put_front(head: &[u8], kind: &[u8], id: &[u8], out: usize, buffer: &mut [u8], at: usize) -> usize
     requires { at ≤ length buffer.old }
     ensures count { result ≡ min (length (drop out (head.now ++ (kind.now ++ id.now)))) (length buffer.old - at) }
     ensures put { PutsAt at (take result (drop out (head.now ++ (kind.now ++ id.now)))) buffer.old buffer.new result }

@@ -1,6 +1,6 @@
-use Rattle.std.proofs.Common.{◌≡◌, ◌+◌, ◌-◌, ◌<◌, ◌≤◌, ◌++◌, ◌⊎◌, inl, inr, arith, ap, length, length-drop, subst, drop, ◌∙◌, sym, true}
+use Rattle.std.proofs.Common.{◌≡◌, ◌+◌, ◌-◌, ◌++◌, inl, arith, ap, length, length-drop, subst, ◌∙◌, sym, true}
 use Rattle.std.specs.Prelude.{[]}
-use Rattle.ndef_message.specs.Machine.Stepping.{IsWaiting, PutsAt}
+use Rattle.ndef_message.specs.Machine.Stepping.{PutsAt}
 use Rattle.ndef_message.specs.Steps.{is_over}
 use Rattle.ndef_message.proofs.Putting.{nothing_put, puts_none, puts_on}
 use Rattle.ndef_message.proofs.RecordSteps.{over_tells, steps_none, steps_then, steps_within}
@@ -65,13 +65,13 @@ returns-clause-full c = λ space.
     let same = c.steps.auto.buffer in
     elim c.steps-test.branch [
       | then-steps-test+else-not-is_over w ↦
-        let over : is_over a.plan.now c.steps.reached ≡ true = sym w.is_over.ensures ∙ w.if-not-is_over.false in
-        let end = over_tells a.plan.now c.steps.reached over in
-        (omega (arith, f, g, there, end.1), inl over)
+          let over : is_over a.plan.now c.steps.reached ≡ true = sym w.is_over.ensures ∙ w.if-not-is_over.false in
+          let end = over_tells a.plan.now c.steps.reached over in
+          (omega (arith, f, g, there, end.1), inl over)
       | else-steps-test w ↦ let full = w.steps-test.false in absurd (omega (arith, full, space, from, same))
       | then-steps-test+then-not-is_over+then-next-eq0 w ↦
-        let none = w.step-next.ensures.none w.if-next-eq0.true w.steps-test.true in
-        let n = ap length (sym w.rest_of-rest.ensures ∙ none.0) in
-        let d = length-drop (c.steps.reached.taken - a.progress.taken) a.part.now in
-        (omega (arith, f, g, n, d), none.1)
+          let none = w.step-next.ensures.none w.if-next-eq0.true w.steps-test.true in
+          let n = ap length (sym w.rest_of-rest.ensures ∙ none.0) in
+          let d = length-drop (c.steps.reached.taken - a.progress.taken) a.part.now in
+          (omega (arith, f, g, n, d), none.1)
     ]

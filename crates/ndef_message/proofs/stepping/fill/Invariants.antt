@@ -1,4 +1,4 @@
-use Rattle.std.proofs.Common.{◌≡◌, ℕ, ◌-◌, ◌≤◌, List, drop, length}
+use Rattle.std.proofs.Common.{ℕ, ◌-◌, ◌≤◌, List, length}
 use Rattle.ndef_message.specs.Machine.Stepping.{PutsAt}
 use Rattle.ndef_message.specs.Steps.{IsProgress, Steps}
 use Rattle.ndef_message.proofs.stepping.fill.Given as goal

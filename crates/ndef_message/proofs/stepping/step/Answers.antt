@@ -1,10 +1,10 @@
-use Rattle.std.proofs.Common.{◌≡◌, ◌≤◌, ◌<◌, ◌+◌, ◌-◌, ◌⊎◌, min, length, take, take_all, drop, subst, ap, ap₂, sym, ◌∙◌, inl, inr, arith, length-drop, length-take, [], ◌++◌}
+use Rattle.std.proofs.Common.{◌≡◌, ◌≤◌, ◌+◌, ◌-◌, min, length, take, take_all, drop, subst, ap₂, sym, ◌∙◌, inl, inr, arith, length-drop, length-take}
 use Rattle.std.proofs.lemmas.List.{take-take}
 use Rattle.std.proofs.lemmas.Nat.{mod_below}
 use Rattle.std.proofs.Math.Nat.{mod-le}
 use Rattle.ndef_message.specs.CutLaws.{below_or_not}
 use Rattle.ndef_message.specs.Machine.Stepping.{PutsAt, advanced}
-use Rattle.ndef_message.specs.Steps.{IsProgress, Steps, chunk_begin, chunk_front, chunk_length, chunk_size}
+use Rattle.ndef_message.specs.Steps.{IsProgress, Steps, chunk_begin, chunk_front, chunk_size}
 use Rattle.ndef_message.proofs.Putting.{puts_on}
 use Rattle.ndef_message.proofs.RecordSteps.{Turn, chunk_end, front_size, gone, progress_on, some_size, turn_on}
 use Rattle.ndef_message.proofs.stepping.step.Goals as goal
@@ -66,15 +66,16 @@ returns-clause-steps c =
     let few = of_part c in
     let m = c.min.ensures in
     let begin = c.chunk_at-chunk.ensures.begin in
-    let long = c.chunk_at-chunk.ensures.length in
-    (gone p a.progress a.kind.now a.id.now a.part.now i j,
+    let long = c.chunk_at-chunk.ensures.length in (
+      gone p a.progress a.kind.now a.id.now a.part.now i j,
       puts_on
-        (subst (λ b. PutsAt a.at (take i (drop a.progress.head (chunk_front p b a.kind.now a.id.now))) a.buffer.now c.put_chunk_front-of_front.new.buffer i)
+          (subst (λ b. PutsAt a.at (take i (drop a.progress.head (chunk_front p b a.kind.now a.id.now))) a.buffer.now c.put_chunk_front-of_front.new.buffer i)
           begin c.put_chunk_front-of_front.ensures.put)
-        (subst (λ l. PutsAt (a.at + i) l c.put_chunk_front-of_front.new.buffer c.put-of_part.new.buffer j)
+          (subst (λ l. PutsAt (a.at + i) l c.put_chunk_front-of_front.new.buffer c.put-of_part.new.buffer j)
           (take-take j c.min.result a.part.now (omega (arith, few, m, begin, long))) c.put-of_part.ensures.put),
       subst (λ n. Steps p a.kind.now a.id.now a.part.now a.progress n (gone p a.progress a.kind.now a.id.now a.part.now i j))
-        (sym (advanced_is c)) (turn_on p a.progress a.kind.now a.id.now a.part.now i j (turn c)))
+          (sym (advanced_is c)) (turn_on p a.progress a.kind.now a.id.now a.part.now i j (turn c)),
+    )
 
 pub returns-clause-is : goal.returns-clause-is
 returns-clause-is c =

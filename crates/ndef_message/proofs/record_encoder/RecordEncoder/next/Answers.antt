@@ -20,5 +20,5 @@ returns-clause-written c =
       within = put.1;
       kept = put.2;
       all = λ space. let full = f.full (omega (arith, space)) in
-        (full.0, wants_payload p c.fill-next.result.progress (some_size p.size c.self.invariant.size) full.1);
+          (full.0, wants_payload p c.fill-next.result.progress (some_size p.size c.self.invariant.size) full.1);
     })
