@@ -40,4 +40,5 @@ pub mod Texts
 pub mod Titles
 pub mod Walks
 pub mod Whys
+pub mod Writers
 pub mod Writes

@@ -97,6 +97,7 @@ mod utf16;
 mod version;
 mod walk;
 mod why;
+mod writer;
 mod writing;
 
 pub use alternative::NdefAlternative;
@@ -211,5 +212,8 @@ pub use version::PATCH;
 pub use version::ndef_version;
 pub use why::ndef_hint;
 pub use why::ndef_why;
+pub use writer::NdefWriter;
+pub use writer::ndef_writer_begin;
+pub use writer::ndef_writer_next;
 pub use writing::NdefWriting;
 pub use writing::ndef_write_record;

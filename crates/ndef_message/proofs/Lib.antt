@@ -3,6 +3,7 @@ pub mod AllFed
 pub mod Answered
 pub mod Befores
 pub mod Bodies
+pub mod Calls
 pub mod CheckingOn
 pub mod Copying
 pub mod CutSpelled

@@ -10,7 +10,7 @@ use Rattle.std.proofs.Math.Seq.{take-add}
 use Rattle.std.specs.List.{flat_map}
 use Rattle.std.specs.Option.{ForSome}
 use Rattle.std.specs.Prelude.{Option, None, Some, unwrap_or}
-use Rattle.ndef_format.specs.Records.{fields, octets}
+use Rattle.ndef_format.specs.Records.{HeadFields, id_length_octets, payload_length_octets, fields, octets}
 use Rattle.ndef_message.specs.Cut.{later_piece, later_pieces}
 use Rattle.ndef_message.specs.CutLaws.{all_parts-none, below_or_not}
 use Rattle.ndef_message.specs.Heads.{first_fields, later_fields}
@@ -68,6 +68,25 @@ pub front_size : (p : RecordPlan) (begin : ℕ) (kind id : List ℕ) → AreName
 front_size p begin kind id names =
     length-append (octets (chunk_fields p begin)) (if begin == 0 then kind ++ id else [])
     ∙ ap (λ n. length (octets (chunk_fields p begin)) + n) (names_length (begin == 0) kind id p.kind_length p.id_length names.kind_length names.id_length)
+
+octets_few : (f : HeadFields) → length (octets f) ≤ 7
+octets_few f = let few = after_types_few f.short f.payload_length f.id_length in omega (arith, few)
+  where
+    after_types_few : (short : Bool) (n : ℕ) (id : Option ℕ) → length (payload_length_octets short n ++ id_length_octets id) ≤ 5
+    after_types_few true n None = omega arith
+    after_types_few true n (Some i) = omega arith
+    after_types_few false n None = omega arith
+    after_types_few false n (Some i) = omega arith
+
+pub front_few : (p : RecordPlan) (begin : ℕ) → CanBeWritten p → front_length p begin ≤ 517
+front_few p begin can =
+    let few = octets_few (chunk_fields p begin) in
+    let kind = can.kind in
+    let id = can.id in
+    elim (begin == 0) as (λ b. length (octets (chunk_fields p begin)) + (if b then p.kind_length + p.id_length else 0) ≤ 517) [
+      | true ↦ omega (arith, few, kind, id)
+      | false ↦ omega (arith, few)
+    ]
 
 -- ---- what is left
 

@@ -1,5 +1,5 @@
 -- What is left of a record that is written in steps.
-use Rattle.std.specs.Prelude.{true, false, ◌≡◌, ◌≢◌, ℕ, ◌+◌, ◌-◌, ◌%◌, ◌<◌, ◌≤◌, ◌^◌, ◌==◌, ◌&&◌, min, nat_le, nat_lt, Bool, List, [], ◌++◌, length, take, drop, unwrap_or, if◌then◌else◌}
+use Rattle.std.specs.Prelude.{true, false, ◌≡◌, ◌≢◌, ℕ, ◌+◌, ◌-◌, ◌%◌, ◌<◌, ◌≤◌, ◌^◌, ◌==◌, ◌&&◌, min, nat_le, nat_lt, Bool, List, [], ◌∷◌, ◌++◌, length, take, drop, unwrap_or, if◌then◌else◌}
 use Rattle.std.specs.List.{flat_map}
 use Rattle.std.specs.Option.{ForSome}
 use Rattle.ndef_format.specs.Messages.{Item}
@@ -165,3 +165,30 @@ pub record WritesNext (old : Begun) (given : Given) (before after : List ℕ) (c
   -- where there is space left, the whole part is taken, and no octet can come but one of the payload after it
   pub all : count < length before
       → (new.progress.taken ≡ old.progress.taken + length given.part) × WantsPayload old.plan new.progress
+
+-- ---- law
+
+-- a call: the part that it was given, the buffer before and after it, and the number of octets that it wrote
+pub record Call : Type 0 where
+  pub part : List ℕ
+  pub before : List ℕ
+  pub after : List ℕ
+  pub count : ℕ
+
+-- calls one after another, each given a front of what is left of the payload
+abbrev pub AreCalls : (kind id payload : List ℕ) → Begun → List Call → Begun → Type 0
+AreCalls kind id payload old [] new = new ≡ old
+AreCalls kind id payload old (c ∷ cs) new =
+    (more : List ℕ) × (mid : Begun) × (drop old.progress.taken payload ≡ c.part ++ more)
+    × WritesNext old (record { kind = kind; id = id; part = c.part }) c.before c.after c.count mid
+    × AreCalls kind id payload mid cs new
+
+-- Whatever the parts and the buffers, what the calls have written, joined, and what is left are the record.
+abbrev pub StepsAreExact : Type 0
+StepsAreExact =
+    (p : RecordPlan) (kind id payload : List ℕ) (calls : List Call) (last : Begun) → CanBeWritten p
+    → ForSome p.size (λ n. 1 ≤ n) → AreNames p kind id → length payload ≡ p.payload_length
+    → AreCalls kind id payload (record { plan = p; progress = unstarted }) calls last
+    → flat_map (λ c. take c.count c.after) calls
+    ++ octets_left last.plan last.progress kind id (drop last.progress.taken payload)
+    ≡ planned_octets p kind id payload

@@ -69,10 +69,11 @@ impl RecordEncoder {
         self.plan
     }
 
-    /// How much of the record is written.
+    /// How much of the record is written: of a head, a type and an id at most 517 bytes.
     pub fn progress(&self) -> Progress
         ensures value { result ≡ self.now.progress }
         ensures is { IsBegun self.now }
+        ensures few { self.now.progress.head ≤ 517 }
     {
         self.progress
     }
