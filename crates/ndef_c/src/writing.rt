@@ -5,7 +5,7 @@ ghost use Rattle.ndef_format.specs.Messages.{IsShaped};
 ghost use Rattle.ndef_format.specs.Canonical.{HasLengths};
 ghost use Rattle.ndef_format.specs.declared.tnf.Tnf.TheVariants.{Unchanged};
 ghost use Rattle.ndef_piece.specs.Heads.{written_fields};
-ghost use Rattle.ndef_message.specs.Cut.{first_piece, later_piece};
+ghost use Rattle.ndef_message.specs.Cut.{first_piece};
 ghost use Rattle.ndef_message.specs.Written.{is_short};
 ghost use Rattle.ndef_c.specs.Made.{item_with};
 ghost use Rattle.ndef_c.specs.Rooms.{Gives, Puts};
@@ -14,7 +14,7 @@ ghost use Rattle.ndef_c.specs.Writes.{item_of, octets_by, octets_of_piece, asked
 use crate::making::Ends;
 use crate::out::Out;
 use crate::status::{BAD_ARGUMENT, NO_ROOM, OK};
-use ndef_message::Form;
+use ndef_message::{Form, Standing, first_part, later_head};
 use ndef_piece::{Head, write_head};
 use ndef_value::Tnf;
 
@@ -97,16 +97,6 @@ fn has_lengths(parts: &Parts<'_>) -> bool
     parts.kind.len() <= 255 && parts.id.len() <= 255 && parts.payload.len() <= u32::MAX as usize
 }
 
-/// Whether a piece of `length` payload bytes is written in the short form.
-fn is_short(form: Form, length: usize) -> bool
-    ensures { result ≡ is_short form length }
-{
-    match form {
-        Form::Short => length <= 255,
-        Form::Long => false,
-    }
-}
-
 /// The head of the first piece of a record, where that piece has `payload` bytes of the payload.
 pub(crate) fn first_head(
     tnf: Tnf,
@@ -125,39 +115,12 @@ pub(crate) fn first_head(
         (item_with tnf kind.now id.now part) part) (is_short form (length part)) }
     ensures form { FitsForm result.short result.payload_length }
 {
-    Head {
+    let standing = Standing {
         first: ends.first,
-        last: alone && ends.last,
-        chunked: !alone,
-        short: is_short(form, payload),
-        tnf,
-        kind_length: kind.len() as u8,
-        payload_length: payload as u32,
-        id_length: if id.is_empty() {
-            None
-        } else {
-            Some(id.len() as u8)
-        },
-    }
-}
-
-/// The head of a later piece of a record, which has this part of the payload, the last one or not.
-fn later_head(way: Way, ends: bool, part: &[u8]) -> Head
-    requires { length part.now < 2 ^ 32 }
-    ensures head { written_fields result ≡ fields (later_piece (ends && way.last) (not ends) part.now)
-        (is_short way.form (length part.now)) }
-    ensures form { FitsForm result.short result.payload_length }
-{
-    Head {
-        first: false,
-        last: ends && way.last,
-        chunked: !ends,
-        short: is_short(way.form, part.len()),
-        tnf: Tnf::Unchanged,
-        kind_length: 0,
-        payload_length: part.len() as u32,
-        id_length: None,
-    }
+        last: ends.last,
+        alone,
+    };
+    ndef_message::first_head(tnf, kind.len(), id.len(), payload, standing, form)
 }
 
 /// Writes a piece.
@@ -174,14 +137,6 @@ pub(crate) fn put_piece(out: &mut Out<'_>, head: &Head, kind: &[u8], id: &[u8], 
     out.put(kind);
     out.put(id);
     out.put(part);
-}
-
-/// The first part of a payload, and what is left of it.
-fn first_part(payload: &[u8], size: usize) -> (&[u8], &[u8])
-    ensures part { result.0.now ≡ take size payload.now }
-    ensures rest { result.1.now ≡ drop size payload.now }
-{
-    payload.split_at(payload.len().min(size))
 }
 
 /// Writes a record so, and answers where its last piece begins.
@@ -215,7 +170,7 @@ pub(crate) fn put_record(out: &mut Out<'_>, parts: &Parts<'_>, way: Way) -> usiz
     let mut rest = behind;
     while !rest.is_empty() {
         let (part, later) = first_part(rest, way.size);
-        let head = later_head(way, later.is_empty(), part);
+        let head = later_head(way.last, later.is_empty(), way.form, part.len());
         last = out.at();
         put_piece(out, &head, &[], &[], part);
         rest = later;

@@ -1,5 +1,5 @@
 -- What is left of a message, from one step of its writing to the next.
-use Rattle.std.proofs.Common.{◌⊎◌, inl, inr, ◌≡◌, ℕ, zero, suc, ◌+◌, ◌-◌, ◌≤◌, ◌==◌, min, Bool, false, List, [], ◌∷◌, ◌++◌, length, take, drop, refl, sym, ap, ap₂, ◌∙◌, subst, arith, length-append, length-drop, append-nil, append_assoc, ne_eqb, take_all, take_at, drop_at}
+use Rattle.std.proofs.Common.{◌≡◌, ℕ, zero, suc, ◌+◌, ◌-◌, ◌≤◌, ◌==◌, Bool, false, List, [], ◌∷◌, ◌++◌, length, take, drop, refl, sym, ap, ◌∙◌, subst, arith, length-append, length-drop, append-nil, append_assoc, ne_eqb, take_all}
 use Rattle.std.proofs.lemmas.Grind.{flat_map-append}
 use Rattle.std.proofs.lemmas.List.{drop-drop, drop_more}
 use Rattle.std.proofs.lemmas.Option.{slice_get_within, get_or_from_slice_get}
@@ -11,7 +11,7 @@ use Rattle.ndef_format.specs.Records.{pieces}
 use Rattle.ndef_format.specs.Canonical.{IsItem, is_nil}
 use Rattle.ndef_message.specs.Cut.{cut_run, cut_runs}
 use Rattle.ndef_message.specs.Machine.Encoding.{IsSpot, message_left, plan_of, records_left, records_octets}
-use Rattle.ndef_message.specs.Machine.Stepping.{IsWaiting, PutsAt}
+use Rattle.ndef_message.specs.Machine.Stepping.{IsWaiting}
 use Rattle.ndef_message.specs.Steps.{AreLeft, CanBeWritten, Steps, octets_left, unstarted}
 use Rattle.ndef_message.specs.Written.{written_piece}
 use Rattle.ndef_message.specs.declared.encoder.Spot.{Spot}

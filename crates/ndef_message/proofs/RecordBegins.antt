@@ -12,7 +12,7 @@ use Rattle.ndef_message.specs.Cut.{cut_run}
 use Rattle.ndef_message.specs.CutLaws.{below_or_not}
 use Rattle.ndef_message.specs.Heads.{first_fields}
 use Rattle.ndef_message.specs.Machine.Stepping.{IsWaiting}
-use Rattle.ndef_message.specs.Steps.{AreLeft, AreNames, Begun, CanBeWritten, IsBegun, IsProgress, LeavesAll, LeavesNothing, WantsPayload, chunk_begin, chunk_front, chunk_length, chunk_size, front_length, is_last_chunk, is_over, later_octets, octets_left, planned_item, unstarted}
+use Rattle.ndef_message.specs.Steps.{AreLeft, AreNames, Begun, CanBeWritten, IsBegun, LeavesAll, LeavesNothing, WantsPayload, chunk_begin, chunk_front, chunk_length, chunk_size, front_length, is_last_chunk, is_over, later_octets, octets_left, planned_item, unstarted}
 use Rattle.ndef_message.specs.Written.{written_piece}
 use Rattle.ndef_message.specs.WrittenLaws.{first_head_is, first-step, whole_run}
 use Rattle.ndef_message.specs.declared.form.Form.{Form}

@@ -1,4 +1,4 @@
-use Rattle.std.proofs.Common.{rules, inl}
+use Rattle.std.proofs.Common.{rules}
 use Rattle.ndef_message.proofs.RecordBegins.{leaves_all}
 use Rattle.ndef_message.proofs.RecordSteps.{some_size}
 use Rattle.ndef_message.proofs.record_encoder.RecordEncoder.new.Goals as goal

@@ -1,4 +1,4 @@
-use Rattle.std.proofs.Common.{◌≡◌, ◌∙◌, sym, refl, arith, subst}
+use Rattle.std.proofs.Common.{sym, refl, arith, subst}
 use Rattle.ndef_message.specs.Steps.{Begun, Given, Steps, WritesNext}
 use Rattle.ndef_message.proofs.Putting.{front_put}
 use Rattle.ndef_message.proofs.RecordBegins.{wants_payload}

@@ -1,4 +1,4 @@
-use Rattle.std.proofs.Common.{ap, sym, arith}
+use Rattle.std.proofs.Common.{ap, arith}
 use Rattle.ndef_message.proofs.RecordSteps.{front_few}
 use Rattle.ndef_message.specs.Steps.{chunk_begin}
 use Rattle.ndef_message.proofs.record_encoder.RecordEncoder.progress.Goals as goal
