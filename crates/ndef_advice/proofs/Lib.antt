@@ -4,5 +4,6 @@ pub mod PieceFronts
 pub mod RecordTruths
 pub mod References
 pub mod Sames
+pub mod TagMemory
 pub mod Tests
 pub mod Truths

@@ -1,11 +1,18 @@
 -- What may help where bytes are refused.
-use Rattle.std.specs.Prelude.{◌≡◌, ℕ, ◌<◌, ◌≤◌, ◌==◌, ◌||◌, ◌++◌, ◌⊎◌, Bool, true, List, codes, decimal, drop, slice_index, take}
+use Rattle.std.specs.Prelude.{◌≡◌, ℕ, ◌+◌, ◌<◌, ◌≤◌, ◌==◌, ◌||◌, ◌++◌, ◌⊎◌, Bool, true, List, Some, None, codes, decimal, drop, if◌then◌else◌, slice_index, take}
 use Rattle.ndef_format.specs.Accepted.{IsAccepted}
 use Rattle.ndef_format.specs.Limits.{LimitValues}
 use Rattle.ndef_format.specs.Payloads.{IsTypedPayload}
 use Rattle.ndef_format.specs.declared.profile.Profile.TheVariants.{Standard}
 use Rattle.ndef_format.specs.declared.reason.Reason.TheVariants as reasons
 use Rattle.ndef_format.specs.declared.refusal.Refusal.{Refusal}
+use Rattle.ndef_advice.specs.DumpTexts.{text_of}
+use Rattle.ndef_advice.specs.TagMemory.{Finds}
+use Rattle.ndef_advice.specs.declared.dump_text.DumpText.{DumpText}
+use Rattle.ndef_advice.specs.declared.dump_text.DumpText.TheVariants as texts
+use Rattle.ndef_advice.specs.declared.tag_memory.Found.{Found}
+use Rattle.ndef_advice.specs.declared.tag_memory.Wrapping.{Wrapping}
+use Rattle.ndef_advice.specs.declared.tag_memory.Wrapping.TheVariants as wrappings
 use Rattle.ndef_advice.specs.declared.hint.Hint.{Hint}
 use Rattle.ndef_advice.specs.declared.hint.Hint.TheVariants as hints
 
@@ -42,13 +49,71 @@ pub record IsSurrounded (bytes : List ℕ) (refusal : Refusal) : Type 0 where
   pub at_first : refusal.at ≡ 0
   pub around : is_around (slice_index bytes 0) ≡ true
 
+-- NFC Forum, Type 2 to Type 5 Tag: the first byte is refused, and the bytes are a text that spells others, or they have
+-- bytes for a message as a tag has them
+abbrev pub IsOfDump : (bytes : List ℕ) → Refusal → Hint → Type 0
+IsOfDump bytes refusal (hints.Text text) = (refusal.at ≡ 0) × (text_of bytes ≡ Some text)
+IsOfDump bytes refusal (hints.InTag found) =
+    (refusal.at ≡ 0) × (text_of bytes ≡ None) × Finds bytes (Some found)
+IsOfDump bytes refusal hint = ⊥
+
+-- they are neither
+abbrev pub IsNoDump : (bytes : List ℕ) → Refusal → Type 0
+IsNoDump bytes refusal = (hint : Hint) → ¬ IsOfDump bytes refusal hint
+
+-- NFC Forum, Type 2 Tag, terminator TLV: it is in place of a message
+pub record IsAfterBlocks (bytes : List ℕ) (refusal : Refusal) : Type 0 where
+  pub at_first : refusal.at ≡ 0
+  pub terminator : slice_index bytes 0 ≡ 0xFE
+
+-- a hint that is not of a dump applies where these bytes are refused so
+abbrev pub AppliesElse : LimitValues → (bytes : List ℕ) → Refusal → Hint → Type 0
+AppliesElse limits bytes refusal (hints.MessageAt place) =
+    IsSurrounded bytes refusal × IsMessageNear limits bytes place
+AppliesElse limits bytes refusal hints.AfterBlocks = IsAfterBlocks bytes refusal
+AppliesElse limits bytes refusal hints.CodeLeftOut = IsCodeLeftOut bytes refusal
+AppliesElse limits bytes refusal hints.StandardProfile =
+    IsStrictAlone refusal × ¬ IsCodeLeftOut bytes refusal × BeginsWithMessage (standard limits) bytes
+AppliesElse limits bytes refusal hint = ⊥
+
 -- a hint applies where these bytes are refused so
 abbrev pub Applies : LimitValues → (bytes : List ℕ) → Refusal → Hint → Type 0
-Applies limits bytes refusal (hints.MessageAt place) =
-    IsSurrounded bytes refusal × IsMessageNear limits bytes place
-Applies limits bytes refusal hints.CodeLeftOut = IsCodeLeftOut bytes refusal
-Applies limits bytes refusal hints.StandardProfile =
-    IsStrictAlone refusal × ¬ IsCodeLeftOut bytes refusal × BeginsWithMessage (standard limits) bytes
+Applies limits bytes refusal hint =
+    IsOfDump bytes refusal hint ⊎ (IsNoDump bytes refusal × AppliesElse limits bytes refusal hint)
+
+-- ---- sentences and numbers
+
+-- a text, and after it a number of bytes for a message, and where they begin
+abbrev pub message_text : (before : List ℕ) → Found → List ℕ
+message_text before found =
+    before ++ decimal found.length ++ codes " bytes from byte " ++ decimal found.at ++ codes " on; `tail -c +"
+    ++ decimal (found.at + 1) ++ codes "` begins there."
+
+-- the beginning of the sentence for what a tag has for a message
+abbrev pub wrapping_text : Wrapping → List ℕ
+wrapping_text wrappings.Block = codes "An NDEF TLV of a tag has a message of "
+wrapping_text wrappings.Attributes = codes "After the attribute block of a Type 3 Tag comes a message of "
+wrapping_text wrappings.File = codes "After a length, as in a file of a Type 4 Tag, comes a message of "
+
+-- the sentence for it
+abbrev pub tag_text : Found → List ℕ
+tag_text found =
+    if found.length == 0
+    then codes "This tag is empty: it has no bytes for a message."
+    else message_text (wrapping_text found.wrapping) found
+
+-- the sentence for a text that spells bytes
+abbrev pub dump_text : DumpText → List ℕ
+dump_text texts.Digits = codes "These are hexadecimal digits, not the bytes that they spell; `--hex` reads them."
+dump_text texts.Xxd = codes "This is a dump by xxd, not the bytes that it spells; `--hex` reads it."
+dump_text texts.Hexdump = codes "This is a dump by hexdump, not the bytes that it spells; `--hex` reads it."
+dump_text texts.Words =
+    codes "This is a dump by od or hexdump, not the bytes; `--hex` reads those of `hexdump -C` and xxd."
+dump_text texts.Flipper =
+    codes "This is a file of a Flipper; `--hex` reads what `sed -n 's/^Page [0-9]*: //p'` leaves of it."
+dump_text texts.Proxmark =
+    codes "This is what a Proxmark prints, not the bytes; `--hex` reads the digits of its blocks."
+dump_text texts.Base64 = codes "This may be base64, not the bytes that it spells; `base64 -d` gives them."
 
 -- the sentence for a message at a place
 abbrev pub near_text : (place : ℕ) → List ℕ
@@ -58,6 +123,45 @@ near_text place =
 
 -- the sentence for a hint
 abbrev pub hint_text : Hint → List ℕ
+hint_text (hints.InTag found) = tag_text found
+hint_text (hints.Text text) = dump_text text
 hint_text (hints.MessageAt place) = near_text place
+hint_text hints.AfterBlocks = codes "FE (hexadecimal) ends the TLV blocks of a tag; what comes after it is no message."
 hint_text hints.CodeLeftOut = codes "68 (hexadecimal) is the letter h: was the identifier code left out?"
 hint_text hints.StandardProfile = codes "The standard profile reads this (`--profile standard`, in C NDEF_STANDARD)."
+
+-- the number of a hint on a text
+abbrev pub dump_number : DumpText → ℕ
+dump_number texts.Digits = 6
+dump_number texts.Xxd = 7
+dump_number texts.Hexdump = 8
+dump_number texts.Words = 9
+dump_number texts.Flipper = 10
+dump_number texts.Proxmark = 11
+dump_number texts.Base64 = 12
+
+-- the number of a hint on the bytes that a tag has for a message
+abbrev pub tag_number : Wrapping → ℕ
+tag_number wrappings.Block = 1
+tag_number wrappings.Attributes = 2
+tag_number wrappings.File = 3
+
+-- the number of a hint
+abbrev pub hint_number : Hint → ℕ
+hint_number (hints.InTag found) = tag_number found.wrapping
+hint_number (hints.MessageAt place) = 4
+hint_number hints.AfterBlocks = 5
+hint_number (hints.Text text) = dump_number text
+hint_number hints.CodeLeftOut = 13
+hint_number hints.StandardProfile = 14
+
+-- the place where a message may begin; 0 where the hint names none
+abbrev pub hint_place : Hint → ℕ
+hint_place (hints.InTag found) = found.at
+hint_place (hints.MessageAt place) = place
+hint_place hint = 0
+
+-- the number of bytes that a tag has for it; 0 where the hint names none
+abbrev pub hint_length : Hint → ℕ
+hint_length (hints.InTag found) = found.length
+hint_length hint = 0

@@ -1,9 +1,11 @@
 pub mod Begun
+pub mod DumpTexts
 pub mod Hints
 pub mod Lengths
 pub mod Misfits
 pub mod RecordRemarks
 pub mod Remarks
+pub mod TagMemory
 pub mod TextRemarks
 pub mod Truths
 pub mod Wants

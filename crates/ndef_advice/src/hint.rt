@@ -1,10 +1,12 @@
 //! What may help where bytes are refused.
 ghost use Rattle.std.specs.Prelude.{◌≡◌, ℕ, ◌↔◌, IfNone, IfSome, IsTrue};
-ghost use Rattle.ndef_advice.specs.Hints.{Applies, BeginsWithMessage, IsCodeLeftOut, IsMessageNear, IsStrictAlone};
-ghost use Rattle.ndef_advice.specs.Hints.{IsSurrounded, hint_text, is_around, near_text, standard};
+ghost use Rattle.ndef_advice.specs.Hints.{Applies, AppliesElse, BeginsWithMessage, IsAfterBlocks, IsCodeLeftOut};
+ghost use Rattle.ndef_advice.specs.Hints.{IsMessageNear, IsNoDump, IsOfDump, IsStrictAlone, IsSurrounded, is_around};
+ghost use Rattle.ndef_advice.specs.Hints.{standard};
 
-use crate::Sentence;
 use crate::begun::{after, octet_at};
+use crate::dump_text::{DumpText, text_of};
+use crate::tag_memory::{Found, found_in};
 use ndef_format::{Reason, Refusal};
 use ndef_message::{places_are_told, view};
 use ndef_nest::Typed;
@@ -13,8 +15,14 @@ use ndef_value::{Limits, Profile};
 /// What may help where bytes are refused. It never changes what is accepted.
 #[derive(Clone, Copy, Debug, PartialEq, Eq, Hash)]
 pub enum Hint {
+    /// The bytes are of a tag, which has these for a message.
+    InTag(Found),
+    /// The bytes are a text that spells others.
+    Text(DumpText),
     /// A message begins at this place, 1 to 16: the bytes before it may be what surrounds a message on a tag.
     MessageAt(u64),
+    /// The terminator of a tag's TLV blocks is in place of a message.
+    AfterBlocks,
     /// The identifier code of a URI may have been left out.
     CodeLeftOut,
     /// The bytes begin with a message for a reader of the standard profile.
@@ -79,8 +87,8 @@ fn is_surrounded(bytes: &[u8], refusal: Refusal) -> bool
 /// The first place from 1 to 16 where a message begins, where a first byte that is refused may be one of what
 /// surrounds it.
 fn surrounded_message(bytes: &[u8], limits: Limits, refusal: Refusal) -> Option<u64>
-    ensures some { IfSome result (λ place. Applies limits bytes.now refusal (Hint.MessageAt place)) }
-    ensures none { IfNone result ((place : ℕ) → ¬ Applies limits bytes.now refusal (Hint.MessageAt place)) }
+    ensures some { IfSome result (λ place. AppliesElse limits bytes.now refusal (Hint.MessageAt place)) }
+    ensures none { IfNone result ((place : ℕ) → ¬ AppliesElse limits bytes.now refusal (Hint.MessageAt place)) }
 {
     if is_surrounded(bytes, refusal) {
         message_near(bytes, limits)
@@ -96,14 +104,40 @@ fn is_for_standard(bytes: &[u8], limits: Limits, refusal: Refusal) -> bool
     is_strict_alone(refusal) && begins(bytes, limits.with(Profile::Standard))
 }
 
-/// What may help where the bytes are refused so within the limits; None where nothing is known to (NDEF 1.0 and RTD
-/// URI 1.0). It checks at most 17 times whether a message begins at a place.
-pub fn hint_at(bytes: &[u8], limits: Limits, refusal: Refusal) -> Option<Hint>
-    ensures some { IfSome result (Applies limits bytes.now refusal) }
-    ensures none { IfNone result ((hint : Hint) → ¬ Applies limits bytes.now refusal hint) }
+/// Whether the terminator of TLV blocks is in place of a message.
+fn is_after_blocks(bytes: &[u8], refusal: Refusal) -> bool
+    ensures { IsTrue result ↔ IsAfterBlocks bytes.now refusal }
+{
+    refusal.at == 0 && octet_at(bytes, 0) == 0xFE
+}
+
+/// The hint on what the bytes are, where the first of them is refused.
+fn dump_hint(bytes: &[u8], refusal: Refusal) -> Option<Hint>
+    ensures some { IfSome result (IsOfDump bytes.now refusal) }
+    ensures none { IfNone result (IsNoDump bytes.now refusal) }
+{
+    if refusal.at > 0 {
+        return None;
+    }
+    if let Some(text) = text_of(bytes) {
+        return Some(Hint::Text(text));
+    }
+    match found_in(bytes) {
+        Some(found) => Some(Hint::InTag(found)),
+        None => None,
+    }
+}
+
+/// The hint on bytes that are no dump.
+fn other_hint(bytes: &[u8], limits: Limits, refusal: Refusal) -> Option<Hint>
+    ensures some { IfSome result (AppliesElse limits bytes.now refusal) }
+    ensures none { IfNone result ((hint : Hint) → ¬ AppliesElse limits bytes.now refusal hint) }
 {
     if let Some(place) = surrounded_message(bytes, limits, refusal) {
         return Some(Hint::MessageAt(place));
+    }
+    if is_after_blocks(bytes, refusal) {
+        return Some(Hint::AfterBlocks);
     }
     if is_code_left_out(bytes, refusal) {
         return Some(Hint::CodeLeftOut);
@@ -114,32 +148,15 @@ pub fn hint_at(bytes: &[u8], limits: Limits, refusal: Refusal) -> Option<Hint>
     None
 }
 
-impl Hint {
-    /// The sentence of English for it: at most 192 bytes of ASCII.
-    pub fn sentence(self) -> Sentence
-        ensures { result ≡ hint_text self }
-    {
-        match self {
-            Hint::MessageAt(place) => near_sentence(place),
-            Hint::CodeLeftOut => {
-                Sentence::of(b"68 (hexadecimal) is the letter h: was the identifier code left out?")
-            }
-            Hint::StandardProfile => Sentence::of(
-                b"The standard profile reads this (`--profile standard`, in C NDEF_STANDARD).",
-            ),
-        }
-    }
-}
-
-/// The sentence for a message at a place.
-fn near_sentence(place: u64) -> Sentence
-    ensures { result ≡ near_text place }
+/// What may help where the bytes are refused so within the limits; None where nothing is known to (NDEF 1.0, RTD URI 1.0,
+/// and NFC Forum, Type 2 to Type 5 Tag). It checks at most 17 times whether a message begins at a place; all else takes
+/// a time linear in the number of bytes.
+pub fn hint_at(bytes: &[u8], limits: Limits, refusal: Refusal) -> Option<Hint>
+    ensures some { IfSome result (Applies limits bytes.now refusal) }
+    ensures none { IfNone result ((hint : Hint) → ¬ Applies limits bytes.now refusal hint) }
 {
-    let mut sentence = Sentence::new();
-    sentence.push(
-        b"The bytes may begin with what surrounds a message on a tag; a message begins at byte ",
-    );
-    sentence.push_number(place);
-    sentence.push(b".");
-    sentence
+    match dump_hint(bytes, refusal) {
+        Some(hint) => Some(hint),
+        None => other_hint(bytes, limits, refusal),
+    }
 }

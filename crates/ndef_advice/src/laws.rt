@@ -22,8 +22,8 @@ pub fn misfits_are_true()
 
 /// Where a sentence says that a record doesn't fit the payload that holds its message, or how many octets of a record
 /// are missing, it is right: no records that fill the payload begin with the octets up to the refused one, and each
-/// record that begins with those before the end of the input has that number of octets more (NDEF 1.0, record layout,
-/// and Connection Handover 1.2).
+/// record that begins with those before the end of the input has at least that number of octets more, or exactly that
+/// where they are missing of its payload (NDEF 1.0, record layout, and Connection Handover 1.2).
 pub fn sizes_are_true()
     ensures least { LeastRecordsHold }
     ensures records { RecordsDoNotFit }

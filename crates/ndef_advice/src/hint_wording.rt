@@ -1,0 +1,179 @@
+//! The sentences of hints, and their numbers.
+ghost use Rattle.std.specs.Prelude.{◌≡◌, ◌≤◌, ◌+◌, ◌++◌, decimal, length};
+ghost use Rattle.ndef_advice.specs.Hints.{dump_number, dump_text, hint_length, hint_number, hint_place};
+ghost use Rattle.ndef_advice.specs.Hints.{hint_text, message_text, near_text, tag_number};
+ghost use Rattle.ndef_advice.specs.Hints.{tag_text, wrapping_text};
+
+use crate::dump_text::DumpText;
+use crate::tag_memory::{Found, Wrapping};
+use crate::{Hint, Sentence};
+
+impl Hint {
+    /// The sentence of English for it: at most 192 bytes of ASCII.
+    pub fn sentence(self) -> Sentence
+        ensures { result ≡ hint_text self }
+    {
+        match self {
+            Hint::InTag(found) => tag_sentence(found),
+            Hint::Text(text) => dump_sentence(text),
+            Hint::MessageAt(place) => near_sentence(place),
+            Hint::AfterBlocks => Sentence::of(
+                b"FE (hexadecimal) ends the TLV blocks of a tag; what comes after it is no message.",
+            ),
+            Hint::CodeLeftOut => {
+                Sentence::of(b"68 (hexadecimal) is the letter h: was the identifier code left out?")
+            }
+            Hint::StandardProfile => Sentence::of(
+                b"The standard profile reads this (`--profile standard`, in C NDEF_STANDARD).",
+            ),
+        }
+    }
+
+    /// Its number, 1 to 14: 1 to 3 for what surrounds a message on a tag, 4 for a message at a place, 5 for what comes
+    /// after TLV blocks, 6 to 12 for texts, 13 for a code that was left out, 14 for the standard profile.
+    pub fn number(self) -> u32
+        ensures { result ≡ hint_number self }
+    {
+        match self {
+            Hint::InTag(found) => tag_number(found.wrapping),
+            Hint::MessageAt(_) => 4,
+            Hint::AfterBlocks => 5,
+            Hint::Text(text) => dump_number(text),
+            Hint::CodeLeftOut => 13,
+            Hint::StandardProfile => 14,
+        }
+    }
+
+    /// The place where a message may begin, counted from the first byte; 0 where the hint names none.
+    pub fn place(self) -> u64
+        ensures { result ≡ hint_place self }
+    {
+        match self {
+            Hint::InTag(found) => u64::from(found.at),
+            Hint::MessageAt(place) => place,
+            _ => 0,
+        }
+    }
+
+    /// The number of bytes that a tag has for that message; 0 where the hint names none.
+    pub fn length(self) -> u64
+        ensures { result ≡ hint_length self }
+    {
+        match self {
+            Hint::InTag(found) => u64::from(found.length),
+            _ => 0,
+        }
+    }
+}
+
+/// The number of a hint on what a tag has for a message.
+fn tag_number(wrapping: Wrapping) -> u32
+    ensures { result ≡ tag_number wrapping }
+{
+    match wrapping {
+        Wrapping::Block => 1,
+        Wrapping::Attributes => 2,
+        Wrapping::File => 3,
+    }
+}
+
+/// The number of a hint on a text.
+fn dump_number(text: DumpText) -> u32
+    ensures { result ≡ dump_number text }
+{
+    match text {
+        DumpText::Digits => 6,
+        DumpText::Xxd => 7,
+        DumpText::Hexdump => 8,
+        DumpText::Words => 9,
+        DumpText::Flipper => 10,
+        DumpText::Proxmark => 11,
+        DumpText::Base64 => 12,
+    }
+}
+
+/// The sentence for a message at a place.
+fn near_sentence(place: u64) -> Sentence
+    ensures { result ≡ near_text place }
+{
+    let mut sentence = Sentence::new();
+    sentence.push(
+        b"The bytes may begin with what surrounds a message on a tag; a message begins at byte ",
+    );
+    sentence.push_number(place);
+    sentence.push(b".");
+    sentence
+}
+
+/// Appends a number and a text.
+fn push_both(sentence: &mut Sentence, number: u64, text: &[u8])
+    requires { length sentence.old + 20 + length text.now ≤ 192 }
+    ensures text { sentence.new ≡ sentence.old ++ decimal number ++ text.now }
+    ensures short { length sentence.new ≤ length sentence.old + 20 + length text.now }
+{
+    sentence.push_number(number);
+    sentence.push(text);
+}
+
+/// Appends a number of bytes for a message, and where they begin.
+fn push_message(sentence: &mut Sentence, found: Found)
+    requires { length sentence.old ≤ 72 }
+    ensures { sentence.new ≡ message_text sentence.old found }
+{
+    push_both(sentence, u64::from(found.length), b" bytes from byte ");
+    push_both(sentence, u64::from(found.at), b" on; `tail -c +");
+    push_both(sentence, u64::from(found.at) + 1, b"` begins there.");
+}
+
+/// The beginning of the sentence for what a tag has for a message.
+fn first_of(wrapping: Wrapping) -> Sentence
+    ensures text { result ≡ wrapping_text wrapping }
+    ensures short { length result ≤ 72 }
+{
+    match wrapping {
+        Wrapping::Block => Sentence::of(b"An NDEF TLV of a tag has a message of "),
+        Wrapping::Attributes => {
+            Sentence::of(b"After the attribute block of a Type 3 Tag comes a message of ")
+        }
+        Wrapping::File => {
+            Sentence::of(b"After a length, as in a file of a Type 4 Tag, comes a message of ")
+        }
+    }
+}
+
+/// The sentence for what a tag has for a message.
+fn tag_sentence(found: Found) -> Sentence
+    ensures { result ≡ tag_text found }
+{
+    if found.length == 0 {
+        return Sentence::of(b"This tag is empty: it has no bytes for a message.");
+    }
+    let mut sentence = first_of(found.wrapping);
+    push_message(&mut sentence, found);
+    sentence
+}
+
+/// The sentence for a text that spells bytes.
+fn dump_sentence(text: DumpText) -> Sentence
+    ensures { result ≡ dump_text text }
+{
+    Sentence::of(match text {
+        DumpText::Digits => {
+            b"These are hexadecimal digits, not the bytes that they spell; `--hex` reads them."
+        }
+        DumpText::Xxd => b"This is a dump by xxd, not the bytes that it spells; `--hex` reads it.",
+        DumpText::Hexdump =>
+            b"This is a dump by hexdump, not the bytes that it spells; `--hex` reads it.",
+        DumpText::Words => {
+            b"This is a dump by od or hexdump, not the bytes; `--hex` reads those of `hexdump -C` and xxd."
+        }
+        DumpText::Flipper => {
+            b"This is a file of a Flipper; `--hex` reads what `sed -n 's/^Page [0-9]*: //p'` leaves of it."
+        }
+        DumpText::Proxmark => {
+            b"This is what a Proxmark prints, not the bytes; `--hex` reads the digits of its blocks."
+        }
+        DumpText::Base64 =>
+            b"This may be base64, not the bytes that it spells; `base64 -d` gives them.",
+    })
+}
