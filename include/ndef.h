@@ -155,11 +155,44 @@ uint32_t ndef_reason_sentence(uint32_t reason, uint8_t *room, ndef_size size, nd
 uint32_t ndef_why(const uint8_t *bytes, ndef_size length, const ndef_limits *limits, uint8_t *room, ndef_size size,
                   ndef_size *count);
 
-/* Writes a sentence that may help where the bytes are refused, as ndef_why does: a message begins at one of the offsets
- * 1 to 16, the code of a URI may be missing, or NDEF_STANDARD reads the bytes. It may take 17 times as long as a check.
+/* What a hint is about. */
+enum ndef_hint_number {
+    NDEF_HINT_TLV = 1,        /* an NDEF message TLV of a tag has bytes for a message, or none */
+    NDEF_HINT_ATTRIBUTES = 2, /* a message comes after the attribute block of a Type 3 Tag */
+    NDEF_HINT_FILE = 3,       /* a message comes after its length, as in a file of a Type 4 Tag */
+    NDEF_HINT_MESSAGE = 4,    /* a message begins after other bytes */
+    NDEF_HINT_TERMINATOR = 5, /* the terminator of a tag's TLV blocks is in place of a message */
+    NDEF_HINT_DIGITS = 6,     /* the bytes are hexadecimal digits */
+    NDEF_HINT_XXD = 7,        /* the bytes are a dump by xxd */
+    NDEF_HINT_HEXDUMP = 8,    /* the bytes are a dump by hexdump -C */
+    NDEF_HINT_WORDS = 9,      /* the bytes are a dump by od or hexdump, which may show words */
+    NDEF_HINT_FLIPPER = 10,   /* the bytes are an NFC file of a Flipper */
+    NDEF_HINT_PROXMARK = 11,  /* the bytes are what the client of a Proxmark prints */
+    NDEF_HINT_BASE64 = 12,    /* the bytes may be base64 */
+    NDEF_HINT_CODE = 13,      /* the identifier code of a URI may be missing */
+    NDEF_HINT_STANDARD = 14   /* a reader of the standard profile accepts the bytes */
+};
+
+/* What may help where bytes are refused, by numbers. */
+typedef struct ndef_found {
+    uint32_t hint;    /* the hint, one of ndef_hint_number */
+    ndef_size at;     /* where a message may begin; 0 where the hint names no place */
+    ndef_size length; /* the number of bytes that a tag has for it; 0 where the hint names none */
+} ndef_found;
+
+/* Writes a sentence that may help where the bytes are refused, as ndef_why does: they are the memory of a tag or a text
+ * that spells bytes; the first is 00, 01 or 03 and a message begins at one of the offsets 1 to 16; the code of a URI may
+ * be missing; or NDEF_STANDARD reads the bytes. It may take 17 times as long as a check.
  * NDEF_OK, NDEF_NO_ROOM, NDEF_BAD_ARGUMENT: as with ndef_why. NDEF_END: also where nothing is known to help. */
 uint32_t ndef_hint(const uint8_t *bytes, ndef_size length, const ndef_limits *limits, uint8_t *room, ndef_size size,
                    ndef_size *count);
+
+/* Says by numbers what may help where the bytes are refused: which hint it is, and of one on the memory of a tag
+ * where a message may begin and how many bytes the tag has for it.
+ * NDEF_OK: `out` has the hint whose sentence ndef_hint writes.
+ * NDEF_END: the bytes begin with a message, or nothing is known to help; `out` is unchanged.
+ * NDEF_BAD_ARGUMENT: as with ndef_fields; `out` is unchanged. */
+uint32_t ndef_find_hint(const uint8_t *bytes, ndef_size length, const ndef_limits *limits, ndef_found *out);
 
 /* ---- read records */
 

@@ -15,6 +15,7 @@ export const LAYOUT = {
     limits: { size: 16, members: { payload: [0, 4], records: [4, 4], pieces: [8, 4], flags: [12, 4] } },
     checked: { size: 16, members: { place: [0, 8], records: [8, 4], reason: [12, 4] } },
     checker: { size: 488, members: { words: [0, 488] } },
+    found: { size: 24, members: { hint: [0, 4], at: [8, 8], length: [16, 8] } },
     record: { size: 88, members: {
         at: [0, 8], end: [8, 8], typeAt: [16, 8], typeLength: [24, 8], idAt: [32, 8], idLength: [40, 8], payloadAt: [48, 8],
         partLength: [56, 8], payloadLength: [64, 8], pieces: [72, 8], tnf: [80, 4], last: [84, 4],
@@ -72,6 +73,7 @@ export const CALLS = {
     ndef_reason_sentence: "i32 i32 i64 i32", // reason, room, size, count
     ndef_why: "i32 i64 i32 i32 i64 i32", // bytes, length, limits, room, size, count
     ndef_hint: "i32 i64 i32 i32 i64 i32", // bytes, length, limits, room, size, count
+    ndef_find_hint: "i32 i64 i32 i32", // bytes, length, limits, out
     ndef_record_at: "i32 i64 i64 i32", // bytes, length, at, out
     ndef_kind: "i32 i64 i32 i32", // bytes, length, record, within
     ndef_payload: "i32 i64 i64 i32 i64 i32", // bytes, length, at, room, size, count

@@ -188,6 +188,7 @@ def groups() -> List[Group]:
               'crates/ndef_fields/src/name.rt'),
         Group('ndef_handover', constants('crates/ndef_c/src/handover_writing.rt', 'NDEF_'), 'What a handover is.',
               'crates/ndef_c/src/handover_writing.rt'),
+        Group('ndef_hint_number', constants('crates/ndef_c/src/hints.rt', 'NDEF_'), 'What a hint is about.', 'crates/ndef_c/src/hints.rt'),
         Group('ndef_layout_form', constants('crates/ndef_c/src/layout.rt', 'NDEF_'), 'What a field of a layout holds.', 'crates/ndef_c/src/layout.rt'),
     ]
     return made + [Group('', tuple(Constant(name, *FLAGS[name]) for name in names), 'Flags.', 'packaging/interface_parts/rattle.py', beside)

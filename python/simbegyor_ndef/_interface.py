@@ -60,6 +60,22 @@ TNF_UNKNOWN = 5
 STANDARD = 1
 OPAQUE = 2
 
+# What a hint is about.
+HINT_TLV = 1
+HINT_ATTRIBUTES = 2
+HINT_FILE = 3
+HINT_MESSAGE = 4
+HINT_TERMINATOR = 5
+HINT_DIGITS = 6
+HINT_XXD = 7
+HINT_HEXDUMP = 8
+HINT_WORDS = 9
+HINT_FLIPPER = 10
+HINT_PROXMARK = 11
+HINT_BASE64 = 12
+HINT_CODE = 13
+HINT_STANDARD = 14
+
 # What the payload of a record is.
 KIND_OTHER = 0
 KIND_TEXT = 1
@@ -141,6 +157,11 @@ class Checked(ctypes.Structure):
 class Checker(ctypes.Structure):
     """A checker in the caller's memory, which keeps no bytes but those of a type that comes in parts."""
     _fields_ = [('words', u64 * 61)]
+
+
+class Found(ctypes.Structure):
+    """What may help where bytes are refused, by numbers."""
+    _fields_ = [('hint', u32), ('at', u64), ('length', u64)]
 
 
 class Record(ctypes.Structure):
@@ -317,6 +338,10 @@ class Calls(Protocol):
     def hint(self, bytes: Octets, length: Size, limits: Reference, room: Octets, size: Size, count: Reference) -> int:
         """Writes what may help where the bytes are refused to the buffer: a sentence of English, in ASCII and with no
         NUL after it."""
+
+    def find_hint(self, bytes: Octets, length: Size, limits: Reference, out: Reference) -> int:
+        """Says by numbers what may help where the bytes are refused: which hint it is, and of one on the memory of a
+        tag where a message may begin and how many bytes the tag has for it."""
 
     def record_at(self, bytes: Octets, length: Size, at: Size, out: Reference) -> int:
         """The record at an offset of the bytes."""

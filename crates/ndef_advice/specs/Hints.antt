@@ -81,7 +81,7 @@ abbrev pub Applies : LimitValues → (bytes : List ℕ) → Refusal → Hint →
 Applies limits bytes refusal hint =
     IsOfDump bytes refusal hint ⊎ (IsNoDump bytes refusal × AppliesElse limits bytes refusal hint)
 
--- ---- sentences and numbers
+-- ---- sentences, and what they name
 
 -- a text, and after it a number of bytes for a message, and where they begin
 abbrev pub message_text : (before : List ℕ) → Found → List ℕ
@@ -129,31 +129,6 @@ hint_text (hints.MessageAt place) = near_text place
 hint_text hints.AfterBlocks = codes "FE (hexadecimal) ends the TLV blocks of a tag; what comes after it is no message."
 hint_text hints.CodeLeftOut = codes "68 (hexadecimal) is the letter h: was the identifier code left out?"
 hint_text hints.StandardProfile = codes "The standard profile reads this (`--profile standard`, in C NDEF_STANDARD)."
-
--- the number of a hint on a text
-abbrev pub dump_number : DumpText → ℕ
-dump_number texts.Digits = 6
-dump_number texts.Xxd = 7
-dump_number texts.Hexdump = 8
-dump_number texts.Words = 9
-dump_number texts.Flipper = 10
-dump_number texts.Proxmark = 11
-dump_number texts.Base64 = 12
-
--- the number of a hint on the bytes that a tag has for a message
-abbrev pub tag_number : Wrapping → ℕ
-tag_number wrappings.Block = 1
-tag_number wrappings.Attributes = 2
-tag_number wrappings.File = 3
-
--- the number of a hint
-abbrev pub hint_number : Hint → ℕ
-hint_number (hints.InTag found) = tag_number found.wrapping
-hint_number (hints.MessageAt place) = 4
-hint_number hints.AfterBlocks = 5
-hint_number (hints.Text text) = dump_number text
-hint_number hints.CodeLeftOut = 13
-hint_number hints.StandardProfile = 14
 
 -- the place where a message may begin; 0 where the hint names none
 abbrev pub hint_place : Hint → ℕ

@@ -1,8 +1,7 @@
-//! The sentences of hints, and their numbers.
+//! The sentences of hints, and what they name by numbers.
 ghost use Rattle.std.specs.Prelude.{◌≡◌, ◌≤◌, ◌+◌, ◌++◌, decimal, length};
-ghost use Rattle.ndef_advice.specs.Hints.{dump_number, dump_text, hint_length, hint_number, hint_place};
-ghost use Rattle.ndef_advice.specs.Hints.{hint_text, message_text, near_text, tag_number};
-ghost use Rattle.ndef_advice.specs.Hints.{tag_text, wrapping_text};
+ghost use Rattle.ndef_advice.specs.Hints.{dump_text, hint_length, hint_place, hint_text, message_text, near_text, tag_text};
+ghost use Rattle.ndef_advice.specs.Hints.{wrapping_text};
 
 use crate::dump_text::DumpText;
 use crate::tag_memory::{Found, Wrapping};
@@ -29,21 +28,6 @@ impl Hint {
         }
     }
 
-    /// Its number, 1 to 14: 1 to 3 for what surrounds a message on a tag, 4 for a message at a place, 5 for what comes
-    /// after TLV blocks, 6 to 12 for texts, 13 for a code that was left out, 14 for the standard profile.
-    pub fn number(self) -> u32
-        ensures { result ≡ hint_number self }
-    {
-        match self {
-            Hint::InTag(found) => tag_number(found.wrapping),
-            Hint::MessageAt(_) => 4,
-            Hint::AfterBlocks => 5,
-            Hint::Text(text) => dump_number(text),
-            Hint::CodeLeftOut => 13,
-            Hint::StandardProfile => 14,
-        }
-    }
-
     /// The place where a message may begin, counted from the first byte; 0 where the hint names none.
     pub fn place(self) -> u64
         ensures { result ≡ hint_place self }
@@ -63,32 +47,6 @@ impl Hint {
             Hint::InTag(found) => u64::from(found.length),
             _ => 0,
         }
-    }
-}
-
-/// The number of a hint on what a tag has for a message.
-fn tag_number(wrapping: Wrapping) -> u32
-    ensures { result ≡ tag_number wrapping }
-{
-    match wrapping {
-        Wrapping::Block => 1,
-        Wrapping::Attributes => 2,
-        Wrapping::File => 3,
-    }
-}
-
-/// The number of a hint on a text.
-fn dump_number(text: DumpText) -> u32
-    ensures { result ≡ dump_number text }
-{
-    match text {
-        DumpText::Digits => 6,
-        DumpText::Xxd => 7,
-        DumpText::Hexdump => 8,
-        DumpText::Words => 9,
-        DumpText::Flipper => 10,
-        DumpText::Proxmark => 11,
-        DumpText::Base64 => 12,
     }
 }
 

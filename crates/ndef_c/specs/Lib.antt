@@ -13,6 +13,7 @@ pub mod HandoverMaking
 pub mod HandoverParts
 pub mod HandoverWrites
 pub mod Handovers
+pub mod Hints
 pub mod Icons
 pub mod Items
 pub mod Kinds

@@ -1,14 +1,13 @@
--- Why bytes are refused, and what may help, in sentences.
+-- Why bytes are refused, in sentences.
 use Rattle.std.specs.Prelude.{◌≡◌, ℕ, ◌⊎◌, List}
 use Rattle.ndef_format.specs.Limits.{LimitValues}
 use Rattle.ndef_format.specs.NestedReasons.{TypedReason}
 use Rattle.ndef_format.specs.Payloads.{IsTypedPayload}
 use Rattle.ndef_format.specs.Refusals.{Refuses}
 use Rattle.ndef_format.specs.declared.refusal.Refusal.{Refusal}
-use Rattle.ndef_advice.specs.Hints.{Applies, BeginsWithMessage, hint_text}
+use Rattle.ndef_advice.specs.Hints.{BeginsWithMessage}
 use Rattle.ndef_advice.specs.Wants.{IsWanted}
 use Rattle.ndef_advice.specs.Wordings.{wanted_text}
-use Rattle.ndef_advice.specs.declared.hint.Hint.{Hint}
 use Rattle.ndef_advice.specs.declared.wanted.Wanted.{Wanted}
 use Rattle.ndef_c.specs.Rooms.{Gives}
 use Rattle.ndef_c.specs.declared.status.TheConstants.{END}
@@ -32,23 +31,3 @@ abbrev pub GivesWhy : LimitValues → (bytes before after : List ℕ) (counted c
 GivesWhy limits bytes before after counted count status =
     (BeginsWithMessage limits bytes × GivesNone before after counted count status)
     ⊎ GivesWanted limits bytes before after count status
-
--- NDEF 1.0, messages: no hint applies where the bytes are refused
-pub record HasNoHint (limits : LimitValues) (bytes : List ℕ) : Type 0 where
-  pub refusal : Refusal
-  pub refused : Refuses IsTypedPayload TypedReason limits bytes refusal
-  pub none : (hint : Hint) → ¬ Applies limits bytes refusal hint
-
--- NDEF 1.0, messages: the sentence for a hint that applies where the bytes are refused is given
-pub record GivesHinted (limits : LimitValues) (bytes before after : List ℕ) (count status : ℕ) : Type 0 where
-  pub refusal : Refusal
-  pub refused : Refuses IsTypedPayload TypedReason limits bytes refusal
-  pub hint : Hint
-  pub applies : Applies limits bytes refusal hint
-  pub gives : Gives (hint_text hint) before after count status
-
--- the same, or none where the bytes begin with a message, or no hint applies
-abbrev pub GivesHint : LimitValues → (bytes before after : List ℕ) (counted count status : ℕ) → Type 0
-GivesHint limits bytes before after counted count status =
-    ((BeginsWithMessage limits bytes ⊎ HasNoHint limits bytes) × GivesNone before after counted count status)
-    ⊎ GivesHinted limits bytes before after count status

@@ -9,8 +9,8 @@
 //! - `kinds.rt`, `specs/Kinds.antt`: what the payload of a record is, as its type says.
 //! - `pieces.rt`, `specs/Pieces.antt`: where its pieces lie. `specs/Arrays.antt`: what is written to an array.
 //! - `fields.rt`, `field_names.rt`, `payload_fields.rt`, `specs/Fields.antt`: in which field each byte stands.
-//! - `why.rt`, `specs/Whys.antt`: why bytes are refused, and what may help, in sentences. `remarks.rt`,
-//!   `specs/Remarks.antt`: what is strange in a message that is accepted.
+//! - `why.rt`, `specs/Whys.antt`: why bytes are refused, in sentences. `hints.rt`, `specs/Hints.antt`: what may help, in
+//!   sentences and by numbers. `remarks.rt`, `specs/Remarks.antt`: what is strange in a message that is accepted.
 //! - `items.rt`, `specs/Items.antt`: a message and all its records, in one call.
 //! - `layout.rt`, `specs/Layouts.antt`: payloads of a layout that a program gives.
 //! - `finding.rt`, `specs/Finding.antt`: the first record with a type or an id.
@@ -54,6 +54,7 @@ mod handover;
 mod handover_making;
 mod handover_parts;
 mod handover_writing;
+mod hints;
 mod icons;
 mod items;
 mod kinds;
@@ -134,6 +135,23 @@ pub use handover_parts::NdefAlternativeWriting;
 pub use handover_writing::REQUEST;
 pub use handover_writing::SELECT;
 pub use handover_writing::ndef_write_handover;
+pub use hints::HINT_ATTRIBUTES;
+pub use hints::HINT_BASE64;
+pub use hints::HINT_CODE;
+pub use hints::HINT_DIGITS;
+pub use hints::HINT_FILE;
+pub use hints::HINT_FLIPPER;
+pub use hints::HINT_HEXDUMP;
+pub use hints::HINT_MESSAGE;
+pub use hints::HINT_PROXMARK;
+pub use hints::HINT_STANDARD;
+pub use hints::HINT_TERMINATOR;
+pub use hints::HINT_TLV;
+pub use hints::HINT_WORDS;
+pub use hints::HINT_XXD;
+pub use hints::NdefFound;
+pub use hints::ndef_find_hint;
+pub use hints::ndef_hint;
 pub use icons::NdefIcon;
 pub use icons::ndef_poster_icons;
 pub use items::NdefItem;
@@ -210,7 +228,6 @@ pub use version::MAJOR;
 pub use version::MINOR;
 pub use version::PATCH;
 pub use version::ndef_version;
-pub use why::ndef_hint;
 pub use why::ndef_why;
 pub use writer::NdefWriter;
 pub use writer::ndef_writer_begin;

@@ -15,9 +15,13 @@ abbrev pub IsHint : LimitValues → (input : List ℕ) → Refusal → Option Hi
 IsHint limits input refusal (Some hint) = Applies limits input refusal hint
 IsHint limits input refusal None = (hint : Hint) → Applies limits input refusal hint → ⊥
 
--- a hint after this number of bytes of the input: what surrounds a message on a tag stands before the first one alone
+-- a hint after this number of bytes of the input: on what the input is, and on what surrounds a message on a tag, before
+-- the first message alone
 abbrev pub hint_after : (at : ℕ) → Hint → Option Hint
+hint_after at (hints.InTag found) = if at == 0 then Some (hints.InTag found) else None
+hint_after at (hints.Text text) = if at == 0 then Some (hints.Text text) else None
 hint_after at (hints.MessageAt place) = if at == 0 then Some (hints.MessageAt place) else None
+hint_after at hints.AfterBlocks = Some hints.AfterBlocks
 hint_after at hints.CodeLeftOut = Some hints.CodeLeftOut
 hint_after at hints.StandardProfile = Some hints.StandardProfile
 

@@ -19,15 +19,9 @@ fn hint_after(at: u64, hint: Hint) -> Option<Hint>
     ensures { result ≡ hint_after at hint }
 {
     match hint {
-        Hint::MessageAt(place) => {
-            if at == 0 {
-                Some(Hint::MessageAt(place))
-            } else {
-                None
-            }
-        }
-        Hint::CodeLeftOut => Some(Hint::CodeLeftOut),
-        Hint::StandardProfile => Some(Hint::StandardProfile),
+        Hint::InTag(_) | Hint::Text(_) | Hint::MessageAt(_) if at > 0 => None,
+        Hint::InTag(_) | Hint::Text(_) | Hint::MessageAt(_) => Some(hint),
+        Hint::AfterBlocks | Hint::CodeLeftOut | Hint::StandardProfile => Some(hint),
     }
 }
 
