@@ -83,24 +83,29 @@ Applies limits bytes refusal hint =
 
 -- ---- sentences, and what they name
 
--- a text, and after it a number of bytes for a message, and where they begin
-abbrev pub message_text : (before : List ℕ) → Found → List ℕ
-message_text before found =
-    before ++ decimal found.length ++ codes " bytes from byte " ++ decimal found.at ++ codes " on; `tail -c +"
-    ++ decimal (found.at + 1) ++ codes "` begins there."
-
--- the beginning of the sentence for what a tag has for a message
+-- what surrounds a message on a tag
 abbrev pub wrapping_text : Wrapping → List ℕ
-wrapping_text wrappings.Block = codes "An NDEF TLV of a tag has a message of "
-wrapping_text wrappings.Attributes = codes "After the attribute block of a Type 3 Tag comes a message of "
-wrapping_text wrappings.File = codes "After a length, as in a file of a Type 4 Tag, comes a message of "
+wrapping_text wrappings.Block = codes ", in an NDEF TLV of a tag"
+wrapping_text wrappings.Attributes = codes ", after the attribute block of a Type 3 Tag"
+wrapping_text wrappings.File = codes ", after its length, as in a file of a Type 4 Tag"
 
--- the sentence for it
+-- the length and the place of a message on a tag, and the beginning of a command
+abbrev pub placed_text : (before : List ℕ) → Found → List ℕ
+placed_text before found =
+    before ++ decimal found.length ++ codes " may begin at byte " ++ decimal found.at
+    ++ wrapping_text found.wrapping ++ codes ": `tail -c +"
+
+-- the same, and the rest of the command, which gives the bytes of the message
+abbrev pub cut_text : (before : List ℕ) → (place length : ℕ) → List ℕ
+cut_text before place length =
+    before ++ decimal (place + 1) ++ codes " | head -c " ++ decimal length ++ codes "`."
+
+-- the sentence for what a tag has for a message
 abbrev pub tag_text : Found → List ℕ
 tag_text found =
     if found.length == 0
     then codes "This tag is empty: it has no bytes for a message."
-    else message_text (wrapping_text found.wrapping) found
+    else cut_text (placed_text (codes "A message of length ") found) found.at found.length
 
 -- the sentence for a text that spells bytes
 abbrev pub dump_text : DumpText → List ℕ

@@ -163,7 +163,7 @@ wanted_text reason (wanted.RoomForNext left) = next_text left
 wanted_text reason (wanted.UriInPoster number) = poster_text number
 wanted_text reason (wanted.OneUri number) = second_text number
 wanted_text reason wanted.CollisionFirst =
-    codes "This request must begin with a collision record (`cr`); it has none."
+    codes "This request must begin with a collision record (`cr`); its first record is another."
 wanted_text reason (wanted.CollisionLength given) = collision_text given
 wanted_text reason (wanted.ShorterCollision least left) = long_collision_text least left
 wanted_text reason (wanted.LastCollision size left) = last_collision_text size left

@@ -1,7 +1,7 @@
 //! The sentences of hints, and what they name by numbers.
 ghost use Rattle.std.specs.Prelude.{◌≡◌, ◌≤◌, ◌+◌, ◌++◌, decimal, length};
-ghost use Rattle.ndef_advice.specs.Hints.{dump_text, hint_length, hint_place, hint_text, message_text, near_text, tag_text};
-ghost use Rattle.ndef_advice.specs.Hints.{wrapping_text};
+ghost use Rattle.ndef_advice.specs.Hints.{cut_text, dump_text, hint_length, hint_place, hint_text, near_text, placed_text};
+ghost use Rattle.ndef_advice.specs.Hints.{tag_text, wrapping_text};
 
 use crate::dump_text::DumpText;
 use crate::tag_memory::{Found, Wrapping};
@@ -73,30 +73,36 @@ fn push_both(sentence: &mut Sentence, number: u64, text: &[u8])
     sentence.push(text);
 }
 
-/// Appends a number of bytes for a message, and where they begin.
-fn push_message(sentence: &mut Sentence, found: Found)
-    requires { length sentence.old ≤ 72 }
-    ensures { sentence.new ≡ message_text sentence.old found }
-{
-    push_both(sentence, u64::from(found.length), b" bytes from byte ");
-    push_both(sentence, u64::from(found.at), b" on; `tail -c +");
-    push_both(sentence, u64::from(found.at) + 1, b"` begins there.");
-}
-
-/// The beginning of the sentence for what a tag has for a message.
-fn first_of(wrapping: Wrapping) -> Sentence
-    ensures text { result ≡ wrapping_text wrapping }
-    ensures short { length result ≤ 72 }
+/// What surrounds a message on a tag.
+fn wrapping_text(wrapping: Wrapping) -> &'static [u8]
+    ensures text { result.now ≡ wrapping_text wrapping }
+    ensures short { length result.now ≤ 48 }
 {
     match wrapping {
-        Wrapping::Block => Sentence::of(b"An NDEF TLV of a tag has a message of "),
-        Wrapping::Attributes => {
-            Sentence::of(b"After the attribute block of a Type 3 Tag comes a message of ")
-        }
-        Wrapping::File => {
-            Sentence::of(b"After a length, as in a file of a Type 4 Tag, comes a message of ")
-        }
+        Wrapping::Block => b", in an NDEF TLV of a tag",
+        Wrapping::Attributes => b", after the attribute block of a Type 3 Tag",
+        Wrapping::File => b", after its length, as in a file of a Type 4 Tag",
     }
+}
+
+/// Appends the length and the place of a message on a tag, and the beginning of a command.
+fn push_placed(sentence: &mut Sentence, found: Found)
+    requires { length sentence.old ≤ 20 }
+    ensures text { sentence.new ≡ placed_text sentence.old found }
+    ensures short { length sentence.new ≤ 139 }
+{
+    push_both(sentence, u64::from(found.length), b" may begin at byte ");
+    push_both(sentence, u64::from(found.at), wrapping_text(found.wrapping));
+    sentence.push(b": `tail -c +");
+}
+
+/// Appends the rest of the command, which gives the bytes of the message.
+fn push_cut(sentence: &mut Sentence, found: Found)
+    requires { length sentence.old ≤ 139 }
+    ensures { sentence.new ≡ cut_text sentence.old found.at found.length }
+{
+    push_both(sentence, u64::from(found.at) + 1, b" | head -c ");
+    push_both(sentence, u64::from(found.length), b"`.");
 }
 
 /// The sentence for what a tag has for a message.
@@ -106,8 +112,9 @@ fn tag_sentence(found: Found) -> Sentence
     if found.length == 0 {
         return Sentence::of(b"This tag is empty: it has no bytes for a message.");
     }
-    let mut sentence = first_of(found.wrapping);
-    push_message(&mut sentence, found);
+    let mut sentence = Sentence::of(b"A message of length ");
+    push_placed(&mut sentence, found);
+    push_cut(&mut sentence, found);
     sentence
 }
 
