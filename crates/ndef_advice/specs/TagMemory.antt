@@ -1,5 +1,5 @@
 -- Where the memory of a tag has a message.
-use Rattle.std.specs.Prelude.{◌≡◌, ℕ, ◌+◌, ◌*◌, ◌<◌, ◌==◌, ◌||◌, ◌&&◌, Bool, true, List, Option, Some, None, length, nat_le, slice_index, sum, take, if◌then◌else◌}
+use Rattle.std.specs.Prelude.{◌≡◌, ℕ, ◌+◌, ◌*◌, ◌<◌, ◌==◌, ◌||◌, ◌&&◌, Bool, true, false, List, Option, Some, None, length, nat_le, slice_index, sum, take, if◌then◌else◌}
 use Rattle.ndef_advice.specs.declared.tag_memory.Found.{Found}
 use Rattle.ndef_advice.specs.declared.tag_memory.Wrapping.TheVariants.{Block, Attributes, File}
 
@@ -47,24 +47,30 @@ pub record IsMessageBlock (bytes : List ℕ) (start place : ℕ) : Type 0 where
   pub inside : place < length bytes
   pub tag : slice_index bytes place ≡ 3
 
--- NFC Forum, Type 2 Tag, memory structure: the capability container comes after three pages, as a dump from page 0 has it
-abbrev pub has_pages : List ℕ → Bool
-has_pages bytes = (slice_index bytes 12 == 0xE1) && (slice_index bytes 13 == 0x10)
+-- NFC Forum, Type 1 Tag and Type 2 Tag, capability container: its first two octets, the second its version, at a place
+abbrev pub is_container : List ℕ → (place : ℕ) → Bool
+is_container bytes place = (slice_index bytes place == 0xE1) && (slice_index bytes (place + 1) == 0x10)
 
--- NFC Forum, Type 2 Tag and Type 5 Tag, capability container: its first octet
-abbrev pub is_container : ℕ → Bool
-is_container octet = (octet == 0xE1) || (octet == 0xE2)
+-- NFC Forum, Type 1 Tag and Type 2 Tag, memory structure: the first one lies here, at most 16 octets after the first
+-- octet of a tag, or there is none
+abbrev pub IsFirstContainer : List ℕ → Option ℕ → Type 0
+IsFirstContainer bytes (Some place) =
+    (place < 17) × (is_container bytes place ≡ true)
+    × ((other : ℕ) → other < place → is_container bytes other ≡ false)
+IsFirstContainer bytes None = (place : ℕ) → place < 17 → is_container bytes place ≡ false
+
+-- NFC Forum, Type 5 Tag, capability container: its first octet
+abbrev pub is_type_5 : List ℕ → Bool
+is_type_5 bytes = (slice_index bytes 0 == 0xE1) || (slice_index bytes 0 == 0xE2)
 
 -- NFC Forum, Type 5 Tag, capability container: eight octets where the third is 0, else four
-abbrev pub container_length : List ℕ → ℕ
-container_length bytes = if slice_index bytes 2 == 0 then 8 else 4
+abbrev pub type_5_length : List ℕ → ℕ
+type_5_length bytes = if slice_index bytes 2 == 0 then 8 else 4
 
--- NFC Forum, Type 2 Tag and Type 5 Tag: the blocks of these bytes begin here
-abbrev pub blocks_at : List ℕ → ℕ
-blocks_at bytes =
-    if has_pages bytes
-    then 16
-    else (if is_container (slice_index bytes 0) then container_length bytes else 0)
+-- NFC Forum, Type 1 Tag, Type 2 Tag and Type 5 Tag: the blocks begin after the capability container, or at once
+abbrev pub blocks_at : (container : Option ℕ) → List ℕ → ℕ
+blocks_at (Some place) bytes = place + 4
+blocks_at None bytes = if is_type_5 bytes then type_5_length bytes else 0
 
 -- ---- what a tag has for a message
 
@@ -95,12 +101,12 @@ in_file bytes =
     then Some (record { wrapping = File; at = 2; length = two_octets bytes 0 })
     else None
 
--- NFC Forum, Type 2 Tag, NDEF message TLV: the place of the first such block, if there is one
-abbrev pub IsFirstBlock : List ℕ → Option ℕ → Type 0
-IsFirstBlock bytes (Some place) = IsMessageBlock bytes (blocks_at bytes) place
-IsFirstBlock bytes None = (place : ℕ) → ¬ IsMessageBlock bytes (blocks_at bytes) place
+-- NFC Forum, Type 2 Tag, NDEF message TLV: the place of the first such block from a place on, if there is one
+abbrev pub IsFirstBlock : List ℕ → (start : ℕ) → Option ℕ → Type 0
+IsFirstBlock bytes start (Some place) = IsMessageBlock bytes start place
+IsFirstBlock bytes start None = (place : ℕ) → ¬ IsMessageBlock bytes start place
 
--- NFC Forum, Type 2, 3 and 4 Tag: what a tag's memory, or one of its files, has for a message, by that block
+-- NFC Forum, Type 1 to Type 5 Tag: what a tag's memory, or one of its files, has for a message, by that block
 abbrev pub found_by : Option ℕ → List ℕ → Option Found
 found_by (Some place) bytes = in_block bytes place
 found_by None bytes = if has_attributes bytes then Some (after_attributes bytes) else in_file bytes
@@ -109,8 +115,10 @@ found_by None bytes = if has_attributes bytes then Some (after_attributes bytes)
 abbrev pub front : List ℕ → List ℕ
 front bytes = take 16777216 bytes
 
--- NFC Forum, Type 2, 3 and 4 Tag: that is what these bytes have for a message
+-- NFC Forum, Type 1 to Type 5 Tag: that is what these bytes have for a message
 pub record Finds (bytes : List ℕ) (found : Option Found) : Type 0 where
+  pub container : Option ℕ
+  pub is_container : IsFirstContainer (front bytes) container
   pub block : Option ℕ
-  pub first : IsFirstBlock (front bytes) block
+  pub is_block : IsFirstBlock (front bytes) (blocks_at container (front bytes)) block
   pub found_is : found ≡ found_by block (front bytes)

@@ -1,8 +1,8 @@
 //! Where the memory of a tag has a message.
 ghost use Rattle.std.specs.Prelude.{◌≡◌, ◌<◌, ◌≤◌, ◌+◌, ◌^◌, IfSome, length, sum};
-ghost use Rattle.ndef_advice.specs.TagMemory.{Finds, IsFirstBlock, Reaches, Stops, after_attributes, blocks_at, found_by};
-ghost use Rattle.ndef_advice.specs.TagMemory.{has_attributes, in_block, in_file, is_begun, is_passed, next_block};
-ghost use Rattle.ndef_advice.specs.TagMemory.{two_octets, value_at, value_length};
+ghost use Rattle.ndef_advice.specs.TagMemory.{Finds, IsFirstBlock, IsFirstContainer, Reaches, Stops, after_attributes, blocks_at, found_by};
+ghost use Rattle.ndef_advice.specs.TagMemory.{has_attributes, in_block, in_file, is_begun, is_container, is_passed};
+ghost use Rattle.ndef_advice.specs.TagMemory.{next_block, two_octets, value_at, value_length};
 
 use crate::begun::{front_of, octet_at};
 
@@ -87,41 +87,60 @@ fn next_block(bytes: &[u8], place: usize) -> usize
     }
 }
 
-/// Where the TLV blocks of these bytes begin: after three pages and a capability container, after a capability
-/// container, or at once.
-fn blocks_at(bytes: &[u8]) -> usize
-    ensures value { result ≡ blocks_at bytes.now }
-    ensures small { result ≤ 16 }
+/// Whether a capability container of a Type 1 Tag or a Type 2 Tag lies at a place.
+fn is_container(bytes: &[u8], place: usize) -> bool
+    requires { place ≤ 2 ^ 24 }
+    ensures { result ≡ is_container bytes.now place }
 {
-    if octet_at(bytes, 12) == 0xE1 && octet_at(bytes, 13) == 0x10 {
-        return 16;
+    octet_at(bytes, place) == 0xE1 && octet_at(bytes, place + 1) == 0x10
+}
+
+/// The place of the first one, if it lies at most 16 octets after the first.
+fn first_container(bytes: &[u8]) -> Option<usize>
+    ensures first { IsFirstContainer bytes.now result }
+    ensures near { IfSome result (λ place. place < 17) }
+{
+    for place in 0..17 {
+        if is_container(bytes, place) {
+            return Some(place);
+        }
     }
-    match octet_at(bytes, 0) {
-        0xE1 | 0xE2 => { if octet_at(bytes, 2) == 0 { 8 } else { 4 } }
-        _ => 0,
+    None
+}
+
+/// Where the TLV blocks of these bytes begin: after a capability container, or at once.
+fn blocks_at(container: Option<usize>, bytes: &[u8]) -> usize
+    requires { IfSome container (λ place. place < 17) }
+    ensures value { result ≡ blocks_at container bytes.now }
+    ensures small { result ≤ 20 }
+{
+    match (container, octet_at(bytes, 0)) {
+        (Some(place), _) => place + 4,
+        (None, 0xE1 | 0xE2) => { if octet_at(bytes, 2) == 0 { 8 } else { 4 } }
+        (None, _) => 0,
     }
 }
 
-/// The place to which one comes who passes over all blocks that a reader passes over.
-fn past_blocks(bytes: &[u8]) -> usize
-    requires { length bytes.now ≤ 2 ^ 24 }
-    ensures reached { Reaches bytes.now (blocks_at bytes.now) result }
+/// The place to which one comes from a place who passes over all blocks that a reader passes over.
+fn past_blocks(bytes: &[u8], start: usize) -> usize
+    requires length { length bytes.now ≤ 2 ^ 24 }
+    ensures reached { Reaches bytes.now start result }
     ensures stops { Stops bytes.now result }
 {
-    let mut place = blocks_at(bytes);
+    let mut place = start;
     while place < bytes.len() && is_passed(bytes[place]) {
         place = next_block(bytes, place);
     }
     place
 }
 
-/// The place of the first block for a message, if there is one.
-fn first_block(bytes: &[u8]) -> Option<usize>
+/// The place of the first block for a message from a place on, if there is one.
+fn first_block(bytes: &[u8], start: usize) -> Option<usize>
     requires { length bytes.now ≤ 2 ^ 24 }
-    ensures first { IsFirstBlock bytes.now result }
+    ensures first { IsFirstBlock bytes.now start result }
     ensures inside { IfSome result (λ place. place < 2 ^ 24) }
 {
-    let place = past_blocks(bytes);
+    let place = past_blocks(bytes, start);
     if place < bytes.len() && bytes[place] == 3 {
         Some(place)
     } else {
@@ -214,11 +233,13 @@ fn found_by(block: Option<usize>, bytes: &[u8]) -> Option<Found>
 }
 
 /// What the memory of a tag, or a file of it, has for a message: the bytes of its first NDEF message TLV, of what comes
-/// after its attribute information block, or after the length of its file (NFC Forum, Type 2 to Type 5 Tag). None where
+/// after its attribute information block, or after the length of its file (NFC Forum, Type 1 to Type 5 Tag). None where
 /// the bytes look like none of these. It looks at the first 16 MiB, in a time that is linear in their number.
 pub(crate) fn found_in(bytes: &[u8]) -> Option<Found>
     ensures { Finds bytes.now result }
 {
     let front = front_of(bytes, MOST);
-    found_by(first_block(front), front)
+    let container = first_container(front);
+    let start = blocks_at(container, front);
+    found_by(first_block(front, start), front)
 }
