@@ -8,21 +8,27 @@ use Rattle.ndef_advice.specs.declared.dump_text.DumpText.TheVariants as texts
 abbrev pub is_from : (least most octet : ℕ) → Bool
 is_from least most octet = nat_le least octet && nat_le octet most
 
--- a blank, as between the groups of digits: tab, line feed, carriage return, space
-abbrev pub is_blank : ℕ → Bool
-is_blank octet = (octet == 9) || (octet == 10) || (octet == 13) || (octet == 32)
+-- a blank, a comma, a colon or a dash, as between groups of digits
+abbrev pub is_separator : ℕ → Bool
+is_separator octet =
+    (octet == 9) || (octet == 10) || (octet == 13) || (octet == 32) || (octet == 0x2C) || (octet == 0x2D)
+    || (octet == 0x3A)
+
+-- the letter of the prefix `0x` or `0X`
+abbrev pub is_prefix : ℕ → Bool
+is_prefix octet = (octet == 0x58) || (octet == 0x78)
 
 -- 0 to 9, A to F, a to f
 abbrev pub is_digit : ℕ → Bool
 is_digit octet = is_from 0x30 0x39 octet || is_from 0x41 0x46 octet || is_from 0x61 0x66 octet
 
--- a digit or a blank
-abbrev pub is_digit_or_blank : ℕ → Bool
-is_digit_or_blank octet = is_digit octet || is_blank octet
+-- an octet of a text of digits
+abbrev pub is_of_digits : ℕ → Bool
+is_of_digits octet = is_digit octet || is_separator octet || is_prefix octet
 
--- digits and blanks, and one digit or more
+-- digits, what separates them and prefixes, and one digit or more
 abbrev pub are_digits : List ℕ → Bool
-are_digits bytes = list_all is_digit_or_blank bytes && list_any is_digit bytes
+are_digits bytes = list_all is_of_digits bytes && list_any is_digit bytes
 
 -- RFC 4648, section 4: a letter, a digit, `+` or `/`, the padding, or the end of a line
 abbrev pub is_base64 : ℕ → Bool

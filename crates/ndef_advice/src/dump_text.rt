@@ -1,13 +1,14 @@
 //! Texts that spell bytes.
 ghost use Rattle.std.specs.Prelude.{◌≡◌};
 ghost use Rattle.std.specs.List.{list_all, list_any};
-ghost use Rattle.ndef_advice.specs.DumpTexts.{are_digits, is_base64, is_blank, is_digit, is_digit_or_blank};
-ghost use Rattle.ndef_advice.specs.DumpTexts.{is_first_digit, is_of_proxmark, may_be_base64, text_of};
+ghost use Rattle.ndef_advice.specs.DumpTexts.{are_digits, is_base64, is_digit, is_first_digit};
+ghost use Rattle.ndef_advice.specs.DumpTexts.{is_of_digits, is_of_proxmark, is_prefix, is_separator};
+ghost use Rattle.ndef_advice.specs.DumpTexts.{may_be_base64, text_of};
 
 /// A text that spells bytes, given in place of them.
 #[derive(Clone, Copy, Debug, PartialEq, Eq, Hash)]
 pub enum DumpText {
-    /// Hexadecimal digits, with or without blanks.
+    /// Hexadecimal digits, with or without what separates them.
     Digits,
     /// A dump by `xxd`.
     Xxd,
@@ -23,11 +24,18 @@ pub enum DumpText {
     Base64,
 }
 
-/// Whether an octet is a tab, a line feed, a carriage return or a space.
-fn is_blank(octet: u8) -> bool
-    ensures { result ≡ is_blank octet }
+/// Whether an octet separates digits: a tab, a line feed, a carriage return, a space, a comma, a dash or a colon.
+fn is_separator(octet: u8) -> bool
+    ensures { result ≡ is_separator octet }
 {
-    matches!(octet, 9 | 10 | 13 | 32)
+    matches!(octet, 9 | 10 | 13 | 32 | b',' | b'-' | b':')
+}
+
+/// Whether an octet is the letter of the prefix `0x`.
+fn is_prefix(octet: u8) -> bool
+    ensures { result ≡ is_prefix octet }
+{
+    matches!(octet, b'X' | b'x')
 }
 
 /// Whether an octet is a hexadecimal digit.
@@ -37,13 +45,20 @@ fn is_digit(octet: u8) -> bool
     matches!(octet, b'0'..=b'9' | b'A'..=b'F' | b'a'..=b'f')
 }
 
-/// Whether all of the bytes are digits or blanks.
-fn is_blank_or_digits(bytes: &[u8]) -> bool
-    ensures { result ≡ list_all is_digit_or_blank bytes.now }
+/// Whether an octet is of a text of digits.
+fn is_of_digits(octet: u8) -> bool
+    ensures { result ≡ is_of_digits octet }
+{
+    is_digit(octet) || is_separator(octet) || is_prefix(octet)
+}
+
+/// Whether all of the bytes are so.
+fn are_of_digits(bytes: &[u8]) -> bool
+    ensures { result ≡ list_all is_of_digits bytes.now }
 {
     let mut rest = bytes;
     while let [octet, more @ ..] = rest {
-        if !is_digit(*octet) && !is_blank(*octet) {
+        if !is_of_digits(*octet) {
             return false;
         }
         rest = more;
@@ -65,11 +80,11 @@ fn has_digit(bytes: &[u8]) -> bool
     false
 }
 
-/// Whether the bytes are digits and blanks, and one digit or more.
+/// Whether the bytes are digits, what separates them and prefixes, and one digit or more.
 fn are_digits(bytes: &[u8]) -> bool
     ensures { result ≡ are_digits bytes.now }
 {
-    is_blank_or_digits(bytes) && has_digit(bytes)
+    are_of_digits(bytes) && has_digit(bytes)
 }
 
 /// Whether an octet stands for itself in base64: a digit of it, padding, or the end of a line.

@@ -1,10 +1,10 @@
 use Rattle.std.proofs.Common.{◌≡◌, length}
 use Rattle.std.specs.List.{list_all}
-use Rattle.ndef_advice.specs.DumpTexts.{is_digit_or_blank}
-use Rattle.ndef_advice.proofs.dump_text.is_blank_or_digits.Given as goal
+use Rattle.ndef_advice.specs.DumpTexts.{is_of_digits}
+use Rattle.ndef_advice.proofs.dump_text.are_of_digits.Given as goal
 
 abbrev pub invariant-loop-rest : goal.invariant-loop-rest
-invariant-loop-rest l = list_all is_digit_or_blank l.bytes ≡ list_all is_digit_or_blank l.rest
+invariant-loop-rest l = list_all is_of_digits l.bytes ≡ list_all is_of_digits l.rest
 
 abbrev pub decreases-loop-rest : goal.decreases-loop-rest
 decreases-loop-rest l = length l.rest
