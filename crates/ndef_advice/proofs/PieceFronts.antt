@@ -4,7 +4,7 @@ use Rattle.std.specs.Prelude.{if◌then◌else◌, is_some, slice_index, unwrap_
 use Rattle.std.specs.Int.{w32, to_be_bytes}
 use Rattle.std.proofs.lemmas.Nat.{from_be_bytes-to_be_bytes_4}
 use Rattle.ndef_format.specs.Records.{Piece, SpellsPiece, body, fields, id_length_octets, octets, payload_length_octets}
-use Rattle.ndef_format.specs.HeadReasons.{is_set}
+use Rattle.ndef_format.specs.HeadReasons.{is_set, width}
 use Rattle.ndef_piece.specs.HeaderLaws.{header, header_parts, id_count}
 use Rattle.ndef_advice.specs.Begun.{head_length, id_length, payload_length, spelled}
 
@@ -94,7 +94,11 @@ pub record FrontTells (p : Piece) (short : Bool) (s : List ℕ) : Type 0 where
   pub no_id : is_set 3 (slice_index s 0) ≡ false → id_length s ≡ id_of p short
   pub whole_kind : 2 ≤ length s → slice_index s 1 ≡ length p.kind
   pub whole_id : head_length s ≤ length s → id_length s ≡ id_of p short
-  pub whole_payload : head_length s ≤ length s → payload_length s ≡ length p.payload
+  pub whole_payload : 2 + width (slice_index s 0) ≤ length s → payload_length s ≡ length p.payload
+
+some_width : (short : Bool) → 1 ≤ width_by short
+some_width true = omega arith
+some_width false = omega arith
 
 none_id : (there short : Bool) → id_by there short [] ≡ 0
 none_id true true = refl
@@ -135,7 +139,7 @@ front_tells p short (h ∷ []) more front rest l i e =
       no_id = λ n. id ∙ no_id_is f.id_length (sym there ∙ n);
       whole_kind = λ w. absurd (omega (arith, w));
       whole_id = λ w. absurd (omega (arith, w, long));
-      whole_payload = λ w. absurd (omega (arith, w, long));
+      whole_payload = λ w. absurd (omega (arith, w, some_width (is_set 4 h)));
     }
 front_tells p short (h ∷ k ∷ t) more front rest l i e =
     let f = fields p short in
@@ -165,5 +169,5 @@ front_tells p short (h ∷ k ∷ t) more front rest l i e =
       no_id = λ n. by_there (is_set 3 h) (is_set 4 h) t n ∙ no_id_is f.id_length (sym there ∙ n);
       whole_kind = λ w. kk;
       whole_id = λ w. id ∙ b.whole (omega (arith, w, head));
-      whole_payload = λ w. payload ∙ a.whole (omega (arith, w, head));
+      whole_payload = λ w. payload ∙ a.whole (omega (arith, w, ap width_by sh));
     }

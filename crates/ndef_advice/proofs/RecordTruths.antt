@@ -6,7 +6,7 @@ use Rattle.std.proofs.lemmas.List.{append-nil}
 use Rattle.ndef_format.specs.HeadReasons.{is_set, width}
 use Rattle.ndef_format.specs.Messages.{SpellsPieces}
 use Rattle.ndef_format.specs.Records.{Piece, SpellsPiece}
-use Rattle.ndef_advice.specs.Begun.{before_payload, head_length, id_length, is_lengths_whole, least_record, payload_length}
+use Rattle.ndef_advice.specs.Begun.{before_payload, head_length, id_length, is_length_whole, is_lengths_whole, least_record, payload_length}
 use Rattle.ndef_advice.specs.Truths.{CollisionsDoNotFit, EndsWithLast, IsMissing, LeastRecordsHold, MissingIsTrue, RecordsDoNotFit}
 use Rattle.ndef_advice.specs.Wants.{of_collision, of_collision_end, of_collision_size, of_end, of_size}
 use Rattle.ndef_advice.specs.declared.wanted.Wanted.{Wanted}
@@ -28,7 +28,7 @@ least_whole : (p : Piece) (short : Bool) (s front : List ℕ) → FrontTells p s
 least_whole p short s front f e w =
     let l = leb-true (head_length s) (length s) w in
     let k = f.whole_kind (omega (arith, l, f.head, head_some p short)) in
-    omega (arith, f.head, k, f.whole_id l, f.whole_payload l, e)
+    omega (arith, f.head, k, f.whole_id l, f.whole_payload (omega (arith, l)), e)
 
 pub least_records : LeastRecordsHold
 least_records p short s more l i =
@@ -139,9 +139,11 @@ collisions_true left s l h (p ∷ ps) more i last two len =
     let known = not there || whole in
     let rest = of_collision_size known ends size left in
     let all : whole ≡ true → head_length s ≤ length s = leb-true (head_length s) (length s) in
-    let payload : whole ≡ true → payload_length s ≡ 2 = λ w. t.whole_payload (all w) ∙ two.1 in
+    let length_whole = is_length_whole s in
+    let payload : length_whole ≡ true → payload_length s ≡ 2 =
+    λ w. t.whole_payload (leb-true (2 + width (slice_index s 0)) (length s) w) ∙ two.1 in
     let no : rest ≢ Nothing =
-    subst (λ b. (if b then CollisionLength (payload_length s) else rest) ≢ Nothing) (has_two whole (payload_length s) payload) h in
+    subst (λ b. (if b then CollisionLength (payload_length s) else rest) ≢ Nothing) (has_two length_whole (payload_length s) payload) h in
     let id : known ≡ true → id_length s ≡ id_of p short =
     id_known there whole (id_length s) (id_of p short) t.no_id (λ w. t.whole_id (all w)) in
     collision_no known ends size left (length k.front) no (omega (arith, t.head, t.id, k.size, two.0, two.1)) k.fits
@@ -180,4 +182,4 @@ missing_true in_chunks short p (h ∷ k ∷ u) more i =
     (λ b. missing_by (nat_lt (length s) before) _ _ (length more)
     (λ b. let n = ltb-true (length s) before b in omega (arith, n, t.head, kind, t.whole_id all, e, a))
     (λ b. let n = ltb-false (length s) before b in
-    omega (arith, n, t.head, kind, t.whole_id all, t.whole_payload all, e, a)))))
+    omega (arith, n, t.head, kind, t.whole_id all, t.whole_payload (omega (arith, all)), e, a)))))

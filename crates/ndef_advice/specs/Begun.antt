@@ -1,6 +1,6 @@
 -- A piece of a message, as far as it has come.
 use Rattle.std.specs.Prelude.{ℕ, ◌+◌, ◌*◌, ◌-◌, Bool, true, false, List, [], ◌∷◌, length, take, drop, slice_index, nat_le}
-use Rattle.ndef_format.specs.HeadReasons.{is_set}
+use Rattle.ndef_format.specs.HeadReasons.{is_set, width}
 use Rattle.ndef_fields.specs.Refusals.{id_given, lengths_width}
 use Rattle.ndef_fields.specs.Fronts.{payload_length_come}
 
@@ -25,6 +25,10 @@ id_length s = id_given (slice_index s 0) (drop 2 s)
 -- NDEF 1.0, record layout: the number of octets before the payload
 abbrev pub before_payload : List ℕ → ℕ
 before_payload s = head_length s + slice_index s 1 + id_length s
+
+-- NDEF 1.0, PAYLOAD_LENGTH: all of it has come
+abbrev pub is_length_whole : List ℕ → Bool
+is_length_whole s = nat_le (2 + width (slice_index s 0)) (length s)
 
 -- NDEF 1.0, record layout: all lengths have come
 abbrev pub is_lengths_whole : List ℕ → Bool

@@ -13,7 +13,7 @@ use Rattle.ndef_fields.specs.Fronts.{content_come, kind_begun, kind_come, tnf_co
 use Rattle.ndef_fields.specs.Messages.{version_length}
 use Rattle.ndef_fields.specs.Refusals.{AreWholeBefore, ends_in_chunk}
 use Rattle.ndef_fields.specs.declared.name.FieldName.TheVariants as names
-use Rattle.ndef_advice.specs.Begun.{before_payload, head_length, id_length, is_kind_whole, is_lengths_whole, is_payload_begun, least_record, payload_length, through}
+use Rattle.ndef_advice.specs.Begun.{before_payload, head_length, id_length, is_kind_whole, is_length_whole, is_lengths_whole, is_payload_begun, least_record, payload_length, through}
 use Rattle.ndef_advice.specs.Lengths.{least_nest}
 use Rattle.ndef_advice.specs.Misfits.{misfit, of_least}
 use Rattle.ndef_advice.specs.declared.wanted.Wanted.{Wanted}
@@ -99,7 +99,7 @@ of_collision_size known last size left =
 -- collision record: its TYPE and its payload have two octets each
 abbrev pub of_collision : (left : ℕ) → List ℕ → Wanted
 of_collision left s =
-    if is_lengths_whole s && not (payload_length s == 2) then wanted.CollisionLength (payload_length s)
+    if is_length_whole s && not (payload_length s == 2) then wanted.CollisionLength (payload_length s)
     else of_collision_size (not (is_set 3 (slice_index s 0)) || is_lengths_whole s) (is_set 6 (slice_index s 0))
     (head_length s + 4 + id_length s) left
 

@@ -1,6 +1,6 @@
 //! A piece of a message, as far as it has come.
 ghost use Rattle.std.specs.Prelude.{◌≡◌, ◌<◌, ◌^◌, drop, slice_index, take};
-ghost use Rattle.ndef_advice.specs.Begun.{before_payload, head_length, id_length, is_kind_whole, is_lengths_whole, is_payload_begun, least_record, payload_length, spelled, through};
+ghost use Rattle.ndef_advice.specs.Begun.{before_payload, head_length, id_length, is_kind_whole, is_length_whole, is_lengths_whole, is_payload_begun, least_record, payload_length, spelled, through};
 
 use ndef_fields::piece_front;
 use ndef_format::header::{ID_THERE, SHORT, is_set, width};
@@ -79,6 +79,13 @@ pub(crate) fn id_length(octets: &[u8]) -> u8
     } else {
         0
     }
+}
+
+/// Whether all of PAYLOAD_LENGTH has come of a piece that begins with these octets.
+pub(crate) fn is_length_whole(octets: &[u8]) -> bool
+    ensures { result ≡ is_length_whole octets.now }
+{
+    2 + width(octet_at(octets, 0)) <= octets.len()
 }
 
 /// Whether all lengths of a piece that begins with these octets are among them (NDEF 1.0, record layout).
