@@ -20,7 +20,7 @@ use Rattle.ndef_make_tool.specs.declared.fault.Fault.TheVariants.{Usage, UsageAt
 use Rattle.ndef_make_tool.specs.declared.fault.Refused.TheVariants as refused
 use Rattle.ndef_program.specs.Quoting.{quoted}
 use Rattle.ndef_program.specs.declared.status.Status.{Status}
-use Rattle.ndef_make_tool.specs.Measures.{free_for}
+use Rattle.ndef_make_tool.specs.Measures.{most_in}
 use Rattle.ndef_make_tool.specs.Misuses.{usage_at, usage_line}
 use Rattle.ndef_make_tool.specs.declared.fault.Told.{Told}
 use Rattle.ndef_make_tool.specs.declared.fault.Told.TheVariants as told
@@ -96,7 +96,7 @@ record_line reference = codes "refused: no record has the id " ++ quoted referen
 abbrev pub room_line : (n room : ℕ) → Text
 room_line n room =
     codes "refused: a message of " ++ decimal n ++ codes " bytes, and the tag has room for "
-    ++ decimal (free_for n room) ++ codes ": " ++ decimal (n - free_for n room)
+    ++ decimal (most_in room) ++ codes ": " ++ decimal (n - most_in room)
     ++ codes " too many\n"
 
 -- the line of a fault

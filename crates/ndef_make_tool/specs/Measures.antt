@@ -1,5 +1,5 @@
 -- What is written of a message, by the words before its records.
-use Rattle.std.specs.Prelude.{◌-◌, ℕ, List, [], ◌∷◌, drop, map, nat_lt, Option, Some, None, codes, if◌then◌else◌, option_map, string_bytes}
+use Rattle.std.specs.Prelude.{◌-◌, ℕ, List, [], ◌∷◌, drop, map, min, nat_lt, Option, Some, None, codes, if◌then◌else◌, option_map, string_bytes}
 use Rattle.std.specs.Option.{option_map_or}
 use Rattle.std.specs.Str.{bytes_eq}
 use Rattle.clap.specs.Words.{Text}
@@ -49,17 +49,13 @@ measured_words m = (m.measure, map string_bytes m.records.now)
 
 -- ---- sizes
 
--- Type 2 Tag, NDEF Message TLV and Terminator TLV: the bytes around a message of this length on a tag:
--- its TLV's tag, a length of one octet, or of three from 255 on, and the terminator
-abbrev pub around : ℕ → ℕ
-around n = if nat_lt n 255 then 3 else 5
-
--- the bytes that a tag with this many has for a message of this length
-abbrev pub free_for : (n room : ℕ) → ℕ
-free_for n room = room - around n
+-- Type 2 Tag, NDEF Message TLV and Terminator TLV: the length of the longest message that fits on a tag with this many
+-- bytes. Around a message are its TLV's tag, a length of one octet, or of three from 255 on, and the terminator
+abbrev pub most_in : (room : ℕ) → ℕ
+most_in room = if nat_lt room 260 then min 254 (room - 3) else room - 5
 
 -- the length of a message and the bytes of the tag, where these are too few
 abbrev pub misfit : Measure → ℕ → Option (ℕ × ℕ)
 misfit Whole n = None
 misfit Count n = None
-misfit (Room room) n = if nat_lt (free_for n room) n then Some (n, room) else None
+misfit (Room room) n = if nat_lt (most_in room) n then Some (n, room) else None

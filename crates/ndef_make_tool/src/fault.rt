@@ -5,7 +5,7 @@ ghost use Rattle.ndef_make_tool.specs.Faults.{payload_line, record_fault, record
 ghost use Rattle.ndef_make_tool.specs.Faults.{bytes_line, fault_at, fault_text, message_line, room_line};
 ghost use Rattle.ndef_make_tool.specs.declared.fault.Fault.TheVariants.{Memory};
 
-use crate::measure::free_for;
+use crate::measure::most_in;
 use crate::misuse::{Misuse, usage_at, usage_line};
 use ndef_message::InputError;
 use ndef_program::{Line, Status};
@@ -274,14 +274,14 @@ fn record_line(reference: &Name) -> Line
 fn room_line(length: u64, room: u32) -> Line
     ensures { result ≡ room_line length room }
 {
-    let free = free_for(length, room);
+    let most = most_in(room);
     let mut line = Line::new();
     line.push(b"refused: a message of ");
     line.push_number(length);
     line.push(b" bytes, and the tag has room for ");
-    line.push_number(free);
+    line.push_number(most);
     line.push(b": ");
-    line.push_number(length.saturating_sub(free));
+    line.push_number(length.saturating_sub(most));
     line.push(b" too many\n");
     line
 }

@@ -1,6 +1,6 @@
 //! What is written of a message, by the words before its records.
 ghost use Rattle.std.specs.Prelude.{◌≡◌, map, option_map, string_bytes};
-ghost use Rattle.ndef_make_tool.specs.Measures.{around, free_for, front_named, measure_in, measured_words};
+ghost use Rattle.ndef_make_tool.specs.Measures.{front_named, measure_in, measured_words, most_in};
 ghost use Rattle.ndef_make_tool.specs.Measures.{misfit, room_named, tag_words};
 
 use crate::options::number_in;
@@ -94,18 +94,16 @@ pub(crate) fn measure_words(words: &[String]) -> Option<Measured<'_>>
     }
 }
 
-/// The bytes around a message of this length on a tag: the tag and the length of its TLV, and the terminator TLV.
-fn around(length: u64) -> u64
-    ensures { result ≡ around length }
+/// The length of the longest message that fits on a tag with this many bytes. Around a message are 3 bytes, or 5 where it
+/// has 255 and more: the tag and the length of its TLV, and the terminator TLV.
+pub(crate) fn most_in(room: u32) -> u64
+    ensures { result ≡ most_in room }
 {
-    if length < 255 { 3 } else { 5 }
-}
-
-/// The bytes that a tag with this many has for a message of this length.
-pub(crate) fn free_for(length: u64, room: u32) -> u64
-    ensures { result ≡ free_for length room }
-{
-    u64::from(room).saturating_sub(around(length))
+    if room < 260 {
+        u64::from(room.saturating_sub(3).min(254))
+    } else {
+        u64::from(room - 5)
+    }
 }
 
 /// The length of a message and the bytes of the tag, where these are too few.
@@ -115,7 +113,7 @@ pub(crate) fn misfit(measure: Measure, length: u64) -> Option<(u64, u32)>
     match measure {
         Measure::Whole | Measure::Count => None,
         Measure::Room(room) => {
-            if free_for(length, room) < length {
+            if most_in(room) < length {
                 Some((length, room))
             } else {
                 None
