@@ -1,5 +1,6 @@
 -- Where the memory of a tag has a message.
 use Rattle.std.specs.Prelude.{◌≡◌, ℕ, ◌+◌, ◌*◌, ◌<◌, ◌==◌, ◌||◌, ◌&&◌, Bool, true, false, List, Option, Some, None, length, nat_le, slice_index, sum, take, if◌then◌else◌}
+use Rattle.std.specs.Option.{option_or}
 use Rattle.ndef_advice.specs.declared.tag_memory.Found.{Found}
 use Rattle.ndef_advice.specs.declared.tag_memory.Wrapping.TheVariants.{Block, Attributes, File}
 
@@ -106,10 +107,14 @@ abbrev pub IsFirstBlock : List ℕ → (start : ℕ) → Option ℕ → Type 0
 IsFirstBlock bytes start (Some place) = IsMessageBlock bytes start place
 IsFirstBlock bytes start None = (place : ℕ) → ¬ IsMessageBlock bytes start place
 
--- NFC Forum, Type 1 to Type 5 Tag: what a tag's memory, or one of its files, has for a message, by that block
+-- NFC Forum, Type 3 Tag and Type 4 Tag: what a tag's memory, or one of its files, has for a message without a block
+abbrev pub in_other : List ℕ → Option Found
+in_other bytes = if has_attributes bytes then Some (after_attributes bytes) else in_file bytes
+
+-- NFC Forum, Type 1 to Type 5 Tag: what it has for a message, by that block
 abbrev pub found_by : Option ℕ → List ℕ → Option Found
-found_by (Some place) bytes = in_block bytes place
-found_by None bytes = if has_attributes bytes then Some (after_attributes bytes) else in_file bytes
+found_by (Some place) bytes = option_or (in_block bytes place) (in_other bytes)
+found_by None bytes = in_other bytes
 
 -- the bytes that are looked at: 16 MiB
 abbrev pub front : List ℕ → List ℕ

@@ -1,8 +1,8 @@
 //! Where the memory of a tag has a message.
 ghost use Rattle.std.specs.Prelude.{◌≡◌, ◌<◌, ◌≤◌, ◌+◌, ◌^◌, IfSome, length, sum};
 ghost use Rattle.ndef_advice.specs.TagMemory.{Finds, IsFirstBlock, IsFirstContainer, Reaches, Stops, after_attributes, blocks_at, found_by};
-ghost use Rattle.ndef_advice.specs.TagMemory.{has_attributes, in_block, in_file, is_begun, is_container, is_passed};
-ghost use Rattle.ndef_advice.specs.TagMemory.{next_block, two_octets, value_at, value_length};
+ghost use Rattle.ndef_advice.specs.TagMemory.{has_attributes, in_block, in_file, in_other, is_begun, is_container};
+ghost use Rattle.ndef_advice.specs.TagMemory.{is_passed, next_block, two_octets, value_at, value_length};
 
 use crate::begun::{front_of, octet_at};
 
@@ -215,20 +215,25 @@ fn in_file(bytes: &[u8]) -> Option<Found>
     }
 }
 
+/// What the bytes have for a message without a block.
+fn in_other(bytes: &[u8]) -> Option<Found>
+    ensures { result ≡ in_other bytes.now }
+{
+    if has_attributes(bytes) {
+        Some(after_attributes(bytes))
+    } else {
+        in_file(bytes)
+    }
+}
+
 /// What the bytes have for a message by the place of the first block for one.
 fn found_by(block: Option<usize>, bytes: &[u8]) -> Option<Found>
     requires { IfSome block (λ place. place < 2 ^ 24) }
     ensures { result ≡ found_by block bytes.now }
 {
     match block {
-        Some(place) => in_block(bytes, place),
-        None => {
-            if has_attributes(bytes) {
-                Some(after_attributes(bytes))
-            } else {
-                in_file(bytes)
-            }
-        }
+        Some(place) => in_block(bytes, place).or(in_other(bytes)),
+        None => in_other(bytes),
     }
 }
 
