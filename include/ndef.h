@@ -268,6 +268,37 @@ uint32_t ndef_write_record(const uint8_t *type, ndef_size type_length, const uin
                            const uint8_t *payload, ndef_size payload_length, const ndef_writing *how,
                            uint8_t *room, ndef_size size, ndef_size *count);
 
+/* A record that is written in steps, for a caller that does not have the whole payload, or no memory for the record.
+ * It is plain numbers: it may be copied and kept. `head` is 0 once the payload is written, if it has a byte. */
+typedef struct ndef_writer {
+    ndef_writing how;        /* how the record is written */
+    uint32_t type_length;    /* the bytes of the type */
+    uint32_t id_length;      /* the bytes of the id */
+    uint32_t payload_length; /* the bytes of the whole payload */
+    uint32_t taken;          /* the bytes of the payload that are written */
+    uint32_t head;           /* the bytes that are written of the head, type and id of the chunk that is begun */
+} ndef_writer;
+
+/* Begins a record that is written in steps, whose type, id and payload have these lengths. Nothing of it is written
+ * yet.
+ * NDEF_OK: the writer holds it.
+ * NDEF_BAD_ARGUMENT: what ndef_write_record answers so of a type, an id and a payload of these lengths. */
+uint32_t ndef_writer_begin(ndef_writer *writer, ndef_size type_length, ndef_size id_length, ndef_size payload_length,
+                           const ndef_writing *how);
+
+/* Writes the next bytes of the record to the buffer, as many as there are and fit. `part` is the payload from byte
+ * writer->taken on, or as much of it as is at hand: the call takes what it writes, and moves writer->taken on by
+ * that. The type and the id are the same in each call. What the calls write, one after another, is what
+ * ndef_write_record writes of the whole payload.
+ * NDEF_OK: *count bytes were written. Where they do not fill the buffer, the whole part was taken, and either more
+ *   of the payload is needed (*count may then be 0) or the record is whole.
+ * NDEF_END: the record is whole.
+ * NDEF_BAD_ARGUMENT: the part is longer than what is left of the payload; the type or the id has another length than
+ *   ndef_writer_begin was given; the writer holds what no call leaves. */
+uint32_t ndef_writer_next(ndef_writer *writer, const uint8_t *type, ndef_size type_length, const uint8_t *id,
+                          ndef_size id_length, const uint8_t *part, ndef_size part_length, uint8_t *room,
+                          ndef_size size, ndef_size *count);
+
 /* ---- payloads
  *
  * A call that reads a payload is given the whole payload of a record, its chunks joined: its bytes in the message

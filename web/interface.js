@@ -21,6 +21,9 @@ export const LAYOUT = {
         partLength: [56, 8], payloadLength: [64, 8], pieces: [72, 8], tnf: [80, 4], last: [84, 4],
     } },
     writing: { size: 12, members: { tnf: [0, 4], flags: [4, 4], chunk: [8, 4] } },
+    writer: { size: 32, members: {
+        how: [0, 12], typeLength: [12, 4], idLength: [16, 4], payloadLength: [20, 4], taken: [24, 4], head: [28, 4],
+    } },
     text_parts: { size: 40, members: {
         languageAt: [0, 8], languageLength: [8, 8], textAt: [16, 8], textLength: [24, 8], utf16: [32, 4],
     } },
@@ -78,6 +81,8 @@ export const CALLS = {
     ndef_kind: "i32 i64 i32 i32", // bytes, length, record, within
     ndef_payload: "i32 i64 i64 i32 i64 i32", // bytes, length, at, room, size, count
     ndef_write_record: "i32 i64 i32 i64 i32 i64 i32 i32 i64 i32", // type, type_length, id, id_length, payload, payload_length, how, room, size, count
+    ndef_writer_begin: "i32 i64 i64 i64 i32", // writer, type_length, id_length, payload_length, how
+    ndef_writer_next: "i32 i32 i64 i32 i64 i32 i64 i32 i64 i32", // writer, type, type_length, id, id_length, part, part_length, room, size, count
     ndef_uri: "i32 i64 i32 i32 i64 i32 i32", // payload, length, flags, room, size, count, why
     ndef_write_uri: "i32 i64 i32 i64 i32", // uri, length, room, size, count
     ndef_text: "i32 i64 i32 i32", // payload, length, out, why

@@ -25,7 +25,8 @@ NUMBERS = {'u8': 'uint8_t', 'u32': 'uint32_t', 'u64': 'uint64_t', 'usize': 'ndef
 # Parameters and members that have another name in C: most since Rattle reserves the word.
 WORDS = {
     'ndef_append.kind': 'type', 'ndef_find_type.kind': 'type', 'ndef_payload_fields.kind': 'type', 'ndef_write_carrier.kind': 'type',
-    'ndef_write_record.kind': 'type', 'ndef_write_carrier.carried': 'data', 'ndef_write_error.detail': 'data',
+    'ndef_write_record.kind': 'type', 'ndef_writer_next.kind': 'type',
+    'ndef_write_carrier.carried': 'data', 'ndef_write_error.detail': 'data',
     'ndef_poster_icons.array': 'icons', 'ndef_poster_titles.texts': 'titles', 'ndef_write_handover.number': 'handover',
     'NdefIcon.octets': 'data', 'NdefIconWriting.octets': 'data', 'NdefSelectWriting.detail': 'data',
 }

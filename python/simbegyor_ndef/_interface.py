@@ -176,6 +176,12 @@ class Writing(ctypes.Structure):
     _fields_ = [('tnf', u32), ('flags', u32), ('chunk', u32)]
 
 
+class Writer(ctypes.Structure):
+    """A record that is written in steps, for a caller that does not have the whole payload, or no memory for the record."""
+    _fields_ = [('how', Writing), ('type_length', u32), ('id_length', u32), ('payload_length', u32), ('taken', u32),
+                ('head', u32)]
+
+
 class TextParts(ctypes.Structure):
     """A text, by offsets and lengths in its payload."""
     _fields_ = [('language_at', u64), ('language_length', u64), ('text_at', u64), ('text_length', u64), ('utf16', u32)]
@@ -357,6 +363,14 @@ class Calls(Protocol):
                      payload_length: Size, how: Reference, room: Octets, size: Size, count: Reference) -> int:
         """Writes a record to the buffer (NDEF 1.0, record layout and chunked payloads), as the numbers say; an empty id
         isn't written."""
+
+    def writer_begin(self, writer: Reference, type_length: Size, id_length: Size, payload_length: Size,
+                     how: Reference) -> int:
+        """Begins a record that is written in steps, whose type, id and payload have these lengths."""
+
+    def writer_next(self, writer: Reference, type: Octets, type_length: Size, id: Octets, id_length: Size, part: Octets,
+                    part_length: Size, room: Octets, size: Size, count: Reference) -> int:
+        """Writes the next bytes of the record to the buffer, as many as there are and fit."""
 
     def uri(self, payload: Octets, length: Size, flags: u32, room: Octets, size: Size, count: Reference,
             why: Reference) -> int:

@@ -51,6 +51,14 @@ AT(ndef_writing, tnf, uint32_t, 0);
 AT(ndef_writing, flags, uint32_t, 4);
 AT(ndef_writing, chunk, uint32_t, 8);
 
+SIZE(ndef_writer, 32, 32);
+AT(ndef_writer, how, ndef_writing, 0);
+AT(ndef_writer, type_length, uint32_t, 12);
+AT(ndef_writer, id_length, uint32_t, 16);
+AT(ndef_writer, payload_length, uint32_t, 20);
+AT(ndef_writer, taken, uint32_t, 24);
+AT(ndef_writer, head, uint32_t, 28);
+
 SIZE(ndef_text_parts, 40, 40);
 AT(ndef_text_parts, language_at, ndef_size, 0);
 AT(ndef_text_parts, language_length, ndef_size, 8);

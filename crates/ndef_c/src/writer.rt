@@ -22,7 +22,8 @@ pub struct NdefWriter {
     pub payload_length: u32,
     /// The bytes of the payload that are written.
     pub taken: u32,
-    /// The bytes that are written of the head, type and id of the chunk that is begun.
+    /// The bytes that are written of the head, type and id of the chunk that is begun. It is 0 once the whole payload is
+    /// written, where that has a byte.
     pub head: u32,
 }
 
@@ -73,8 +74,8 @@ fn encoder_of(writer: &NdefWriter) -> Option<RecordEncoder>
     RecordEncoder::resume(plan, progress)
 }
 
-/// Begins a record that is written in steps, with a type, an id and a payload of these lengths. Nothing of it is written
-/// yet.
+/// Begins a record that is written in steps, whose type, id and payload have these lengths. Nothing of it is written yet.
+/// - `OK`: the writer holds it.
 /// - `BAD_ARGUMENT`: what `ndef_write_record` answers so of a type, an id and a payload of these lengths.
 #[unsafe(no_mangle)]
 pub extern "C" fn ndef_writer_begin(
@@ -89,7 +90,9 @@ pub extern "C" fn ndef_writer_begin(
     ensures kept { result ≡ BAD_ARGUMENT → writer.new ≡ writer.old }
     ensures begun { result ≢ BAD_ARGUMENT → (result ≡ OK) × (writer.new
         ≡ unwritten how.now (record { kind = type_length; id = id_length; payload = payload_length })) }
-    ensures as_written { BeginsAsWritten how.now (record { kind = type_length; id = id_length; payload = payload_length }) }
+    // It begins where `ndef_write_record` writes, and all bytes of that are left then.
+    ensures as_written {
+        BeginsAsWritten how.now (record { kind = type_length; id = id_length; payload = payload_length }) }
 {
     let Some(plan) = plan_of(how, type_length, id_length, payload_length) else {
         return BAD_ARGUMENT;
@@ -110,9 +113,10 @@ pub extern "C" fn ndef_writer_begin(
 
 /// Writes the next bytes of the record to the buffer, as many as there are and fit. `part` is the payload from byte
 /// `writer->taken` on, or as much of it as is at hand: the call takes what it writes, and moves `writer->taken` on by
-/// that. What the calls write, one after another, is what `ndef_write_record` writes of the whole payload. Where the
-/// bytes do not fill the buffer, the whole part was taken, and either more of the payload is needed (the count may then
-/// be 0) or the record is whole.
+/// that. The type and the id are the same in each call. What the calls write, one after another, is what
+/// `ndef_write_record` writes of the whole payload.
+/// - `OK`: `*count` bytes were written. Where they do not fill the buffer, the whole part was taken, and either more of
+///   the payload is needed (`*count` may then be 0) or the record is whole.
 /// - `END`: the record is whole.
 /// - `BAD_ARGUMENT`: the part is longer than what is left of the payload; the type or the id has another length than
 ///   `ndef_writer_begin` was given; the writer holds what no call leaves.

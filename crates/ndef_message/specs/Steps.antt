@@ -57,7 +57,8 @@ is_last_chunk p begin = nat_le (p.payload_length - begin) (chunk_size p)
 abbrev pub chunk_fields : RecordPlan → (begin : ℕ) → HeadFields
 chunk_fields p begin =
     if begin == 0
-    then first_fields (record { first = p.first; last = p.last; alone = is_last_chunk p 0 }) p.form p.tnf p.kind_length p.id_length (chunk_length p 0)
+    then first_fields (record { first = p.first; last = p.last; alone = is_last_chunk p 0 }) p.form p.tnf
+    p.kind_length p.id_length (chunk_length p 0)
     else later_fields p.last (is_last_chunk p begin) p.form (chunk_length p begin)
 
 -- NDEF 1.0, record layout: its octets before the payload; a later chunk has no type and no id

@@ -124,8 +124,8 @@ fn fill_message(
     }
 }
 
-/// A message that is encoded in steps, into buffers of any sizes, for a caller that has no memory for all of its bytes.
-/// It takes no memory. Contracts see the bytes that are left.
+/// A message that is encoded in steps, into buffers of any sizes: for a caller that has no memory for all of its
+/// bytes. It takes no memory. Contracts see the bytes that are left.
 #[derive(Debug, Drop)]
 pub struct Encoder<'a> {
     message: &'a Message,
@@ -146,8 +146,8 @@ impl<'a> Model for Encoder<'a> {
 }
 
 impl<'a> Encoder<'a> {
-    /// Begins the message, each record in one chunk, or in chunks of `size` payload bytes and a last one of what is left
-    /// (NDEF 1.0, chunked payloads). The bytes are those that `encode` and `encode_chunked` return.
+    /// Begins the message, each record in one chunk, or in chunks of `size` payload bytes and a last one of what is
+    /// left (NDEF 1.0, chunked payloads). The bytes are those that `encode` and `encode_chunked` return.
     pub fn new(message: &'a Message, form: Form, size: Option<u32>) -> Encoder<'a>
         requires { ForSome size (λ n. 1 ≤ n) }
         ensures { result ≡ cut_octets form size message.now }

@@ -95,8 +95,8 @@ impl RecordEncoder {
     }
 
     /// Writes the next bytes of the record to the front of the buffer, as many as there are and fit, and returns their
-    /// number. `part` is the payload from byte `taken()` on, or as much of it as is at hand, and `taken()` says then how
-    /// far it was taken. `OtherLength` where the type, the id or the part isn't of the record; nothing changes then.
+    /// number. `part` is the payload from byte `taken()` on, or as much of it as is at hand; `taken()` then says how
+    /// far it was taken. `OtherLength` where the type, the id or the part isn't of the record: nothing changes.
     pub fn next(
         &mut self,
         kind: &[u8],
