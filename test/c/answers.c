@@ -328,6 +328,24 @@ static void write_again(const uint8_t *bytes, const ndef_record *record) {
     }
 }
 
+/* Writes it in steps, of parts and into buffers of a few bytes. */
+#if IS_SINCE(0, 4)
+static void write_in_steps(const uint8_t *bytes, const ndef_record *record) {
+    const ndef_writing how = { record->tnf, (uint32_t)record->at % 9, record->payload_length % 7 };
+    ndef_writer writer = { { 7, 7, 7 }, 7, 7, 7, 7, 7 };
+    mix_status(ndef_writer_begin(&writer, record->type_length, record->id_length, record->payload_length, &how));
+    for (uint32_t i = 0; i < 40; i++) {
+        ndef_size left = writer.taken <= record->payload_length ? record->payload_length - writer.taken : 0;
+        ndef_size part = i % 9 == 8 ? left + 1 : left < i ? left : i;
+        WRITTEN(i % 11, ndef_writer_next(&writer, bytes + record->type_at, record->type_length, bytes + record->id_at, record->id_length,
+                                         copy + record->payload_length - left, part, to, i % 11, &count));
+        mix(writer.taken), mix(writer.head);
+    }
+}
+#else
+static void write_in_steps(const uint8_t *bytes, const ndef_record *record) { (void)bytes, (void)record; }
+#endif
+
 static void find(const uint8_t *bytes, ndef_size length, const ndef_record *record) {
     const ndef_size from[] = { 0, record->at };
     for (int i = 0; i < 2; i++) {
@@ -370,6 +388,7 @@ static void walk(const uint8_t *bytes, ndef_size length, int is_nested) {
         WRITTEN(size, ndef_payload(bytes, length, at, to, size, &count));
         copy_bytes(copy, room, size);
         write_again(bytes, &record);
+        write_in_steps(bytes, &record);
         build(bytes, &record);
         find(bytes, length, &record);
         fill_parts(bytes, length, at);

@@ -121,8 +121,10 @@ static void more_calls(int way, const uint8_t *none, ndef_part *no_parts, ndef_l
 }
 
 #if IS_SINCE(0, 4)
-/* The calls that give records, and that look at a payload by its layout. */
-static void item_calls(int way, const uint8_t *none) {
+/* The calls that give records, that look at a payload by its layout, and that write a record in steps. */
+static void item_calls(int way, const uint8_t *none, uint8_t *room) {
+    const ndef_writing how = { NDEF_TNF_EMPTY, 0, 0 };
+    ndef_writer writer;
     const ndef_layout_field octets = { NDEF_LAYOUT_OCTETS, 1, 0 };
     ndef_laid_out out = { 9, 9, 9 };
     ndef_limits limits;
@@ -134,10 +136,14 @@ static void item_calls(int way, const uint8_t *none) {
     count = (ndef_size)out.place;
     answer(way, ndef_check_layout((const uint8_t *)"\0", 1, way ? &octets : NULL, 0, &out));
     answer(way, ndef_check_layout(none, 0, &octets, 1, &out));
+    answer(way, ndef_writer_begin(&writer, 0, 0, 0, &how));
+    answer(way, ndef_writer_next(&writer, none, 0, none, 0, none, 0, room, 0, &count));
+    answer(way, ndef_writer_next(&writer, none, 0, none, 0, none, 0, (uint8_t[3]){ 0 }, 3, &count));
+    answer(way, ndef_writer_next(&writer, none, 0, none, 0, none, 0, room, 0, &count));
     count = 9;
 }
 #else
-static void item_calls(int way, const uint8_t *none) { (void)way, (void)none; }
+static void item_calls(int way, const uint8_t *none, uint8_t *room) { (void)way, (void)none, (void)room; }
 #endif
 
 /* The calls that give fields. */
@@ -167,7 +173,7 @@ int main(void) {
         check_calls(way, way ? byte : NULL, way ? byte : NULL);
         reading_calls(way, way ? byte : NULL, way ? byte : NULL);
         field_calls(way, way ? byte : NULL, way ? field : NULL, way ? byte : NULL);
-        item_calls(way, way ? byte : NULL);
+        item_calls(way, way ? byte : NULL, way ? byte : NULL);
         writing_calls(way, way ? byte : NULL, way ? part : NULL, way ? byte : NULL, 0);
         writing_calls(way, way ? byte : NULL, way ? part : NULL, room[way], sizeof room[way]);
         more_calls(way, way ? byte : NULL, way ? part : NULL, way ? link : NULL, way ? byte : NULL, 0);
