@@ -41,3 +41,4 @@ pub mod Texts
 pub mod TitleTexts
 pub mod Walked
 pub mod Walking
+pub mod Writers

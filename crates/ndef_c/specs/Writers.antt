@@ -1,7 +1,7 @@
 -- A record that is written in steps.
-use Rattle.std.specs.Prelude.{◌≡◌, ℕ, ◌≤◌, List, [], length}
+use Rattle.std.specs.Prelude.{◌≡◌, ℕ, ◌≤◌, List, length}
 use Rattle.ndef_format.specs.Records.{tnf_of}
-use Rattle.ndef_message.specs.Steps.{AreLeft, Begun, CanBeWritten, Continues, Given, IsBegun, LeavesNothing, WritesNext, octets_left}
+use Rattle.ndef_message.specs.Steps.{Begun, CanBeWritten, Continues, Given, IsBegun, WritesNext, octets_left}
 use Rattle.ndef_message.specs.declared.plan.RecordPlan.{RecordPlan}
 use Rattle.ndef_c.specs.Writes.{MayBeWritten, asked, asked_octets, form_of, is_first, is_last, size_of}
 use Rattle.ndef_c.specs.declared.writing.NdefWriting.{NdefWriting}

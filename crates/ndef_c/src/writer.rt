@@ -1,5 +1,5 @@
 //! A record that is written in steps.
-ghost use Rattle.std.specs.Prelude.{◌≡◌, ◌≢◌, ◌↔◌, List, ℕ, IfSome, IsNone};
+ghost use Rattle.std.specs.Prelude.{◌≡◌, ◌≢◌, ◌≤◌, ◌↔◌, List, ℕ, IfSome, IsNone};
 ghost use Rattle.ndef_message.specs.Steps.{AreLeft, Continues, IsBegun, LeavesNothing, WritesNext};
 ghost use Rattle.ndef_c.specs.Writers.{BeginsAsWritten, IsWriter, MayBegin, MayGoOn, MovesOn, asked_plan, begun_of, lengths_of, unwritten};
 
@@ -49,7 +49,11 @@ fn plan_of(how: &NdefWriting, kind: usize, id: usize, payload: usize) -> Option<
         first: way.first,
         last: way.last,
         form: way.form,
-        size: if how.chunk == 0 { None } else { Some(how.chunk) },
+        size: if how.chunk == 0 {
+            None
+        } else {
+            Some(how.chunk)
+        },
     })
 }
 
@@ -91,8 +95,7 @@ pub extern "C" fn ndef_writer_begin(
     ensures begun { result ≢ BAD_ARGUMENT → (result ≡ OK) × (writer.new
         ≡ unwritten how.now (record { kind = type_length; id = id_length; payload = payload_length })) }
     // It begins where `ndef_write_record` writes, and all bytes of that are left then.
-    ensures as_written {
-        BeginsAsWritten how.now (record { kind = type_length; id = id_length; payload = payload_length }) }
+    ensures as_written { BeginsAsWritten how.now (record { kind = type_length; id = id_length; payload = payload_length }) }
 {
     let Some(plan) = plan_of(how, type_length, id_length, payload_length) else {
         return BAD_ARGUMENT;

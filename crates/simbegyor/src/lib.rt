@@ -3,7 +3,8 @@
 //! - A message: [`Message`] and its [`Record`]s, with a [`Tnf`], a type, an id and a payload, and [`Limits`].
 //! - Read it: [`view`] in a slice, [`read_message`] from a [`Source`], a [`Decoder`] fed with bytes as they come.
 //! - Check it: [`check_bytes`], [`check_message`], a [`Checker`] fed with bytes as they come.
-//! - Write it: [`encode`], [`encode_chunked`], [`write_message`] to a [`Sink`].
+//! - Write it: [`encode`], [`encode_chunked`], [`write_message`] to a [`Sink`], an [`Encoder`] that fills one buffer
+//!   after another; a [`RecordEncoder`] for a record whose payload comes in parts.
 //! - Payloads: [`Text`], [`Uri`], [`SmartPoster`], [`Request`], [`Select`] and their parts, and the
 //!   [`carriers`] of a message. A [`Builder`] makes posters and handovers record by record. [`Typed`] says that
 //!   payloads are checked, [`Opaque`] that they are not; [`With`] adds a record type of your own, whose payloads
@@ -16,10 +17,11 @@
 pub use ndef_building::{BuildError, Builder};
 pub use ndef_lang::{Fixed, Kind, Language, Leaf, Opaque, OwnType, RecordLanguage, With, is_type};
 pub use ndef_message::{
-    CheckError, Checked, Checker, Decoder, Event, Fed, Form, InputError, Item, Items, Pieces, Read,
-    ReadError, Sink, SinkFault, SliceSource, Source, SourceFault, StdSink, StdSource, View,
-    WriteFault, check as check_bytes, check_message, encode, encode_chunked, encoded_length,
-    read_all, read_message, view, write_message,
+    CheckError, Checked, Checker, Decoder, Encoder, Event, Fed, Form, InputError, Item, Items,
+    OtherLength, Pieces, Progress, Read, ReadError, RecordEncoder, RecordPlan, Sink, SinkFault,
+    SliceSource, Source, SourceFault, StdSink, StdSource, View, WriteFault, check as check_bytes,
+    check_message, encode, encode_chunked, encoded_length, read_all, read_message, view,
+    write_message,
 };
 pub use ndef_nest::Typed;
 pub use ndef_types::{
