@@ -1,5 +1,5 @@
 -- A handover carrier payload stands for one carrier, and what is written for a carrier stands for it.
-use Rattle.std.proofs.Common.{◌≡◌, ℕ, ◌-◌, ◌%◌, ◌≤◌, List, [], ◌∷◌, length, take, drop, get_or, refl, sym, ◌∙◌, arith}
+use Rattle.std.proofs.Common.{◌≡◌, ℕ, ◌-◌, ◌%◌, ◌<◌, ◌≤◌, List, [], ◌∷◌, length, take, drop, get_or, refl, sym, ◌∙◌, arith}
 use Rattle.std.proofs.Math.Seq.{take-append_seam, drop-append_seam}
 use Rattle.std.proofs.lemmas.List.{take_all, length-take-le}
 use Rattle.ndef_format.specs.Records.{AreOctets}
@@ -22,6 +22,11 @@ pub type_room : (payload : List ℕ) (n : ℕ) → IsCarrier payload → n ≡ g
 type_room [] n h e = absurd h
 type_room (format ∷ []) n h e = absurd h.1
 type_room (format ∷ k ∷ s) n h e = let p = field_parts IsOctet k AreOctets s h.1.1 in rw (behind_two format k s) (omega (arith, p.within))
+
+pub type_fits : (payload : List ℕ) → IsCarrier payload → get_or (drop 1 payload) 0 0 < length (drop 1 payload)
+type_fits [] h = absurd h
+type_fits (format ∷ []) h = absurd h.1
+type_fits (format ∷ k ∷ s) h = let p = field_parts IsOctet k AreOctets s h.1.1 in omega (arith, p.within)
 
 -- ---- laws
 

@@ -1,14 +1,15 @@
 -- The payloads of handovers, and the messages for which they stand.
-use Rattle.std.proofs.Common.{◌≡◌, ◌≢◌, ℕ, ◌^◌, ◌<◌, ◌≤◌, ◌⊎◌, List, [], ◌∷◌, length, drop, get_or, sym, ap, ◌∙◌, true, false, subst, inl, inr, Result, Ok, Err, arith, refl, Option, Some, None}
-use Rattle.std.specs.Prelude.{◌==◌, IfSome, IsErrAnd}
+use Rattle.std.proofs.Common.{◌≡◌, ◌≢◌, ℕ, ◌<◌, ◌≤◌, ◌⊎◌, List, [], ◌∷◌, length, drop, map, get_or, sym, ap, ◌∙◌, true, false, subst, inl, inr, Err, arith, refl, Option, Some, None}
+use Rattle.std.specs.Prelude.{◌==◌, IfSome}
 use Rattle.std.specs.List.{AllByRecursion}
-use Rattle.ndef_format.specs.Messages.{Item}
+use Rattle.ndef_format.specs.Messages.{Item, run_record}
+use Rattle.ndef_format.specs.Records.{Run}
 use Rattle.ndef_format.specs.declared.profile.Profile.{Profile}
 use Rattle.ndef_format.specs.declared.profile.Profile.TheVariants.{Strict}
 use Rattle.ndef_format.specs.declared.refusal.Refusal.{Refusal}
 use Rattle.ndef_format.specs.Handovers.{IsAlternative}
 use Rattle.ndef_format.specs.Kinds.{kind_of}
-use Rattle.ndef_format.specs.Nested.{IsPayload, HasContents, IsNest, Nested, checked, kind_in, table_of}
+use Rattle.ndef_format.specs.Nested.{IsPayload, HasContents, IsNest, IsNestedBy, Nested, checked, kind_in, table_of}
 use Rattle.ndef_format.specs.declared.kind.Kind.{Kind}
 use Rattle.ndef_format.specs.declared.kind.Kind.TheVariants as kinds
 use Rattle.ndef_format.specs.NestedReasons.{NestReason}
@@ -19,7 +20,6 @@ use Rattle.ndef_types.specs.Contents.{StandsForMessage}
 use Rattle.ndef_types.specs.Decoding.{RefusesPayload}
 use Rattle.ndef_types.specs.Links.{AreLinks, HasCarriers, LinksOf, StandsForLinks, alternatives, records_of}
 use Rattle.ndef_types.specs.declared.link.Link.{Link}
-use Rattle.ndef_types.specs.declared.link.LinkError.{LinkError}
 use Rattle.ndef_types.specs.declared.link.LinkError.TheVariants as errors
 
 -- ---- a version octet and a message
@@ -64,6 +64,25 @@ pub has_alternatives : (table : Table) (profile : Profile) (items : List Item) �
     → AllByRecursion (λ i. kind_of i.tnf i.kind ≡ kinds.Alternative → IsAlternative i.payload) items
 has_alternatives table profile items f h = are_alternatives table profile items f h.members
 
+-- the message of a handover, which is viewed
+pub record IsViewed (profile : Profile) (payload : List ℕ) (runs : List Run) : Type 0 where
+  pub some : 0 < length payload
+  pub single : AllByRecursion (λ r. r.later ≡ []) runs
+  pub message : StandsForMessage profile (drop 1 payload) (Some (map run_record runs))
+  pub carriers : AllByRecursion (λ i. kind_of i.tnf i.kind ≡ kinds.Alternative → IsAlternative i.payload) (map run_record runs)
+
+pub viewed : (table : Table) (profile : Profile) (payload bytes : List ℕ) (runs : List Run) → table ≢ SmartPoster → IsNest table 65535 profile payload → bytes ≡ drop 1 payload → (length bytes == 0) ≡ false
+    → ((table : Table) (rs : List Run) (items : List Item) → IsNestedBy table 65535 profile rs items bytes → (runs ≡ rs) × (map run_record runs ≡ items)) → IsViewed profile payload runs
+viewed table profile payload bytes runs f h e some view =
+    let n = nested_behind table profile payload bytes f h e some in
+    let v = view table n.0 n.1 (subst (IsNestedBy table 65535 profile n.0 n.1) (sym e) n.2) in
+    record {
+      some = (handover_parts table profile payload f h).0;
+      single = subst (AllByRecursion (λ r. r.later ≡ [])) (sym v.0) n.2.single;
+      message = subst (λ items. StandsForMessage profile (drop 1 payload) (Some items)) (sym v.1) (n.0, n.2.spelling);
+      carriers = subst (AllByRecursion (λ i. kind_of i.tnf i.kind ≡ kinds.Alternative → IsAlternative i.payload)) (sym v.1) (has_alternatives table profile n.1 f n.2.contents);
+    }
+
 pub links_stand : (profile : Profile) (outer : List Item) (payload : List ℕ) (message : Option (List Item)) (links : List Link) → 0 < length payload → StandsForMessage profile (drop 1 payload) message
     → AreLinks outer (alternatives (records_of message)) links → StandsForLinks profile outer payload links
 links_stand profile outer [] message links l m h = absurd (omega arith)
@@ -79,9 +98,3 @@ pub refused_links : (profile : Profile) (outer : List Item) (i : Item) (kind : K
 refused_links profile outer i kind payload refusal k p h =
     subst (λ x. RefusesPayload (IsNest (table_of x) 65535 profile) (NestReason (table_of x) 65535 profile) i.payload refusal) k
     (subst (λ s. RefusesPayload (IsNest (table_of kind) 65535 profile) (NestReason (table_of kind) 65535 profile) s refusal) p h)
-
-pub wanting_links : (profile : Profile) (outer : List Item) (i : Item) (kind : Kind) (result : Result (List Link) LinkError) → kind ≡ kind_of i.tnf i.kind
-    → (length i.payload < 2 ^ 32) × IsNest (table_of kind) 65535 profile i.payload → IsErrAnd result (λ e. e ≡ errors.NoMemory) → LinksOf profile outer (Some i) result
-wanting_links profile outer i kind (Ok links) k h e = absurd e
-wanting_links profile outer i kind (Err error) k h e =
-    subst (λ x. LinksOf profile outer (Some i) (Err x)) (sym e) (h.0, subst (λ x. IsNest (table_of x) 65535 profile i.payload) k h.1)

@@ -5,6 +5,7 @@ pub mod ContentsLemmas
 pub mod EqualityLemmas
 pub mod ErrorLaws
 pub mod HandoverLemmas
+pub mod FirstIds
 pub mod LinkLemmas
 pub mod MessageLaws
 pub mod NestedLemmas

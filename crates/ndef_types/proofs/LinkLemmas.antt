@@ -17,19 +17,20 @@ not_alternative : (kind : Kind) → kind ≢ kinds.Alternative → is_alternativ
 not_alternative kinds.Alternative h = absurd (h refl)
 not_alternative _ h = refl
 
+pub alternative_here : (i : Item) (items : List Item) → kind_of i.tnf i.kind ≡ kinds.Alternative → alternatives (i ∷ items) ≡ i ∷ alternatives items
+alternative_here i items a = ap (λ kind. if is_alternative kind then i ∷ alternatives items else alternatives items) a
+
+pub alternative_later : (i : Item) (items : List Item) → kind_of i.tnf i.kind ≢ kinds.Alternative → alternatives (i ∷ items) ≡ alternatives items
+alternative_later i items a = ap (λ b. if b then i ∷ alternatives items else alternatives items) (not_alternative (kind_of i.tnf i.kind) a)
+
 -- one alternative carrier more in front
 pub link_here : (outer items : List Item) (i : Item) (k : Link) (links : List Link) → kind_of i.tnf i.kind ≡ kinds.Alternative → StandsForAc i.payload k.ac → IsIndexOf outer k.ac.reference k.index
     → AreLinks outer (alternatives items) links → AreLinks outer (alternatives (i ∷ items)) (k ∷ links)
-link_here outer items i k links a s x h =
-    let e : alternatives (i ∷ items) ≡ i ∷ alternatives items = ap (λ kind. if is_alternative kind then i ∷ alternatives items else alternatives items) a in
-    rw e (s, x, h)
+link_here outer items i k links a s x h = rw (alternative_here i items a) (s, x, h)
 
 -- another record in front
 pub link_later : (outer items : List Item) (i : Item) (links : List Link) → kind_of i.tnf i.kind ≢ kinds.Alternative → AreLinks outer (alternatives items) links → AreLinks outer (alternatives (i ∷ items)) links
-link_later outer items i links a h =
-    let e : alternatives (i ∷ items) ≡ alternatives items =
-    ap (λ b. if b then i ∷ alternatives items else alternatives items) (not_alternative (kind_of i.tnf i.kind) a) in
-    rw e h
+link_later outer items i links a h = rw (alternative_later i items a) h
 
 -- ---- the index of a record
 

@@ -46,6 +46,11 @@ DecodesTo set holds stands payload (Err (errors.Refused refusal)) =
     RefusesPayload set holds payload refusal
 DecodesTo set holds stands payload (Err errors.NoMemory) = (length payload < 2 ^ 32) × set payload
 
+-- the payload is in the set, and its parts are those that are given; or it is refused
+abbrev pub ParsesTo : Payloads → Reasons → List ℕ → Result (List ℕ) Refusal → Type 0
+ParsesTo set holds payload (Ok parts) = (length payload < 2 ^ 32) × set payload × (parts ≡ payload)
+ParsesTo set holds payload (Err refusal) = RefusesPayload set holds payload refusal
+
 -- NDEF 1.0, PAYLOAD_LENGTH: what is written for the value is longer than a payload
 abbrev pub IsTooLong : {V : Type 0} → Writing V → V → Type 0
 IsTooLong written value = (payload : List ℕ) × written value payload × (2 ^ 32 ≤ length payload)

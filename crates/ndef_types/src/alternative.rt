@@ -1,19 +1,17 @@
 //! Alternative carriers.
 ghost use Rattle.std.specs.Prelude.{◌≡◌, ◌<◌, ◌≤◌, ◌^◌, ◌↔◌, ◌++◌, length, slice_get, option_map, IsTrue, IfOk, IsErrOf, OnOk};
 ghost use Rattle.std.specs.List.{AllByRecursion, flat_map};
-ghost use Rattle.ndef_format.specs.Handovers.{IsAlternative, AreAuxiliary, AreReferences};
+ghost use Rattle.ndef_format.specs.Handovers.{IsAlternative};
 ghost use Rattle.ndef_format.specs.Reasons.{NoReason};
 ghost use Rattle.ndef_types.specs.Decoding.{DecodesTo};
 ghost use Rattle.ndef_types.specs.Equality.{ac_eq, ac_hash};
 ghost use Rattle.ndef_types.specs.EqualityLaws.{ac_alike, ac_equiv, ac_per};
-ghost use Rattle.ndef_types.specs.Values.{StandsForAc, StandForAuxiliary, StandForNames, IsAcValue, IsReference, ac_payload, counted};
+ghost use Rattle.ndef_types.specs.Values.{StandsForAc, IsAcValue, IsReference, ac_payload, counted};
 ghost use Rattle.ndef_types.specs.Alternatives.{MakesAc};
 
-use crate::accepting::{MOST, accept};
-use crate::fields::{behind_first, split_counted};
-use crate::{DecodeError, EncodeError, Power};
-use ndef_lang::{Kind, Leaf};
-use ndef_value::{Bytes, Name, NoMemory, Profile};
+use crate::accepting::MOST;
+use crate::{AlternativeParts, DecodeError, EncodeError, Power};
+use ndef_value::{Bytes, Name, NoMemory};
 use std::alloc::Global;
 use std::hash::{Hash, Hasher};
 use std::marker::Model;
@@ -62,52 +60,6 @@ fn are_references(names: &[Name])
     for name in names {
         // For the proof alone.
         let _name = name.as_slice();
-    }
-}
-
-/// `count` references, each after its length, and what is after them.
-fn read_names(alloc: Global, count: u8, octets: &[u8]) -> Result<(Vec<Name>, &[u8]), NoMemory>
-    requires { AreReferences count octets.now }
-    ensures names { IfOk result (λ read. StandForNames count octets.now read.0.items read.1.now) }
-    ensures few { IfOk result (λ read. length read.0.items ≤ 255) }
-{
-    let mut names = Vec::new(alloc);
-    let mut left = octets;
-    for _i in 0..count {
-        let (name, after) = split_counted(left);
-        let Ok(name) = Name::from_slice(alloc, name) else {
-            return Err(NoMemory);
-        };
-        names.push(name)?;
-        left = after;
-    }
-    Ok((names, left))
-}
-
-/// The auxiliary references after their count, and what is after them.
-fn read_auxiliary(alloc: Global, octets: &[u8]) -> Result<(Vec<Name>, &[u8]), NoMemory>
-    requires { AreAuxiliary octets.now }
-    ensures auxiliary { IfOk result (λ read. StandForAuxiliary octets.now read.0.items read.1.now) }
-    ensures few { IfOk result (λ read. length read.0.items ≤ 255) }
-{
-    read_names(alloc, octets[0], behind_first(octets))
-}
-
-/// The value for which a payload stands.
-pub(crate) fn read_ac(alloc: Global, payload: &[u8]) -> Result<Ac, NoMemory>
-    requires { IsAlternative payload.now }
-    ensures { IfOk result (StandsForAc payload.now) }
-{
-    let power = Power::of(payload[0]);
-    let (reference, octets) = split_counted(behind_first(payload));
-    let Ok(reference) = Name::from_slice(alloc, reference) else {
-        return Err(NoMemory);
-    };
-    let (auxiliary, rest) = read_auxiliary(alloc, octets)?;
-    let rest = Bytes::from_slice(alloc, rest)?;
-    match Ac::new(power, reference, auxiliary, rest) {
-        Ok(ac) => Ok(ac),
-        Err(_) => unreachable!(),
     }
 }
 
@@ -181,8 +133,7 @@ impl Ac {
     pub fn decode(alloc: Global, payload: &[u8]) -> Result<Ac, DecodeError>
         ensures { DecodesTo IsAlternative (λ s b. NoReason) StandsForAc payload.now result }
     {
-        accept::<Leaf>(Kind::Alternative, Profile::Strict, payload)?;
-        Ok(read_ac(alloc, payload)?)
+        Ok(AlternativeParts::parse(payload)?.to_value(alloc)?)
     }
 
     /// Whether the payload has at most 4294967295 bytes.

@@ -2,13 +2,14 @@
 ghost use Rattle.std.specs.Prelude.{◌≡◌, ◌<◌, ◌≤◌, ◌^◌, ◌↔◌, length, IfOk, IsErrOf};
 ghost use Rattle.ndef_format.specs.Handovers.{IsCarrier};
 ghost use Rattle.ndef_format.specs.Reasons.{NoReason};
-ghost use Rattle.ndef_types.specs.Decoding.{DecodesTo};
-ghost use Rattle.ndef_types.specs.Values.{StandsForCarrier, IsCarrierValue, carrier_payload};
+ghost use Rattle.ndef_types.specs.Decoding.{DecodesTo, ParsesTo};
+ghost use Rattle.ndef_types.specs.Values.{CarrierValue, StandsForCarrier, IsCarrierValue, carrier_payload};
 
 use crate::accepting::{MOST, accept};
+use crate::fields::{behind_first, split_counted};
 use crate::{DecodeError, EncodeError};
 use ndef_lang::{Kind, Leaf};
-use ndef_value::{Bytes, Name, NoMemory, Profile};
+use ndef_value::{Bytes, Name, NoMemory, Profile, Refusal};
 use std::alloc::Global;
 use std::marker::Model;
 
@@ -33,21 +34,80 @@ impl Model for Carrier {
     ghost inverse = { λ v. record { format = v.format; kind = v.kind; carried = v.carried } };
 }
 
-/// The carrier for which a payload of a handover carrier record stands, or `NoMemory`. The payload is not checked
-/// again.
-pub fn read_carrier(alloc: Global, payload: &[u8]) -> Result<Carrier, NoMemory>
-    requires { IsCarrier payload.now }
-    ensures { IfOk result (StandsForCarrier payload.now) }
-{
-    let [format, length, rest @ ..] = payload else {
-        unreachable!()
-    };
-    let (kind, carried) = rest.split_at(usize::from(*length));
-    let Ok(kind) = Name::from_slice(alloc, kind) else {
-        return Err(NoMemory);
-    };
-    let carried = Bytes::from_slice(alloc, carried)?;
-    Ok(Carrier::new(format % 8, kind, carried))
+/// The payload of a handover carrier record, whose parts are slices of it (Connection Handover 1.2, Handover
+/// Carrier record). Contracts see its octets.
+#[derive(Debug, Drop)]
+pub struct CarrierParts<'a> {
+    payload: &'a [u8],
+}
+
+impl<'a> Model for CarrierParts<'a> {
+    ghost use Rattle.std.specs.Prelude.{List, ℕ};
+    ghost use Rattle.ndef_format.specs.Handovers.{IsCarrier};
+
+    ghost Value = { List ℕ };
+
+    ghost view = { λ c. c.payload.now };
+
+    ghost invariant = { λ c. IsCarrier c.payload.now };
+}
+
+impl<'a> CarrierParts<'a> {
+    /// The parts of a payload that is known to be that of a handover carrier.
+    pub fn new(payload: &'a [u8]) -> CarrierParts<'a>
+        requires { IsCarrier payload.now }
+        ensures { result ≡ payload.now }
+    {
+        CarrierParts { payload }
+    }
+
+    /// The parts of a payload, which is refused where it isn't in the set of its type or is longer than a
+    /// payload may be.
+    pub fn parse(payload: &'a [u8]) -> Result<CarrierParts<'a>, Refusal>
+        ensures { ParsesTo IsCarrier (λ s b. NoReason) payload.now result }
+    {
+        match accept::<Leaf>(Kind::Carrier, Profile::Strict, payload) {
+            Ok(()) => Ok(CarrierParts { payload }),
+            Err(refusal) => Err(refusal),
+        }
+    }
+
+    /// The carrier type format, 0 to 7: bits 2 to 0 of the first octet, whose other bits are ignored.
+    pub fn format(&self) -> u8
+        ensures value { (v : CarrierValue) → StandsForCarrier self.now v → result ≡ v.format }
+        ensures bound { result < 8 }
+    {
+        self.payload[0] % 8
+    }
+
+    /// The carrier type, 0 to 255 octets.
+    pub fn kind(&self) -> &'a [u8]
+        ensures { (v : CarrierValue) → StandsForCarrier self.now v → result.now ≡ v.kind }
+    {
+        split_counted(behind_first(self.payload)).0
+    }
+
+    /// The carrier data, such as what configures the carrier.
+    pub fn carried(&self) -> &'a [u8]
+        ensures { (v : CarrierValue) → StandsForCarrier self.now v → result.now ≡ v.carried }
+    {
+        split_counted(behind_first(self.payload)).1
+    }
+
+    /// A carrier of copies of the parts, or `NoMemory`.
+    pub fn to_value(&self, alloc: Global) -> Result<Carrier, NoMemory>
+        ensures { IfOk result (StandsForCarrier self.now) }
+    {
+        let [format, length, rest @ ..] = self.payload else {
+            unreachable!()
+        };
+        let (kind, carried) = rest.split_at(usize::from(*length));
+        let Ok(kind) = Name::from_slice(alloc, kind) else {
+            return Err(NoMemory);
+        };
+        let carried = Bytes::from_slice(alloc, carried)?;
+        Ok(Carrier::new(format % 8, kind, carried))
+    }
 }
 
 impl Carrier {
@@ -72,8 +132,7 @@ impl Carrier {
     pub fn decode(alloc: Global, payload: &[u8]) -> Result<Carrier, DecodeError>
         ensures { DecodesTo IsCarrier (λ s b. NoReason) StandsForCarrier payload.now result }
     {
-        accept::<Leaf>(Kind::Carrier, Profile::Strict, payload)?;
-        Ok(read_carrier(alloc, payload)?)
+        Ok(CarrierParts::parse(payload)?.to_value(alloc)?)
     }
 
     /// The payload of a handover carrier record, its reserved bits 0. `TooLong` comes before `NoMemory`.

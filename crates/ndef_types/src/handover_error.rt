@@ -1,15 +1,16 @@
 //! Handover errors.
-ghost use Rattle.std.specs.Prelude.{◌≡◌, ◌≤◌, ◌^◌, ◌↔◌, length, IsTrue, IfOk, IsErrOf};
+ghost use Rattle.std.specs.Prelude.{◌≡◌, ◌≤◌, ◌^◌, ◌↔◌, length, slice_index, IsTrue, IfOk, IsErrOf};
 ghost use Rattle.ndef_format.specs.Handovers.{IsError, IsErrorData};
 ghost use Rattle.ndef_format.specs.Reasons.{NoReason};
 ghost use Rattle.ndef_types.specs.declared.handover_error.DetailError.TheVariants as errors;
-ghost use Rattle.ndef_types.specs.Decoding.{DecodesTo};
-ghost use Rattle.ndef_types.specs.Values.{StandsForError, IsErrorValue, error_payload};
+ghost use Rattle.ndef_types.specs.Decoding.{DecodesTo, ParsesTo};
+ghost use Rattle.ndef_types.specs.Values.{ErrorValue, StandsForError, IsErrorValue, error_payload};
 
 use crate::accepting::{MOST, accept};
+use crate::fields::behind_first;
 use crate::{DecodeError, EncodeError};
 use ndef_lang::{Kind, Leaf};
-use ndef_value::{Bytes, NoMemory, Profile};
+use ndef_value::{Bytes, NoMemory, Profile, Refusal};
 use std::alloc::Global;
 use std::marker::Model;
 use thiserror::Error;
@@ -34,6 +35,74 @@ impl Model for HandoverError {
     ghost inverse = { λ v. record { reason = v.reason; detail = v.detail } };
 }
 
+/// The payload of an error record, whose data are a slice of it (Connection Handover 1.2, Error record).
+/// Contracts see its octets.
+#[derive(Debug, Drop)]
+pub struct ErrorParts<'a> {
+    payload: &'a [u8],
+}
+
+impl<'a> Model for ErrorParts<'a> {
+    ghost use Rattle.std.specs.Prelude.{List, ℕ};
+    ghost use Rattle.ndef_format.specs.Handovers.{IsError};
+
+    ghost Value = { List ℕ };
+
+    ghost view = { λ e. e.payload.now };
+
+    ghost invariant = { λ e. IsError e.payload.now };
+}
+
+impl<'a> ErrorParts<'a> {
+    /// The parts of a payload that is known to be that of a handover error.
+    pub fn new(payload: &'a [u8]) -> ErrorParts<'a>
+        requires { IsError payload.now }
+        ensures { result ≡ payload.now }
+    {
+        ErrorParts { payload }
+    }
+
+    /// The parts of a payload, which is refused where it isn't in the set of its type or is longer than a
+    /// payload may be.
+    pub fn parse(payload: &'a [u8]) -> Result<ErrorParts<'a>, Refusal>
+        ensures { ParsesTo IsError (λ s b. NoReason) payload.now result }
+    {
+        match accept::<Leaf>(Kind::Error, Profile::Strict, payload) {
+            Ok(()) => Ok(ErrorParts { payload }),
+            Err(refusal) => Err(refusal),
+        }
+    }
+
+    /// The reason, any octet; 1 to 3 are those that the standard defines.
+    pub fn reason(&self) -> u8
+        ensures { (v : ErrorValue) → StandsForError self.now v → result ≡ v.reason }
+    {
+        self.payload[0]
+    }
+
+    /// The data, as long as the reason asks.
+    pub fn detail(&self) -> &'a [u8]
+        ensures value { (v : ErrorValue) → StandsForError self.now v → result.now ≡ v.detail }
+        ensures data { IsErrorData (slice_index self.now 0) result.now }
+    {
+        behind_first(self.payload)
+    }
+
+    /// An error of a copy of the data, or `NoMemory`.
+    pub fn to_value(&self, alloc: Global) -> Result<HandoverError, NoMemory>
+        ensures { IfOk result (StandsForError self.now) }
+    {
+        let [reason, detail @ ..] = self.payload else {
+            unreachable!()
+        };
+        let detail = Bytes::from_slice(alloc, detail)?;
+        Ok(HandoverError {
+            reason: *reason,
+            detail,
+        })
+    }
+}
+
 /// Why a reason and some data make no handover error, in the order in which the reasons are tried.
 #[derive(Clone, Copy, Debug, Drop, PartialEq, Eq, Hash, Error)]
 pub enum DetailError {
@@ -53,8 +122,9 @@ impl From<NoMemory> for DetailError {
     }
 }
 
-/// Whether the data goes with the reason.
-fn goes_with(reason: u8, detail: &[u8]) -> bool
+/// Whether the data are as long as the reason asks: one octet for 1 and 3, four for 2, and any number for
+/// all others.
+pub fn goes_with(reason: u8, detail: &[u8]) -> bool
     ensures { IsTrue result ↔ IsErrorData reason detail.now }
 {
     match reason {
@@ -82,15 +152,7 @@ impl HandoverError {
     pub fn decode(alloc: Global, payload: &[u8]) -> Result<HandoverError, DecodeError>
         ensures { DecodesTo IsError (λ s b. NoReason) StandsForError payload.now result }
     {
-        accept::<Leaf>(Kind::Error, Profile::Strict, payload)?;
-        let [reason, detail @ ..] = payload else {
-            unreachable!()
-        };
-        let detail = Bytes::from_slice(alloc, detail)?;
-        Ok(HandoverError {
-            reason: *reason,
-            detail,
-        })
+        Ok(ErrorParts::parse(payload)?.to_value(alloc)?)
     }
 
     /// The payload of an error record. `TooLong` comes before `NoMemory`.

@@ -4,7 +4,9 @@
 //! Where to look:
 //!
 //! - `text.rt`, `uri.rt`, `smart_poster.rt`, `request.rt`, `select.rt`, `alternative.rt`, `carrier.rt`,
-//!   `handover_error.rt`: a value each.
+//!   `handover_error.rt`: a value each. Those of one record, such as a text, have a type of their parts
+//!   beside them, `TextParts`: slices of the payload, without memory. `alternative_parts.rt`: those of
+//!   an alternative carrier.
 //! - `specs/Values.antt`, `specs/Posters.antt`, `specs/Handovers.antt`: which payload stands for which
 //!   value.
 //! - `specs/Decoding.antt`: what is answered, and the laws. `accepting.rt`: the check that each decoder
@@ -12,19 +14,22 @@
 //! - `specs/Prefixes.antt`: the prefixes of URIs.
 //! - `contents.rt`, `specs/Contents.antt`: which record of a nested message is wrong. `nested.rt`:
 //!   messages in payloads.
-//! - `link.rt`, `specs/Links.antt`: the carriers of a message. `specs/Equality.antt`: when values are
+//! - `link.rt`, `specs/Links.antt`: the carriers of a message. `ids.rt`, `specs/Ids.antt`: its records,
+//!   found by their ids. `specs/Equality.antt`: when values are
 //!   equal.
 #![tactic(auto)]
 
 mod accepting;
 mod action;
 mod alternative;
+mod alternative_parts;
 mod carrier;
 mod contents;
 mod encoding;
 mod error;
 mod fields;
 mod handover_error;
+mod ids;
 mod laws;
 mod link;
 mod message_laws;
@@ -43,11 +48,12 @@ mod utf16;
 pub use accepting::accept;
 pub use action::Action;
 pub use alternative::{Ac, TooMany};
-pub use carrier::{Carrier, read_carrier};
+pub use alternative_parts::AlternativeParts;
+pub use carrier::{Carrier, CarrierParts};
 pub use contents::is_kind;
 pub use encoding::Encoding;
 pub use error::{DecodeError, EncodeError};
-pub use handover_error::{DetailError, HandoverError};
+pub use handover_error::{DetailError, ErrorParts, HandoverError, goes_with};
 pub use laws::{
     alternatives_are_exact, carriers_are_exact, equality_is_exact, errors_are_exact,
     texts_are_exact, uris_are_exact,
@@ -60,7 +66,7 @@ pub use prefixes::{prefix, split};
 pub use request::{Request, read_request};
 pub use select::{Select, read_select};
 pub use smart_poster::{NotPoster, SmartPoster, read_poster};
-pub use text::{Text, TextError, read_text, split_language};
+pub use text::{Text, TextError, TextParts};
 pub use texts::Texts;
-pub use uri::{Uri, read_uri};
+pub use uri::{Uri, UriParts};
 pub use utf16::{units_len, unmark};

@@ -1,9 +1,10 @@
 //! The links of a message.
 ghost use Rattle.std.specs.Iterator.Adapters.{IterYieldsInOrder, IterYieldsInReverse};
-ghost use Rattle.std.specs.Prelude.{◌≡◌, ◌≢◌, ◌<◌, ◌^◌, ◌++◌, ◌∷◌, ◌↔◌, ◌⊎◌, [], Some, length, map, slice_get, option_map, IfOk, IsErrOf, IsTrue, OnErr, OnOk};
+ghost use Rattle.std.specs.Prelude.{◌≡◌, ◌≢◌, ◌<◌, ◌^◌, ◌++◌, ◌∷◌, ◌↔◌, ◌⊎◌, [], Some, List, length, map, slice_get, option_map, IfOk, IsErrOf, IsTrue, OnErr, OnOk};
 ghost use Rattle.std.specs.Slice.Iter.{iter_rest};
+ghost use Rattle.std.specs.Bool.{MatchBool};
 ghost use Rattle.std.specs.List.{AllByRecursion, find};
-ghost use Rattle.ndef_format.specs.Messages.{run_record};
+ghost use Rattle.ndef_format.specs.Messages.{Item as OuterRecord, run_record};
 ghost use Rattle.ndef_format.specs.declared.profile.Profile.TheVariants.{Strict};
 ghost use Rattle.ndef_value.specs.declared.limits.TheConstants.{MOST_RECORDS};
 ghost use Rattle.ndef_format.specs.Kinds.{kind_of};
@@ -13,14 +14,15 @@ ghost use Rattle.ndef_format.specs.declared.table.Table.{Table};
 ghost use Rattle.ndef_format.specs.declared.table.Table.TheVariants.{SmartPoster};
 ghost use Rattle.ndef_types.specs.Contents.{IsFirstOf};
 ghost use Rattle.ndef_types.specs.declared.link.LinkError.TheVariants as errors;
-ghost use Rattle.ndef_types.specs.Links.{AreLinks, FindsLinks, HandoverIsChunked, HasCarriers, HasLinks, HasWholeCarrier, IsHandoverRecord, IsIndexOf, LinksOf, StandsForLinks, alternatives, is_handover};
+ghost use Rattle.ndef_types.specs.Ids.{FindsFirsts};
+ghost use Rattle.ndef_types.specs.Links.{AreLinks, FindsLinks, HandoverIsChunked, HasCarriers, HasLinks, HasWholeCarrier, IsHandoverRecord, LinksOf, StandsForLinks, alternatives, is_handover};
 
-use crate::Ac;
 use crate::accepting::{accept, accept_item};
-use crate::alternative::read_ac;
 use crate::contents::is_kind;
 use crate::fields::behind_first;
+use crate::ids::{Ids, Outer, index_of};
 use crate::nested::view_nested;
+use crate::{Ac, AlternativeParts};
 use ndef_lang::Kind;
 use ndef_message::{Item, View};
 use ndef_nest::Nest;
@@ -143,61 +145,24 @@ impl From<NoMemory> for LinkError {
     }
 }
 
-/// The records to which the carriers of a handover refer.
-trait Outer {
-    ghost use Rattle.std.specs.Prelude.{List};
-    ghost use Rattle.ndef_format.specs.Messages.{Item as Each};
-
-    /// The records.
-    ghost items: { Self → List Each };
-
-    /// The index of the first record with the id; no record has the empty id.
-    fn index_of(&self, id: &[u8]) -> Option<usize>
-        ensures { IsIndexOf (items self.now) id.now result };
-}
-
-impl Outer for Message {
-    ghost items = { λ message. message };
-
-    fn index_of(&self, id: &[u8]) -> Option<usize> {
-        if id.is_empty() {
-            return None;
+/// Whether a handover has an alternative carrier.
+fn has_alternative(handover: &View<'_>) -> bool
+    ensures { MatchBool result (alternatives (map run_record handover.now.runs) ≢ [])
+        (alternatives (map run_record handover.now.runs) ≡ []) }
+{
+    for item in handover.items() {
+        if is_kind(Kind::of(item.tnf(), item.kind()), Kind::Alternative) {
+            return true;
         }
-        for (index, item) in self.records().iter().enumerate() {
-            if item.id() == id {
-                return Some(index);
-            }
-        }
-        None
     }
+    false
 }
 
-impl<'a> Outer for View<'a> {
-    ghost use Rattle.ndef_format.specs.Messages.{run_record};
-    ghost use Rattle.std.specs.Prelude.{map};
-
-    ghost items = { λ view. map run_record view.runs };
-
-    fn index_of(&self, id: &[u8]) -> Option<usize> {
-        if id.is_empty() {
-            return None;
-        }
-        let mut index = 0;
-        for item in self.items() {
-            if item.id() == id {
-                return Some(index);
-            }
-            index += 1;
-        }
-        None
-    }
-}
-
-/// The links of the alternative carriers of a handover, to records of the outer message.
-fn links_of<O: Outer>(alloc: Global, outer: &O, handover: &View<'_>) -> Result<Links, NoMemory>
+/// The links of the alternative carriers of a handover, to the records with these ids.
+fn links_of<'a>(alloc: Global, ids: &Ids<'a>, handover: &View<'a>) -> Result<Links, NoMemory>
     requires { AllByRecursion HasWholeCarrier handover.now.runs }
-    ensures value { IfOk result (AreLinks (O.items outer.now) (alternatives (map run_record handover.now.runs))) }
-    ensures memory { OnErr result (alternatives (map run_record handover.now.runs) ≢ []) }
+    ensures { (outer : List OuterRecord) → FindsFirsts outer ids.now
+        → IfOk result (AreLinks outer (alternatives (map run_record handover.now.runs))) }
 {
     let mut links = Links::new(alloc);
     for item in handover.items() {
@@ -205,8 +170,9 @@ fn links_of<O: Outer>(alloc: Global, outer: &O, handover: &View<'_>) -> Result<L
             let Some(payload) = item.whole() else {
                 unreachable!()
             };
-            let ac = read_ac(alloc, payload)?;
-            let index = outer.index_of(ac.reference().as_slice());
+            let parts = AlternativeParts::new(payload);
+            let index = index_of(ids, parts.reference());
+            let ac = parts.to_value(alloc)?;
             links.push(Link { ac, index })?;
         }
     }
@@ -214,10 +180,10 @@ fn links_of<O: Outer>(alloc: Global, outer: &O, handover: &View<'_>) -> Result<L
 }
 
 /// The links in the payload of a handover, to records of the outer message.
-fn read_links<O: Outer>(
+fn read_links<'a, O: Outer>(
     alloc: Global,
-    outer: &O,
-    payload: &[u8],
+    outer: &'a O,
+    payload: &'a [u8],
     profile: Profile,
 ) -> Result<Links, NoMemory>
     requires { (table : Table) × (table ≢ SmartPoster) × IsNest table MOST_RECORDS profile payload.now }
@@ -228,7 +194,12 @@ fn read_links<O: Outer>(
     if bytes.is_empty() {
         return Ok(Links::new(alloc));
     }
-    links_of(alloc, outer, &view_nested(bytes, profile))
+    let handover = view_nested(bytes, profile);
+    if !has_alternative(&handover) {
+        return Ok(Links::new(alloc));
+    }
+    let ids = outer.ids(alloc)?;
+    links_of(alloc, &ids, &handover)
 }
 
 /// Whether a record is a handover request or select.

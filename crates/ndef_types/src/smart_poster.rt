@@ -14,9 +14,7 @@ ghost use Rattle.ndef_types.specs.Posters.{IsUriOf, LacksUri, MakesPoster, Says,
 use crate::accepting::{MOST, accept};
 use crate::contents::{first_of, first_wrong, is_kind};
 use crate::nested::read_nested;
-use crate::text::read_text;
-use crate::uri::read_uri;
-use crate::{Action, DecodeError, EncodeError, Texts, Uri};
+use crate::{Action, DecodeError, EncodeError, TextParts, Texts, Uri, UriParts};
 use ndef_lang::Kind;
 use ndef_message::{Form, encode, encoded_length, short_is_canonical};
 use ndef_nest::{Nest, Table};
@@ -228,7 +226,7 @@ impl SmartPoster {
         ensures { IfOk result (IsUriOf self.now) }
     {
         match self.first(Kind::Uri) {
-            Some(item) => read_uri(alloc, item.payload(), Profile::Strict),
+            Some(item) => UriParts::new(item.payload()).to_value(alloc),
             None => unreachable!(),
         }
     }
@@ -254,7 +252,8 @@ impl SmartPoster {
         let mut texts = Texts::new(alloc);
         for item in self.message.records() {
             if is_kind(Table::SmartPoster.kind(item.tnf(), item.kind()), Kind::Text) {
-                texts.push(read_text(alloc, item.payload())?)?;
+                let title = TextParts::new(item.payload());
+                texts.push(title.to_value(alloc)?)?;
             }
         }
         Ok(texts)

@@ -1,11 +1,11 @@
 //! Texts.
-ghost use Rattle.std.specs.Prelude.{◌≡◌, ◌<◌, ◌≤◌, ◌^◌, ◌++◌, ◌↔◌, length, chars, encode_utf8_all, string_bytes, IsAscii, IsUtf8, IfOk, OnOk, IsErrOf, IsTrue};
+ghost use Rattle.std.specs.Prelude.{◌≡◌, ◌<◌, ◌≤◌, ◌^◌, ◌++◌, ◌↔◌, true, false, length, slice_index, chars, encode_utf8_all, string_bytes, IsAscii, IsUtf8, IfNone, IfOk, IfSome, OnOk, IsErrOf, IsTrue};
 ghost use Rattle.ndef_types.specs.Equality.{text_eq, text_hash};
 ghost use Rattle.ndef_types.specs.EqualityLaws.{text_alike, text_equiv, text_per};
 ghost use Rattle.ndef_format.specs.Texts.{IsText, IsTextIn, is_wide};
 ghost use Rattle.ndef_format.specs.PayloadReasons.{TextReason};
 ghost use Rattle.ndef_types.specs.declared.text.TextError.TheVariants as errors;
-ghost use Rattle.ndef_types.specs.Decoding.{DecodesTo};
+ghost use Rattle.ndef_types.specs.Decoding.{DecodesTo, ParsesTo};
 ghost use Rattle.ndef_types.specs.Values.{StandsForText, SpellsText, IsTextValue, is_utf16, language_octets, encoded_octets, status_octet, text_octets, text_payload};
 
 use crate::accepting::{MOST, accept};
@@ -13,7 +13,7 @@ use crate::fields::behind_first;
 use crate::utf16::{push_text, read_utf16, units_len};
 use crate::{DecodeError, EncodeError, Encoding};
 use ndef_lang::{Kind, Leaf};
-use ndef_value::{Bytes, NoMemory, Profile};
+use ndef_value::{Bytes, NoMemory, Profile, Refusal};
 use std::alloc::{AllocError, Global};
 use std::hash::{Hash, Hasher};
 use std::marker::Model;
@@ -73,26 +73,6 @@ fn read_utf8(alloc: Global, octets: &[u8]) -> Result<String, NoMemory>
     Ok(String::from_str(alloc, text)?)
 }
 
-/// The encoding that a status octet gives.
-fn encoding_of(status: u8) -> Encoding
-    ensures { is_wide status ≡ is_utf16 result }
-{
-    if status < 128 {
-        Encoding::Utf8
-    } else {
-        Encoding::Utf16
-    }
-}
-
-/// The octets of the language code and those of the text, in a payload of a Text record (RTD Text 1.0).
-pub fn split_language(payload: &[u8]) -> (&[u8], &[u8])
-    requires { IsText payload.now }
-    ensures language { result.0.now ≡ language_octets payload.now }
-    ensures text { result.1.now ≡ encoded_octets payload.now }
-{
-    behind_first(payload).split_at(usize::from(payload[0] % 64))
-}
-
 /// The text that some octets spell.
 fn read_octets(alloc: Global, encoding: Encoding, octets: &[u8]) -> Result<String, NoMemory>
     requires { IsTextIn (is_utf16 encoding) octets.now }
@@ -104,20 +84,107 @@ fn read_octets(alloc: Global, encoding: Encoding, octets: &[u8]) -> Result<Strin
     }
 }
 
-/// The text for which a payload of a Text record stands, or `NoMemory`. The payload is not checked again.
-pub fn read_text(alloc: Global, payload: &[u8]) -> Result<Text, NoMemory>
-    requires { IsText payload.now }
-    ensures { IfOk result (StandsForText payload.now) }
-{
-    let encoding = encoding_of(payload[0]);
-    let (language, octets) = split_language(payload);
-    let language = read_utf8(alloc, language)?;
-    let text = read_octets(alloc, encoding, octets)?;
-    Ok(Text {
-        encoding,
-        language,
-        text,
-    })
+/// The payload of a Text record, whose parts are slices of it (RTD Text 1.0). Contracts see its octets.
+#[derive(Debug, Drop)]
+pub struct TextParts<'a> {
+    payload: &'a [u8],
+}
+
+impl<'a> Model for TextParts<'a> {
+    ghost use Rattle.std.specs.Prelude.{List, ℕ};
+    ghost use Rattle.ndef_format.specs.Texts.{IsText};
+
+    ghost Value = { List ℕ };
+
+    ghost view = { λ t. t.payload.now };
+
+    ghost invariant = { λ t. IsText t.payload.now };
+}
+
+impl<'a> TextParts<'a> {
+    /// The parts of a payload that is known to be that of a text.
+    pub fn new(payload: &'a [u8]) -> TextParts<'a>
+        requires { IsText payload.now }
+        ensures { result ≡ payload.now }
+    {
+        TextParts { payload }
+    }
+
+    /// The parts of a payload, which is refused where it isn't in the set of its type or is longer than a
+    /// payload may be.
+    pub fn parse(payload: &'a [u8]) -> Result<TextParts<'a>, Refusal>
+        ensures { ParsesTo IsText TextReason payload.now result }
+    {
+        match accept::<Leaf>(Kind::Text, Profile::Strict, payload) {
+            Ok(()) => Ok(TextParts { payload }),
+            Err(refusal) => Err(refusal),
+        }
+    }
+
+    /// How the text is encoded: bit 7 of the status octet.
+    pub fn encoding(&self) -> Encoding
+        ensures { is_wide (slice_index self.now 0) ≡ is_utf16 result }
+    {
+        if self.payload[0] < 128 {
+            Encoding::Utf8
+        } else {
+            Encoding::Utf16
+        }
+    }
+
+    /// The octets of the language code and those of the text.
+    fn split(&self) -> (&'a [u8], &'a [u8])
+        ensures language { result.0.now ≡ language_octets self.now }
+        ensures text { result.1.now ≡ encoded_octets self.now }
+        ensures is_text { IsText self.now }
+    {
+        behind_first(self.payload).split_at(usize::from(self.payload[0] % 64))
+    }
+
+    /// The language code, 0 to 63 bytes of ASCII.
+    pub fn language(&self) -> &'a str
+        ensures value { result.now ≡ language_octets self.now }
+        ensures ascii { IsAscii result.now }
+        ensures short { length result.now ≤ 63 }
+    {
+        // The octets are ASCII, and so UTF-8.
+        unsafe { str::from_utf8_unchecked(self.split().0) }
+    }
+
+    /// The octets of the text. A byte order mark belongs to them: `unmark` takes it off.
+    pub fn octets(&self) -> &'a [u8]
+        ensures value { result.now ≡ encoded_octets self.now }
+        ensures text { IsTextIn (is_wide (slice_index self.now 0)) result.now }
+    {
+        self.split().1
+    }
+
+    /// The text where it is in UTF-8, and none where it is in UTF-16.
+    pub fn utf8(&self) -> Option<&'a str>
+        ensures utf16 { IfNone result (is_wide (slice_index self.now 0) ≡ true) }
+        ensures text { IfSome result (λ text. text.now ≡ encoded_octets self.now) }
+        ensures utf8 { IfSome result (λ _. is_wide (slice_index self.now 0) ≡ false) }
+    {
+        match self.encoding() {
+            // The octets are UTF-8, as the invariant says.
+            Encoding::Utf8 => Some(unsafe { str::from_utf8_unchecked(self.octets()) }),
+            Encoding::Utf16 => None,
+        }
+    }
+
+    /// A text of copies of the parts, or `NoMemory`. UTF-16 is converted, without its byte order mark.
+    pub fn to_value(&self, alloc: Global) -> Result<Text, NoMemory>
+        ensures { IfOk result (StandsForText self.now) }
+    {
+        let encoding = self.encoding();
+        let language = String::from_str(alloc, self.language())?;
+        let text = read_octets(alloc, encoding, self.octets())?;
+        Ok(Text {
+            encoding,
+            language,
+            text,
+        })
+    }
 }
 
 /// The status octet of a language code of some octets.
@@ -191,8 +258,7 @@ impl Text {
     pub fn decode(alloc: Global, payload: &[u8]) -> Result<Text, DecodeError>
         ensures { DecodesTo IsText TextReason StandsForText payload.now result }
     {
-        accept::<Leaf>(Kind::Text, Profile::Strict, payload)?;
-        Ok(read_text(alloc, payload)?)
+        Ok(TextParts::parse(payload)?.to_value(alloc)?)
     }
 
     /// The payload of a Text record; UTF-16 is written big-endian after `FE FF`. `TooLong` comes before

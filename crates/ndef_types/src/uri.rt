@@ -4,18 +4,20 @@ ghost use Rattle.std.specs.Cmp.{partial_equiv_from_equiv};
 ghost use Rattle.std.specs.Cmp.Lexicographic.{nat_list_eq_equiv, pointwise};
 ghost use Rattle.std.specs.Cmp.Rules.{hashing};
 ghost use Rattle.std.specs.Hash as fed;
-ghost use Rattle.std.specs.Prelude.{◌≡◌, ◌==◌, ◌<◌, ◌≤◌, ◌^◌, ◌↔◌, ℕ, List, length, IsTrue, IsUtf8, IfOk, IsErrOf};
+ghost use Rattle.std.specs.Prelude.{◌≡◌, ◌==◌, ◌<◌, ◌≤◌, ◌^◌, ◌++◌, ◌↔◌, ℕ, List, length, drop, slice_index, IsTrue, IsUtf8, IfOk, IsErrOf};
 ghost use Rattle.ndef_format.specs.Uris.{IsUri};
 ghost use Rattle.ndef_format.specs.PayloadReasons.{UriReason};
+ghost use Rattle.ndef_format.specs.declared.profile.Profile.{Profile as Reader};
 ghost use Rattle.ndef_format.specs.declared.profile.Profile.TheVariants.{Strict};
-ghost use Rattle.ndef_types.specs.Decoding.{DecodesTo, IsTooLong};
+ghost use Rattle.ndef_types.specs.Decoding.{DecodesTo, IsTooLong, ParsesTo};
+ghost use Rattle.ndef_types.specs.Prefixes.{prefix_of};
 ghost use Rattle.ndef_types.specs.Values.{StandsForUri, WritesUri};
 
 use crate::accepting::{MOST, accept};
 use crate::prefixes::{prefix, split};
 use crate::{DecodeError, EncodeError};
 use ndef_lang::{Kind, Leaf};
-use ndef_value::{Bytes, NoMemory, Profile};
+use ndef_value::{Bytes, NoMemory, Profile, Refusal};
 use std::alloc::Global;
 use std::hash::{Hash, Hasher};
 use std::marker::Model;
@@ -34,16 +36,68 @@ impl Model for Uri {
     ghost view = { λ u. string_bytes u.text };
 }
 
-/// The URI for which a payload of a URI record stands, or `NoMemory`. The payload is not checked again.
-pub fn read_uri(alloc: Global, payload: &[u8], profile: Profile) -> Result<Uri, NoMemory>
-    requires { IsUri profile payload.now }
-    ensures { IfOk result (StandsForUri payload.now) }
-{
-    // What is after the code of a URI is UTF-8.
-    let rest = unsafe { str::from_utf8_unchecked(&payload[1..]) };
-    let mut text = String::from_str(alloc, prefix(payload[0]))?;
-    text.push_str(rest)?;
-    Ok(Uri { text })
+/// The payload of a URI record, whose rest is a slice of it (RTD URI 1.0). Contracts see its octets.
+#[derive(Debug, Drop)]
+pub struct UriParts<'a> {
+    payload: &'a [u8],
+}
+
+impl<'a> Model for UriParts<'a> {
+    ghost use Rattle.std.specs.Prelude.{List, ℕ};
+    ghost use Rattle.ndef_format.specs.Uris.{IsUri};
+    ghost use Rattle.ndef_format.specs.declared.profile.Profile.TheVariants.{Standard};
+
+    ghost Value = { List ℕ };
+
+    ghost view = { λ u. u.payload.now };
+
+    ghost invariant = { λ u. IsUri Standard u.payload.now };
+}
+
+impl<'a> UriParts<'a> {
+    /// The parts of a payload that is known to be that of a URI, for either profile.
+    pub fn new(payload: &'a [u8]) -> UriParts<'a>
+        requires { (profile : Reader) × IsUri profile payload.now }
+        ensures { result ≡ payload.now }
+    {
+        UriParts { payload }
+    }
+
+    /// The parts of a payload as a reader of the profile takes it. It is refused where it isn't in the set of
+    /// its type or is longer than a payload may be.
+    pub fn parse(payload: &'a [u8], profile: Profile) -> Result<UriParts<'a>, Refusal>
+        ensures { ParsesTo (IsUri profile) (UriReason profile) payload.now result }
+    {
+        match accept::<Leaf>(Kind::Uri, profile, payload) {
+            Ok(()) => Ok(UriParts { payload }),
+            Err(refusal) => Err(refusal),
+        }
+    }
+
+    /// The code of the prefix, which `prefix` gives.
+    pub fn code(&self) -> u8
+        ensures { result ≡ slice_index self.now 0 }
+    {
+        self.payload[0]
+    }
+
+    /// The rest of the URI, after the prefix.
+    pub fn rest(&self) -> &'a str
+        ensures value { result.now ≡ drop 1 self.now }
+        ensures stands { StandsForUri self.now (prefix_of (slice_index self.now 0) ++ result.now) }
+    {
+        // What is after the code of a URI is UTF-8.
+        unsafe { str::from_utf8_unchecked(&self.payload[1..]) }
+    }
+
+    /// A URI of a copy of its prefix and its rest, or `NoMemory`.
+    pub fn to_value(&self, alloc: Global) -> Result<Uri, NoMemory>
+        ensures { IfOk result (StandsForUri self.now) }
+    {
+        let mut text = String::from_str(alloc, prefix(self.code()))?;
+        text.push_str(self.rest())?;
+        Ok(Uri { text })
+    }
 }
 
 impl Uri {
@@ -70,8 +124,7 @@ impl Uri {
     pub fn decode_as(alloc: Global, payload: &[u8], profile: Profile) -> Result<Uri, DecodeError>
         ensures { DecodesTo (IsUri profile) (UriReason profile) StandsForUri payload.now result }
     {
-        accept::<Leaf>(Kind::Uri, profile, payload)?;
-        Ok(read_uri(alloc, payload, profile)?)
+        Ok(UriParts::parse(payload, profile)?.to_value(alloc)?)
     }
 
     /// The payload of a URI record: the code of the longest prefix that begins the URI, and the rest.
