@@ -56,8 +56,8 @@ class Maker:
         language, words = self.pick(LANGUAGES), self.pick(TEXTS)
         wide = self.chance() < 0.5
         if wide:
-            form = self.pick(('utf-16-be', 'utf-16-le', 'mark'))
-            written = b'\xfe\xff' * (form == 'mark') + words.encode('utf-16-be') if form != 'utf-16-le' else b'\xff\xfe' + words.encode('utf-16-le')
+            mark, order = self.pick(((b'', 'be'), (b'\xfe\xff', 'be'), (b'\xff\xfe', 'le'), (b'', 'le')))
+            written = mark + words.encode(f'utf-16-{order}')
         else:
             written = words.encode()
         if self.chance() < 0.15:
