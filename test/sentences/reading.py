@@ -272,8 +272,8 @@ class Inner:
                 content = (max(2, payloads[0]), min(2, payloads[1]))
             if name[0] > name[1] or content[0] > content[1]:
                 continue
-            behind = self.follows(is_uri)
-            parts = (name, content, ids, behind)
+            beyond = self.follows(is_uri)
+            parts = (name, content, ids, beyond)
             found.append((left + sum(part[0] for part in parts), left + sum(part[1] for part in parts), 1))
         return found
 
@@ -309,12 +309,12 @@ class Inner:
             name += bytes([octet])
             self.check_type(name, length)
         is_uri = self.tnf == 1 and name == b'U' and self.table == 'Sp'
-        behind = [(*self.follows(is_uri), 1)]
+        beyond = [(*self.follows(is_uri), 1)]
         reader, wanted = begun(payload_of(self.table, self.tnf, name, self.limits))
         for left in range(id_length, 0, -1):
-            yield more(behind, left + size) if meets(wanted, size, size) else []
+            yield more(beyond, left + size) if meets(wanted, size, size) else []
         for left in range(size, 0, -1):
-            octet = yield more(behind, left) if meets(wanted, left, left) else []
+            octet = yield more(beyond, left) if meets(wanted, left, left) else []
             wanted = after(reader, octet)
         if not meets(wanted, 0, 0):
             yield []
@@ -363,24 +363,24 @@ class Reader:
 
     def record(self, number):
         """Reads a record; gives whether it is the last of the message."""
-        joined, piece, reader, wanted, chunked = 0, 1, None, ANY, True
+        joined, nth, reader, wanted, chunked = 0, 1, None, ANY, True
         while chunked:
-            header = self.header(number, piece)
+            header = self.header(number, nth)
             chunked, tnf = header & 0x20 != 0, header & 7
-            room = self.limits.payload - joined
-            if piece > 1:
-                self.need(wanted, 0, room if chunked else min(room, 255 if header & 0x10 else GREATEST))
-            length, size, id_length = self.lengths(header, tnf, room, wanted)
+            allowed = self.limits.payload - joined
+            if nth > 1:
+                self.need(wanted, 0, allowed if chunked else min(allowed, 255 if header & 0x10 else GREATEST))
+            length, size, id_length = self.lengths(header, tnf, allowed, wanted)
             name = bytes(self.take() for _ in range(length))
-            if piece == 1:
+            if nth == 1:
                 reader, wanted = begun(payload_of('', tnf, name, self.limits))
-                self.need(wanted, size, room if chunked else size)
+                self.need(wanted, size, allowed if chunked else size)
             for _ in range(id_length):
                 self.take()
             for left in range(size, 0, -1):
                 wanted = after(reader, self.take())
-                self.need(wanted, left - 1, room - size + left - 1 if chunked else left - 1)
-            joined, piece = joined + size, piece + 1
+                self.need(wanted, left - 1, allowed - size + left - 1 if chunked else left - 1)
+            joined, nth = joined + size, nth + 1
         return header & 0x40 != 0
 
     def need(self, wanted, least, most):
@@ -388,21 +388,21 @@ class Reader:
         if not meets(wanted, least, most):
             raise Wrong(DOES_NOT_FIT)
 
-    def header(self, number, piece):
+    def header(self, number, nth):
         header = self.take()
-        tnf, chunked, last, inside = header & 7, header & 0x20, header & 0x40, piece > 1
+        tnf, chunked, last, inside = header & 7, header & 0x20, header & 0x40, nth > 1
         is_first = number == 1 and not inside
         rows = ((RESERVED_TNF, tnf == 7 and not self.limits.standard), (BEGIN_MISSING, is_first and not header & 0x80),
                 (BEGIN_AGAIN, not is_first and header & 0x80), (UNCHANGED_OUTSIDE, not inside and tnf == 6), (CHANGED_INSIDE, inside and tnf != 6),
                 (ID_INSIDE, inside and header & 8), (CHUNK_AT_END, chunked and last), (CHUNK_OF_EMPTY, not inside and chunked and tnf == 0),
-                (TOO_MANY_PIECES, chunked and piece == self.limits.pieces),
+                (TOO_MANY_PIECES, chunked and nth == self.limits.pieces),
                 (TOO_MANY_RECORDS, not chunked and not last and number == self.limits.records))
         for reason, holds in rows:
             if holds:
                 raise Wrong(reason)
         return header
 
-    def lengths(self, header, tnf, room, wanted):
+    def lengths(self, header, tnf, allowed, wanted):
         """The lengths of the type, the payload and the id of a chunk."""
         length = self.take()
         rows = ((TYPE_NOT_EMPTY, tnf > 4 and length), (TYPE_EMPTY, 0 < tnf < 5 and not length), (EMPTY_NOT_EMPTY, tnf == 0 and length))
@@ -415,10 +415,10 @@ class Reader:
             if tnf == 0 and octet:
                 raise Wrong(EMPTY_NOT_EMPTY)
             size += octet * 256 ** (left - 1)
-            if size > room:
+            if size > allowed:
                 raise Wrong(PAYLOAD_TOO_LARGE)
             if tnf == 6:
-                self.need(wanted, size, room if chunked else min(room, size + 256 ** (left - 1) - 1))
+                self.need(wanted, size, allowed if chunked else min(allowed, size + 256 ** (left - 1) - 1))
         id_length = self.take() if header & 8 else 0
         if tnf == 0 and id_length:
             raise Wrong(EMPTY_NOT_EMPTY)
