@@ -1,5 +1,6 @@
 """Random messages of every kind, and damage. In about half of the messages one length, number or text that is written is another than it should be; bytes
 are changed besides. So all kinds of refusals come often."""
+import base64
 
 LANGUAGES = (b'', b'en', b'de', b'en-US', b'x' * 40)
 TEXTS = ('', 'a', 'Hello', 'Gr\u00fc\u00dfe', '\u20ac 5', '\U0001f600', 'a\U0001f600b', 'x' * 70)
@@ -7,6 +8,8 @@ URIS = (b'', b'a', b'example.com', '\u00fc.de'.encode(), b'x' * 60)
 TYPES = (b'a', b'T', b'text/plain', b'Gc', b'x' * 20)
 # Type 2 Tag: the Lock Control TLV of an NTAG213, its capability container, and the 12 bytes of its UID and locks.
 LOCK_CONTROL, CONTAINER, UID = bytes.fromhex('0103a00c34'), bytes.fromhex('e1101200'), bytes.fromhex('045ac117923b6d8044480000')
+# Type 3 Tag: the attribute information block up to the length of the message.
+ATTRIBUTES = bytes.fromhex('10040100 0d 00000000 00 01')
 
 
 class Maker:
@@ -155,17 +158,41 @@ class Maker:
         count = self.pick((1, 1, 1, 2, 3))
         return b''.join(self.record(at == 0, at == count - 1, *self.row(), self.ident()) for at in range(count))
 
+    def spelled(self, octets):
+        """The message as a text that spells it, by one program or another."""
+        rows = [octets[at:at + 16] for at in range(0, len(octets), 16)]
+        pages = [octets[at:at + 4] for at in range(0, len(octets), 4)]
+        form = self.random.randrange(8)
+        if form == 0:
+            return octets.hex(self.pick((' ', '\n'))).encode()
+        if form == 1:
+            return octets.hex().upper().encode() + b'\n'
+        if form == 2:
+            return ''.join(f'{16 * at:08x}: {row.hex(" ", -2)}  {".." * len(row)}\n' for at, row in enumerate(rows)).encode()
+        if form == 3:
+            return ''.join(f'{16 * at:08x}  {row.hex(" ")}  |{"." * len(row)}|\n' for at, row in enumerate(rows)).encode()
+        if form == 4:
+            return ''.join(f'{16 * at:07o} {row.hex(" ")}\n' for at, row in enumerate(rows)).encode()
+        if form == 5:
+            return ('Filetype: Flipper NFC device\nVersion: 4\n' + ''.join(f'Page {at}: {page.hex(" ")}\n' for at, page in enumerate(pages))).encode()
+        if form == 6:
+            return ('[usb] pm3 --> hf mfu dump\n' + ''.join(f'[=] {at:3} | {page.hex(" ")} | 0\n' for at, page in enumerate(pages))).encode()
+        return base64.b64encode(octets) + b'\n'
+
     def wrapped(self, octets):
         """The message as a tag or its file holds it: in a TLV, after its length, or in the memory of a tag."""
         size = len(octets)
         length = bytes([size]) if size < 255 else b'\xff' + size.to_bytes(2, 'big')
         block = b'\x03' + length + octets + b'\xfe'
         before = self.pick((b'', b'', bytes(2), LOCK_CONTROL, CONTAINER, UID + CONTAINER, UID + CONTAINER + LOCK_CONTROL))
-        return self.pick((before + block, before + block, size.to_bytes(2, 'big') + octets, b'\0' + octets))
+        attributes = ATTRIBUTES + size.to_bytes(3, 'big')
+        attributes += sum(attributes).to_bytes(2, 'big')
+        return self.pick((before + block, before + block, before + b'\x03\0\xfe', size.to_bytes(2, 'big') + octets, attributes + octets,
+                          b'\0' + octets, b'\xfe' + octets, self.spelled(octets), self.spelled(octets), self.spelled(octets)))
 
     def damaged(self, octets):
         """The message with bytes changed, left out or put in; or as it is."""
-        if self.chance() < 0.06:
+        if self.chance() < 0.08:
             octets = self.wrapped(octets)
         given = bytearray(octets)
         for _ in range(self.pick((0, 1, 1, 1, 2))):

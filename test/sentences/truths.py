@@ -217,15 +217,6 @@ def begins_otherwise(scene):
     return chunk.tnf != 1 or (chunk.type_length is not None and chunk.type_length != 2) or not b'cr'.startswith(begun[:2])
 
 
-def collision_first(scene):
-    """'It has none': no record of the request is a collision record, as far as its first chunk is there."""
-    if not begins_otherwise(scene):
-        return False
-    begins = scene.record.at + scene.record.begins
-    records = chunks_of(scene.given[begins + 1:begins + scene.record.payload_length])
-    return not any(record.kind('Hr') == 'cr' for record in records)
-
-
 def collision_begins(scene):
     return scene.is_first_of_request() and not begins_otherwise(scene)
 
@@ -311,7 +302,7 @@ FORMS = [(re.compile(words), is_true) for words, is_true in (
     (rf'Another record has to follow \(ME is clear\), of at least 3 octets; {LEFT}', room_for_next),
     (r'Record (\d+) is the last of this smart poster, and none is a URI \(`U`\)\.', uri_in_poster),
     (r'Record (\d+) is a second URI \(`U`\) in this smart poster\.', one_uri),
-    (r'This request must begin with a collision record \(`cr`\); it has none\.', collision_first),
+    (r'This request must begin with a collision record \(`cr`\); its first record is another\.', begins_otherwise),
     (rf'{BEGINS} of {OCTETS}; {GIVEN}', collision_length),
     (rf'{BEGINS}, here of at least {OCTETS}; {LEFT}', shorter_collision),
     (rf'{BEGINS}, which as the last \(ME\) has {OCTETS}; {LEFT}', last_collision),
@@ -348,7 +339,6 @@ def forms():
     names += [f'fixed {NOUNS[kind]} {kind}' for kind in FIXED] + [f'least {NOUNS[kind]} {kind}' for kind in LEAST]
     names += [f'error {reason}' for reason in ERROR_DATA] + [f'missing {field}' for field in FIELDS]
     names += [f'shorter_field {field}' for field in ('language code', 'carrier data reference', 'carrier type')]
-    names += [f'hint {hint.__name__}' for _, hint in HINTS]
     return {*names, *(f'reason {reason}' for reason in REASONS), *FORM_FOR_ONE, *FORM_FOR_MORE}
 
 
@@ -377,34 +367,3 @@ def judged(sentence, scene):
             names = [str(value) for value in values[:1] if is_true is error] + [value for value in values if isinstance(value, str)]
             return [' '.join([is_true.__name__, *names]), *words], bool(agrees and is_true(scene, *values))
     return [], False
-
-
-# ---- hints
-
-def message_at(scene, limits, at):
-    return scene.at == 0 and 1 <= at <= 16 and reading.Reader(scene.given[at:], limits).read()[1] == 0
-
-
-def code_left_out(scene, limits):
-    return scene.reason == reading.URI_CODE and scene.given[scene.at:scene.at + 1] == b'h'
-
-
-def standard_profile(scene, limits):
-    is_read = reading.Reader(scene.given, limits._replace(standard=True)).read()[1] == 0
-    return not limits.standard and scene.reason in (reading.RESERVED_TNF, reading.URI_CODE) and is_read
-
-
-HINTS = [(re.compile(words), is_true) for words, is_true in (
-    (r'The bytes may begin with what surrounds a message on a tag; a message begins at byte (\d+)\.', message_at),
-    (r'68 \(hexadecimal\) is the letter h: was the identifier code left out\?', code_left_out),
-    (r'The standard profile reads this \(`--profile standard`, in C NDEF_STANDARD\)\.', standard_profile),
-)]
-
-
-def judged_hint(sentence, scene, limits):
-    """The name of the form that a hint has, and whether it is true; no name where it has no known form."""
-    for pattern, is_true in HINTS:
-        found = pattern.fullmatch(sentence)
-        if found:
-            return f'hint {is_true.__name__}', is_true(scene, limits, *map(int, found.groups()))
-    return '', False

@@ -1,0 +1,120 @@
+"""What each hint states of refused bytes, and whether it is true of them: by docs/EXPLAIN.md, and by the layouts of the NFC Forum for the memory of tags
+(Type 1 to Type 5 Tag)."""
+import re
+
+import reading
+
+MESSAGE, PASSED = 3, (0, 1, 2, 0xfd)
+
+
+def number_at(given, at, size):
+    """The number that octets spell; those that aren't there are 0."""
+    octets = given[at:at + size]
+    return int.from_bytes(octets + bytes(size - len(octets)), 'big')
+
+
+def message_block(given, at):
+    """The first NDEF Message TLV of the blocks from there on: where its value begins, and its length; or None."""
+    while at < len(given):
+        tag, is_long = given[at], given[at + 1:at + 2] == b'\xff'
+        begins, length = (at + 4, number_at(given, at + 2, 2)) if is_long else (at + 2, number_at(given, at + 1, 1))
+        if tag == MESSAGE:
+            return begins, length
+        if tag not in PASSED:
+            return None
+        at = at + 1 if tag == 0 else begins + length
+    return None
+
+
+def blocks_begin(given):
+    """Where the TLV blocks may begin: at once, or after a capability container of four octets or of eight."""
+    containers = [at for at in range(20) if given[at:at + 1] in (b'\xe1', b'\xe2')]
+    return [0, *(at + size for at in containers for size in (4, 8))]
+
+
+def attributes(given):
+    """The length in the attribute information block of a Type 3 Tag, whose last two octets are the sum of the others; or None."""
+    is_block = len(given) >= 16 and sum(given[:14]) == number_at(given, 14, 2)
+    return number_at(given, 11, 3) if is_block else None
+
+
+def is_cut(at, length, after, count):
+    """Whether the command takes these bytes: `tail -c +N` begins with byte N, counted from 1."""
+    return after == at + 1 and count == length
+
+
+def in_block(scene, limits, length, at, *command):
+    given = scene.given
+    is_block = any(message_block(given, begins) == (at, length) for begins in blocks_begin(given))
+    return scene.at == 0 and is_block and is_cut(at, length, *command) and given[at] & 0x80
+
+
+def after_attributes(scene, limits, length, at, *command):
+    return scene.at == 0 and at == 16 and attributes(scene.given) == length and is_cut(at, length, *command)
+
+
+def in_file(scene, limits, length, at, *command):
+    given = scene.given
+    return scene.at == 0 and at == 2 and 0 < length == number_at(given, 0, 2) <= len(given) - 2 and given[2] & 0x80 and is_cut(at, length, *command)
+
+
+def empty_tag(scene, limits):
+    blocks = [message_block(scene.given, begins) for begins in blocks_begin(scene.given)]
+    return scene.at == 0 and (any(block and block[1] == 0 for block in blocks) or attributes(scene.given) == 0)
+
+
+def message_at(scene, limits, at):
+    return scene.at == 0 and 1 <= at <= 16 and reading.Reader(scene.given[at:], limits).read()[1] == 0
+
+
+def terminator(scene, limits):
+    return scene.at == 0 and scene.given[:1] == b'\xfe'
+
+
+def code_left_out(scene, limits):
+    return scene.reason == reading.URI_CODE and scene.given[scene.at:scene.at + 1] == b'h'
+
+
+def standard_profile(scene, limits):
+    is_read = reading.Reader(scene.given, limits._replace(standard=True)).read()[1] == 0
+    return not limits.standard and scene.reason in (reading.RESERVED_TNF, reading.URI_CODE) and is_read
+
+
+def is_text(pattern):
+    """What says whether refused bytes are a text of this form."""
+    return lambda scene, limits: scene.at == 0 and re.match(pattern, scene.given) is not None
+
+
+COMMAND = r'`tail -c \+(\d+) \| head -c (\d+)`\.'
+# Each hint: its name, its words, and what says whether it is true.
+HINTS = [(name, re.compile(words), is_true) for name, words, is_true in (
+    ('block', rf'A message of length (\d+) may begin at byte (\d+), in an NDEF TLV of a tag: {COMMAND}', in_block),
+    ('attributes', rf'A message of length (\d+) may begin at byte (\d+), after the attribute block of a Type 3 Tag: {COMMAND}', after_attributes),
+    ('file', rf'A message of length (\d+) may begin at byte (\d+), after its length, as in a file of a Type 4 Tag: {COMMAND}', in_file),
+    ('empty', r'This tag is empty: it has no bytes for a message\.', empty_tag),
+    ('near', r'The bytes may begin with what surrounds a message on a tag; a message begins at byte (\d+)\.', message_at),
+    ('terminator', r'FE \(hexadecimal\) ends the TLV blocks of a tag; what comes after it is no message\.', terminator),
+    ('code', r'68 \(hexadecimal\) is the letter h: was the identifier code left out\?', code_left_out),
+    ('standard', r'The standard profile reads this \(`--profile standard`, in C NDEF_STANDARD\)\.', standard_profile),
+    ('digits', r'These are hexadecimal digits, not the bytes that they spell; `--hex` reads them\.', is_text(rb'[0-9A-Fa-fXx\s:,-]+\Z')),
+    ('xxd', r'This is a dump by xxd, not the bytes that it spells; `--hex` reads it\.', is_text(rb'[0-9a-f]{8,}: ')),
+    ('hexdump', r'This is a dump by hexdump, not the bytes that it spells; `--hex` reads it\.', is_text(rb'[0-9a-f]{8,}  .*')),
+    ('words', r'This is a dump by od or hexdump, not the bytes; `--hex` reads those of `hexdump -C` and xxd\.', is_text(rb'[0-9a-f]{7} ')),
+    ('flipper', r"This is a file of a Flipper; `--hex` reads what `sed -n 's/\^Page \[0-9\]\*: //p'` leaves of it\.", is_text(rb'Filetype: Flipper')),
+    ('proxmark', r'This is what a Proxmark prints, not the bytes; `--hex` reads the digits of its blocks\.', is_text(rb'\[(=|\+|usb)\]')),
+    ('base64', r'This may be base64, not the bytes that it spells; `base64 -d` gives them\.', is_text(rb'[0-9A-Za-z+/=\r\n]+\Z')),
+)]
+
+
+def forms():
+    """The name of each hint."""
+    return {f'hint {name}' for name, _, _ in HINTS}
+
+
+def judged(hint, scene, limits):
+    """The name of a hint, and whether it is true; no name where it has no known form."""
+    for name, pattern, is_true in HINTS:
+        found = pattern.fullmatch(hint)
+        if found:
+            return f'hint {name}', bool(is_true(scene, limits, *map(int, found.groups())))
+    return '', False
