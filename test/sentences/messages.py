@@ -46,7 +46,7 @@ class Maker:
         if tnf and self.chance() < 0.15:
             cuts = sorted(self.random.randrange(len(payload) + 1) for _ in range(self.pick((1, 1, 2, 3))))
             parts = [payload[low:high] for low, high in zip([0, *cuts], [*cuts, len(payload)])]
-            middle = [self.chunk(0x20, 6, b'', part) for part in parts[1:-1]]
+            middle = [self.chunk(0x20, 6, b'', part, b'' if self.chance() < 0.05 else None) for part in parts[1:-1]]
             return b''.join([self.chunk(flags & 0x80 | 0x20, tnf, name, parts[0], ident), *middle, self.chunk(flags & 0x40, 6, b'', parts[-1])])
         return self.chunk(flags, tnf, name, payload, ident)
 
@@ -79,13 +79,16 @@ class Maker:
 
     def alternative(self):
         reference, others = self.pick((b'0', b'', b'ref')), [self.pick((b'1', b'', b'aux')) for _ in range(self.pick((0, 0, 0, 1, 1, 2, 3)))]
-        written = bytes([self.random.randrange(4)]) + self.octet(len(reference)) + reference + self.octet(len(others))
+        written = bytes([self.random.randrange(4)]) + self.octet(len(reference)) + reference
+        if self.chance() < 0.08:
+            return self.pick((written, written + self.pick((b'\1', b'\3')), written[:self.random.randrange(3)]))
+        written += self.octet(len(others))
         return written + b''.join(self.octet(len(other)) + other for other in others) + bytes(self.pick((0, 0, 0, 2)))
 
     def error(self):
         reason = self.pick((1, 2, 3, 1, 2, 3, 4, 0))
-        if self.chance() < 0.1:
-            return b''
+        if self.chance() < 0.2:
+            return self.pick((b'', bytes([reason]) + bytes(self.random.randrange(6))))
         return bytes([reason]) + bytes(self.number({1: 1, 2: 4, 3: 1}.get(reason, self.random.randrange(4))) % 16)
 
     # ---- messages within payloads
@@ -111,6 +114,8 @@ class Maker:
                                    lambda: (1, b's', bytes(self.number(4) % 16)), lambda: (1, b't', self.pick(TEXTS).encode()), self.other))())
         if self.chance() < 0.08:
             rows.append((1, b'U', self.uri()))
+        if self.chance() < 0.05:
+            rows += [(1, b'T', b'\2ena'), (1, b'T', b'\2ENb')]
         self.random.shuffle(rows)
         return self.inner(rows) if rows else b''
 
