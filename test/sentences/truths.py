@@ -82,7 +82,7 @@ class Scene:
         while first and self.chunks[first - 1].chunked:
             first -= 1
         own = self.chunks[first:]
-        self.record, self.is_one = own[0], len(own) == 1 and not own[0].chunked
+        self.record = own[0]
         self.content = b''.join(chunk.payload or b'' for chunk in own)
         # The length of the payload, where it is known: that of its chunks, the last of which has come.
         lengths = [chunk.payload_length for chunk in own]
