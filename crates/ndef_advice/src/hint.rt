@@ -148,9 +148,9 @@ fn other_hint(bytes: &[u8], limits: Limits, refusal: Refusal) -> Option<Hint>
     None
 }
 
-/// What may help where the bytes are refused so within the limits; None where nothing is known to (NDEF 1.0, RTD URI 1.0,
-/// and NFC Forum, Type 2 to Type 5 Tag). It checks at most 17 times whether a message begins at a place; all else takes
-/// a time linear in the number of bytes.
+/// What may help where the bytes are refused so within the limits; None where nothing is known to (NDEF 1.0, RTD URI
+/// 1.0, and NFC Forum, Type 1 to Type 5 Tag). It checks at most 17 times whether a message begins at a place; all else
+/// takes a time linear in the number of bytes.
 pub fn hint_at(bytes: &[u8], limits: Limits, refusal: Refusal) -> Option<Hint>
     ensures some { IfSome result (Applies limits bytes.now refusal) }
     ensures none { IfNone result ((hint : Hint) → ¬ Applies limits bytes.now refusal hint) }

@@ -7,8 +7,8 @@
 //! - `begun.rt`, `specs/Begun.antt`: a piece as far as it has come.
 //! - `lengths.rt`, `specs/Lengths.antt`: the lengths of payloads, by their kinds.
 //! - `misfit.rt`, `specs/Misfits.antt`: what was wanted where a payload doesn't fit its length.
-//! - `hint.rt`, `hint_wording.rt`, `specs/Hints.antt`: what may help. `tag_memory.rt`, `specs/TagMemory.antt`: where the
-//!   memory of a tag has a message. `dump_text.rt`, `specs/DumpTexts.antt`: texts that spell bytes.
+//! - `hint.rt`, `hint_wording.rt`, `specs/Hints.antt`: what may help. `tag_memory.rt`, `specs/TagMemory.antt`: where
+//!   the memory of a tag has a message. `dump_text.rt`, `specs/DumpTexts.antt`: texts that spell bytes.
 //! - `remark.rt`, `specs/Remarks.antt`: what is strange in a field of a message that is accepted. `text_remark.rt`,
 //!   `specs/TextRemarks.antt`: in a text. `record_remark.rt`, `poster_remark.rt`, `handover_remark.rt`,
 //!   `specs/RecordRemarks.antt`: in a record beside the others. `few.rt`: the messages that are looked through so.

@@ -9,8 +9,8 @@
 //! - `kinds.rt`, `specs/Kinds.antt`: what the payload of a record is, as its type says.
 //! - `pieces.rt`, `specs/Pieces.antt`: where its pieces lie. `specs/Arrays.antt`: what is written to an array.
 //! - `fields.rt`, `field_names.rt`, `payload_fields.rt`, `specs/Fields.antt`: in which field each byte stands.
-//! - `why.rt`, `specs/Whys.antt`: why bytes are refused, in sentences. `hints.rt`, `specs/Hints.antt`: what may help, in
-//!   sentences and by numbers. `remarks.rt`, `specs/Remarks.antt`: what is strange in a message that is accepted.
+//! - `why.rt`, `specs/Whys.antt`: why bytes are refused, in sentences. `hints.rt`, `specs/Hints.antt`: what may help,
+//!   in sentences and by numbers. `remarks.rt`, `specs/Remarks.antt`: what is strange in a message that is accepted.
 //! - `items.rt`, `specs/Items.antt`: a message and all its records, in one call.
 //! - `layout.rt`, `specs/Layouts.antt`: payloads of a layout that a program gives.
 //! - `finding.rt`, `specs/Finding.antt`: the first record with a type or an id.

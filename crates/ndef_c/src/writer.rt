@@ -22,8 +22,8 @@ pub struct NdefWriter {
     pub payload_length: u32,
     /// The bytes of the payload that are written.
     pub taken: u32,
-    /// The bytes that are written of the head, type and id of the chunk that is begun. It is 0 once the whole payload is
-    /// written, where that has a byte.
+    /// The bytes that are written of the head, type and id of the chunk that is begun. It is 0 once the whole payload
+    /// is written, where that has a byte.
     pub head: u32,
 }
 
@@ -78,7 +78,8 @@ fn encoder_of(writer: &NdefWriter) -> Option<RecordEncoder>
     RecordEncoder::resume(plan, progress)
 }
 
-/// Begins a record that is written in steps, whose type, id and payload have these lengths. Nothing of it is written yet.
+/// Begins a record that is written in steps, whose type, id and payload have these lengths. Nothing of it is written
+/// yet.
 /// - `OK`: the writer holds it.
 /// - `BAD_ARGUMENT`: what `ndef_write_record` answers so of a type, an id and a payload of these lengths.
 #[unsafe(no_mangle)]
@@ -95,7 +96,8 @@ pub extern "C" fn ndef_writer_begin(
     ensures begun { result ≢ BAD_ARGUMENT → (result ≡ OK) × (writer.new
         ≡ unwritten how.now (record { kind = type_length; id = id_length; payload = payload_length })) }
     // It begins where `ndef_write_record` writes, and all bytes of that are left then.
-    ensures as_written { BeginsAsWritten how.now (record { kind = type_length; id = id_length; payload = payload_length }) }
+    ensures as_written { BeginsAsWritten how.now
+        (record { kind = type_length; id = id_length; payload = payload_length }) }
 {
     let Some(plan) = plan_of(how, type_length, id_length, payload_length) else {
         return BAD_ARGUMENT;

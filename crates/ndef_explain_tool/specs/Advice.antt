@@ -15,8 +15,8 @@ abbrev pub IsHint : LimitValues → (input : List ℕ) → Refusal → Option Hi
 IsHint limits input refusal (Some hint) = Applies limits input refusal hint
 IsHint limits input refusal None = (hint : Hint) → Applies limits input refusal hint → ⊥
 
--- a hint after this number of bytes of the input: on what the input is, and on what surrounds a message on a tag, before
--- the first message alone
+-- a hint after this number of bytes of the input: on what the input is, and on what surrounds a message on a tag,
+-- before the first message alone
 abbrev pub hint_after : (at : ℕ) → Hint → Option Hint
 hint_after at (hints.InTag found) = if at == 0 then Some (hints.InTag found) else None
 hint_after at (hints.Text text) = if at == 0 then Some (hints.Text text) else None

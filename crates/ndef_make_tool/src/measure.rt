@@ -94,8 +94,8 @@ pub(crate) fn measure_words(words: &[String]) -> Option<Measured<'_>>
     }
 }
 
-/// The length of the longest message that fits on a tag with this many bytes. Around a message are 3 bytes, or 5 where it
-/// has 255 and more: the tag and the length of its TLV, and the terminator TLV.
+/// The length of the longest message that fits on a tag with this many bytes. Around a message are 3 bytes, or 5 where
+/// it has 255 and more: the tag and the length of its TLV, and the terminator TLV.
 pub(crate) fn most_in(room: u32) -> u64
     ensures { result ≡ most_in room }
 {
