@@ -294,7 +294,7 @@ uint32_t ndef_writer_begin(ndef_writer *writer, ndef_size type_length, ndef_size
  *   of the payload is needed (*count may then be 0) or the record is whole.
  * NDEF_END: the record is whole.
  * NDEF_BAD_ARGUMENT: the part is longer than what is left of the payload; the type or the id has another length than
- *   ndef_writer_begin was given; the writer holds what no call leaves. */
+ *   ndef_writer_begin was given; the writer holds what these calls never write. */
 uint32_t ndef_writer_next(ndef_writer *writer, const uint8_t *type, ndef_size type_length, const uint8_t *id,
                           ndef_size id_length, const uint8_t *part, ndef_size part_length, uint8_t *room,
                           ndef_size size, ndef_size *count);

@@ -32,7 +32,7 @@ PAYLOADS = ('', '02656e48656c6c6f', '82656efeff0041', '0161', '2461', '12', '12d
 NAMES = ('', '54', '55', '5370', '4872', '612f62', '656e', '6465', '30', '6964', 'e9', 'ff', '68747470733a2f2f612e636f6d', '74656c3a31', '61' * 64, '78' * 256, '0a')
 NUMBERS = (0, 0, 0, 1, 1, 2, 3, 4, 5, 7, 8, 12, 13, 24, 36, 40, 255, 256, 65536, 0xffffffff)
 VALUES = {'tnf': (0, 1, 1, 1, 2, 5, 7), 'at': (0, 0, 0, 0, 3, 12, 15, 0xffffffff)}
-OCTETS = {'bytes': MESSAGES + NAMES, 'message': MESSAGES, 'payload': PAYLOADS + NAMES}
+OCTETS = {'bytes': MESSAGES + NAMES, 'message': MESSAGES, 'payload': PAYLOADS + NAMES, 'part': ('', '', '54', '5370', '00' * 100)}
 LIMITS = ((1048576, 1024, 4096, 0), (1048576, 1024, 4096, 1), (1048576, 1024, 4096, 2), (5, 1, 1, 0), (0, 1, 1, 0), (1, 1, 65536, 0), (1, 1, 1, 8))
 
 
@@ -70,6 +70,18 @@ class Library:
         self.library.ndef_begin(self.value(dice, 'ndef_limits'), checker)
         return checker.raw
 
+    def writer(self, dice):
+        """A writer that ndef_writer_begin and ndef_writer_next left."""
+        writer, count = ctypes.create_string_buffer(self.size('ndef_writer')), ctypes.c_uint64(0)
+        lengths = [dice.choice((1, 2)), dice.choice((1, 2)), dice.choice((0, 1, 300))]
+        how = b''.join(number.to_bytes(4, 'little') for number in (1, dice.choice((0, 3, 4)), dice.choice((0, 1, 100))))
+        self.library.ndef_writer_begin(writer, *(ctypes.c_uint64(length) for length in lengths), how)
+        for size in dice.choice(((), (3,), (7, 20), (ROOM,), (ROOM, ROOM, ROOM))):
+            part = lengths[2] - int.from_bytes(writer.raw[24:28], 'little')
+            self.library.ndef_writer_next(writer, bytes(2), ctypes.c_uint64(lengths[0]), bytes(2), ctypes.c_uint64(lengths[1]), bytes(300), ctypes.c_uint64(part),
+                                          ctypes.create_string_buffer(ROOM), ctypes.c_uint64(size), ctypes.byref(count))
+        return writer.raw
+
     def given(self, dice, parameter, before):
         """What a parameter is given: a number, or the bytes of what it points to."""
         role, name = parameter['role'], parameter['name']
@@ -84,7 +96,8 @@ class Library:
         if role == 'array':
             return b''.join(self.value(dice, kind) for _ in range(dice.choice((0, 0, 1, 2))))
         if role in ('in', 'change'):
-            return self.begun(dice) if kind == 'ndef_checker' else dice.choice((bytes(self.size(kind)), self.value(dice, kind)))
+            made = {'ndef_checker': self.begun, 'ndef_writer': self.writer}.get(kind)
+            return made(dice) if made else dice.choice((bytes(self.size(kind)), self.value(dice, kind)))
         return b''
 
     def memory(self, call, arguments, fill):

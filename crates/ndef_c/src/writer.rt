@@ -124,7 +124,7 @@ pub extern "C" fn ndef_writer_begin(
 ///   the payload is needed (`*count` may then be 0) or the record is whole.
 /// - `END`: the record is whole.
 /// - `BAD_ARGUMENT`: the part is longer than what is left of the payload; the type or the id has another length than
-///   `ndef_writer_begin` was given; the writer holds what no call leaves.
+///   `ndef_writer_begin` was given; the writer holds what these calls never write.
 #[unsafe(no_mangle)]
 pub extern "C" fn ndef_writer_next(
     writer: &mut NdefWriter,
