@@ -82,8 +82,7 @@ pub record BeginsAsWritten (how : NdefWriting) (lengths : Lengths) : Type 0 wher
       ≡ asked_octets how (asked how kind id payload)
 
 -- the next octets are in the buffer, the writer has moved on by them, and all else of it is as it was
-pub record MovesOn (old : NdefWriter) (given : Given) (before after : List ℕ) (count : ℕ) (new : NdefWriter)
-    : Type 0 where
+pub record MovesOn (old : NdefWriter) (given : Given) (before after : List ℕ) (n : ℕ) (new : NdefWriter) : Type 0 where
   pub same : new ≡ record old { taken = new.taken; head = new.head }
   pub is : IsWriter new
-  pub writes : WritesNext (begun_of old) given before after count (begun_of new)
+  pub writes : WritesNext (begun_of old) given before after n (begun_of new)

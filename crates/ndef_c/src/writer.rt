@@ -96,8 +96,7 @@ pub extern "C" fn ndef_writer_begin(
     ensures begun { result ≢ BAD_ARGUMENT → (result ≡ OK) × (writer.new
         ≡ unwritten how.now (record { kind = type_length; id = id_length; payload = payload_length })) }
     // It begins where `ndef_write_record` writes, and all bytes of that are left then.
-    ensures as_written { BeginsAsWritten how.now
-        (record { kind = type_length; id = id_length; payload = payload_length }) }
+    ensures same { BeginsAsWritten how.now (record { kind = type_length; id = id_length; payload = payload_length }) }
 {
     let Some(plan) = plan_of(how, type_length, id_length, payload_length) else {
         return BAD_ARGUMENT;
