@@ -1,11 +1,12 @@
 //! Messages encoded, and written to a sink that fails.
+ghost use Rattle.std.specs.Option.{ForSome};
 ghost use Rattle.std.specs.Prelude.{◌≤◌};
 
 use ndef_cases::lines::{fields, octets_of};
 use ndef_cases::samples::{HELLO, read};
 use ndef_cases::streams::{FullWriter, IdleWriter};
 use ndef_message::{
-    Form, Sink, SinkFault, StdSink, WriteFault, encode, encode_chunked, encoded_length,
+    Encoder, Form, Sink, SinkFault, StdSink, WriteFault, encode, encode_chunked, encoded_length,
     write_message,
 };
 use ndef_value::{Message, Record, Tnf};
@@ -28,13 +29,37 @@ D1 01 08 54 02 65 6E 48 65 6C 6C 6F | long | 4 | A1 01 00 00 00 04 54 02 65 6E 4
 D1 01 08 54 02 65 6E 48 65 6C 6C 6F | long | 4294967295 | C1 01 00 00 00 08 54 02 65 6E 48 65 6C 6C 6F
 ";
 
+/// What an encoder writes into 100 buffers of 5 bytes, one after another.
+fn in_steps(
+    alloc: Global,
+    message: &Message,
+    form: Form,
+    size: Option<u32>,
+) -> Result<Vec<u8>, Fail>
+    requires { ForSome size (λ n. 1 ≤ n) }
+{
+    let mut encoder = Encoder::new(message, form, size);
+    let mut out = Vec::new(alloc);
+    let mut buffer = [0; 5];
+    for _ in 0..100 {
+        let count = encoder.next(&mut buffer);
+        out.extend_from_slice(&buffer[..count])?;
+    }
+    Ok(out)
+}
+
 /// Whether the bytes are written for whole records.
 fn writes(alloc: Global, message: &Message, form: Form, wanted: &[u8]) -> Result<bool, Fail> {
     let bytes = encode(alloc, message, form)?;
-    Ok(bytes.as_slice() == wanted && encoded_length(message, form) == wanted.len() as u64)
+    let steps = in_steps(alloc, message, form, None)?;
+    Ok(
+        bytes.as_slice() == wanted
+            && steps.as_slice() == wanted
+            && encoded_length(message, form) == wanted.len() as u64,
+    )
 }
 
-/// Whether both encoders write the bytes for records in pieces.
+/// Whether all encoders write the bytes for records in pieces.
 fn writes_pieces(
     alloc: Global,
     message: &Message,
@@ -49,7 +74,14 @@ fn writes_pieces(
     let mut sink = StdSink::new(&mut out);
     let written = write_message(message, form, Some(size), &mut sink)?;
     drop(sink);
-    Ok(bytes.as_slice() == wanted && out.as_slice() == wanted && written == wanted.len() as u64)
+    let steps = in_steps(alloc, message, form, Some(size))?;
+    let lengths = written == wanted.len() as u64;
+    Ok(
+        bytes.as_slice() == wanted
+            && out.as_slice() == wanted
+            && steps.as_slice() == wanted
+            && lengths,
+    )
 }
 
 /// Whether the bytes are written for records in pieces of this size, or for whole ones.
