@@ -7,7 +7,7 @@ from __future__ import annotations
 from .lexer import close, is_code, lex, note, nxt, prv, report, txt
 from .uses import CRATES, split_use
 
-MEMORY = {"Global", "AllocError", "AllocFailed", "FromUtf16Error", "Vec", "String", "Box", "SmallVec"}
+MEMORY = {"Global", "AllocError", "AllocFailed", "FromUtf16Error", "Vec", "String", "BTreeMap", "Box", "SmallVec"}
 KINDS = ("fn", "struct", "enum", "trait", "impl", "use", "const", "type", "mod")
 BEFORE = ("pub", "const", "unsafe", "extern")
 GATE = '#[cfg(feature = "alloc")]'

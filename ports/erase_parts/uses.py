@@ -50,7 +50,7 @@ def find_traits(ts):
             TRAITS[txt(ts, nxt(ts, i))] = {fn for _, fn, _, _, _ in functions(ts[b:close(ts, b)])}
 
 
-SHIMMED = {"alloc", "string"}          # modules of Rattle's std that the shim stands for
+SHIMMED = {"alloc", "string", "collections"}          # modules of Rattle's std that the shim stands for
 KIT = {"smallvec", "simdutf8", "byteorder", "arrayvec", "itoa"}
 CORE = {"fmt", "hash", "error", "slice", "iter", "cmp", "mem", "marker", "convert", "ops", "str", "option", "result"}
 

@@ -1,5 +1,5 @@
 -- Where the references of an alternative carrier lie.
-use Rattle.std.proofs.Common.{◌≡◌, ℕ, zero, suc, ◌+◌, ◌%◌, ◌<◌, ◌≤◌, ◌∷◌, [], take, drop, sym, refl, ◌∙◌, ap, subst, arith, List, length, length-drop, get_or, ne_eqb, false, Some}
+use Rattle.std.proofs.Common.{◌≡◌, ℕ, zero, suc, ◌+◌, ◌<◌, ◌≤◌, ◌∷◌, [], take, drop, sym, refl, ◌∙◌, ap, subst, arith, List, length, length-drop, get_or, ne_eqb, false, Some}
 use Rattle.std.specs.Prelude.{◌==◌, slice_get, sum_by, if◌then◌else◌}
 use Rattle.std.proofs.lemmas.List.{drop-drop, length-take-le}
 use Rattle.std.proofs.lemmas.List.Sums.{sum_by-cons, sum_by_more}
@@ -7,7 +7,7 @@ use Rattle.std.proofs.lemmas.Option.{get_or_from_slice_get, slice_get_within}
 use Rattle.ndef_format.specs.Handovers.{IsAlternative, AreAuxiliary, AreReferences}
 use Rattle.ndef_format.specs.Octets.{IsOctet}
 use Rattle.ndef_lang.specs.OctetLaws.{field_parts}
-use Rattle.ndef_types.specs.Values.{AcValue, StandsForAc, StandForNames, power_code}
+use Rattle.ndef_types.specs.Values.{AcValue, StandsForAc, StandForNames}
 use Rattle.ndef_c.specs.Alternatives.{LiesAt, reference_place, references}
 use Rattle.ndef_c.specs.Walks.{Lies}
 
@@ -34,7 +34,6 @@ pub record AcAt (payload : List ℕ) (n : ℕ) : Type 0 where
   pub length_within : 1 < length payload
   pub count_within : 2 + n < length payload
   pub are : AreReferences (get_or payload (2 + n) 0) (drop (3 + n) payload)
-  pub power : (v : AcValue) → StandsForAc payload v → get_or payload 0 0 % 4 ≡ power_code v.power
   pub reference : (v : AcValue) → StandsForAc payload v → Lies payload 2 n v.reference
   pub stand : (v : AcValue) → StandsForAc payload v → StandForNames (get_or payload (2 + n) 0) (drop (3 + n) payload) v.auxiliary v.rest
 
@@ -49,7 +48,6 @@ ac_parts octet n s (k ∷ t) e l a =
       length_within = omega arith;
       count_within = p.within;
       are = rw (p.is, at) a.1;
-      power = λ v h. h.0;
       reference = λ v h. record { within = omega (arith, l); are = h.1; count_is = sym (length-take-le n s l) ∙ ap length h.1 };
       stand = λ v h. rw (p.is, at) (rw e at h.2);
     }

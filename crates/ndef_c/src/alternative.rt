@@ -11,7 +11,7 @@ use crate::part::NdefPart;
 use crate::refusal::refuse;
 use crate::status::{BAD_ARGUMENT, END, OK, REFUSED};
 use ndef_lang::{Kind, Leaf};
-use ndef_types::{accept, alternatives_are_exact};
+use ndef_types::{AlternativeParts, accept, alternatives_are_exact};
 use ndef_value::Profile;
 
 /// An alternative carrier.
@@ -32,10 +32,10 @@ fn alternative_at(payload: &[u8]) -> NdefAlternative
 {
     // For the proof alone.
     alternatives_are_exact();
-    let auxiliary = payload[2 + usize::from(payload[1])];
+    let parts = AlternativeParts::new(payload);
     NdefAlternative {
-        power: u32::from(payload[0] % 4),
-        references: 1 + u32::from(auxiliary),
+        power: u32::from(parts.power().code()),
+        references: 1 + parts.auxiliary_count() as u32,
     }
 }
 
@@ -72,16 +72,6 @@ pub(crate) fn counted_at(payload: &[u8], at: usize) -> NdefPart
         at: at + 1,
         length: usize::from(payload[at]),
     }
-}
-
-/// The carrier data reference.
-pub(crate) fn carrier_reference(payload: &[u8]) -> &[u8]
-    requires { IsAlternative payload.now }
-    ensures { (v : AcValue) → StandsForAc payload.now v → result.now ≡ v.reference }
-{
-    let (_before, behind) = payload.split_at(2);
-    let (reference, _behind) = behind.split_at(usize::from(payload[1]));
-    reference
 }
 
 /// The auxiliary reference with an index of at most their count.

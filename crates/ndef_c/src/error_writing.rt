@@ -6,17 +6,13 @@ ghost use Rattle.ndef_c.specs.Payloads.{GivesFor};
 
 use crate::room::{give, give_parts};
 use crate::status::BAD_ARGUMENT;
+use ndef_types::goes_with;
 
 /// Whether an error of a reason and some data may be written.
 pub(crate) fn may_be_error(reason: u32, detail: &[u8]) -> bool
     ensures { IsTrue result ↔ MayBeError reason detail.now }
 {
-    let goes_with = match reason {
-        1 | 3 => detail.len() == 1,
-        2 => detail.len() == 4,
-        _ => true,
-    };
-    goes_with && reason < 256 && detail.len() < u32::MAX as usize
+    reason < 256 && goes_with(reason as u8, detail) && detail.len() < u32::MAX as usize
 }
 
 /// Writes the payload of an Error record, the reason and its data, to the buffer.

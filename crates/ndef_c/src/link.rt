@@ -5,12 +5,12 @@ ghost use Rattle.ndef_format.specs.Handovers.{IsAlternative};
 ghost use Rattle.ndef_types.specs.Values.{AcValue, StandsForAc};
 ghost use Rattle.ndef_c.specs.Links.{BeginsWithRuns, HasNoLink, HasRuns, IsLinkAt, MayHaveLinks, TellsPlace, TellsRecord};
 
-use crate::alternative::carrier_reference;
 use crate::handover::is_handover;
 use crate::links::Links;
 use crate::message::{Place, has_message, record_with};
 use crate::sought::give_one;
 use crate::status::{BAD_ARGUMENT, END, OK};
+use ndef_types::AlternativeParts;
 
 /// A link: an alternative carrier of a handover, and the record to which it refers.
 #[repr(C)]
@@ -50,7 +50,7 @@ pub(crate) fn link_of(bytes: &[u8], at: usize, carrier: &[u8]) -> NdefLink
 {
     let (has_record, record_index, record_at) = told(record_with(
         bytes,
-        carrier_reference(carrier),
+        AlternativeParts::new(carrier).reference(),
     ));
     NdefLink {
         carrier_at: at + 1,

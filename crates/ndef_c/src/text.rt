@@ -1,8 +1,9 @@
 //! The payloads of Text records (RTD Text 1.0).
 ghost use Rattle.std.specs.Prelude.{◌≡◌, ◌≢◌, ◌<◌, ◌^◌, ◌↔◌, ◌⊎◌, length, IfNone, IfSome};
+ghost use Rattle.ndef_format.specs.Records.{bit};
 ghost use Rattle.ndef_format.specs.Texts.{IsText};
 ghost use Rattle.ndef_format.specs.PayloadReasons.{TextReason};
-ghost use Rattle.ndef_types.specs.Values.{WritesText, text_payload};
+ghost use Rattle.ndef_types.specs.Values.{WritesText, is_utf16, text_payload};
 ghost use Rattle.ndef_c.specs.Payloads.{GivesFor, IsTextAt, RefusesWith};
 ghost use Rattle.ndef_c.specs.Contents.{IsContent, content_octets};
 ghost use Rattle.ndef_c.specs.Texts.{GivesText, MayBeSpelled, MayBeText, asked_text};
@@ -14,7 +15,7 @@ use crate::room::give;
 use crate::status::{BAD_ARGUMENT, NO_ROOM, OK, REFUSED};
 use crate::utf16::give_in_utf8;
 use ndef_lang::{Kind, Leaf};
-use ndef_types::{accept, split_language, texts_are_exact, unmark};
+use ndef_types::{Encoding, TextParts, accept, texts_are_exact, unmark};
 use ndef_value::Profile;
 
 /// A text, by offsets and lengths in its payload.
@@ -33,20 +34,30 @@ pub struct NdefText {
     pub utf16: u32,
 }
 
+/// 1 for UTF-16, 0 for UTF-8.
+fn utf16_flag(encoding: Encoding) -> u32
+    ensures { result ≡ bit (is_utf16 encoding) }
+{
+    match encoding {
+        Encoding::Utf8 => 0,
+        Encoding::Utf16 => 1,
+    }
+}
+
 /// Where the parts of a text lie in its payload.
 pub(crate) fn text_at(payload: &[u8]) -> NdefText
     requires text { IsText payload.now }
     requires short { length payload.now < 2 ^ 32 }
     ensures { IsTextAt payload.now result }
 {
-    let language_length = usize::from(payload[0] % 64);
-    let text_at = 1 + language_length;
+    let parts = TextParts::new(payload);
+    let language_length = parts.language().len();
     NdefText {
         language_at: 1,
         language_length,
-        text_at,
-        text_length: payload.len() - text_at,
-        utf16: u32::from(payload[0] >= 128),
+        text_at: 1 + language_length,
+        text_length: parts.octets().len(),
+        utf16: utf16_flag(parts.encoding()),
     }
 }
 
@@ -76,12 +87,14 @@ fn give_text(payload: &[u8], room: &mut [u8], count: &mut usize) -> u32
 {
     // For the proof alone.
     texts_are_exact();
-    let (_, octets) = split_language(payload);
-    if payload[0] < 128 {
-        return give(octets, room, count);
+    let parts = TextParts::new(payload);
+    match parts.encoding() {
+        Encoding::Utf8 => give(parts.octets(), room, count),
+        Encoding::Utf16 => {
+            let (little, octets) = unmark(parts.octets());
+            give_in_utf8(little, octets, room, count)
+        }
     }
-    let (little, octets) = unmark(octets);
-    give_in_utf8(little, octets, room, count)
 }
 
 /// Writes the text that the payload of a Text record holds to the buffer in UTF-8, converted where

@@ -8,7 +8,7 @@ ghost use Rattle.ndef_tool.specs.Showing.{Adds, PrintsValue, encoding_name, told
 
 use crate::quoting::push_named;
 use ndef_program::push_counted;
-use ndef_types::{Carrier, Encoding, Text, Uri, read_carrier, read_text, read_uri};
+use ndef_types::{Carrier, CarrierParts, Encoding, Text, TextParts, Uri, UriParts};
 use ndef_value::{Bytes, NoMemory, Profile};
 use std::alloc::Global;
 
@@ -42,7 +42,7 @@ pub fn push_text(
     requires { IsText payload.now }
     ensures { OnOk result (Adds line.old line.new (PrintsValue kinds.Text profile payload.now)) }
 {
-    let text = read_text(alloc, payload)?;
+    let text = TextParts::new(payload).to_value(alloc)?;
     push_told_text(line, &text)
 }
 
@@ -63,7 +63,7 @@ pub fn push_uri(
     requires { IsUri profile payload.now }
     ensures { OnOk result (Adds line.old line.new (PrintsValue kinds.Uri profile payload.now)) }
 {
-    let uri = read_uri(alloc, payload, profile)?;
+    let uri = UriParts::new(payload).to_value(alloc)?;
     push_told_uri(line, &uri)
 }
 
@@ -86,6 +86,6 @@ pub fn push_carrier(
     requires { IsCarrier payload.now }
     ensures { OnOk result (Adds line.old line.new (PrintsValue kinds.Carrier profile payload.now)) }
 {
-    let carrier = read_carrier(alloc, payload)?;
+    let carrier = CarrierParts::new(payload).to_value(alloc)?;
     push_told_carrier(line, &carrier)
 }

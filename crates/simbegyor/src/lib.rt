@@ -25,10 +25,10 @@ pub use ndef_message::{
 };
 pub use ndef_nest::Typed;
 pub use ndef_types::{
-    Ac, Action, Carrier, DecodeError, DetailError, EncodeError, Encoding, HandoverError, Link,
-    LinkError, Links, NotHandover, NotPoster, Power, Request, Select, SmartPoster, Text, TextError,
-    Texts, TooMany, Uri, carriers, carriers_as, carriers_view, prefix as uri_prefix,
-    split as split_uri_prefix, split_language,
+    Ac, Action, AlternativeParts, Carrier, CarrierParts, DecodeError, DetailError, EncodeError,
+    Encoding, ErrorParts, HandoverError, Link, LinkError, Links, NotHandover, NotPoster, Power,
+    Request, Select, SmartPoster, Text, TextError, TextParts, Texts, TooMany, Uri, UriParts,
+    carriers, carriers_as, carriers_view, prefix as uri_prefix, split as split_uri_prefix, unmark,
 };
 pub use ndef_value::{
     Bytes, Limits, MOST_PAYLOAD, MOST_PIECES, MOST_RECORDS, Message, MessageError, Name, NameError,

@@ -24,6 +24,11 @@ pub mod std {
     pub mod string {
         pub use alloc::string::FromUtf16Error;
     }
+
+    #[cfg(feature = "alloc")]
+    pub mod collections {
+        pub use super::super::memory::BTreeMap;
+    }
 }
 
 #[cfg(feature = "alloc")]
@@ -113,6 +118,39 @@ mod memory {
 
         fn into_iter(self) -> Self::IntoIter {
             self.0.iter()
+        }
+    }
+
+    /// A map whose keys are in order, that grows by `Result`.
+    pub struct BTreeMap<K, V>(alloc::vec::Vec<(K, V)>);
+
+    impl<K: Ord, V> BTreeMap<K, V> {
+        pub fn new(_: Global) -> Self {
+            BTreeMap(alloc::vec::Vec::new())
+        }
+
+        fn place(&self, key: &K) -> Result<usize, usize> {
+            self.0.binary_search_by(|(other, _)| other.cmp(key))
+        }
+
+        pub fn contains_key(&self, key: &K) -> bool {
+            self.place(key).is_ok()
+        }
+
+        pub fn get(&self, key: &K) -> Option<&V> {
+            self.place(key).ok().map(|place| &self.0[place].1)
+        }
+
+        pub fn insert(&mut self, key: K, value: V) -> Result<Option<V>, AllocFailed<(K, V)>> {
+            let place = match self.place(&key) {
+                Ok(place) => return Ok(Some(core::mem::replace(&mut self.0[place].1, value))),
+                Err(place) => place,
+            };
+            if self.0.try_reserve(1).is_err() {
+                return Err(AllocFailed((key, value)));
+            }
+            self.0.insert(place, (key, value));
+            Ok(None)
         }
     }
 

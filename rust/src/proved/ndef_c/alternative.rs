@@ -6,7 +6,7 @@ use crate::proved::ndef_c::part::NdefPart;
 use crate::proved::ndef_c::refusal::refuse;
 use crate::proved::ndef_c::status::{BAD_ARGUMENT, END, OK};
 use crate::proved::ndef_lang::{Kind, Leaf};
-use crate::proved::ndef_types::accept;
+use crate::proved::ndef_types::{accept, AlternativeParts};
 use crate::proved::ndef_value::Profile;
 
 /// An alternative carrier.
@@ -21,8 +21,8 @@ pub struct NdefAlternative {
 
 /// The power state of an alternative carrier, and its number of references.
 fn alternative_at(payload: &[u8]) -> NdefAlternative {
-    let auxiliary = payload[2 + usize::from(payload[1])];
-    NdefAlternative { power: u32::from(payload[0] % 4), references: 1 + u32::from(auxiliary) }
+    let parts = AlternativeParts::new(payload);
+    NdefAlternative { power: u32::from(parts.power().code()), references: 1 + parts.auxiliary_count() as u32 }
 }
 
 /// Gives the power state of the alternative carrier that the payload of an Alternative Carrier
@@ -40,13 +40,6 @@ pub fn ndef_alternative(payload: &[u8], out: &mut NdefAlternative, why: &mut Nde
 /// The reference that stands after its length at a place.
 pub(crate) fn counted_at(payload: &[u8], at: usize) -> NdefPart {
     NdefPart { at: at + 1, length: usize::from(payload[at]) }
-}
-
-/// The carrier data reference.
-pub(crate) fn carrier_reference(payload: &[u8]) -> &[u8] {
-    let (_before, behind) = payload.split_at(2);
-    let (reference, _behind) = behind.split_at(usize::from(payload[1]));
-    reference
 }
 
 /// The auxiliary reference with an index of at most their count.

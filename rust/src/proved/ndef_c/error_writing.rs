@@ -3,15 +3,11 @@
 
 use crate::proved::ndef_c::room::{give, give_parts};
 use crate::proved::ndef_c::status::BAD_ARGUMENT;
+use crate::proved::ndef_types::goes_with;
 
 /// Whether an error of a reason and some data may be written.
 pub(crate) fn may_be_error(reason: u32, detail: &[u8]) -> bool {
-    let goes_with = match reason {
-        1 | 3 => detail.len() == 1,
-        2 => detail.len() == 4,
-        _ => true,
-    };
-    goes_with && reason < 256 && detail.len() < u32::MAX as usize
+    reason < 256 && goes_with(reason as u8, detail) && detail.len() < u32::MAX as usize
 }
 
 /// Writes the payload of an Error record, the reason and its data, to the buffer.

@@ -1,12 +1,12 @@
 // Written by ports/erase of crates/ndef_c/src/link.rt, which has the contracts: do not edit.
 //! The links of messages (Connection Handover 1.2).
 
-use crate::proved::ndef_c::alternative::carrier_reference;
 use crate::proved::ndef_c::handover::is_handover;
 use crate::proved::ndef_c::links::Links;
 use crate::proved::ndef_c::message::{has_message, record_with, Place};
 use crate::proved::ndef_c::sought::give_one;
 use crate::proved::ndef_c::status::BAD_ARGUMENT;
+use crate::proved::ndef_types::AlternativeParts;
 
 /// A link: an alternative carrier of a handover, and the record to which it refers.
 #[repr(C)]
@@ -34,7 +34,7 @@ fn told(place: Option<Place>) -> (u32, usize, usize) {
 
 /// The link of an alternative carrier that lies in the message of a handover.
 pub(crate) fn link_of(bytes: &[u8], at: usize, carrier: &[u8]) -> NdefLink {
-    let (has_record, record_index, record_at) = told(record_with(bytes, carrier_reference(carrier)));
+    let (has_record, record_index, record_at) = told(record_with(bytes, AlternativeParts::new(carrier).reference()));
     NdefLink { carrier_at: at + 1, carrier_length: carrier.len(), record_index, record_at, has_record }
 }
 

@@ -8,7 +8,7 @@ use crate::proved::ndef_c::room::give;
 use crate::proved::ndef_c::status::{BAD_ARGUMENT, OK};
 use crate::proved::ndef_c::utf16::give_in_utf8;
 use crate::proved::ndef_lang::{Kind, Leaf};
-use crate::proved::ndef_types::{accept, split_language, unmark};
+use crate::proved::ndef_types::{accept, unmark, Encoding, TextParts};
 use crate::proved::ndef_value::Profile;
 
 /// A text, by offsets and lengths in its payload.
@@ -27,16 +27,24 @@ pub struct NdefText {
     pub(crate) utf16: u32,
 }
 
+/// 1 for UTF-16, 0 for UTF-8.
+fn utf16_flag(encoding: Encoding) -> u32 {
+    match encoding {
+        Encoding::Utf8 => 0,
+        Encoding::Utf16 => 1,
+    }
+}
+
 /// Where the parts of a text lie in its payload.
 pub(crate) fn text_at(payload: &[u8]) -> NdefText {
-    let language_length = usize::from(payload[0] % 64);
-    let text_at = 1 + language_length;
+    let parts = TextParts::new(payload);
+    let language_length = parts.language().len();
     NdefText {
         language_at: 1,
         language_length,
-        text_at,
-        text_length: payload.len() - text_at,
-        utf16: u32::from(payload[0] >= 128),
+        text_at: 1 + language_length,
+        text_length: parts.octets().len(),
+        utf16: utf16_flag(parts.encoding()),
     }
 }
 
@@ -53,12 +61,14 @@ pub fn ndef_text(payload: &[u8], out: &mut NdefText, why: &mut NdefChecked) -> u
 
 /// Writes the text for which a payload stands to the room in UTF-8.
 fn give_text(payload: &[u8], room: &mut [u8], count: &mut usize) -> u32 {
-    let (_, octets) = split_language(payload);
-    if payload[0] < 128 {
-        return give(octets, room, count);
+    let parts = TextParts::new(payload);
+    match parts.encoding() {
+        Encoding::Utf8 => give(parts.octets(), room, count),
+        Encoding::Utf16 => {
+            let (little, octets) = unmark(parts.octets());
+            give_in_utf8(little, octets, room, count)
+        }
     }
-    let (little, octets) = unmark(octets);
-    give_in_utf8(little, octets, room, count)
 }
 
 /// Writes the text that the payload of a Text record holds to the buffer in UTF-8, converted where

@@ -1,11 +1,9 @@
 // Written by ports/erase of crates/ndef_types/src/alternative.rt, which has the contracts: do not edit.
 //! Alternative carriers.
 
-use crate::proved::ndef_lang::{Kind, Leaf};
-use crate::proved::ndef_types::accepting::{accept, MOST};
-use crate::proved::ndef_types::fields::{behind_first, split_counted};
-use crate::proved::ndef_types::{DecodeError, EncodeError, Power};
-use crate::proved::ndef_value::{Bytes, Name, NoMemory, Profile};
+use crate::proved::ndef_types::accepting::MOST;
+use crate::proved::ndef_types::{AlternativeParts, DecodeError, EncodeError, Power};
+use crate::proved::ndef_value::{Bytes, Name, NoMemory};
 use crate::proved::shim::std::alloc::Global;
 #[cfg(feature = "alloc")]
 use crate::proved::shim::Vec;
@@ -43,41 +41,6 @@ impl core::fmt::Display for TooMany {
 }
 
 impl core::error::Error for TooMany {}
-
-/// `count` references, each after its length, and what is after them.
-fn read_names(alloc: Global, count: u8, octets: &[u8]) -> Result<(Vec<Name>, &[u8]), NoMemory> {
-    let mut names = Vec::new(alloc);
-    let mut left = octets;
-    for _i in 0..count {
-        let (name, after) = split_counted(left);
-        let Ok(name) = Name::from_slice(alloc, name) else {
-            return Err(NoMemory);
-        };
-        names.push(name)?;
-        left = after;
-    }
-    Ok((names, left))
-}
-
-/// The auxiliary references after their count, and what is after them.
-fn read_auxiliary(alloc: Global, octets: &[u8]) -> Result<(Vec<Name>, &[u8]), NoMemory> {
-    read_names(alloc, octets[0], behind_first(octets))
-}
-
-/// The value for which a payload stands.
-pub(crate) fn read_ac(alloc: Global, payload: &[u8]) -> Result<Ac, NoMemory> {
-    let power = Power::of(payload[0]);
-    let (reference, octets) = split_counted(behind_first(payload));
-    let Ok(reference) = Name::from_slice(alloc, reference) else {
-        return Err(NoMemory);
-    };
-    let (auxiliary, rest) = read_auxiliary(alloc, octets)?;
-    let rest = Bytes::from_slice(alloc, rest)?;
-    match Ac::new(power, reference, auxiliary, rest) {
-        Ok(ac) => Ok(ac),
-        Err(_) => unreachable!(),
-    }
-}
 
 /// The number of octets of the references, each after its length.
 fn names_len(names: &[Name]) -> usize {
@@ -120,8 +83,7 @@ impl Ac {
     /// of the two low bits of the first byte, whose other bits are ignored. `Refused` where the payload
     /// isn't in the set of its type or is longer than a payload may be, else `NoMemory`.
     pub fn decode(alloc: Global, payload: &[u8]) -> Result<Ac, DecodeError> {
-        accept::<Leaf>(Kind::Alternative, Profile::Strict, payload)?;
-        Ok(read_ac(alloc, payload)?)
+        Ok(AlternativeParts::parse(payload)?.to_value(alloc)?)
     }
 
     /// Whether the payload has at most 4294967295 bytes.

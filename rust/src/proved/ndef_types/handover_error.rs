@@ -3,10 +3,11 @@
 
 use crate::proved::ndef_lang::{Kind, Leaf};
 use crate::proved::ndef_types::accepting::{accept, MOST};
+use crate::proved::ndef_types::fields::behind_first;
 use crate::proved::ndef_types::{DecodeError, EncodeError};
 #[cfg(feature = "alloc")]
 use crate::proved::ndef_value::Bytes;
-use crate::proved::ndef_value::{NoMemory, Profile};
+use crate::proved::ndef_value::{NoMemory, Profile, Refusal};
 #[cfg(feature = "alloc")]
 use crate::proved::shim::std::alloc::Global;
 
@@ -17,6 +18,47 @@ use crate::proved::shim::std::alloc::Global;
 pub struct HandoverError {
     reason: u8,
     detail: Bytes,
+}
+
+/// The payload of an error record, whose data are a slice of it (Connection Handover 1.2, Error record).
+/// Contracts see its octets.
+#[derive(Clone, Debug)]
+pub struct ErrorParts<'a> {
+    payload: &'a [u8],
+}
+
+impl<'a> ErrorParts<'a> {
+    /// The parts of a payload that is known to be that of a handover error.
+    pub fn new(payload: &'a [u8]) -> ErrorParts<'a> {
+        ErrorParts { payload }
+    }
+
+    /// The parts of a payload, which is refused where it isn't in the set of its type or is longer than a
+    /// payload may be.
+    pub fn parse(payload: &'a [u8]) -> Result<ErrorParts<'a>, Refusal> {
+        match accept::<Leaf>(Kind::Error, Profile::Strict, payload) {
+            Ok(()) => Ok(ErrorParts { payload }),
+            Err(refusal) => Err(refusal),
+        }
+    }
+
+    /// The reason, any octet; 1 to 3 are those that the standard defines.
+    pub fn reason(&self) -> u8 {
+        self.payload[0]
+    }
+
+    /// The data, as long as the reason asks.
+    pub fn detail(&self) -> &'a [u8] {
+        behind_first(self.payload)
+    }
+
+    /// An error of a copy of the data, or `NoMemory`.
+    #[cfg(feature = "alloc")]
+    pub fn to_value(&self, alloc: Global) -> Result<HandoverError, NoMemory> {
+        let [reason, detail @ ..] = self.payload else { unreachable!() };
+        let detail = Bytes::from_slice(alloc, detail)?;
+        Ok(HandoverError { reason: *reason, detail })
+    }
 }
 
 /// Why a reason and some data make no handover error, in the order in which the reasons are tried.
@@ -45,8 +87,9 @@ impl From<NoMemory> for DetailError {
     }
 }
 
-/// Whether the data goes with the reason.
-fn goes_with(reason: u8, detail: &[u8]) -> bool {
+/// Whether the data are as long as the reason asks: one octet for 1 and 3, four for 2, and any number for
+/// all others.
+pub fn goes_with(reason: u8, detail: &[u8]) -> bool {
     match reason {
         1 | 3 => detail.len() == 1,
         2 => detail.len() == 4,
@@ -68,10 +111,7 @@ impl HandoverError {
     /// The error for which the payload of an error record stands. `Refused` where the payload isn't in
     /// the set of its type or is longer than a payload may be, else `NoMemory`.
     pub fn decode(alloc: Global, payload: &[u8]) -> Result<HandoverError, DecodeError> {
-        accept::<Leaf>(Kind::Error, Profile::Strict, payload)?;
-        let [reason, detail @ ..] = payload else { unreachable!() };
-        let detail = Bytes::from_slice(alloc, detail)?;
-        Ok(HandoverError { reason: *reason, detail })
+        Ok(ErrorParts::parse(payload)?.to_value(alloc)?)
     }
 
     /// The payload of an error record. `TooLong` comes before `NoMemory`.

@@ -5,13 +5,15 @@ use crate::proved::ndef_lang::Kind;
 use crate::proved::ndef_message::{Item, View};
 use crate::proved::ndef_nest::Nest;
 use crate::proved::ndef_types::accepting::{accept, accept_item};
-#[cfg(feature = "alloc")]
-use crate::proved::ndef_types::alternative::read_ac;
 use crate::proved::ndef_types::contents::is_kind;
 use crate::proved::ndef_types::fields::behind_first;
+use crate::proved::ndef_types::ids::Outer;
+#[cfg(feature = "alloc")]
+use crate::proved::ndef_types::ids::{index_of, Ids};
 use crate::proved::ndef_types::nested::view_nested;
 #[cfg(feature = "alloc")]
 use crate::proved::ndef_types::Ac;
+use crate::proved::ndef_types::AlternativeParts;
 #[cfg(feature = "alloc")]
 use crate::proved::ndef_value::{Message, Record};
 use crate::proved::ndef_value::{NoMemory, Profile, Refusal};
@@ -111,52 +113,26 @@ impl From<NoMemory> for LinkError {
     }
 }
 
-/// The records to which the carriers of a handover refer.
-trait Outer {
-    /// The index of the first record with the id; no record has the empty id.
-    fn index_of(&self, id: &[u8]) -> Option<usize>;
-}
-
-#[cfg(feature = "alloc")]
-impl Outer for Message {
-    fn index_of(&self, id: &[u8]) -> Option<usize> {
-        if id.is_empty() {
-            return None;
+/// Whether a handover has an alternative carrier.
+fn has_alternative(handover: &View<'_>) -> bool {
+    for item in handover.items() {
+        if is_kind(Kind::of(item.tnf(), item.kind()), Kind::Alternative) {
+            return true;
         }
-        for (index, item) in self.records().iter().enumerate() {
-            if item.id() == id {
-                return Some(index);
-            }
-        }
-        None
     }
+    false
 }
 
-impl<'a> Outer for View<'a> {
-    fn index_of(&self, id: &[u8]) -> Option<usize> {
-        if id.is_empty() {
-            return None;
-        }
-        let mut index = 0;
-        for item in self.items() {
-            if item.id() == id {
-                return Some(index);
-            }
-            index += 1;
-        }
-        None
-    }
-}
-
-/// The links of the alternative carriers of a handover, to records of the outer message.
+/// The links of the alternative carriers of a handover, to the records with these ids.
 #[cfg(feature = "alloc")]
-fn links_of<O: Outer>(alloc: Global, outer: &O, handover: &View<'_>) -> Result<Links, NoMemory> {
+fn links_of<'a>(alloc: Global, ids: &Ids<'a>, handover: &View<'a>) -> Result<Links, NoMemory> {
     let mut links = Links::new(alloc);
     for item in handover.items() {
         if is_kind(Kind::of(item.tnf(), item.kind()), Kind::Alternative) {
             let Some(payload) = item.whole() else { unreachable!() };
-            let ac = read_ac(alloc, payload)?;
-            let index = outer.index_of(ac.reference().as_slice());
+            let parts = AlternativeParts::new(payload);
+            let index = index_of(ids, parts.reference());
+            let ac = parts.to_value(alloc)?;
             links.push(Link { ac, index })?;
         }
     }
@@ -165,12 +141,22 @@ fn links_of<O: Outer>(alloc: Global, outer: &O, handover: &View<'_>) -> Result<L
 
 /// The links in the payload of a handover, to records of the outer message.
 #[cfg(feature = "alloc")]
-fn read_links<O: Outer>(alloc: Global, outer: &O, payload: &[u8], profile: Profile) -> Result<Links, NoMemory> {
+fn read_links<'a, O: Outer>(
+    alloc: Global,
+    outer: &'a O,
+    payload: &'a [u8],
+    profile: Profile,
+) -> Result<Links, NoMemory> {
     let bytes = behind_first(payload);
     if bytes.is_empty() {
         return Ok(Links::new(alloc));
     }
-    links_of(alloc, outer, &view_nested(bytes, profile))
+    let handover = view_nested(bytes, profile);
+    if !has_alternative(&handover) {
+        return Ok(Links::new(alloc));
+    }
+    let ids = outer.ids(alloc)?;
+    links_of(alloc, &ids, &handover)
 }
 
 /// Whether a record is a handover request or select.

@@ -5,7 +5,9 @@
 //! Where to look:
 //!
 //! - `text.rs`, `uri.rs`, `smart_poster.rs`, `request.rs`, `select.rs`, `alternative.rs`, `carrier.rs`,
-//!   `handover_error.rs`: a value each.
+//!   `handover_error.rs`: a value each. Those of one record, such as a text, have a type of their parts
+//!   beside them, `TextParts`: slices of the payload, without memory. `alternative_parts.rs`: those of
+//!   an alternative carrier.
 //! - `crates/ndef_types/specs/Values.antt`, `crates/ndef_types/specs/Posters.antt`, `crates/ndef_types/specs/Handovers.antt`: which payload stands for which
 //!   value.
 //! - `crates/ndef_types/specs/Decoding.antt`: what is answered, and the laws. `accepting.rs`: the check that each decoder
@@ -13,20 +15,22 @@
 //! - `crates/ndef_types/specs/Prefixes.antt`: the prefixes of URIs.
 //! - `contents.rs`, `crates/ndef_types/specs/Contents.antt`: which record of a nested message is wrong. `nested.rs`:
 //!   messages in payloads.
-//! - `link.rs`, `crates/ndef_types/specs/Links.antt`: the carriers of a message. `crates/ndef_types/specs/Equality.antt`: when values are
+//! - `link.rs`, `crates/ndef_types/specs/Links.antt`: the carriers of a message. `ids.rs`, `crates/ndef_types/specs/Ids.antt`: its records,
+//!   found by their ids. `crates/ndef_types/specs/Equality.antt`: when values are
 //!   equal.
 
 mod accepting;
 mod action;
 #[cfg(feature = "alloc")]
 mod alternative;
-#[cfg(feature = "alloc")]
+mod alternative_parts;
 mod carrier;
 mod contents;
 mod encoding;
 mod error;
 mod fields;
 mod handover_error;
+mod ids;
 mod link;
 mod nested;
 #[cfg(feature = "alloc")]
@@ -42,7 +46,6 @@ mod smart_poster;
 mod text;
 #[cfg(feature = "alloc")]
 mod texts;
-#[cfg(feature = "alloc")]
 mod uri;
 mod utf16;
 
@@ -50,14 +53,16 @@ pub use accepting::accept;
 pub use action::Action;
 #[cfg(feature = "alloc")]
 pub use alternative::{Ac, TooMany};
+pub use alternative_parts::AlternativeParts;
 #[cfg(feature = "alloc")]
-pub use carrier::{read_carrier, Carrier};
+pub use carrier::Carrier;
+pub use carrier::CarrierParts;
 pub use contents::is_kind;
 pub use encoding::Encoding;
 pub use error::{DecodeError, EncodeError};
-pub use handover_error::DetailError;
 #[cfg(feature = "alloc")]
 pub use handover_error::HandoverError;
+pub use handover_error::{goes_with, DetailError, ErrorParts};
 pub use link::LinkError;
 #[cfg(feature = "alloc")]
 pub use link::{carriers, carriers_as, carriers_view, Link, Links};
@@ -72,10 +77,11 @@ pub use select::{read_select, Select};
 #[cfg(feature = "alloc")]
 pub use smart_poster::{read_poster, NotPoster, SmartPoster};
 #[cfg(feature = "alloc")]
-pub use text::{read_text, Text};
-pub use text::{split_language, TextError};
+pub use text::Text;
+pub use text::{TextError, TextParts};
 #[cfg(feature = "alloc")]
 pub use texts::Texts;
 #[cfg(feature = "alloc")]
-pub use uri::{read_uri, Uri};
+pub use uri::Uri;
+pub use uri::UriParts;
 pub use utf16::{units_len, unmark};

@@ -25,8 +25,8 @@ impl Power {
         }
     }
 
-    /// The octet of a state.
-    pub(crate) fn code(self) -> u8 {
+    /// The octet of a state, 0 to 3.
+    pub fn code(self) -> u8 {
         match self {
             Power::Inactive => 0,
             Power::Active => 1,

@@ -7,9 +7,7 @@ use crate::proved::ndef_nest::{Nest, Table};
 use crate::proved::ndef_types::accepting::{accept, MOST};
 use crate::proved::ndef_types::contents::{first_of, first_wrong, is_kind};
 use crate::proved::ndef_types::nested::read_nested;
-use crate::proved::ndef_types::text::read_text;
-use crate::proved::ndef_types::uri::read_uri;
-use crate::proved::ndef_types::{Action, DecodeError, EncodeError, Texts, Uri};
+use crate::proved::ndef_types::{Action, DecodeError, EncodeError, TextParts, Texts, Uri, UriParts};
 use crate::proved::ndef_value::{Bytes, Message, MessageError, NoMemory, Profile, Record, RecordError};
 use crate::proved::shim::std::alloc::Global;
 #[cfg(feature = "alloc")]
@@ -162,7 +160,7 @@ impl SmartPoster {
     /// The URI, or `NoMemory`.
     pub fn uri(&self, alloc: Global) -> Result<Uri, NoMemory> {
         match self.first(Kind::Uri) {
-            Some(item) => read_uri(alloc, item.payload(), Profile::Strict),
+            Some(item) => UriParts::new(item.payload()).to_value(alloc),
             None => unreachable!(),
         }
     }
@@ -182,7 +180,8 @@ impl SmartPoster {
         let mut texts = Texts::new(alloc);
         for item in self.message.records() {
             if is_kind(Table::SmartPoster.kind(item.tnf(), item.kind()), Kind::Text) {
-                texts.push(read_text(alloc, item.payload())?)?;
+                let title = TextParts::new(item.payload());
+                texts.push(title.to_value(alloc)?)?;
             }
         }
         Ok(texts)

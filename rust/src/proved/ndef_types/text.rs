@@ -10,7 +10,7 @@ use crate::proved::ndef_types::utf16::{push_text, read_utf16};
 use crate::proved::ndef_types::{DecodeError, EncodeError, Encoding};
 #[cfg(feature = "alloc")]
 use crate::proved::ndef_value::Bytes;
-use crate::proved::ndef_value::{NoMemory, Profile};
+use crate::proved::ndef_value::{NoMemory, Profile, Refusal};
 #[cfg(feature = "alloc")]
 use crate::proved::shim::std::alloc::{AllocError, Global};
 #[cfg(feature = "alloc")]
@@ -65,20 +65,6 @@ fn read_utf8(alloc: Global, octets: &[u8]) -> Result<String, NoMemory> {
     Ok(String::from_str(alloc, text)?)
 }
 
-/// The encoding that a status octet gives.
-fn encoding_of(status: u8) -> Encoding {
-    if status < 128 {
-        Encoding::Utf8
-    } else {
-        Encoding::Utf16
-    }
-}
-
-/// The octets of the language code and those of the text, in a payload of a Text record (RTD Text 1.0).
-pub fn split_language(payload: &[u8]) -> (&[u8], &[u8]) {
-    behind_first(payload).split_at(usize::from(payload[0] % 64))
-}
-
 /// The text that some octets spell.
 #[cfg(feature = "alloc")]
 fn read_octets(alloc: Global, encoding: Encoding, octets: &[u8]) -> Result<String, NoMemory> {
@@ -88,14 +74,69 @@ fn read_octets(alloc: Global, encoding: Encoding, octets: &[u8]) -> Result<Strin
     }
 }
 
-/// The text for which a payload of a Text record stands, or `NoMemory`. The payload is not checked again.
-#[cfg(feature = "alloc")]
-pub fn read_text(alloc: Global, payload: &[u8]) -> Result<Text, NoMemory> {
-    let encoding = encoding_of(payload[0]);
-    let (language, octets) = split_language(payload);
-    let language = read_utf8(alloc, language)?;
-    let text = read_octets(alloc, encoding, octets)?;
-    Ok(Text { encoding, language, text })
+/// The payload of a Text record, whose parts are slices of it (RTD Text 1.0). Contracts see its octets.
+#[derive(Clone, Debug)]
+pub struct TextParts<'a> {
+    payload: &'a [u8],
+}
+
+impl<'a> TextParts<'a> {
+    /// The parts of a payload that is known to be that of a text.
+    pub fn new(payload: &'a [u8]) -> TextParts<'a> {
+        TextParts { payload }
+    }
+
+    /// The parts of a payload, which is refused where it isn't in the set of its type or is longer than a
+    /// payload may be.
+    pub fn parse(payload: &'a [u8]) -> Result<TextParts<'a>, Refusal> {
+        match accept::<Leaf>(Kind::Text, Profile::Strict, payload) {
+            Ok(()) => Ok(TextParts { payload }),
+            Err(refusal) => Err(refusal),
+        }
+    }
+
+    /// How the text is encoded: bit 7 of the status octet.
+    pub fn encoding(&self) -> Encoding {
+        if self.payload[0] < 128 {
+            Encoding::Utf8
+        } else {
+            Encoding::Utf16
+        }
+    }
+
+    /// The octets of the language code and those of the text.
+    fn split(&self) -> (&'a [u8], &'a [u8]) {
+        behind_first(self.payload).split_at(usize::from(self.payload[0] % 64))
+    }
+
+    /// The language code, 0 to 63 bytes of ASCII.
+    pub fn language(&self) -> &'a str {
+        // The octets are ASCII, and so UTF-8.
+        core::str::from_utf8(self.split().0).unwrap()
+    }
+
+    /// The octets of the text. A byte order mark belongs to them: `unmark` takes it off.
+    pub fn octets(&self) -> &'a [u8] {
+        self.split().1
+    }
+
+    /// The text where it is in UTF-8, and none where it is in UTF-16.
+    pub fn utf8(&self) -> Option<&'a str> {
+        match self.encoding() {
+            // The octets are UTF-8, as the invariant says.
+            Encoding::Utf8 => Some(core::str::from_utf8(self.octets()).unwrap()),
+            Encoding::Utf16 => None,
+        }
+    }
+
+    /// A text of copies of the parts, or `NoMemory`. UTF-16 is converted, without its byte order mark.
+    #[cfg(feature = "alloc")]
+    pub fn to_value(&self, alloc: Global) -> Result<Text, NoMemory> {
+        let encoding = self.encoding();
+        let language = String::from_str(alloc, self.language())?;
+        let text = read_octets(alloc, encoding, self.octets())?;
+        Ok(Text { encoding, language, text })
+    }
 }
 
 /// The status octet of a language code of some octets.
@@ -147,8 +188,7 @@ impl Text {
     /// text. `Refused` where the payload isn't in the set of its type or is longer than a payload may
     /// be, else `NoMemory`.
     pub fn decode(alloc: Global, payload: &[u8]) -> Result<Text, DecodeError> {
-        accept::<Leaf>(Kind::Text, Profile::Strict, payload)?;
-        Ok(read_text(alloc, payload)?)
+        Ok(TextParts::parse(payload)?.to_value(alloc)?)
     }
 
     /// The payload of a Text record; UTF-16 is written big-endian after `FE FF`. `TooLong` comes before
