@@ -12,7 +12,7 @@ from ._sentences import field_remark, hint, record_remark, why
 from .errors import DecodeError, EncodeError
 from .handover import HandoverCarrierRecord, HandoverRequestRecord, HandoverSelectRecord
 from .message import message_decoder, message_encoder
-from .record import GlobalRecord, LocalRecord, Record
+from .record import GlobalRecord, LocalRecord, Record, StreamedRecord
 from .smartposter import SmartposterRecord
 from .text import TextRecord
 from .uri import UriRecord
@@ -23,5 +23,5 @@ if __version__.startswith('@'):  # The folder of the repository, as `pip install
     __version__ = version('simbegyor-ndef')
 
 __all__ = ['Checked', 'Checker', 'DecodeError', 'EncodeError', 'Field', 'GlobalRecord', 'HandoverCarrierRecord', 'HandoverRequestRecord',
-           'HandoverSelectRecord', 'LocalRecord', 'Record', 'SmartposterRecord', 'TextRecord', 'UriRecord', 'decode_many',
-           'field_remark', 'fields', 'hint', 'install_as_ndef', 'message_decoder', 'message_encoder', 'record_remark', 'why']
+           'HandoverSelectRecord', 'LocalRecord', 'Record', 'SmartposterRecord', 'StreamedRecord', 'TextRecord', 'UriRecord',
+           'decode_many', 'field_remark', 'fields', 'hint', 'install_as_ndef', 'message_decoder', 'message_encoder', 'record_remark', 'why']

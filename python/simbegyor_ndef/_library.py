@@ -16,7 +16,7 @@ from . import _interface as interface
 from ._interface import BAD_ARGUMENT as BAD_ARGUMENT, END as END, MORE as MORE, NO_ROOM as NO_ROOM, OK as OK, REFUSED as REFUSED
 from ._interface import AlternativeParts as AlternativeParts, CarrierParts as CarrierParts, Checked as Checked, Checker as Checker
 from ._interface import ErrorParts as ErrorParts, Limits as Limits, Part as Part, PosterParts as PosterParts, Writing as Writing
-from ._interface import RequestParts as RequestParts, SelectParts as SelectParts, TextParts as TextParts, u32 as u32
+from ._interface import RequestParts as RequestParts, SelectParts as SelectParts, TextParts as TextParts, Writer as Writer, u32 as u32
 from ._platform import asked_for, library_name
 from .errors import DecodeError, EncodeError
 
@@ -176,6 +176,11 @@ items_short: Any = _short.items if has_items else items_of_none
 # Nor does it check payloads by layouts.
 has_layouts = hasattr(_long, 'check_layout')
 check_layout: Any = _long.check_layout if has_layouts else None
+
+# Nor does it write records in steps.
+has_writers = hasattr(_long, 'writer_begin')
+writer_begin: Any = _short.writer_begin if has_writers else None
+writer_next: Any = _long.writer_next if has_writers else None
 
 
 @functools.lru_cache

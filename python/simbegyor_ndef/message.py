@@ -8,8 +8,9 @@ from . import _library as library
 from . import layout
 from ._library import FEW_ITEMS, OK, SIZES, U32_END, USUAL_SIZES, Desk, first_item, items_short, lone_item, new_desk, pop_desk, push_desk
 from ._library import record_at, record_fields, size_of, taken_desk
-from .errors import DecodeError, EncodeError, left_out
-from .record import READ_LATE, Parts, Record, parts_of
+from ._writing import Outgoing, in_parts
+from .errors import DecodeError, left_out
+from .record import READ_LATE, Parts, Record, number_of, parts_of
 
 __all__ = ['message_decoder', 'message_encoder']
 
@@ -349,11 +350,13 @@ def _place_in_pieces(octets: bytes, is_first: bool, error: DecodeError, payload_
 
 
 @overload
-def message_encoder(message: Iterable[Record], stream: None = None, *, unchecked: bool = False) -> Generator[bytes, None, None]: ...
+def message_encoder(message: Iterable[Record], stream: None = None, *, unchecked: bool = False,
+                    size: Optional[int] = None) -> Generator[bytes, None, None]: ...
 
 
 @overload
-def message_encoder(message: Iterable[Record], stream: BinaryIO, *, unchecked: bool = False) -> Generator[int, None, None]: ...
+def message_encoder(message: Iterable[Record], stream: BinaryIO, *, unchecked: bool = False,
+                    size: Optional[int] = None) -> Generator[int, None, None]: ...
 
 
 @overload
@@ -366,30 +369,51 @@ def message_encoder(message: None = None, *, stream: BinaryIO,
                     unchecked: bool = False) -> Generator[Optional[int], Optional[Record], None]: ...
 
 
-def message_encoder(message: Optional[Iterable[Record]] = None, stream: Optional[BinaryIO] = None, *,
-                    unchecked: bool = False) -> Generator[Any, Any, None]:
+def message_encoder(message: Optional[Iterable[Record]] = None, stream: Optional[BinaryIO] = None, *, unchecked: bool = False,
+                    size: Optional[int] = None) -> Generator[Any, Any, None]:
     """A generator of the octets of each record of the message in turn, or, where a stream is given that they are written
     to, of their numbers. With no message, a generator to which the records are sent, and None after the last: each
     gives the octets of the record before it.
 
-    EncodeError is raised in place of the octets of a record with which `message_decoder` would refuse the message. `unchecked`
-    writes it, too."""
+    With a `size` the octets are given as parts of this number, of which the last may have fewer: the records are written
+    in steps, and no more than a part is in memory beside them. A `StreamedRecord` gives its payload as it is asked for.
+
+    EncodeError is raised in place of the octets of a record with which `message_decoder` would refuse the message, or of
+    the part with the octet that it would refuse. `unchecked` writes it, too."""
+    if size is not None:
+        if message is None:
+            raise TypeError('with a size the message is given, and no record is sent')
+        return _in_parts(message, stream, unchecked, number_of(size, 'a size'))
     if message is None:
         return _sent(stream, unchecked)
     return _encoded(message, stream, unchecked)
 
 
-def _encoded(message: Iterable[Record], stream: Optional[BinaryIO], unchecked: bool) -> Generator[Any, None, None]:
-    encoder = _sent(stream, unchecked)
-    encoder.send(None)
-    begun = False
+def _in_parts(message: Iterable[Record], stream: Optional[BinaryIO], unchecked: bool, size: int) -> Generator[Any, None, None]:
+    if size < 1:
+        raise ValueError('a part has at least 1 octet, not %d' % size)
+    for octets in in_parts(_with_ends(message), size, Outgoing(unchecked)):
+        yield octets if stream is None else stream.write(octets)
+
+
+def _with_ends(message: Iterable[Record]) -> Iterator[Tuple[Record, int]]:
+    """The records of a message, each with the flags that say whether it is the first and whether it is the last."""
+    flags, before = library.FIRST, None
     for record in message:
-        octets = encoder.send(_record(record))
-        if begun:
-            yield octets
-        begun = True
-    if begun:
-        yield encoder.send(None)
+        _record(record)
+        if before is not None:
+            yield before, flags
+            flags = 0
+        before = record
+    if before is not None:
+        yield before, flags | library.LAST
+
+
+def _encoded(message: Iterable[Record], stream: Optional[BinaryIO], unchecked: bool) -> Generator[Any, None, None]:
+    outgoing = Outgoing(unchecked)
+    for record, flags in _with_ends(message):
+        octets = outgoing.written(record, flags)
+        yield octets if stream is None else stream.write(octets)
 
 
 def _record(given: Any) -> Record:
@@ -400,7 +424,7 @@ def _record(given: Any) -> Record:
 
 
 def _sent(stream: Optional[BinaryIO], unchecked: bool) -> Generator[Any, Optional[Record], None]:
-    outgoing, flags, octets = _Outgoing(unchecked), library.FIRST, None
+    outgoing, flags, octets = Outgoing(unchecked), library.FIRST, None
     record: Any = yield
     while record is not None:
         _record(record)
@@ -409,35 +433,3 @@ def _sent(stream: Optional[BinaryIO], unchecked: bool) -> Generator[Any, Optiona
         flags, octets = 0, written if stream is None else stream.write(written)
         record = following
     yield octets
-
-
-class _Outgoing:
-    """A message that is written record by record: how much of it there is, and whether a decoder would take it so far."""
-
-    def __init__(self, unchecked: bool) -> None:
-        self.place = self.count = 0
-        self.limits = None if unchecked else library.limits(Record.MAX_PAYLOAD_SIZE, 0)
-        self.checker, self.checked = library.Checker(), library.Checked()
-        if self.limits is not None:
-            library.begin(self.limits, library.byref(self.checker))
-
-    def written(self, record: Record, flags: int) -> bytes:
-        """The octets of the next record."""
-        try:
-            octets = record._written(flags, self.place)
-        except EncodeError as error:
-            raise EncodeError(error.what, error.place, error.reason, error.number, self.count, error.at) from None
-        if self.limits is not None:
-            size = library.size_of(len(octets))
-            if library.feed(library.byref(self.checker), octets, size, library.byref(self.checked)) == library.REFUSED:
-                raise self._refusal(record)
-        self.place, self.count = self.place + len(octets), self.count + 1
-        return octets
-
-    def _refusal(self, record: Record) -> EncodeError:
-        """Why a decoder refuses the message with this record. The sentence is that of the record alone, where it is refused alone."""
-        number, alone, checked = self.checked.reason, record._written(library.FIRST | library.LAST, 0), library.Checked()
-        library.check(alone, library.size_of(len(alone)), self.limits, library.byref(checked))
-        wanted = library.why(alone, self.limits) if library.has_sentences and checked.reason == number else None
-        return EncodeError(wanted or library.reason_sentence(number), self.place, library.reason_name(number), number, self.count,
-                           self.checked.place - self.place)

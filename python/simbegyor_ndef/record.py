@@ -4,14 +4,14 @@ from __future__ import annotations
 import functools
 import re
 import struct
-from typing import Any, Dict, Optional, Set, Tuple, Type, Union
+from typing import Any, Dict, Iterable, Iterator, Optional, Set, Tuple, Type, Union
 
 from . import _library as library
 from . import layout
 from ._structs import packed, unpacked
 from .errors import DecodeError, EncodeError, left_out
 
-__all__ = ['DecodeError', 'EncodeError', 'GlobalRecord', 'LocalRecord', 'Record']
+__all__ = ['DecodeError', 'EncodeError', 'GlobalRecord', 'LocalRecord', 'Record', 'StreamedRecord']
 
 Octets = Union[bytes, bytearray]
 Parts = Tuple[int, bytes]
@@ -119,6 +119,8 @@ class Record:
     _unread: Optional[Unread] = None
     # Where and why the payload is none of the type, counted from its first octet: of a record that errors='relax' gave.
     refusal: Optional[DecodeError] = None
+    # Whether the payload can be written more than once.
+    _is_kept: bool = True
     _parts: Parts
     _data: Octets
 
@@ -209,6 +211,11 @@ class Record:
         except struct.error as error:
             raise self._encode_error('{}', error) from None
 
+    def _payload_parts(self) -> Tuple[int, Iterator[bytes]]:
+        """The number of octets of the payload that is written, and they in parts."""
+        payload = self._payload()
+        return len(payload), iter((payload,))
+
     def _written(self, flags: int, place: int) -> bytes:
         """The octets of the record, which begin at a place of the message. An empty record is written without id and payload."""
         tnf, kind = self._kind()
@@ -281,6 +288,60 @@ class Record:
     def _encode_struct(cls, form: str, *values: Any) -> bytes:
         """The octets of the values by such a format. Where they don't fit, the record is refused with EncodeError."""
         return packed(form, *values)
+
+
+class StreamedRecord(Record):
+    """A record of any type whose payload comes in parts, so that it need not be in memory.
+
+    type, name: as those of a `Record`.
+    parts: the payload in parts, an iterable of octets, as a generator or a file.
+    size: the number of octets that the parts have together.
+
+    `message_encoder` with a `size` takes a part where it is needed, so a generator serves once. It raises ValueError where the parts
+    have fewer octets than `size`, and in place of those after the `size` that they have too many. No decoder gives such a record.
+    """
+
+    _is_kept = False
+
+    def __init__(self, type: Union[str, Octets, None], name: Union[str, Octets, None], parts: Iterable[Octets], size: int) -> None:
+        super().__init__(type, name)
+        library.number(number_of(size, 'a size'), 'a payload has 0 to %d octets, not %d' % (library.U32_END - 1, size))
+        iter(parts)
+        self._stream, self._size = parts, size
+
+    @property
+    def data(self) -> Octets:
+        """What other records have: AttributeError."""
+        raise AttributeError('the payload of a StreamedRecord comes in parts, and is not kept')
+
+    def _payload(self) -> bytes:
+        return b''.join(self._checked_parts())
+
+    def _payload_parts(self) -> Tuple[int, Iterator[bytes]]:
+        return self._size, self._checked_parts()
+
+    def _checked_parts(self) -> Iterator[bytes]:
+        """The parts, which have as many octets as was said."""
+        left = self._size
+        for part in self._stream:
+            octets = bytes(octets_of(part, 'a part of a payload'))
+            if len(octets) > left:
+                raise self._value_error('parts have more than the {} octets of the payload', self._size)
+            left -= len(octets)
+            yield octets
+        if left:
+            raise self._value_error('parts have {} octets, and the payload {}', self._size - left, self._size)
+
+    def __eq__(self, other: object) -> bool:
+        """Whether it is the same record: the parts can't be compared before they are taken."""
+        return self is other
+
+    __hash__ = None  # type: ignore[assignment]
+
+    def __format__(self, form: str) -> str:
+        if form == 'args':
+            return '%r, %r, %r, %d' % (self.type, self.name, self._stream, self._size)
+        return 'PAYLOAD %d byte in parts' % self._size if form == 'data' else super().__format__(form)
 
 
 # The classes whose `_read` looks at a payload where an attribute is first asked for.

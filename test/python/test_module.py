@@ -465,8 +465,9 @@ class Fields(unittest.TestCase):
 class Readme(unittest.TestCase):
     def test_examples(self):
         page = (TOP / 'python/README.md').read_text()
-        if not library.has_layouts:
-            page = re.sub('^### The layout of a payload$.*?(?=^## )', '', page, flags=re.M | re.S)
+        for title, is_there in (('The layout of a payload', library.has_layouts), ('Octets in parts', library.has_writers)):
+            if not is_there:
+                page = re.sub('^### %s$.*?(?=^## )' % title, '', page, flags=re.M | re.S)
         failed, tried = doctest.DocTestRunner().run(doctest.DocTestParser().get_doctest(page, {}, 'README.md', 'python/README.md', 0))
         self.assertEqual(failed, 0)
         self.assertGreater(tried, 10)

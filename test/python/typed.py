@@ -10,6 +10,9 @@ sizes: List[int] = list(ndef.message_encoder(records, io.BytesIO()))
 encoder = ndef.message_encoder()
 encoder.send(None)
 sent: Optional[bytes] = encoder.send(ndef.TextRecord('Hello'))
+streamed: List[ndef.Record] = [ndef.StreamedRecord('image/png', None, io.BytesIO(b'ab'), 2), ndef.StreamedRecord('unknown', '', [b'a'], 1)]
+parts: List[bytes] = list(ndef.message_encoder(streamed, size=4))
+part_sizes: List[int] = list(ndef.message_encoder(records, io.BytesIO(), size=4))
 fields: List[ndef.Field] = ndef.fields(octets, profile='standard')
 answers: List[Union[List[ndef.Record], ndef.DecodeError]] = list(ndef.decode_many([octets, bytearray(octets)], known_types={}))
 meant: List[str] = [answer.sentence for answer in answers if isinstance(answer, ndef.DecodeError)]
@@ -23,6 +26,8 @@ own_layout: Tuple[ndef.layout.LayoutField, ...] = (ndef.layout.octets(2), ndef.l
 
 wrong_sizes: List[int] = list(ndef.message_encoder(records))  # type: ignore[arg-type]
 wrong_octets: List[bytes] = list(ndef.message_encoder(records, io.BytesIO()))  # type: ignore[arg-type]
+ndef.message_encoder(size=4)  # type: ignore[call-overload]
+ndef.StreamedRecord('unknown', '', b'ab', 2)  # type: ignore[arg-type]
 wrong_records: List[bytes] = list(ndef.message_decoder(b''))  # type: ignore[arg-type]
 wrong_answers: List[List[ndef.Record]] = list(ndef.decode_many([octets]))  # type: ignore[arg-type]
 wrong_messages = ndef.decode_many(['text'])  # type: ignore[list-item]
