@@ -5,11 +5,13 @@
 
 use crate::bytes::Bytes;
 use crate::proved::ndef_c as c;
+#[cfg(feature = "std")]
+pub(crate) use crate::proved::ndef_c::END;
 pub(crate) use crate::proved::ndef_c::{
     NdefAlternative as AlternativeParts, NdefCarrier as CarrierParts, NdefChecked as Checked, NdefChecker as Checker,
     NdefError as ErrorParts, NdefLimits as Limits, NdefPoster as PosterParts, NdefRecord as Record,
-    NdefRequest as RequestParts, NdefSelect as SelectParts, NdefText as TextParts, NdefWriting as Writing, MORE,
-    NO_ROOM, OK, REFUSED,
+    NdefRequest as RequestParts, NdefSelect as SelectParts, NdefText as TextParts, NdefWriter as Writer,
+    NdefWriting as Writing, MORE, NO_ROOM, OK, REFUSED,
 };
 pub use crate::proved::ndef_c::{NdefField as Field, NdefPart as Part};
 #[cfg(feature = "alloc")]
@@ -194,6 +196,19 @@ fills! {
     write_error_number(reason: u32, number: u32) = ndef_write_error_number(reason, number);
     write_handover(handover: u32, major: u32, minor: u32, message: &[u8]) = ndef_write_handover(
         handover, major, minor, message);
+}
+
+/// Begins a record that is written in steps. `None`: there is no such record.
+pub(crate) fn writer_begin(kind: usize, id: usize, payload: usize, how: &Writing) -> Option<Writer> {
+    let mut writer = Writer::default();
+    (c::ndef_writer_begin(&mut writer, kind, id, payload, how) == OK).then_some(writer)
+}
+
+/// Writes the next bytes of such a record to the buffer: the status, and how many they are.
+pub(crate) fn writer_next(writer: &mut Writer, kind: &[u8], id: &[u8], part: &[u8], room: &mut [u8]) -> (u32, usize) {
+    let mut count = 0;
+    let status = c::ndef_writer_next(writer, kind, id, part, room, &mut count);
+    (status, count)
 }
 
 fn uri(payload: &[u8], flags: u32, room: &mut (impl Room + ?Sized)) -> Result<usize, Unfilled> {

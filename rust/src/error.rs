@@ -72,6 +72,8 @@ pub enum EncodeError {
     Poster(Refusal),
     /// The minor version of a handover is above 15, or its records are not those of a handover.
     Handover,
+    /// A payload that is written in parts has fewer or more bytes than were said, which is this many.
+    Payload(u32),
     /// The buffer is too small. This many bytes are needed.
     NoRoom(usize),
 }
@@ -99,12 +101,21 @@ impl fmt::Display for EncodeError {
             Self::HandoverError => to.write_str("an error of a handover cannot have these data"),
             Self::Poster(refusal) => write!(to, "a smart poster cannot have these records: {refusal}"),
             Self::Handover => to.write_str("a handover cannot have this version or these records"),
+            Self::Payload(length) => write!(to, "the parts of the payload have not the {length} bytes that were said"),
             Self::NoRoom(needed) => write!(to, "the room is too small: {needed} bytes are needed"),
         }
     }
 }
 
 impl core::error::Error for EncodeError {}
+
+/// An error of the kind [`InvalidInput`](std::io::ErrorKind::InvalidInput).
+#[cfg(feature = "std")]
+impl From<EncodeError> for std::io::Error {
+    fn from(error: EncodeError) -> Self {
+        Self::new(std::io::ErrorKind::InvalidInput, error)
+    }
+}
 
 /// A number that stands for no value of a type.
 #[derive(Clone, Copy, Debug, PartialEq, Eq, Hash)]

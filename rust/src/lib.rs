@@ -46,6 +46,7 @@ mod link;
 mod message;
 #[cfg(feature = "alloc")]
 mod message_builder;
+mod message_encoder;
 mod new_record;
 mod payload;
 mod poster;
@@ -55,6 +56,8 @@ mod proved;
 #[cfg(feature = "std")]
 mod reading;
 mod record;
+#[cfg(feature = "std")]
+mod record_writer;
 mod refusal;
 #[cfg(feature = "alloc")]
 mod remark;
@@ -86,7 +89,8 @@ pub use link::{Link, Links};
 pub use message::{Message, Records};
 #[cfg(feature = "alloc")]
 pub use message_builder::MessageBuilder;
-pub use new_record::{encode, Form, NewRecord};
+pub use message_encoder::MessageEncoder;
+pub use new_record::{encode, Form, NewRecord, Position};
 pub use payload::{Payload, PayloadKind};
 pub use poster::{Action, Icon, Icons, SmartPoster, Titles};
 #[cfg(feature = "alloc")]
@@ -94,6 +98,8 @@ pub use poster_builder::SmartPosterBuilder;
 #[cfg(feature = "std")]
 pub use reading::{read_message, ReadError};
 pub use record::Record;
+#[cfg(feature = "std")]
+pub use record_writer::RecordWriter;
 pub use refusal::{Reason, Refusal};
 #[cfg(feature = "alloc")]
 pub use remark::{field_remark, record_remark};

@@ -1,5 +1,5 @@
 //! Messages built of records.
-use crate::{EncodeError, Form, Limits, NewRecord};
+use crate::{EncodeError, Form, Limits, MessageEncoder, NewRecord};
 use alloc::vec::Vec;
 use core::num::NonZeroU32;
 
@@ -92,6 +92,11 @@ impl<'a> MessageBuilder<'a> {
             bytes.truncate(before);
         }
         written
+    }
+
+    /// The bytes of the message in steps, so that it is never whole in memory. The encoder gives the errors of [`build`](Self::build).
+    pub fn encoder(&self) -> MessageEncoder<'_> {
+        MessageEncoder::new(&self.records, self.form)
     }
 
     fn write(&self, bytes: &mut Vec<u8>) -> Result<(), EncodeError> {

@@ -1,5 +1,5 @@
 //! Records to be written.
-use crate::calls::{self, Room, Unfilled};
+use crate::calls::{self, Room, Unfilled, Writer, Writing};
 use crate::{check, Bytes, EncodeError, Limits, Profile, Record, Records, Refusal, Tnf};
 use core::num::NonZeroU32;
 
@@ -31,12 +31,39 @@ impl Form {
         let (record, begun) = records.find(is_there).map_or((0, 0), |(index, record)| (index, record.place() as u64));
         Err(EncodeError::Refused { record, refusal: Refusal { at: refusal.at - begun, ..refusal } })
     }
+}
 
-    /// The flags of the record with an index, out of `count` records.
-    fn flags(self, index: usize, count: usize) -> u32 {
-        (if self.long { calls::WRITE_LONG } else { 0 })
-            | (if index == 0 { calls::WRITE_FIRST } else { 0 })
-            | (if index + 1 == count { calls::WRITE_LAST } else { 0 })
+/// Where in its message a record is written.
+#[derive(Clone, Copy, Debug, PartialEq, Eq, Hash)]
+pub enum Position {
+    /// It is the only record.
+    Only,
+    /// It is the first one, and others follow.
+    First,
+    /// It is neither the first nor the last one.
+    Middle,
+    /// It is the last one, and others are before it.
+    Last,
+}
+
+impl Position {
+    /// That of the record with an index, out of `count` records.
+    fn of((index, count): (usize, usize)) -> Self {
+        match (index == 0, index + 1 == count) {
+            (true, true) => Self::Only,
+            (true, false) => Self::First,
+            (false, false) => Self::Middle,
+            (false, true) => Self::Last,
+        }
+    }
+
+    fn flags(self) -> u32 {
+        match self {
+            Self::Only => calls::WRITE_FIRST | calls::WRITE_LAST,
+            Self::First => calls::WRITE_FIRST,
+            Self::Middle => 0,
+            Self::Last => calls::WRITE_LAST,
+        }
     }
 }
 
@@ -118,6 +145,12 @@ impl<'a> NewRecord<'a> {
         &self.payload
     }
 
+    /// Its payload, of which it keeps nothing.
+    #[cfg(feature = "std")]
+    pub(crate) fn take_payload(&mut self) -> Bytes<'a> {
+        core::mem::take(&mut self.payload)
+    }
+
     /// The same record, which borrows nothing.
     #[cfg(feature = "alloc")]
     pub fn into_owned(self) -> NewRecord<'static> {
@@ -139,12 +172,22 @@ impl<'a> NewRecord<'a> {
     pub(crate) fn write(
         &self,
         form: Form,
-        (index, count): (usize, usize),
+        place: (usize, usize),
         room: &mut (impl Room + ?Sized),
     ) -> Result<usize, Unfilled> {
+        calls::write_record(&self.kind, &self.id, &self.payload, &self.how(form, Position::of(place)), room)
+    }
+
+    /// Begins to write it so in steps. `None`: there is no such record.
+    pub(crate) fn begin(&self, form: Form, place: (usize, usize)) -> Option<Writer> {
+        calls::writer_begin(self.kind.len(), self.id.len(), self.payload.len(), &self.how(form, Position::of(place)))
+    }
+
+    /// How it is written at a place.
+    pub(crate) fn how(&self, form: Form, position: Position) -> Writing {
+        let long = if form.long { calls::WRITE_LONG } else { 0 };
         let chunk = form.chunk.map_or(0, NonZeroU32::get);
-        let how = calls::Writing { tnf: self.tnf.number(), flags: form.flags(index, count), chunk };
-        calls::write_record(&self.kind, &self.id, &self.payload, &how, room)
+        Writing { tnf: self.tnf.number(), flags: position.flags() | long, chunk }
     }
 }
 

@@ -18,14 +18,17 @@ macro_rules! have {
     }};
 }
 
+/// The one that writes to a vector.
+type RecordWriter = simbegyor_ndef::RecordWriter<'static, Vec<u8>>;
+
 /// Each public type, by what it may do.
 #[test]
 fn each_type_may_go_to_another_thread() {
     let told = have! {
         Action AlternativeCarrier Alternatives Auxiliaries Bytes Checked Checker Chunks DecodeError EncodeError Encoding
         Field FieldName FieldPart Fields Form HandoverCarrier HandoverError HandoverRequest HandoverRequestBuilder
-        HandoverSelect HandoverSelectBuilder Icon Icons Limits Link Links Message MessageBuilder NewRecord NumberError Part
-        Payload PayloadKind Payloads PowerState Profile ReadError Reason Record Records Refusal SmartPoster
+        HandoverSelect HandoverSelectBuilder Icon Icons Limits Link Links Message MessageBuilder MessageEncoder NewRecord NumberError Part
+        Payload PayloadKind Payloads Position PowerState Profile ReadError Reason Record RecordWriter Records Refusal SmartPoster
         SmartPosterBuilder Text Titles Tnf Uri: Send + Sync + Unpin + Debug
     };
     let exported = include_str!("../src/lib.rs").lines().filter_map(|line| line.strip_prefix("pub use "));
@@ -42,14 +45,14 @@ fn values_are_copied_compared_and_hashed() {
     have! {
         Action AlternativeCarrier Bytes Checked DecodeError EncodeError Encoding Field FieldName FieldPart Form
         HandoverCarrier HandoverError HandoverRequest HandoverSelect Icon Limits Link Message NewRecord NumberError Part
-        Payload PayloadKind Payloads PowerState Profile Reason Record Refusal SmartPoster Text Tnf
+        Payload PayloadKind Payloads Position PowerState Profile Reason Record Refusal SmartPoster Text Tnf
         Uri: Clone + Eq + Hash + UnwindSafe + RefUnwindSafe
     };
     have! {
         Action Checked DecodeError EncodeError Encoding Field FieldName FieldPart Form Limits Message NumberError Part
-        PayloadKind Payloads PowerState Profile Reason Record Refusal Tnf: Copy
+        PayloadKind Payloads Position PowerState Profile Reason Record Refusal Tnf: Copy
     };
-    have! { Checker HandoverRequestBuilder HandoverSelectBuilder MessageBuilder SmartPosterBuilder: Clone };
+    have! { Checker HandoverRequestBuilder HandoverSelectBuilder MessageBuilder MessageEncoder SmartPosterBuilder: Clone };
     have! { Encoding FieldPart Form Limits MessageBuilder Part Payloads Profile Bytes: Default };
     have! { DecodeError EncodeError NumberError ReadError Reason Refusal: Error + 'static };
     have! { FieldName PowerState Reason Refusal Text Tnf Uri: Display };
