@@ -129,32 +129,42 @@ inline new_record external(std::string_view type, bytes payload, std::string_vie
 }
 
 namespace detail {
+/// How a record is written, with the flags of its place.
+inline ndef_writing writing_of(const new_record &one, std::uint32_t flags) noexcept {
+    if (one.is_long) flags |= NDEF_WRITE_LONG;
+    return {static_cast<std::uint32_t>(one.format), flags, one.chunk};
+}
+
 /// Writes a record, as ndef_write_record does.
 inline result<bytes> write_record(room &to, const new_record &one, std::uint32_t flags) noexcept {
-    if (one.is_long) flags |= NDEF_WRITE_LONG;
-    const ndef_writing how = {static_cast<std::uint32_t>(one.format), flags, one.chunk};
+    const ndef_writing how = writing_of(one, flags);
     return put(to, ndef_write_record, octets(one.type.data()), one.type.size(), octets(one.id.data()), one.id.size(),
                one.payload.data(), one.payload.size(), &how);
 }
 
+/// Whether the library writes a record.
+inline bool is_written(const new_record &one) noexcept {
+    room none;
+    const auto made = write_record(none, one, 0);
+    return made || made.error().what == NDEF_NO_ROOM;
+}
+
 /// Which argument of a record without a spelling is wrong: that with another of which the library writes it.
 inline argument wrong_argument(const new_record &one) noexcept {
-    const auto is_written = [&](argument other, tnf format, std::string_view type) {
+    const auto is_so_written = [&](argument other, tnf format, std::string_view type) {
         new_record changed = one;
         if (other == argument::id) changed.id = {};
         if (other == argument::payload) changed.payload = {};
         changed.format = format;
         changed.type = type;
-        room none;
-        const auto made = write_record(none, changed, 0);
-        return made || made.error().what == NDEF_NO_ROOM;
+        return is_written(changed);
     };
     for (const argument other : {argument::id, argument::payload})
-        if (is_written(other, one.format, one.type)) return other;
+        if (is_so_written(other, one.format, one.type)) return other;
     for (const std::string_view type : {std::string_view(), std::string_view("x")})
-        if (is_written(argument::type, one.format, type)) return argument::type;
+        if (is_so_written(argument::type, one.format, type)) return argument::type;
     for (const tnf format : {NDEF_TNF_WELL_KNOWN, NDEF_TNF_UNKNOWN})
-        if (is_written(argument::format, format, one.type)) return argument::format;
+        if (is_so_written(argument::format, format, one.type)) return argument::format;
     return argument::several;
 }
 
@@ -245,8 +255,7 @@ public:
 
     /// Appends a record, and returns the message. A record that can't be appended leaves the message as it was.
     result<message> add(const new_record &one) noexcept {
-        const std::uint32_t form = one.is_long ? NDEF_WRITE_LONG : 0;
-        const ndef_writing how = {static_cast<std::uint32_t>(one.format), form, one.chunk};
+        const ndef_writing how = detail::writing_of(one, 0);
         const auto made = append(ndef_append, detail::octets(one.type.data()), one.type.size(), detail::octets(one.id.data()),
                                  one.id.size(), one.payload.data(), one.payload.size(), &how);
         if (made || made.error().what != NDEF_BAD_ARGUMENT || made.error().which != argument::unknown) return made;
@@ -305,6 +314,135 @@ private:
     ndef_size fed = 0;
     ndef_checked refused = {};
 };
+
+// ---- in steps
+
+// Release 0.3.0 of ndef.h doesn't declare these calls.
+#if NDEF_VERSION_MAJOR > 0 || NDEF_VERSION_MINOR >= 4
+
+/// Where in its message a record is written.
+enum class position : std::uint32_t {
+    middle = 0,
+    first = NDEF_WRITE_FIRST,
+    last = NDEF_WRITE_LAST,
+    only = NDEF_WRITE_FIRST | NDEF_WRITE_LAST
+};
+
+/// A record that is written in steps, to buffers of any size, and whose payload is given in parts, as ndef_writer_next
+/// writes it. It isn't checked beyond the record: a reader may refuse the message.
+class record_writer {
+public:
+    /// Begins a record whose payload has a number of bytes. `one` says how it is written, and its type and id have to
+    /// outlive the writer; its payload isn't used. NDEF_BAD_ARGUMENT says which argument is wrong.
+    static result<record_writer> begin(const new_record &one, ndef_size payload_size,
+                                       position where = position::only) noexcept {
+        record_writer made(one);
+        const ndef_writing how = detail::writing_of(one, static_cast<std::uint32_t>(where));
+        if (ndef_writer_begin(&made.state, one.type.size(), one.id.size(), payload_size, &how) == NDEF_OK) return made;
+        new_record bare = one;
+        bare.payload = {};
+        error why = detail::failure(NDEF_BAD_ARGUMENT);
+        why.which = detail::is_written(bare) ? argument::payload : detail::wrong_argument(bare);
+        return why;
+    }
+
+    /// Writes the next bytes of the record to the buffer, as many as there are and fit. The payload goes on with the part,
+    /// of which what is written is taken off its front. No bytes where the record is whole, and where the part gives no
+    /// more. NDEF_BAD_ARGUMENT: the part has more bytes than are left of the payload; nothing is written.
+    result<bytes> next(bytes &part, room &to) noexcept {
+        const std::uint32_t before = state.taken;
+        const auto made = call(part, to);
+        part = part.from(state.taken - before);
+        if (made || made.error().what != NDEF_END) return made;
+        return bytes(to.data(), 0);
+    }
+
+    /// Whether the record is whole.
+    bool is_whole() const noexcept {
+        record_writer copy = *this;
+        room none;
+        const auto made = copy.call({}, none);
+        return !made && made.error().what == NDEF_END;
+    }
+
+    /// How many bytes of the payload are left.
+    std::uint32_t left() const noexcept { return state.payload_length - state.taken; }
+
+private:
+    explicit record_writer(const new_record &one) noexcept : type(one.type), id(one.id) {}
+
+    result<bytes> call(bytes part, room &to) noexcept {
+        return detail::put(to, ndef_writer_next, &state, detail::octets(type.data()), type.size(), detail::octets(id.data()),
+                           id.size(), part.data(), part.size());
+    }
+
+    ndef_writer state = {};
+    std::string_view type, id;
+};
+
+/// A message of records that is written in steps, to buffers of any size: it is never whole in memory. It is checked as
+/// write_message checks it, while it is written. The records have to outlive the writer.
+template <class Records> class message_writer {
+public:
+    explicit message_writer(const Records &records, const checking &how = {}) noexcept
+        : at(std::begin(records)), end(std::end(records)), check(how.within), is_checked(how.is_done) {
+        if (at == end) failed = error{NDEF_BAD_ARGUMENT, {}, 0, 0, {}, argument::records};
+    }
+    message_writer(const Records &&, const checking & = {}) = delete;
+
+    /// Writes the next bytes of the message, as many as there are and fit; none where it is whole. The errors are those of
+    /// write_message but for NDEF_NO_ROOM, and each later call returns the same.
+    result<bytes> next(room &to) noexcept {
+        room rest = to;
+        while (!failed && rest.size() > 0 && at != end) step(rest);
+        if (failed) return *failed;
+        return to.take(to.size() - rest.size());
+    }
+
+private:
+    /// Writes the next bytes of a record, and checks them. Of one that is whole it goes on to the next one.
+    void step(room &to) noexcept {
+        if (!writer && !begin()) return;
+        const auto made = writer->next(left, to);
+        if (!made || made->empty()) {
+            ++at, ++index, before = length;
+            writer.reset();
+            return;
+        }
+        length += made->size();
+        if (!is_checked) return;
+        const auto checked = check.feed(*made);
+        if (checked) return;
+        failed = checked.error();
+        if (failed->what == NDEF_BAD_ARGUMENT) {
+            failed->which = argument::limits;
+        } else {
+            failed->place -= before;
+            failed->record = index;
+        }
+    }
+
+    bool begin() noexcept {
+        const new_record one = *at;
+        const std::uint32_t place = (index == 0 ? NDEF_WRITE_FIRST : 0) | (std::next(at) == end ? NDEF_WRITE_LAST : 0);
+        const auto begun = record_writer::begin(one, one.payload.size(), static_cast<position>(place));
+        left = one.payload;
+        if (begun) writer = *begun;
+        else failed = detail::of_record(begun.error(), index, one);
+        return bool(begun);
+    }
+
+    decltype(std::begin(std::declval<const Records &>())) at, end;
+    checker check;
+    bool is_checked;
+    std::optional<record_writer> writer{};
+    bytes left = {};
+    std::size_t index = 0;
+    ndef_size before = 0, length = 0; ///< the bytes before this record, and all that are written
+    std::optional<error> failed{};
+};
+
+#endif
 
 } // namespace ndef
 
