@@ -3,5 +3,6 @@ export { check, decode, decodePrefix, explain, fields, hint, links, why } from "
 export { NDEFMessage, NDEFRecord, encode } from "./record.js";
 export { ACTION, KIND, POWER, handoverCarrier, handoverRequest, handoverSelect, smartPoster } from "./making.js";
 export { NDEFDecoderStream } from "./stream.js";
+export { encodeParts, encodeStream } from "./parts.js";
 export { NdefError, ready } from "./library.js";
 export { Ndef } from "./ndef.js";

@@ -26,6 +26,12 @@ export interface EncodeOptions extends Options {
     unchecked?: boolean;
 }
 
+/** How `encodeParts` and `encodeStream` write. */
+export interface PartsOptions extends EncodeOptions {
+    /** The bytes of each part but the last, which may have fewer; by default 4096. */
+    size?: number;
+}
+
 /** The error for bytes that are refused, and for a record that `encode` doesn't write since they would be. */
 export class NdefError extends Error {
     constructor(place: number, reason: number, name: string, sentence: string, record?: number | null);
@@ -69,6 +75,17 @@ export interface RecordParts {
 export interface NDEFMessageInit {
     records: Iterable<NDEFRecordInit>;
 }
+
+/** A record whose data are at hand. */
+export type WholeRecord = NDEFRecordInit & { parts?: undefined };
+
+/** A record whose payload comes in parts: what stands there for its data is given as they are needed. */
+export type RecordInParts<Parts> = ({ recordType: "mime" | "unknown" | `${string}:${string}`; mediaType?: string | null; id?: string | null }
+    | { tnf: number; type?: string | Bytes; id?: string | Bytes }) & {
+    parts: Parts;
+    /** The bytes that the parts have together. */
+    length: number;
+};
 
 /** What NDEFReader.write of Web NFC takes for a record. */
 export interface WritableRecord {
@@ -249,6 +266,17 @@ export function decodePrefix(bytes: Bytes, options?: Options): { message: NDEFMe
  * with the same options: its `record` says which one. `unchecked` writes that, too.
  */
 export function encode(message: NDEFMessageInit | string | Bytes, options?: EncodeOptions): Uint8Array;
+/**
+ * What `encode` answers, in parts of a size: neither the message nor the payload of a record that comes in parts is whole in memory. Errors are those of
+ * `encode`, in place of the part with the byte that `decode` would refuse; and RangeError where the parts of a payload have another length than was said,
+ * in place of the first byte that is missing or too much.
+ */
+export function encodeParts(message: { records: Iterable<WholeRecord | RecordInParts<Iterable<Bytes>>> } | string | Bytes, options?: PartsOptions):
+    Generator<Uint8Array, void, undefined>;
+/** The same as a stream, which fails with the error. The parts of a payload may come later. */
+export function encodeStream(message: {
+    records: Iterable<WholeRecord | RecordInParts<Iterable<Bytes> | AsyncIterable<Bytes> | ReadableStream>>;
+} | string | Bytes, options?: PartsOptions): ReadableStream<Uint8Array>;
 /** The fields of the message with which the bytes begin. Throws NdefError. */
 export function fields(bytes: Bytes, options?: Options): Field[];
 /** All that can be said of the bytes, refused or not. */

@@ -148,6 +148,11 @@ export class Ndef {
     writeRecord(record: {
         tnf: number; type?: Characters; id?: Characters; payload?: Characters; flags?: number; chunk?: number;
     }): Written;
+    beginRecord(record: {
+        tnf: number; type?: Characters; id?: Characters; length: number; flags?: number; chunk?: number;
+    }): { status: 0; state: Uint8Array } | { status: 3 };
+    writeNext(state: Uint8Array, record: { type?: Characters; id?: Characters }, part: Bytes, most: number):
+        { status: 0; bytes: Uint8Array; taken: number } | { status: 3 | 4 };
     writeUri(uri: Characters): Written;
     writeText(language: Characters, text: Characters, flags?: number): Written;
     writeCarrier(format: number, type: Characters, data?: Characters): Written;

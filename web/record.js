@@ -100,8 +100,9 @@ const MAKERS = new Map(Object.entries({
 }));
 
 // The parts of a record as NDEF has them, of a NDEFRecordInit of Web NFC. One that has a `tnf` has these parts as they are.
-function partsOf(init) {
+export function partsOf(init) {
     if (init === null || typeof init !== "object") throw new TypeError("a record is an object");
+    if (init.parts !== undefined) throw new TypeError("a record with parts is written by encodeParts or encodeStream");
     const id = given(init.id) ?? "";
     if (init.tnf !== undefined) return { tnf: init.tnf, type: given(init.type) ?? "", id, payload: given(init.payload) ?? "" };
     const recordType = stringOf(init.recordType, "recordType"), make = MAKERS.get(recordType);
@@ -112,7 +113,7 @@ function partsOf(init) {
 }
 
 // What may be wrong with the parts of a record.
-function causesOf({ tnf, type = "", id = "" }) {
+export function causesOf({ tnf, type = "", id = "" }) {
     const calls = library(), takes = (parts) => calls.writeRecord(parts), isTyped = characters(type).length > 0;
     return [
         ["its id has more than 255 bytes", () => takes({ tnf: TNF.UNKNOWN, id })],
@@ -273,7 +274,7 @@ export class NDEFMessage {
 }
 
 // What `write` of Web NFC takes as a message: a string is a text, and bytes are a record of a media type.
-function messageFor(source) {
+export function messageFor(source) {
     if (source instanceof NDEFMessage) return source;
     if (typeof source === "string") return new NDEFMessage({ records: [{ recordType: "text", data: source }] });
     const isBytes = ArrayBuffer.isView(source) || source instanceof ArrayBuffer;

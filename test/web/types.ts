@@ -1,7 +1,7 @@
 // What tsc --strict makes of the package's declarations: each line that it has to refuse says so. It is compiled, and not run.
 import {
     ACTION, Explained, Field, KIND, Link, NDEFDecoderStream, NDEFMessage, NDEFRecord, Ndef, NdefError, Options, POWER, Value, check, decode,
-    decodePrefix, encode, explain, fields, handoverCarrier, handoverRequest, handoverSelect, hint, links, ready, smartPoster, why,
+    decodePrefix, encode, encodeParts, encodeStream, explain, fields, handoverCarrier, handoverRequest, handoverSelect, hint, links, ready, smartPoster, why,
 } from "simbegyor-ndef";
 import { Ndef as Calls } from "simbegyor-ndef/calls";
 import code from "simbegyor-ndef/wasm";
@@ -15,6 +15,15 @@ const within: NDEFRecord[] | null = record.toRecords();
 const found: Field[] = fields(bytes), told: Explained = explain(bytes), linked: Link[] = links(message);
 const written: Uint8Array = encode({ records: [{ recordType: "text", data: "a", lang: "en" }, record, { tnf: 5, payload: bytes }] });
 encode(message);
+const pages: Uint8Array[] = [...encodeParts({ records: [record, { recordType: "mime", mediaType: "a/b", parts: [bytes], length: 3 }] }, { size: 16, unchecked: true })];
+const sent: ReadableStream<Uint8Array> = encodeStream({ records: [{ tnf: 2, type: "a/b", parts: new Blob([bytes]).stream(), length: 3 }] }, { size: 16, ...options });
+encodeStream("Hello").pipeThrough(new NDEFDecoderStream()).getReader();
+// @ts-expect-error
+encodeParts({ records: [{ recordType: "unknown", parts: new Blob([bytes]).stream(), length: 3 }] });
+// @ts-expect-error
+encodeParts({ records: [{ recordType: "unknown", parts: [bytes] }] });
+// @ts-expect-error
+encodeParts({ records: [{ recordType: "text", parts: [bytes], length: 3 }] });
 encode(message.toInit(), { records: 3, unchecked: true });
 smartPoster({ uri: "a", titles: [{ language: "en", text: "b" }], action: ACTION.SAVE, icons: [{ mediaType: "image/png", data: bytes }] }, "id");
 handoverRequest({ collision: 1, carriers: [{ power: POWER.ACTIVE, reference: bytes, auxiliary: ["x"] }] });
@@ -32,6 +41,8 @@ Calls.load(code).then((calls) => {
     if (answer.status === Ndef.REFUSED) answer.place.toFixed();
     const record = calls.recordAt(bytes, 0), state = calls.begin();
     if (record.status === Ndef.OK) record.payload.length;
+    const begun = calls.beginRecord({ tnf: 5, length: 3 });
+    if (begun.status === Ndef.OK) calls.writeNext(begun.state, {}, bytes, 16);
     calls.feedAll(state, bytes).map(({ at, status }) => at + status);
     const poster = calls.writePoster({ uri: "a" });
     return poster.status === Ndef.OK ? [poster.bytes, other] : null;
