@@ -25,8 +25,9 @@ enum { REASON_NAME, REASON_SENTENCE, FIELD_NAME, URI_PREFIX };
 enum { CHECKER_WORDS = sizeof(ndef_checker) / sizeof(uint64_t) };
 /* Whether the header declares ndef_why, ndef_hint and the calls for remarks: that of release 0.2.0 doesn't. */
 #define HAS_SENTENCES (NDEF_VERSION_MAJOR > 0 || NDEF_VERSION_MINOR >= 3)
-/* Whether it declares ndef_items. */
+/* Whether it declares ndef_items, and the calls for a record in steps. */
 #define HAS_ITEMS (NDEF_VERSION_MAJOR > 0 || NDEF_VERSION_MINOR >= 4)
+#define HAS_WRITERS HAS_ITEMS
 
 /* ---- exceptions */
 
@@ -379,6 +380,66 @@ METHOD(jlong, record)(JNIEnv *env, jclass type, jintArray how, jbyteArray name, 
     release(env, in, 3, JNI_ABORT);
     return status == NDEF_OK || status == NDEF_NO_ROOM ? (jlong)count : -1;
 }
+
+/* ---- records in steps */
+
+#if HAS_WRITERS
+enum { WRITER_WORDS = sizeof(ndef_writer) / sizeof(uint32_t) };
+
+/* A state, as the words that Java keeps. */
+typedef union writer_words {
+    ndef_writer writer;
+    jint words[WRITER_WORDS];
+} writer_words;
+
+METHOD(jboolean, beginRecord)(JNIEnv *env, jclass type, jintArray how, jint name, jint id, jlong payload, jintArray state) {
+    jint words[3];
+    writer_words begun;
+    (void)type;
+    (*env)->GetIntArrayRegion(env, how, 0, 3, words);
+    if ((*env)->ExceptionCheck(env)) return JNI_FALSE;
+    const ndef_writing writing = { (uint32_t)words[0], (uint32_t)words[1], (uint32_t)words[2] };
+    if (ndef_writer_begin(&begun.writer, (ndef_size)name, (ndef_size)id, (ndef_size)payload, &writing) != NDEF_OK) return JNI_FALSE;
+    (*env)->SetIntArrayRegion(env, state, 0, WRITER_WORDS, begun.words);
+    return JNI_TRUE;
+}
+
+/* Writes the next bytes of a record to some of the room, and answers how many; -1: the record is whole. */
+METHOD(jint, nextBytes)(JNIEnv *env, jclass type, jintArray state, jbyteArray name, jbyteArray id, jbyteArray part, jint at,
+                        jint length, jbyteArray room, jint from, jint size) {
+    writer_words now;
+    ndef_size count = 0;
+    span in[3] = { find_all(env, name), find_all(env, id) }, to;
+    (void)type;
+    if (!find_part(env, &in[2], part, at, length) || !find_part(env, &to, room, from, size)) return -1;
+    (*env)->GetIntArrayRegion(env, state, 0, WRITER_WORDS, now.words);
+    if ((*env)->ExceptionCheck(env) || !hold(env, in, 3)) return -1;
+    if (!hold(env, &to, 1)) {
+        release(env, in, 3, JNI_ABORT);
+        return -1;
+    }
+    uint32_t status = ndef_writer_next(&now.writer, in[0].bytes, in[0].length, in[1].bytes, in[1].length, in[2].bytes,
+                                       in[2].length, (uint8_t *)(uintptr_t)to.bytes, to.length, &count);
+    release(env, &to, 1, 0);
+    release(env, in, 3, JNI_ABORT);
+    if (status == NDEF_END) return -1;
+    if (status != NDEF_OK) raise(env, "java/lang/IllegalStateException", "another thread reads the stream");
+    else (*env)->SetIntArrayRegion(env, state, 0, WRITER_WORDS, now.words);
+    return (jint)count;
+}
+#else
+METHOD(jboolean, beginRecord)(JNIEnv *env, jclass type, jintArray how, jint name, jint id, jlong payload, jintArray state) {
+    (void)type, (void)how, (void)name, (void)id, (void)payload, (void)state;
+    raise(env, "java/lang/UnsupportedOperationException", "the library is older than 0.4.0, and writes no records in steps");
+    return JNI_FALSE;
+}
+
+METHOD(jint, nextBytes)(JNIEnv *env, jclass type, jintArray state, jbyteArray name, jbyteArray id, jbyteArray part, jint at,
+                        jint length, jbyteArray room, jint from, jint size) {
+    (void)env, (void)type, (void)state, (void)name, (void)id, (void)part, (void)at, (void)length, (void)room, (void)from, (void)size;
+    return -1;
+}
+#endif
 
 /* ---- what is written to a buffer */
 

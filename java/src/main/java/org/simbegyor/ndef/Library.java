@@ -58,6 +58,19 @@ final class Library {
      */
     static native long record(int[] how, byte[] type, byte[] id, byte[] payload, byte[] room, int at);
 
+    /**
+     * Begins a record that is written in steps, of such lengths: whether there is one. {@code how} is as {@link #record}
+     * has it, and the state has eight words.
+     */
+    static native boolean beginRecord(int[] how, int type, int id, long payload, int[] state);
+
+    /**
+     * Writes the next bytes of a record to some of a room, whose payload goes on with some bytes of a part. Answers how
+     * many; -1 where the record is whole.
+     */
+    static native int nextBytes(int[] state, byte[] type, byte[] id, byte[] part, int at, int length, byte[] room,
+            int from, int size);
+
     /** Bytes that the call makes; null where it refuses its arguments. */
     static native byte[] bytes(int call, byte[] one, byte[] two, int first, int second, long[] why);
 

@@ -1,5 +1,8 @@
 package org.simbegyor.ndef;
 
+import java.io.InputStream;
+import java.io.SequenceInputStream;
+import java.util.ArrayList;
 import java.util.Arrays;
 import java.util.Collections;
 import java.util.List;
@@ -234,13 +237,55 @@ public final class NdefMessage {
         return bytes(form, (int) chunk, 0, records.length);
     }
 
+    /**
+     * The bytes of {@link #toByteArray()}, as they are asked for: they are never whole in memory. A read gives those of one
+     * record at most. Nothing has to be closed.
+     *
+     * @return a new stream of the bytes
+     * @throws UnsupportedOperationException if the native library is older than 0.4.0
+     */
+    public InputStream toInputStream() {
+        return stream(0, 0);
+    }
+
+    /**
+     * The bytes of {@link #toByteArray(boolean, long)}, as they are asked for.
+     *
+     * @param hasLongLengths true, if each payload length is to be written in four bytes
+     * @param chunk the payload bytes of each chunk but the last of a record; 0 writes each record in one chunk
+     * @return a new stream of the bytes
+     * @throws RecordException if a reader of the message refuses it in this form: with too many chunks
+     * @throws IllegalArgumentException if {@code chunk} is not 0 to 4294967295
+     * @throws UnsupportedOperationException if the native library is older than 0.4.0
+     */
+    public InputStream toInputStream(boolean hasLongLengths, long chunk) {
+        if (chunk != (chunk & 0xffffffffL)) {
+            throw new IllegalArgumentException("a chunk has 1 to 4294967295 bytes");
+        }
+        int form = hasLongLengths ? Library.LONG : 0;
+        check(form, (int) chunk);
+        return stream(form, (int) chunk);
+    }
+
+    private InputStream stream(int form, int chunk) {
+        List<InputStream> streams = new ArrayList<>(records.length);
+        for (int i = 0; i < records.length; i++) {
+            streams.add(new RecordInputStream(records[i], flags(form, i), chunk));
+        }
+        return new SequenceInputStream(Collections.enumeration(streams));
+    }
+
+    /** The flags of the record with an index, written in a form. */
+    private int flags(int form, int i) {
+        return form | (i == 0 ? Library.FIRST : 0) | (i + 1 == records.length ? Library.LAST : 0);
+    }
+
     /** Some of the records in a form, from an index up to another. */
     private byte[] bytes(int form, int chunk, int from, int to) {
         byte[] bytes = new byte[length(form, chunk, from, to)];
         int at = 0;
         for (int i = from; i < to; i++) {
-            int flags = form | (i == 0 ? Library.FIRST : 0) | (i + 1 == records.length ? Library.LAST : 0);
-            at += (int) records[i].write(flags, chunk, bytes, at);
+            at += (int) records[i].write(flags(form, i), chunk, bytes, at);
         }
         return bytes;
     }

@@ -356,6 +356,16 @@ public final class NdefRecord {
         return value;
     }
 
+    /** The type itself, which nobody may change. */
+    byte[] type() {
+        return type;
+    }
+
+    /** The id itself, which nobody may change. */
+    byte[] id() {
+        return id;
+    }
+
     /** The payload itself, which nobody may change. */
     byte[] payload() {
         return payload;
