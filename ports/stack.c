@@ -138,6 +138,15 @@ static void write_select(void) {
     how.data.length = given_length;
     ndef_write_select(&how, given, given_length, parts, 2, alternatives, 2, room, sizeof room, &count);
 }
+#if NDEF_VERSION_MAJOR > 0 || NDEF_VERSION_MINOR >= 4
+static ndef_writer writer;
+static const ndef_writing in_chunks = { NDEF_TNF_WELL_KNOWN, 0, 3 };
+static void writer_begin(void) { ndef_writer_begin(&writer, 1, 0, given_length, &in_chunks); }
+/* The call before this one began the record. */
+static void writer_next(void) {
+    ndef_writer_next(&writer, (const uint8_t *)"T", 1, given, 0, given, given_length, room, sizeof room, &count);
+}
+#endif
 
 #define CALL(name) { "ndef_" #name, name, 0 }
 static struct call { const char *name; void (*make)(void); unsigned most; } calls[] = {
@@ -149,7 +158,11 @@ static struct call { const char *name; void (*make)(void); unsigned most; } call
     CALL(poster_media_type), CALL(poster_icons), CALL(error), CALL(write_record), CALL(write_uri), CALL(write_text),
     CALL(write_carrier), CALL(write_alternative), CALL(write_error), CALL(write_error_number), CALL(write_handover),
     CALL(write_action), CALL(write_size), CALL(write_collision), CALL(write_poster), CALL(write_request), CALL(write_select),
-    CALL(append), CALL(append_text), CALL(append_uri), CALL(rewrite), CALL(reason_name), CALL(reason_sentence),
+    CALL(append), CALL(append_text), CALL(append_uri), CALL(rewrite),
+#if NDEF_VERSION_MAJOR > 0 || NDEF_VERSION_MINOR >= 4
+    CALL(writer_begin), CALL(writer_next),
+#endif
+    CALL(reason_name), CALL(reason_sentence),
     CALL(field_name), CALL(status_name), CALL(version), CALL(usual_limits)
 };
 enum { CALLS = sizeof calls / sizeof *calls };
