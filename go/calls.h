@@ -4,8 +4,32 @@
 
 #include "ndef.h"
 
-/* ndef_items where the library is a release that lacks it, over the calls that it has: of an item the members that this package reads. */
+/* What release 0.3.0 of the library lacks. When dist/ is of a later one, all up to the #else goes with that and GO_HAS_WRITER, and in Go
+ * hasWriter and ErrOldLibrary; README.md asks for that version then.
+ *
+ * ndef_items, over the calls that the release has: of an item the members that this package reads. No record is written in steps. */
 #if NDEF_VERSION_MAJOR == 0 && NDEF_VERSION_MINOR < 4
+enum { GO_HAS_WRITER = 0 };
+
+typedef struct ndef_writer {
+    ndef_writing how;
+    uint32_t type_length, id_length, payload_length, taken, head;
+} ndef_writer;
+
+static uint32_t ndef_writer_begin(ndef_writer *writer, ndef_size type_length, ndef_size id_length, ndef_size payload_length,
+                                  const ndef_writing *how) {
+    (void)writer, (void)type_length, (void)id_length, (void)payload_length, (void)how;
+    return NDEF_BAD_ARGUMENT;
+}
+
+static uint32_t ndef_writer_next(ndef_writer *writer, const uint8_t *type, ndef_size type_length, const uint8_t *id,
+                                 ndef_size id_length, const uint8_t *part, ndef_size part_length, uint8_t *room, ndef_size size,
+                                 ndef_size *count) {
+    (void)writer, (void)type, (void)type_length, (void)id, (void)id_length, (void)part, (void)part_length, (void)room, (void)size,
+        (void)count;
+    return NDEF_BAD_ARGUMENT;
+}
+
 typedef struct ndef_item {
     uint32_t at, tnf, type_at, type_length, id_length, payload_at, payload_length, pieces;
 } ndef_item;
@@ -24,6 +48,8 @@ static uint32_t ndef_items(const uint8_t *bytes, ndef_size length, const ndef_li
     }
     return NDEF_OK;
 }
+#else
+enum { GO_HAS_WRITER = 1 };
 #endif
 
 /* What the payload of a record is, and where the parts of a text or a URI lie in it. */

@@ -2,7 +2,8 @@
 
 package ndef
 
-// The library for C as `make install` leaves it.
+// The library for C and its header as `make install` leaves them.
 
 // #cgo pkg-config: simbegyor-ndef
+// #cgo CFLAGS: -DNDEF_INSTALLED
 import "C"

@@ -5,6 +5,9 @@ import "C"
 
 import "unsafe"
 
+// minorVersion is the second number of the version of the library.
+const minorVersion = C.NDEF_VERSION_MINOR
+
 // first points to the first of the bytes.
 func first(bytes []byte) *C.uint8_t { return (*C.uint8_t)(unsafe.Pointer(pointer(bytes))) }
 

@@ -1,3 +1,6 @@
+#ifdef NDEF_INSTALLED
+#include_next <ndef.h>
+#else
 /* ndef.h: checks, reads and writes messages of the NFC Data Exchange Format (NFC Forum, NDEF 1.0).
  *
  * The library allocates no memory, never blocks, has no global state and reads and writes only what its arguments
@@ -753,5 +756,6 @@ uint32_t ndef_write_select(const ndef_select_writing *how, const uint8_t *bytes,
 
 #ifdef __cplusplus
 }
+#endif
 #endif
 #endif

@@ -22,21 +22,7 @@ var (
 	onRecord  = regexp.MustCompile(`^remark: record (\d+): (.*)`)
 	atPlace   = regexp.MustCompile(`^[0-9a-f]{8} `)
 	since     = regexp.MustCompile(`\n# since 0\.(\d+)\n$`)
-	minor     = regexp.MustCompile(`NDEF_VERSION_MINOR (\d+)`)
 )
-
-// ofLibrary returns the second number of the library's version, which is in its header.
-func ofLibrary(t *testing.T) int {
-	header, err := os.ReadFile("ndef.h")
-	if err != nil {
-		t.Fatal(err)
-	}
-	number, err := strconv.Atoi(string(minor.FindSubmatch(header)[1]))
-	if err != nil {
-		t.Fatal(err)
-	}
-	return number
-}
 
 // isNewer says whether the line above a row names a later release than this one.
 func isNewer(above string, release int) bool {
@@ -55,7 +41,7 @@ func rows(t *testing.T) []row {
 		t.Fatal(err)
 	}
 	var read []row
-	release, places := ofLibrary(t), append(rowBegins.FindAllIndex(text, -1), []int{len(text)})
+	release, places := minorVersion, append(rowBegins.FindAllIndex(text, -1), []int{len(text)})
 	for index, place := range places[:len(places)-1] {
 		if isNewer(string(text[:place[0]]), release) {
 			continue

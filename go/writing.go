@@ -48,17 +48,43 @@ func (message *Message) EncodeAs(form Form) ([]byte, error) {
 	}
 	var bytes []byte
 	for index, record := range message.Records {
-		how := C.ndef_writing{tnf: C.uint32_t(record.TNF), chunk: C.uint32_t(form.Chunk), flags: flag(form.Long)*C.NDEF_WRITE_LONG |
-			flag(index == 0)*C.NDEF_WRITE_FIRST | flag(index == len(message.Records)-1)*C.NDEF_WRITE_LAST}
+		how := record.writing(form, positionOf(index, len(message.Records)))
 		var status C.uint32_t
 		if bytes, status = record.appendTo(bytes, &how); status != C.NDEF_OK {
-			return nil, &RecordError{Record: index, Sentence: "its type doesn't fit its type name format, or a part is too long"}
+			return nil, withoutSpelling(index)
 		}
 	}
 	if form.Unchecked {
 		return bytes, nil
 	}
 	return form.Options.accepted(bytes)
+}
+
+// withoutSpelling is the error for a record with an index that has none.
+func withoutSpelling(index int) error {
+	return &RecordError{Record: index, Sentence: "its type doesn't fit its type name format, or a part is too long"}
+}
+
+// Position says where in its message a record is written.
+type Position uint8
+
+// The positions of records.
+const (
+	Middle Position = 0
+	First  Position = C.NDEF_WRITE_FIRST
+	Last   Position = C.NDEF_WRITE_LAST
+	Only   Position = First | Last
+)
+
+// positionOf returns that of the record with an index of some records.
+func positionOf(index, records int) Position {
+	return Position(flag(index == 0))*First | Position(flag(index == records-1))*Last
+}
+
+// writing is how the record is written.
+func (record *Record) writing(form Form, position Position) C.ndef_writing {
+	return C.ndef_writing{tnf: C.uint32_t(record.TNF), chunk: C.uint32_t(form.Chunk),
+		flags: flag(form.Long)*C.NDEF_WRITE_LONG | C.uint32_t(position)}
 }
 
 // accepted returns the message that was written, if the options accept it.
