@@ -55,10 +55,12 @@ fn in_parts(record: &NewRecord<'_>, position: Position, form: Form, dice: &mut D
     writer.finish().unwrap()
 }
 
+/// As many messages as NDEF_RANDOM_MESSAGES says, 100000 where it says nothing.
 #[test]
 fn random_messages_are_those_that_are_built_at_once() {
     let dice = &mut Dice(0x9E3779B97F4A7C15);
-    for _ in 0..100_000 {
+    let told = std::env::var("NDEF_RANDOM_MESSAGES").ok();
+    for _ in 0..told.map_or(100_000, |told| told.parse().unwrap()) {
         let records: Vec<NewRecord<'_>> = (0..1 + dice.below(4)).map(|_| record(dice)).collect();
         let form = form(dice);
         let mut room = vec![0; 20_000];
