@@ -154,6 +154,11 @@ class Errors(unittest.TestCase):
         with self.assertRaises(ndef.EncodeError) as caught:
             octets(ndef.Record(), ndef.HandoverRequestRecord('1.3'), size=9)
         self.assertEqual((caught.exception.record, caught.exception.reason), (1, 'BadArgument'))
+        named = ndef.TextRecord('Hello')
+        named._name = bytes(256)
+        with self.assertRaises(ndef.EncodeError) as caught:
+            octets(TEXT, named, size=9)
+        self.assertEqual((caught.exception.record, caught.exception.place, caught.exception.reason), (1, 12, 'BadArgument'))
 
     def test_arguments(self):
         for size in (0, -1):
