@@ -129,7 +129,7 @@ inline new_record external(std::string_view type, bytes payload, std::string_vie
 }
 
 namespace detail {
-/// How a record is written, with the flags of its place.
+/// How a record is written, with the flags of its position.
 inline ndef_writing writing_of(const new_record &one, std::uint32_t flags) noexcept {
     if (one.is_long) flags |= NDEF_WRITE_LONG;
     return {static_cast<std::uint32_t>(one.format), flags, one.chunk};
