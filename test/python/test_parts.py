@@ -151,6 +151,7 @@ class Errors(unittest.TestCase):
                     octets(ndef.Record(), record, size=9, unchecked=True)
                 error = caught.exception
                 self.assertEqual((error.record, error.place, error.at, error.reason), (1, 3, None, 'PayloadTooLarge'))
+                self.assertEqual(error.what, 'a payload of 5 octets is more than MAX_PAYLOAD_SIZE, 4')
         with self.assertRaises(ndef.EncodeError) as caught:
             octets(ndef.Record(), ndef.HandoverRequestRecord('1.3'), size=9)
         self.assertEqual((caught.exception.record, caught.exception.reason), (1, 'BadArgument'))

@@ -95,7 +95,8 @@ await test("each size", () => {
     const message = { records: [TEXT, image([new Uint8Array(300)], 300), TEXT] };
     const whole = encode({ records: [TEXT, { ...image(), parts: undefined, data: new Uint8Array(300) }, TEXT] });
     for (const size of [1, 2, 3, 4, 16, 255, whole.length - 1, whole.length, whole.length + 1]) sizesAre([...encodeParts(message, { size })], size, whole);
-    sizesAre([...encodeParts(message)], 4096, whole);
+    const long = { recordType: "unknown", data: new Uint8Array(10000) };
+    sizesAre([...encodeParts({ records: [long] })], 4096, encode({ records: [long] }));
     sizesAre([...encodeParts(new NDEFMessage({ records: [TEXT] }), { size: 5 })], 5, encode({ records: [TEXT] }));
     same([all(encodeParts("Hello")), all(encodeParts(bytesOf("0102"))), all(encodeParts({ records: [{ recordType: "empty" }] }))],
         [[hexOf(encode("Hello")), null], [hexOf(encode(bytesOf("0102"))), null], ["d00000", null]]);
@@ -128,6 +129,7 @@ await test("too few parts", async () => {
     same(all(encodeParts(messages(), { size: 1 })), [`${HEAD}616263`, why]);
     same(await allOf(encodeStream(messages(), { size: 1 })), [`${HEAD}616263`, why]);
     same(all(encodeParts(messages(), { size: 100 })), ["", why]);
+    same(all(encodeParts({ records: [image(of("abc"), 2 ** 32 - 1)] }, { size: 1, unchecked: true }))[1], "RangeError: the parts have 3 bytes, and the payload 4294967295");
     same(all(encodeParts({ records: [image([], 1), TEXT] }, { size: 1 }))[1], "RangeError: the parts have 0 bytes, and the payload 1");
 });
 await test("too many parts", async () => {
@@ -146,6 +148,10 @@ await test("a record that is refused", async () => {
         const error = throws(NdefError, () => written.next());
         same([error.record, error.place, error.reason, error.name, error.sentence], [1, 4, 15, "TextBit", wanted]);
     }
+    // What was wanted is known of a record that is at hand and is refused alone.
+    const few = { tnf: 1, type: "T" }, refusal = (record) => throws(NdefError, () => [...encodeParts({ records: [TEXT, record] })]);
+    same(refusal(few).sentence, "A text (`T`) has at least 1 octet; 0 were given.");
+    same(refusal({ ...few, parts: [], length: 0 }).sentence, calls.reasonSentence(refusal(few).reason));
     same((await allOf(encodeStream({ records: [TEXT, BAD] }, { size: 4 })))[1], `NdefError: record 1 is refused at its byte 4: ${sentence}`);
     same(all(encodeParts({ records: [TEXT, BAD] }, { unchecked: true })), [hexOf(encode({ records: [TEXT, BAD] }, { unchecked: true })), null]);
     const reserved = { records: [{ tnf: 1, type: "U", payload: bytesOf("24") }] };
