@@ -357,12 +357,11 @@ public:
         return bytes(to.data(), 0);
     }
 
-    /// Whether the record is whole.
+    /// Whether the record is whole: no other call without a part and a buffer fails.
     bool is_whole() const noexcept {
         record_writer copy = *this;
         room none;
-        const auto made = copy.call({}, none);
-        return !made && made.error().what == NDEF_END;
+        return !copy.call({}, none);
     }
 
     /// How many bytes of the payload are left.
@@ -403,15 +402,15 @@ private:
     /// Writes the next bytes of a record, and checks them. Of one that is whole it goes on to the next one.
     void step(room &to) noexcept {
         if (!writer && !begin()) return;
-        const auto made = writer->next(left, to);
-        if (!made || made->empty()) {
+        const bytes made = writer->next(left, to).value_or(bytes());
+        if (made.empty()) {
             ++at, ++index, before = length;
             writer.reset();
             return;
         }
-        length += made->size();
+        length += made.size();
         if (!is_checked) return;
-        const auto checked = check.feed(*made);
+        const auto checked = check.feed(made);
         if (checked) return;
         failed = checked.error();
         if (failed->what == NDEF_BAD_ARGUMENT) {

@@ -129,24 +129,24 @@ template <class Records> ndef::error first_error(const Records &records, const n
     }
 }
 
-static void errors_of_messages() {
+template <class Records> static void errors_of_messages() {
     const auto first = ndef::media("a/b", {}, "i");
-    const std::vector<ndef::new_record> refused{first, ndef::well_known("T", "\x42""en"sv)};
+    const Records refused{first, ndef::well_known("T", "\x42""en"sv)};
     auto why = first_error(refused);
     test("a refusal", why.what == NDEF_REFUSED && why.record == 1 && why.place == 4 && why.why == NDEF_REASON_TEXT_BIT);
     test("unchecked", first_error(refused, ndef::unchecked).what == NDEF_OK);
-    why = first_error(std::list<ndef::new_record>{first, ndef::media("", {})});
+    why = first_error(Records{first, ndef::media("", {})});
     test("no type", why.what == NDEF_BAD_ARGUMENT && why.record == 1 && why.which == ndef::argument::type);
-    why = first_error(std::vector<ndef::new_record>());
+    why = first_error(Records());
     test("no records", why.what == NDEF_BAD_ARGUMENT && why.which == ndef::argument::records && !why.record);
     ndef::limits limits;
     limits.records = 1;
-    why = first_error(std::vector<ndef::new_record>{first, first}, limits);
+    why = first_error(Records{first, first}, limits);
     test("too many records", why.why == NDEF_REASON_TOO_MANY_RECORDS && why.record == 0 && why.place == 0);
     limits.records = 0;
-    why = first_error(std::vector<ndef::new_record>{first}, limits);
+    why = first_error(Records{first}, limits);
     test("limits out of range", why.what == NDEF_BAD_ARGUMENT && why.which == ndef::argument::limits && !why.record);
-    test("a writer of a temporary doesn't compile", !std::is_constructible_v<ndef::message_writer<std::vector<ndef::new_record>>, std::vector<ndef::new_record>>);
+    test("a writer of a temporary doesn't compile", !std::is_constructible_v<ndef::message_writer<Records>, Records>);
 }
 
 static void payloads_of_another_length() {
@@ -179,7 +179,8 @@ static void arguments_of_records() {
 }
 
 int main(int, char **words) {
-    errors_of_messages();
+    errors_of_messages<std::vector<ndef::new_record>>();
+    errors_of_messages<std::list<ndef::new_record>>();
     payloads_of_another_length();
     arguments_of_records();
     random_messages(std::atoi(words[1]));
