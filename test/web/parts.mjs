@@ -177,11 +177,13 @@ await test("a reader that goes away ends the parts", async () => {
     function* parts(name) { try { for (;;) yield Buffer.from("ab"); } finally { ended.push(name); } }
     for (const part of encodeParts({ records: [image(parts("first"), 1000), image(parts("never begun"), 1)] }, { size: 20 })) { same(part.length, 20); break; }
     same(ended, ["first"]);
-    const source = new ReadableStream({ pull: (controller) => controller.enqueue(Buffer.from("ab")), cancel: (reason) => ended.push(reason) }, { highWaterMark: 0 });
-    const reader = encodeStream({ records: [image(source, 1000)] }, { size: 20 }).getReader();
-    await reader.read();
-    await reader.cancel("enough");
-    same(ended, ["first", "enough"]);
+    for (const isBare of [false, true]) {
+        const source = new ReadableStream({ pull: (controller) => controller.enqueue(Buffer.from("ab")), cancel: (reason) => ended.push(reason) }, { highWaterMark: 0 });
+        const reader = encodeStream({ records: [image(isBare ? { getReader: () => source.getReader() } : source, 1000)] }, { size: 20 }).getReader();
+        await reader.read();
+        await reader.cancel("enough");
+    }
+    same(ended, ["first", "enough", "enough"]);
     const failing = new ReadableStream({ pull: () => { throw new Error("no more"); } }, { highWaterMark: 0 });
     same(await allOf(encodeStream({ records: [image(failing, 10)] }, { size: 1 })), [HEAD.replace("da0905", "da090a"), "Error: no more"]);
 });
