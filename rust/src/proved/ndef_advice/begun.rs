@@ -59,6 +59,11 @@ pub(crate) fn id_length(octets: &[u8]) -> u8 {
     }
 }
 
+/// Whether all of PAYLOAD_LENGTH has come of a piece that begins with these octets.
+pub(crate) fn is_length_whole(octets: &[u8]) -> bool {
+    2 + width(octet_at(octets, 0)) <= octets.len()
+}
+
 /// Whether all lengths of a piece that begins with these octets are among them (NDEF 1.0, record layout).
 pub fn is_lengths_whole(octets: &[u8]) -> bool {
     head_length(octets) <= octets.len()

@@ -2,7 +2,8 @@
 //! What may help where bytes are refused.
 
 use crate::proved::ndef_advice::begun::{after, octet_at};
-use crate::proved::ndef_advice::Sentence;
+use crate::proved::ndef_advice::dump_text::{text_of, DumpText};
+use crate::proved::ndef_advice::tag_memory::{found_in, Found};
 use crate::proved::ndef_format::{Reason, Refusal};
 use crate::proved::ndef_message::view;
 use crate::proved::ndef_nest::Typed;
@@ -11,8 +12,14 @@ use crate::proved::ndef_value::{Limits, Profile};
 /// What may help where bytes are refused. It never changes what is accepted.
 #[derive(Clone, Copy, Debug, PartialEq, Eq, Hash)]
 pub enum Hint {
+    /// The bytes are of a tag, which has these for a message.
+    InTag(Found),
+    /// The bytes are a text that spells others.
+    Text(DumpText),
     /// A message begins at this place, 1 to 16: the bytes before it may be what surrounds a message on a tag.
     MessageAt(u64),
+    /// The terminator of a tag's TLV blocks is in place of a message.
+    AfterBlocks,
     /// The identifier code of a URI may have been left out.
     CodeLeftOut,
     /// The bytes begin with a message for a reader of the standard profile.
@@ -72,11 +79,32 @@ fn is_for_standard(bytes: &[u8], limits: Limits, refusal: Refusal) -> bool {
     is_strict_alone(refusal) && begins(bytes, limits.with(Profile::Standard))
 }
 
-/// What may help where the bytes are refused so within the limits; None where nothing is known to (NDEF 1.0 and RTD
-/// URI 1.0). It checks at most 17 times whether a message begins at a place.
-pub fn hint_at(bytes: &[u8], limits: Limits, refusal: Refusal) -> Option<Hint> {
+/// Whether the terminator of TLV blocks is in place of a message.
+fn is_after_blocks(bytes: &[u8], refusal: Refusal) -> bool {
+    refusal.at == 0 && octet_at(bytes, 0) == 0xFE
+}
+
+/// The hint on what the bytes are, where the first of them is refused.
+fn dump_hint(bytes: &[u8], refusal: Refusal) -> Option<Hint> {
+    if refusal.at > 0 {
+        return None;
+    }
+    if let Some(text) = text_of(bytes) {
+        return Some(Hint::Text(text));
+    }
+    match found_in(bytes) {
+        Some(found) => Some(Hint::InTag(found)),
+        None => None,
+    }
+}
+
+/// The hint on bytes that are no dump.
+fn other_hint(bytes: &[u8], limits: Limits, refusal: Refusal) -> Option<Hint> {
     if let Some(place) = surrounded_message(bytes, limits, refusal) {
         return Some(Hint::MessageAt(place));
+    }
+    if is_after_blocks(bytes, refusal) {
+        return Some(Hint::AfterBlocks);
     }
     if is_code_left_out(bytes, refusal) {
         return Some(Hint::CodeLeftOut);
@@ -87,24 +115,12 @@ pub fn hint_at(bytes: &[u8], limits: Limits, refusal: Refusal) -> Option<Hint> {
     None
 }
 
-impl Hint {
-    /// The sentence of English for it: at most 192 bytes of ASCII.
-    pub fn sentence(self) -> Sentence {
-        match self {
-            Hint::MessageAt(place) => near_sentence(place),
-            Hint::CodeLeftOut => Sentence::of(b"68 (hexadecimal) is the letter h: was the identifier code left out?"),
-            Hint::StandardProfile => {
-                Sentence::of(b"The standard profile reads this (`--profile standard`, in C NDEF_STANDARD).")
-            }
-        }
+/// What may help where the bytes are refused so within the limits; None where nothing is known to (NDEF 1.0, RTD URI
+/// 1.0, and NFC Forum, Type 1 to Type 5 Tag). It checks at most 17 times whether a message begins at a place; all else
+/// takes a time linear in the number of bytes.
+pub fn hint_at(bytes: &[u8], limits: Limits, refusal: Refusal) -> Option<Hint> {
+    match dump_hint(bytes, refusal) {
+        Some(hint) => Some(hint),
+        None => other_hint(bytes, limits, refusal),
     }
-}
-
-/// The sentence for a message at a place.
-fn near_sentence(place: u64) -> Sentence {
-    let mut sentence = Sentence::new();
-    sentence.push(b"The bytes may begin with what surrounds a message on a tag; a message begins at byte ");
-    sentence.push_number(place);
-    sentence.push(b".");
-    sentence
 }

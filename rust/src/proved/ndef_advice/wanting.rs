@@ -2,8 +2,8 @@
 //! What was wanted where bytes are refused, by the bytes up to the refused one.
 
 use crate::proved::ndef_advice::begun::{
-    after, before_payload, bytes_before, head_length, id_length, is_kind_whole, is_lengths_whole, is_payload_begun,
-    least_record, octet_at, payload_length, through,
+    after, before_payload, bytes_before, head_length, id_length, is_kind_whole, is_length_whole, is_lengths_whole,
+    is_payload_begun, least_record, octet_at, payload_length, through,
 };
 use crate::proved::ndef_advice::lengths::least_nest;
 use crate::proved::ndef_advice::misfit::{misfit, of_least};
@@ -145,14 +145,13 @@ fn of_collision_size(known: bool, last: bool, size: u64, left: u64) -> Wanted {
 
 /// What was wanted after these octets of the head of the first record of a request.
 fn of_collision(left: u64, octets: &[u8]) -> Wanted {
-    let whole = is_lengths_whole(octets);
     let given = payload_length(octets);
-    if whole && given != 2 {
+    if is_length_whole(octets) && given != 2 {
         return Wanted::CollisionLength(given);
     }
     let header = octet_at(octets, 0);
     let size = head_length(octets) + 4 + usize::from(id_length(octets));
-    let known = !is_set(ID_THERE, header) || whole;
+    let known = !is_set(ID_THERE, header) || is_lengths_whole(octets);
     of_collision_size(known, is_set(END, header), size as u64, left)
 }
 

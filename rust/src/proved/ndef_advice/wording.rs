@@ -267,7 +267,7 @@ impl Wanted {
             Wanted::UriInPoster(number) => of_poster(number),
             Wanted::OneUri(number) => of_second(number),
             Wanted::CollisionFirst => {
-                Sentence::of(b"This request must begin with a collision record (`cr`); it has none.")
+                Sentence::of(b"This request must begin with a collision record (`cr`); its first record is another.")
             }
             Wanted::CollisionLength(given) => of_collision(given),
             Wanted::ShorterCollision(least, left) => of_long_collision(least, left),

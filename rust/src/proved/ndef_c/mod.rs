@@ -10,8 +10,8 @@
 //! - `kinds.rs`, `crates/ndef_c/specs/Kinds.antt`: what the payload of a record is, as its type says.
 //! - `pieces.rs`, `crates/ndef_c/specs/Pieces.antt`: where its pieces lie. `crates/ndef_c/specs/Arrays.antt`: what is written to an array.
 //! - `fields.rs`, `field_names.rs`, `payload_fields.rs`, `crates/ndef_c/specs/Fields.antt`: in which field each byte stands.
-//! - `why.rs`, `crates/ndef_c/specs/Whys.antt`: why bytes are refused, and what may help, in sentences. `remarks.rs`,
-//!   `crates/ndef_c/specs/Remarks.antt`: what is strange in a message that is accepted.
+//! - `why.rs`, `crates/ndef_c/specs/Whys.antt`: why bytes are refused, in sentences. `hints.rs`, `crates/ndef_c/specs/Hints.antt`: what may help,
+//!   in sentences and by numbers. `remarks.rs`, `crates/ndef_c/specs/Remarks.antt`: what is strange in a message that is accepted.
 //! - `items.rs`, `crates/ndef_c/specs/Items.antt`: a message and all its records, in one call.
 //! - `layout.rs`, `crates/ndef_c/specs/Layouts.antt`: payloads of a layout that a program gives.
 //! - `finding.rs`, `crates/ndef_c/specs/Finding.antt`: the first record with a type or an id.
@@ -54,6 +54,7 @@ mod handover;
 mod handover_making;
 mod handover_parts;
 mod handover_writing;
+mod hints;
 mod icons;
 mod items;
 mod kinds;
@@ -96,6 +97,7 @@ mod utf16;
 mod version;
 mod walk;
 mod why;
+mod writer;
 mod writing;
 
 pub use alternative::ndef_alternative;
@@ -133,6 +135,23 @@ pub use handover_parts::NdefAlternativeWriting;
 pub use handover_writing::ndef_write_handover;
 pub use handover_writing::REQUEST;
 pub use handover_writing::SELECT;
+pub use hints::ndef_find_hint;
+pub use hints::ndef_hint;
+pub use hints::NdefFound;
+pub use hints::HINT_ATTRIBUTES;
+pub use hints::HINT_BASE64;
+pub use hints::HINT_CODE;
+pub use hints::HINT_DIGITS;
+pub use hints::HINT_FILE;
+pub use hints::HINT_FLIPPER;
+pub use hints::HINT_HEXDUMP;
+pub use hints::HINT_MESSAGE;
+pub use hints::HINT_PROXMARK;
+pub use hints::HINT_STANDARD;
+pub use hints::HINT_TERMINATOR;
+pub use hints::HINT_TLV;
+pub use hints::HINT_WORDS;
+pub use hints::HINT_XXD;
 pub use icons::ndef_poster_icons;
 pub use icons::NdefIcon;
 pub use items::ndef_items;
@@ -199,7 +218,9 @@ pub use version::ndef_version;
 pub use version::MAJOR;
 pub use version::MINOR;
 pub use version::PATCH;
-pub use why::ndef_hint;
 pub use why::ndef_why;
+pub use writer::ndef_writer_begin;
+pub use writer::ndef_writer_next;
+pub use writer::NdefWriter;
 pub use writing::ndef_write_record;
 pub use writing::NdefWriting;

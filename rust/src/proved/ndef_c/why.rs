@@ -1,7 +1,7 @@
 // Written by ports/erase of crates/ndef_c/src/why.rt, which has the contracts: do not edit.
-//! Why bytes are refused, and what may help, in sentences.
+//! Why bytes are refused, in sentences.
 
-use crate::proved::ndef_advice::{hint_at, wanted_at};
+use crate::proved::ndef_advice::wanted_at;
 use crate::proved::ndef_c::fields::typed_limits;
 use crate::proved::ndef_c::limits::NdefLimits;
 use crate::proved::ndef_c::room::give;
@@ -11,7 +11,7 @@ use crate::proved::ndef_nest::Typed;
 use crate::proved::ndef_value::{Limits, Refusal};
 
 /// Where the bytes are refused, and why; None where they begin with a message.
-fn refusal_of(bytes: &[u8], limits: Limits) -> Option<Refusal> {
+pub(crate) fn refusal_of(bytes: &[u8], limits: Limits) -> Option<Refusal> {
     match view::<Typed>(bytes, limits) {
         Ok(_) => None,
         Err(refusal) => Some(refusal),
@@ -29,25 +29,6 @@ fn give_why(bytes: &[u8], limits: Limits, room: &mut [u8], count: &mut usize) ->
     }
 }
 
-/// Writes what may help where the bytes are refused so to the room.
-fn give_hint_at(bytes: &[u8], limits: Limits, refusal: Refusal, room: &mut [u8], count: &mut usize) -> u32 {
-    match hint_at(bytes, limits, refusal) {
-        Some(hint) => {
-            let sentence = hint.sentence();
-            give(sentence.as_slice(), room, count)
-        }
-        None => END,
-    }
-}
-
-/// Writes what may help where the bytes are refused to the room.
-fn give_hint(bytes: &[u8], limits: Limits, room: &mut [u8], count: &mut usize) -> u32 {
-    match refusal_of(bytes, limits) {
-        Some(refusal) => give_hint_at(bytes, limits, refusal, room, count),
-        None => END,
-    }
-}
-
 /// Writes why the bytes are refused to the buffer: a sentence of English that says what was wanted, in ASCII and with
 /// no NUL after it.
 pub fn ndef_why(bytes: &[u8], limits: &NdefLimits, room: &mut [u8], count: &mut usize) -> u32 {
@@ -55,13 +36,4 @@ pub fn ndef_why(bytes: &[u8], limits: &NdefLimits, room: &mut [u8], count: &mut 
         return BAD_ARGUMENT;
     };
     give_why(bytes, limits, room, count)
-}
-
-/// Writes what may help where the bytes are refused to the buffer: a sentence of English, in ASCII and with no NUL
-/// after it.
-pub fn ndef_hint(bytes: &[u8], limits: &NdefLimits, room: &mut [u8], count: &mut usize) -> u32 {
-    let Some(limits) = typed_limits(limits) else {
-        return BAD_ARGUMENT;
-    };
-    give_hint(bytes, limits, room, count)
 }

@@ -4,7 +4,7 @@
 use crate::proved::ndef_c::making::Ends;
 use crate::proved::ndef_c::out::Out;
 use crate::proved::ndef_c::status::{BAD_ARGUMENT, NO_ROOM, OK};
-use crate::proved::ndef_message::Form;
+use crate::proved::ndef_message::{first_part, later_head, Form, Standing};
 use crate::proved::ndef_piece::{write_head, Head};
 use crate::proved::ndef_value::Tnf;
 
@@ -72,14 +72,6 @@ fn has_lengths(parts: &Parts<'_>) -> bool {
     parts.kind.len() <= 255 && parts.id.len() <= 255 && parts.payload.len() <= u32::MAX as usize
 }
 
-/// Whether a piece of `length` payload bytes is written in the short form.
-fn is_short(form: Form, length: usize) -> bool {
-    match form {
-        Form::Short => length <= 255,
-        Form::Long => false,
-    }
-}
-
 /// The head of the first piece of a record, where that piece has `payload` bytes of the payload.
 pub(crate) fn first_head(
     tnf: Tnf,
@@ -90,30 +82,8 @@ pub(crate) fn first_head(
     alone: bool,
     form: Form,
 ) -> Head {
-    Head {
-        first: ends.first,
-        last: alone && ends.last,
-        chunked: !alone,
-        short: is_short(form, payload),
-        tnf,
-        kind_length: kind.len() as u8,
-        payload_length: payload as u32,
-        id_length: if id.is_empty() { None } else { Some(id.len() as u8) },
-    }
-}
-
-/// The head of a later piece of a record, which has this part of the payload, the last one or not.
-fn later_head(way: Way, ends: bool, part: &[u8]) -> Head {
-    Head {
-        first: false,
-        last: ends && way.last,
-        chunked: !ends,
-        short: is_short(way.form, part.len()),
-        tnf: Tnf::Unchanged,
-        kind_length: 0,
-        payload_length: part.len() as u32,
-        id_length: None,
-    }
+    let standing = Standing { first: ends.first, last: ends.last, alone };
+    crate::proved::ndef_message::first_head(tnf, kind.len(), id.len(), payload, standing, form)
 }
 
 /// Writes a piece.
@@ -125,11 +95,6 @@ pub(crate) fn put_piece(out: &mut Out<'_>, head: &Head, kind: &[u8], id: &[u8], 
     out.put(kind);
     out.put(id);
     out.put(part);
-}
-
-/// The first part of a payload, and what is left of it.
-fn first_part(payload: &[u8], size: usize) -> (&[u8], &[u8]) {
-    payload.split_at(payload.len().min(size))
 }
 
 /// Writes a record so, and answers where its last piece begins.
@@ -144,7 +109,7 @@ pub(crate) fn put_record(out: &mut Out<'_>, parts: &Parts<'_>, way: Way) -> usiz
     let mut rest = behind;
     while !rest.is_empty() {
         let (part, later) = first_part(rest, way.size);
-        let head = later_head(way, later.is_empty(), part);
+        let head = later_head(way.last, later.is_empty(), way.form, part.len());
         last = out.at();
         put_piece(out, &head, &[], &[], part);
         rest = later;

@@ -15,7 +15,9 @@
 //! - `message_viewing.rs`, `message_view.rs`, `item.rs`, `pieces.rs`: a message viewed where it lies
 //!   (`crates/ndef_message/specs/Views.antt`).
 //! - `encoding.rs`, `writing.rs`: the encoders; `crates/ndef_message/specs/Cut.antt` has the pieces in which a message is
-//!   written.
+//!   written. `heads.rs`: the heads of the chunks.
+//! - `encoder.rs`, `record_encoder.rs`: a message, or a record whose payload comes in parts, encoded in steps;
+//!   `crates/ndef_message/specs/Steps.antt` says what is left. `stepping.rs` fills a buffer for both.
 //! - `source.rs`, `sink.rs`: what a source and a sink promise. `slice_source.rs`, `crates/ndef_message/src/std_source.rt`,
 //!   `crates/ndef_message/src/std_sink.rt` are such; `failing_source.rs`, `endless_source.rs`, `failing_sink.rs` are for tests.
 //!   `input.rs`: all that a source gives.
@@ -26,6 +28,7 @@ mod checked_bytes;
 mod checker;
 #[cfg(feature = "alloc")]
 mod decoder;
+mod encoder;
 mod encoding;
 mod endless_source;
 #[cfg(feature = "alloc")]
@@ -34,6 +37,7 @@ mod failing_sink;
 mod failing_source;
 mod fed;
 mod form;
+mod heads;
 mod input;
 mod item;
 mod items;
@@ -46,17 +50,22 @@ mod message_viewing;
 mod open;
 mod phase;
 mod pieces;
+mod plan;
+mod record_encoder;
 mod sending;
 mod sink;
 mod slice_source;
 mod source;
 mod state;
+mod stepping;
 mod whole_input;
 mod writing;
 
 pub use checker::Checker;
 #[cfg(feature = "alloc")]
 pub use decoder::Decoder;
+#[cfg(feature = "alloc")]
+pub use encoder::Encoder;
 #[cfg(feature = "alloc")]
 pub use encoding::{encode, encode_chunked, encoded_length};
 pub use endless_source::EndlessSource;
@@ -66,6 +75,7 @@ pub use failing_sink::FailingSink;
 pub use failing_source::FailingSource;
 pub use fed::Fed;
 pub use form::Form;
+pub use heads::{first_head, later_head, Standing};
 #[cfg(feature = "alloc")]
 pub use input::read_all;
 pub use input::InputError;
@@ -78,10 +88,13 @@ pub use message_reading::{read_message, Read};
 pub use message_view::View;
 pub use message_viewing::view;
 pub use pieces::Pieces;
+pub use plan::{Progress, RecordPlan};
+pub use record_encoder::{OtherLength, RecordEncoder};
 pub use sending::{send, WriteFault};
 pub use sink::{Sink, SinkFault};
 pub use slice_source::SliceSource;
 pub use source::{Source, SourceFault};
 pub use whole_input::check;
+pub use writing::first_part;
 #[cfg(feature = "alloc")]
 pub use writing::write_message;

@@ -1,62 +1,13 @@
 // Written by ports/erase of crates/ndef_message/src/writing.rt, which has the contracts: do not edit.
 //! Writes a message to a sink.
 
+use crate::proved::ndef_message::heads::{first_head, later_head, Standing};
 use crate::proved::ndef_message::sending::{send, WriteFault};
 use crate::proved::ndef_message::sink::Sink;
 use crate::proved::ndef_message::Form;
 use crate::proved::ndef_piece::{write_head, Head};
-use crate::proved::ndef_value::Tnf;
 #[cfg(feature = "alloc")]
 use crate::proved::ndef_value::{Message, Record};
-
-/// Whether a piece of `length` payload bytes is written in the short form.
-fn is_short(form: Form, length: usize) -> bool {
-    match form {
-        Form::Short => length <= 255,
-        Form::Long => false,
-    }
-}
-
-/// Where the first piece of a record stands.
-#[derive(Clone, Copy)]
-struct Standing {
-    /// Its record is the first of the message.
-    first: bool,
-    /// Its record is the last of the message.
-    last: bool,
-    /// It is the only piece of its record.
-    alone: bool,
-}
-
-/// The head of the first piece of a record, which has this part of the payload.
-#[cfg(feature = "alloc")]
-fn first_head(item: &Record, standing: Standing, form: Form, part: &[u8]) -> Head {
-    let id = item.id();
-    Head {
-        first: standing.first,
-        last: standing.alone && standing.last,
-        chunked: !standing.alone,
-        short: is_short(form, part.len()),
-        tnf: item.tnf(),
-        kind_length: item.kind().len() as u8,
-        payload_length: part.len() as u32,
-        id_length: if id.is_empty() { None } else { Some(id.len() as u8) },
-    }
-}
-
-/// The head of a later piece of a record, which has this part of the payload.
-fn later_head(last: bool, ends: bool, form: Form, part: &[u8]) -> Head {
-    Head {
-        first: false,
-        last: ends && last,
-        chunked: !ends,
-        short: is_short(form, part.len()),
-        tnf: Tnf::Unchanged,
-        kind_length: 0,
-        payload_length: part.len() as u32,
-        id_length: None,
-    }
-}
 
 /// Sends the octets of a head.
 fn send_head<S: Sink>(before: u64, head: &Head, sink: &mut S) -> Result<u64, WriteFault> {
@@ -75,10 +26,12 @@ fn write_first<S: Sink>(
     part: &[u8],
     sink: &mut S,
 ) -> Result<u64, WriteFault> {
-    let head = first_head(item, standing, form, part);
+    let kind = item.kind();
+    let id = item.id();
+    let head = first_head(item.tnf(), kind.len(), id.len(), part.len(), standing, form);
     let after_head = send_head(before, &head, sink)?;
-    let after_kind = send(after_head, item.kind(), sink)?;
-    let after_id = send(after_kind, item.id(), sink)?;
+    let after_kind = send(after_head, kind, sink)?;
+    let after_id = send(after_kind, id, sink)?;
     send(after_id, part, sink)
 }
 
@@ -91,13 +44,13 @@ fn write_later<S: Sink>(
     part: &[u8],
     sink: &mut S,
 ) -> Result<u64, WriteFault> {
-    let head = later_head(last, ends, form, part);
+    let head = later_head(last, ends, form, part.len());
     let after_head = send_head(before, &head, sink)?;
     send(after_head, part, sink)
 }
 
-/// The first part of a payload, and what is left of it.
-fn first_part(payload: &[u8], size: usize) -> (&[u8], &[u8]) {
+/// The first part of a payload, of `size` bytes or of what is there, and what is left of the payload.
+pub fn first_part(payload: &[u8], size: usize) -> (&[u8], &[u8]) {
     payload.split_at(payload.len().min(size))
 }
 
