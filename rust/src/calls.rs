@@ -9,7 +9,7 @@ use crate::proved::ndef_c as c;
 pub(crate) use crate::proved::ndef_c::END;
 pub(crate) use crate::proved::ndef_c::{
     NdefAlternative as AlternativeParts, NdefCarrier as CarrierParts, NdefChecked as Checked, NdefChecker as Checker,
-    NdefError as ErrorParts, NdefLimits as Limits, NdefPoster as PosterParts, NdefRecord as Record,
+    NdefError as ErrorParts, NdefFound as Found, NdefLimits as Limits, NdefPoster as PosterParts, NdefRecord as Record,
     NdefRequest as RequestParts, NdefSelect as SelectParts, NdefText as TextParts, NdefWriter as Writer,
     NdefWriting as Writing, MORE, NO_ROOM, OK, REFUSED,
 };
@@ -107,6 +107,15 @@ pub(crate) fn fields(bytes: &[u8], limits: &Limits, fields: &mut [Field], why: &
         NO_ROOM => Err(count),
         _ => Ok(count),
     }
+}
+
+// ---- hints
+
+/// What may help where the bytes are refused.
+pub(crate) fn find_hint(bytes: &[u8], limits: &Limits) -> Option<Found> {
+    let mut out = Found::default();
+    let status = c::ndef_find_hint(bytes, limits, &mut out);
+    (status == OK).then_some(out)
 }
 
 // ---- buffers

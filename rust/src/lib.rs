@@ -41,6 +41,7 @@ mod handover;
 #[cfg(feature = "alloc")]
 mod handover_builder;
 mod handover_error;
+mod hint;
 mod limits;
 mod link;
 mod message;
@@ -84,6 +85,7 @@ pub use handover::{Alternatives, HandoverRequest, HandoverSelect};
 #[cfg(feature = "alloc")]
 pub use handover_builder::{HandoverRequestBuilder, HandoverSelectBuilder};
 pub use handover_error::HandoverError;
+pub use hint::{find_hint, FoundHint, HintKind};
 pub use limits::{Limits, Payloads, Profile};
 pub use link::{Link, Links};
 pub use message::{Message, Records};

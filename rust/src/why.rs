@@ -20,15 +20,16 @@ pub fn why(bytes: &[u8], limits: &Limits) -> Option<String> {
     said(|room| calls::why(bytes, &limits.with_payloads(Payloads::Typed).raw(), room))
 }
 
-/// A sentence that may help where the bytes are refused: a message begins at one of the offsets 1 to 16, the identifier
-/// code of a URI may be missing, or [`Profile::Standard`](crate::Profile::Standard) reads them. `None`: nothing is known to help,
-/// or they begin with a message. It may take 17 times as long as [`check`](crate::check()); the rest is as for [`why`].
+/// A sentence that may help where the bytes are refused: they are of a tag, which has these for a message, or a text that
+/// spells bytes, the identifier code of a URI may be missing, or [`Profile::Standard`](crate::Profile::Standard) reads them.
+/// It names commands; [`find_hint`](crate::find_hint()) says the same to a program. `None`: nothing is known to help, or they
+/// begin with a message. It may take 17 times as long as [`check`](crate::check()); the rest is as for [`why`].
 ///
 /// ```
 /// use simbegyor_ndef::{hint, Limits};
 ///
-/// let sentence = hint(b"\x03\x0C\xD1\x01\x08T\x02enHello", &Limits::new()).unwrap();
-/// assert!(sentence.ends_with("; a message begins at byte 2."));
+/// let sentence = hint(b"\xD1\x01\x05Uhttp", &Limits::new()).unwrap();
+/// assert_eq!(sentence, "68 (hexadecimal) is the letter h: was the identifier code left out?");
 /// ```
 #[inline]
 #[must_use]

@@ -317,7 +317,7 @@ fn sentences_are_told_of_bytes() {
     assert_eq!(strict(size), ("A size (`s`) has 4 octets; 2 were given.".into(), None));
     let (sentence, help) = strict(b"\x03\x0C\xD1\x01\x08T\x02enHello");
     assert_eq!(sentence, Reason::BeginMissing.sentence());
-    let near = "The bytes may begin with what surrounds a message on a tag; a message begins at byte 2.";
+    let near = "A message of length 12 may begin at byte 2, in an NDEF TLV of a tag: `tail -c +3 | head -c 12`.";
     assert_eq!(help.as_deref(), Some(near));
     let (_, help) = strict(b"\xD1\x01\x09Uhttp://ab");
     assert_eq!(help.unwrap(), "68 (hexadecimal) is the letter h: was the identifier code left out?");

@@ -1,0 +1,122 @@
+//! What may help where bytes are refused, to a program.
+use crate::{calls, Limits, Payloads};
+use core::fmt;
+
+macro_rules! kinds {
+    ($($number:literal $name:ident $text:literal,)*) => {
+        /// What a hint is about.
+        #[derive(Clone, Copy, Debug, PartialEq, Eq, Hash, PartialOrd, Ord)]
+        #[non_exhaustive]
+        #[repr(u32)]
+        pub enum HintKind {
+            $(#[doc = $text] $name = $number,)*
+        }
+
+        impl HintKind {
+            /// The kinds, in the order of their numbers.
+            pub const ALL: &'static [HintKind] = &[$(HintKind::$name),*];
+
+            /// The kind with a number, as `ndef_hint_number` of `include/ndef.h` has them.
+            #[must_use]
+            pub const fn from_number(number: u32) -> Option<Self> {
+                match number {
+                    $($number => Some(Self::$name),)*
+                    _ => None,
+                }
+            }
+        }
+    };
+}
+
+kinds! {
+    1 Tlv "An NDEF message TLV of a tag has bytes for a message, or none.",
+    2 Attributes "A message comes after the attribute block of a Type 3 Tag.",
+    3 File "A message comes after its length, as in a file of a Type 4 Tag.",
+    4 Message "A message begins after other bytes.",
+    5 Terminator "The terminator of a tag's TLV blocks is in place of a message.",
+    6 Digits "The bytes are hexadecimal digits.",
+    7 Xxd "The bytes are a dump by `xxd`.",
+    8 Hexdump "The bytes are a dump by `hexdump -C`.",
+    9 Words "The bytes are a dump by `od` or `hexdump`, which may show words.",
+    10 Flipper "The bytes are an NFC file of a Flipper.",
+    11 Proxmark "The bytes are what the client of a Proxmark prints.",
+    12 Base64 "The bytes may be base64.",
+    13 Code "The identifier code of a URI may be missing.",
+    14 Standard "A reader of the standard profile accepts the bytes.",
+}
+
+/// What may help where bytes are refused. `Display` writes a sentence of English, which names what a program in Rust calls.
+#[derive(Clone, Copy, Debug, PartialEq, Eq, Hash)]
+#[non_exhaustive]
+pub struct FoundHint {
+    /// What the hint is about.
+    pub kind: HintKind,
+    /// The offset at which a message may begin, counted from 0; 0 where the hint names none.
+    pub place: usize,
+    /// The number of bytes that a tag has for that message; 0 where the hint names none. A part of the tag's memory may have
+    /// fewer of them.
+    pub length: usize,
+    /// The number of bytes that were given.
+    given: usize,
+}
+
+impl FoundHint {
+    /// Writes the sentence for what a tag has for a message, with what surrounds it there.
+    fn write_tag(&self, to: &mut fmt::Formatter<'_>, around: &str) -> fmt::Result {
+        let (place, length) = (self.place, self.length);
+        if length == 0 {
+            return to.write_str("This tag is empty: it has no bytes for a message.");
+        }
+        let (from, end) = (place.min(self.given), place.saturating_add(length).min(self.given));
+        write!(to, "A message of length {length} may begin at byte {place}, {around}: read `&bytes[{from}..{end}]`.")
+    }
+}
+
+impl fmt::Display for FoundHint {
+    fn fmt(&self, to: &mut fmt::Formatter<'_>) -> fmt::Result {
+        to.write_str(match self.kind {
+            HintKind::Tlv => return self.write_tag(to, "in an NDEF TLV of a tag"),
+            HintKind::Attributes => return self.write_tag(to, "after the attribute block of a Type 3 Tag"),
+            HintKind::File => return self.write_tag(to, "after its length, as in a file of a Type 4 Tag"),
+            HintKind::Message => {
+                to.write_str("The bytes may begin with what surrounds a message on a tag; a message begins at byte ")?;
+                return write!(to, "{0}: read `&bytes[{0}..]`.", self.place);
+            }
+            HintKind::Terminator => "FE (hexadecimal) ends the TLV blocks of a tag; what comes after it is no message.",
+            HintKind::Digits => "These are hexadecimal digits, not the bytes that they spell: decode them first.",
+            HintKind::Xxd => "This is a dump by xxd, not the bytes that it spells: decode its digits first.",
+            HintKind::Hexdump => "This is a dump by hexdump, not the bytes that it spells: decode its digits first.",
+            HintKind::Words => {
+                "This is a dump by od or hexdump, not the bytes, and may show words: decode a dump of single bytes."
+            }
+            HintKind::Flipper => "This is a file of a Flipper, not the bytes: decode the digits of its pages first.",
+            HintKind::Proxmark => {
+                "This is what a Proxmark prints, not the bytes: decode the digits of its blocks first."
+            }
+            HintKind::Base64 => "This may be base64, not the bytes that it spells: decode it first.",
+            HintKind::Code => "68 (hexadecimal) is the letter h: was the identifier code left out?",
+            HintKind::Standard => {
+                "The standard profile reads this: give `with_profile(Profile::Standard)` of the limits."
+            }
+        })
+    }
+}
+
+/// What may help where the bytes are refused, by its kind and the place of a message. `None`: nothing is known to help, or
+/// they begin with a message. The rest is as for `hint`, which writes a sentence that names commands.
+///
+/// ```
+/// use simbegyor_ndef::{check, find_hint, HintKind, Limits};
+///
+/// let memory = b"\xE1\x10\x12\0\x03\x0C\xD1\x01\x08T\x02enHello\xFE";
+/// let found = find_hint(memory, &Limits::new()).unwrap();
+/// assert_eq!((found.kind, found.place, found.length), (HintKind::Tlv, 6, 12));
+/// assert!(found.to_string().ends_with(": read `&bytes[6..18]`."));
+/// assert!(check(&memory[6..18], &Limits::new()).is_ok());
+/// ```
+#[must_use]
+pub fn find_hint(bytes: &[u8], limits: &Limits) -> Option<FoundHint> {
+    let found = calls::find_hint(bytes, &limits.with_payloads(Payloads::Typed).raw())?;
+    let kind = HintKind::from_number(found.hint)?;
+    Some(FoundHint { kind, place: found.at, length: found.length, given: bytes.len() })
+}
