@@ -48,6 +48,22 @@ static uint32_t ndef_items(const uint8_t *bytes, ndef_size length, const ndef_li
     }
     return NDEF_OK;
 }
+
+/* ndef_find_hint there, which finds none. */
+enum {
+    NDEF_HINT_TLV = 1, NDEF_HINT_ATTRIBUTES, NDEF_HINT_FILE, NDEF_HINT_MESSAGE, NDEF_HINT_TERMINATOR, NDEF_HINT_DIGITS, NDEF_HINT_XXD,
+    NDEF_HINT_HEXDUMP, NDEF_HINT_WORDS, NDEF_HINT_FLIPPER, NDEF_HINT_PROXMARK, NDEF_HINT_BASE64, NDEF_HINT_CODE, NDEF_HINT_STANDARD
+};
+typedef struct ndef_found {
+    uint32_t hint;
+    ndef_size at, length;
+} ndef_found;
+
+static uint32_t ndef_find_hint(const uint8_t *bytes, ndef_size length, const ndef_limits *limits, ndef_found *out) {
+    ndef_size count;
+    (void)out;
+    return ndef_why(bytes, length, limits, NULL, 0, &count) == NDEF_BAD_ARGUMENT ? NDEF_BAD_ARGUMENT : NDEF_END;
+}
 #else
 enum { GO_HAS_WRITER = 1 };
 #endif

@@ -51,7 +51,7 @@ func (reason Reason) String() string { return C.GoString(C.ndef_reason_text(C.ui
 func (reason Reason) Sentence() string { return C.GoString(C.ndef_sentence_text(C.uint32_t(reason))) }
 
 // Refusal is the error for bytes that are no message, or for a payload that isn't one of its type. Of the bytes of a
-// message Why says what was wanted there, and Hint what may help.
+// message Why says what was wanted there, and FindHint what may help.
 type Refusal struct {
 	Place  int // the first byte after which nothing that follows makes the bytes a message, or the number of bytes
 	Reason Reason

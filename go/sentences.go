@@ -27,10 +27,10 @@ func (options Options) Why(bytes []byte) (string, error) {
 	}, ErrLimits)
 }
 
-// Hint returns a sentence of English that may help where the bytes are refused: a message begins at one of the offsets
-// 1 to 16, the identifier code of a URI may be missing, or the standard profile reads them. It is empty where nothing is
-// known to help, and where a message begins with the bytes. It may take 17 times as long as Check. The rest is as for
-// Why.
+// Hint returns a sentence of English that may help where the bytes are refused: they are of a tag, which has these for a
+// message, or a text that spells bytes, the identifier code of a URI may be missing, or the standard profile reads them. It
+// names commands; FindHint says the same to a program. It is empty where nothing is known to help, and where a message
+// begins with the bytes. It may take 17 times as long as Check. The rest is as for Why.
 func (options Options) Hint(bytes []byte) (string, error) {
 	limits := options.limits()
 	return said(func(room *C.uint8_t, most C.ndef_size, count *C.ndef_size) C.uint32_t {

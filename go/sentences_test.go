@@ -276,9 +276,20 @@ func TestSaid(t *testing.T) {
 			why, whyErr := options.Why(given)
 			hint, hintErr := options.Hint(given)
 			line := fmt.Sprintf("%d | %s | %s", profile, why+dash[why == ""], hint+dash[hint == ""])
+			if found, err := options.FindHint(given); findsHints {
+				line += numbersOf(found, err)
+			}
 			if wanted := said[2*index+profile]; line != wanted || whyErr != nil || hintErr != nil {
 				t.Fatalf("%s\nGo: %s, %v, %v\nC:  %s", digits, line, whyErr, hintErr, wanted)
 			}
 		}
 	}
+}
+
+// numbersOf returns the numbers of a hint as test/faces/sentences.c prints them.
+func numbersOf(found *FoundHint, err error) string {
+	if found == nil || err != nil {
+		return " | -"
+	}
+	return fmt.Sprintf(" | %d %d %d", found.Kind, found.Place, found.Length)
 }
