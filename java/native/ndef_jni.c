@@ -25,7 +25,7 @@ enum { REASON_NAME, REASON_SENTENCE, FIELD_NAME, URI_PREFIX };
 enum { CHECKER_WORDS = sizeof(ndef_checker) / sizeof(uint64_t) };
 /* Whether the header declares ndef_why, ndef_hint and the calls for remarks: that of release 0.2.0 doesn't. */
 #define HAS_SENTENCES (NDEF_VERSION_MAJOR > 0 || NDEF_VERSION_MINOR >= 3)
-/* Whether it declares ndef_items, and the calls for a record in steps. */
+/* Whether it declares ndef_items, ndef_find_hint, and the calls for a record in steps. */
 #define HAS_ITEMS (NDEF_VERSION_MAJOR > 0 || NDEF_VERSION_MINOR >= 4)
 #define HAS_WRITERS HAS_ITEMS
 
@@ -562,6 +562,28 @@ METHOD(jbyteArray, remark)(JNIEnv *env, jclass type, jint call, jbyteArray bytes
     (void)type;
     if (!HAS_SENTENCES) raise(env, "java/lang/UnsupportedOperationException", "the library of release 0.2.0 has no remarks");
     return (*env)->ExceptionCheck(env) ? NULL : make(env, &what, in, NULL);
+}
+
+/* What may help where the bytes are refused: the number of the hint, the place and the length; NULL where nothing is known to. */
+METHOD(jintArray, hint)(JNIEnv *env, jclass type, jbyteArray bytes, jintArray words) {
+    jintArray told = NULL;
+    ndef_limits limits;
+    span in = find_all(env, bytes);
+    (void)type;
+#if HAS_ITEMS
+    ndef_found found;
+    if (!get_limits(env, words, &limits) || !hold(env, &in, 1)) return NULL;
+    uint32_t status = ndef_find_hint(in.bytes, in.length, &limits, &found);
+    release(env, &in, 1, JNI_ABORT);
+    if (status != NDEF_OK) return NULL;
+    const jint numbers[] = { (jint)found.hint, (jint)found.at, (jint)found.length };
+    told = (*env)->NewIntArray(env, 3);
+    if (told != NULL) (*env)->SetIntArrayRegion(env, told, 0, 3, numbers);
+#else
+    (void)words, (void)limits, (void)in;
+    raise(env, "java/lang/UnsupportedOperationException", "the library of release 0.3.0 has no hints but their sentences");
+#endif
+    return told;
 }
 
 /* ---- what payloads say */

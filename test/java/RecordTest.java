@@ -435,9 +435,10 @@ class RecordTest {
         assertEquals("refused at 4: 15 TextBit: " + refusal.sentence(), refusal.getMessage());
         byte[] longer = Arrays.copyOf(hello(), 13);
         refusal = assertThrows(FormatException.class, () -> new NdefMessage(longer));
-        assertEquals("12 Other refused at 12: bytes follow the message", refusal.place() + " " + refusal.reason() + " "
-                + refusal.getMessage());
-        assertEquals(refusal.getMessage(), refusal.sentence());
+        assertEquals(12, refusal.place());
+        assertEquals(Reason.TRAILING_BYTES, refusal.reason());
+        assertEquals("refused at 12: TrailingBytes: Other bytes follow the message.", refusal.getMessage());
+        assertEquals("Other bytes follow the message.", refusal.sentence());
         assertEquals(24, assertThrows(FormatException.class, () -> new NdefMessage(NONE)).reason().number());
         FormatException own = new FormatException();
         assertEquals("-1 null Another reason.", own.place() + " " + own.getMessage() + " " + own.sentence());
@@ -483,10 +484,10 @@ class RecordTest {
         assertEquals("The language code has 63 octets; 5 are left in the payload.", Sentences.why(late).get());
         assertEquals("A size (`s`) has 4 octets; 2 were given.",
                 Sentences.why(Cases.unhex("d1020c5370910102550361510102730102")).get());
-        byte[] block = Cases.unhex("030cd101085402656e48656c6c6f");
-        assertEquals(Reason.BEGIN_MISSING.sentence(), Sentences.why(block).get());
-        assertEquals("The bytes may begin with what surrounds a message on a tag; a message begins at byte 2.",
-                Sentences.hint(block).get());
+        byte[] after = Cases.unhex("01d101085402656e48656c6c6f");
+        assertEquals(Reason.BEGIN_MISSING.sentence(), Sentences.why(after).get());
+        assertEquals("The bytes may begin with what surrounds a message on a tag; a message begins at byte 1.",
+                Sentences.hint(after).get());
         assertEquals("68 (hexadecimal) is the letter h: was the identifier code left out?",
                 Sentences.hint(Cases.unhex("d1010955687474703a2f2f6162")).get());
         byte[] reserved = Cases.unhex("d7000161");
@@ -497,6 +498,60 @@ class RecordTest {
                 Sentences.hint(reserved, Limits.usual(), Profile.STANDARD))) {
             assertEquals(Optional.empty(), none);
         }
+    }
+
+    /** Whether the library says by numbers what may help: that of release 0.3.0 doesn't. */
+    private static boolean findsHints() {
+        try {
+            Sentences.findHint(NONE);
+            return true;
+        } catch (UnsupportedOperationException old) {
+            return false;
+        }
+    }
+
+    /** The kinds and places are those of test/faces/hints.txt, which Suite.java reads. */
+    @Test
+    void hints() throws FormatException {
+        Assumptions.assumeTrue(findsHints());
+        byte[] tag = Cases.unhex("e1101200030cd101085402656e48656c6c6ffe");
+        FoundHint found = Sentences.findHint(tag).get();
+        assertEquals("A message of length 12 may begin at byte 6, in an NDEF TLV of a tag: read `Arrays.copyOfRange(bytes, 6, 18)`.",
+                found.text());
+        assertEquals(new NdefMessage(hello()), new NdefMessage(Arrays.copyOfRange(tag, 6, 18)));
+        assertEquals("FoundHint TLV place=6 length=12", found.toString());
+        assertEquals(found, Sentences.findHint(tag.clone()).get());
+        assertEquals(found.hashCode(), Sentences.findHint(tag.clone()).get().hashCode());
+        FoundHint cut = Sentences.findHint(Arrays.copyOf(tag, 10)).get();
+        assertEquals("read `Arrays.copyOfRange(bytes, 6, 10)`.", cut.text().substring(cut.text().indexOf("read")));
+        assertNotEquals(found, cut);
+        FoundHint after = Sentences.findHint(Cases.unhex("01d00000")).get();
+        assertEquals("read `Arrays.copyOfRange(bytes, 1, 4)`.", after.text().substring(after.text().indexOf("read")));
+        byte[] reserved = Cases.unhex("d7000161");
+        assertEquals("The standard profile reads this: give `Profile.STANDARD`.", Sentences.findHint(reserved).get().text());
+        assertEquals(Optional.empty(), Sentences.findHint(reserved, Limits.usual(), Profile.STANDARD));
+        assertEquals(Sentences.findHint(tag), Sentences.findHint(tag, Limits.usual().withOpaque(true), Profile.STRICT));
+        isNull(() -> Sentences.findHint(null), () -> Sentences.findHint(tag, null, Profile.STRICT),
+                () -> Sentences.findHint(tag, Limits.usual(), null));
+    }
+
+    /** The message of an exception says what is wrong, and a text of a record not all of its bytes. */
+    @Test
+    void messagesOfExceptionsAreShort() {
+        byte[] large = new byte[1_000_000];
+        NdefRecord text = new NdefRecord(NdefRecord.TNF_WELL_KNOWN, bytes("T"), null, large);
+        NdefRecord unknown = new NdefRecord(NdefRecord.TNF_UNKNOWN, null, null, large);
+        byte[] written = NdefMessage.unchecked(text, unknown).toByteArray();
+        large[0] = 0x40;
+        NdefRecord wrong = new NdefRecord(NdefRecord.TNF_WELL_KNOWN, bytes("T"), null, large);
+        for (Executable call : List.<Executable>of(wrong::decode, () -> new NdefMessage(wrong), () -> new NdefMessage(large),
+                () -> new NdefRecord(written), () -> new NdefMessage(Arrays.copyOf(written, written.length + 1)),
+                () -> new NdefRecord((short) 0, null, null, large), () -> new NdefRecord((short) 2, large, null, null))) {
+            String said = assertThrows(Exception.class, call).getMessage();
+            assertEquals(said.substring(0, Math.min(said.length(), 160)), said);
+        }
+        String spelled = unknown.toString();
+        assertEquals("NdefRecord tnf=5 payload=" + "00".repeat(1024) + ".. (1000000 bytes)", spelled);
     }
 
     @Test

@@ -36,6 +36,13 @@ final class Suite {
         for (String[] line : Cases.lines(folder, "encoding.txt")) {
             Cases.check(line[ID], () -> isEncoded(line));
         }
+        if (findsHints()) {
+            for (String line : Files.readAllLines(top.resolve("test/faces/hints.txt"))) {
+                if (!line.startsWith("#")) {
+                    Cases.check("hint " + line, () -> isHinted(line.split(" ")));
+                }
+            }
+        }
         namesAreTheHeaders(Files.readString(top.resolve("include/ndef_names.h")));
         Cases.finish("cases");
     }
@@ -210,6 +217,33 @@ final class Suite {
         Cases.same("bytes", line[7].replace(" ", ""), Cases.hex(message.toByteArray(line[5].equals("long"), chunk)));
     }
 
+    // ---- hints
+
+    /** Whether the library says by numbers what may help: that of release 0.3.0 doesn't. */
+    private static boolean findsHints() {
+        try {
+            Sentences.findHint(new byte[0]);
+            return true;
+        } catch (UnsupportedOperationException old) {
+            return false;
+        }
+    }
+
+    /** A row has the number of a hint, or 0; the place; the length; and the bytes. A sentence that names no command is that of the library. */
+    private static void isHinted(String[] row) {
+        byte[] bytes = Cases.unhex(row[3].replace("-", ""));
+        FoundHint found = Sentences.findHint(bytes).orElse(null);
+        String told = found == null ? "0 0 0" : found.kind().number() + " " + found.place() + " " + found.length();
+        Cases.same("hint", row[0] + " " + row[1] + " " + row[2], told);
+        Cases.same("sentence", found != null, Sentences.hint(bytes).isPresent());
+        if (found != null) {
+            boolean isPlain = found.kind() == HintKind.TERMINATOR || found.kind() == HintKind.CODE
+                    || found.kind().compareTo(HintKind.FILE) <= 0 && found.length() == 0;
+            Cases.same("text", isPlain, found.text().equals(Sentences.hint(bytes).get()));
+            Cases.same("command", false, found.text().contains("--"));
+        }
+    }
+
     // ---- names
 
     private static void namesAreTheHeaders(String header) {
@@ -224,8 +258,9 @@ final class Suite {
         for (FieldName name : FieldName.values()) {
             fields.append(name.ordinal()).append(' ').append(name.name()).append(' ').append(name).append('\n');
         }
-        String allReasons = "0 OTHER Other\n" + listed(header, "NDEF_REASONS");
-        String allSentences = "0 OTHER Another reason.\n" + listed(header, "NDEF_SENTENCES");
+        String allReasons = "0 OTHER Other\n" + listed(header, "NDEF_REASONS") + "0 TRAILING_BYTES TrailingBytes\n";
+        String allSentences = "0 OTHER Another reason.\n" + listed(header, "NDEF_SENTENCES")
+                + "0 TRAILING_BYTES Other bytes follow the message.\n";
         String allFields = "0 OTHER other\n" + listed(header, "NDEF_FIELDS");
         Cases.check("reasons", () -> Cases.same("names", allReasons, reasons.toString()));
         Cases.check("sentences", () -> Cases.same("names", allSentences, sentences.toString()));

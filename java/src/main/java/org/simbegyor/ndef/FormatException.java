@@ -58,7 +58,8 @@ public class FormatException extends Exception {
 
     /** Bytes follow where none may follow. */
     static FormatException ofRest(long place) {
-        return new FormatException(place, Reason.OTHER, "bytes follow the message");
+        Reason reason = Reason.TRAILING_BYTES;
+        return new FormatException(place, reason, reason + ": " + reason.sentence());
     }
 
     /**
@@ -74,7 +75,7 @@ public class FormatException extends Exception {
     /**
      * Why the byte is refused.
      *
-     * @return the reason; {@link Reason#OTHER}, if bytes follow the message
+     * @return the reason; {@link Reason#OTHER} where the program made the exception itself
      */
     public Reason reason() {
         return reason;

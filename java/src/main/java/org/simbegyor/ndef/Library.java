@@ -80,6 +80,9 @@ final class Library {
     /** The sentence of ASCII on a field by the number of its name, or on a record by its index; null where there is none. */
     static native byte[] remark(int call, byte[] bytes, int number);
 
+    /** What may help where bytes are refused: the number of a hint, a place and a length; null where nothing is known to. */
+    static native int[] hint(byte[] bytes, int[] limits);
+
     /** The payload of an alternative carrier; null where there is none. */
     static native byte[] alternative(int power, byte[] references, int[] lengths);
 

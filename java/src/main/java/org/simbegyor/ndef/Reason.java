@@ -2,8 +2,8 @@ package org.simbegyor.ndef;
 
 /** Why a byte is refused. The numbers and names are those of {@code ndef.h}. */
 public enum Reason {
-    /** A reason that the library has not: bytes follow the message, or the program made the exception itself. */
-    OTHER(0),
+    /** A reason that the library has not: the program made the exception itself, or only a newer library knows it. */
+    OTHER(0, "Other", "Another reason."),
     /** The type name format 7 is reserved. */
     RESERVED_TNF(1),
     /** The first record of a message has to have MB set. */
@@ -53,7 +53,9 @@ public enum Reason {
     /** The input ends within a message. */
     END_OF_INPUT(24),
     /** A handover request has to begin with a collision resolution record. */
-    COLLISION_MISSING(25);
+    COLLISION_MISSING(25),
+    /** Other bytes follow the message, which is no reason of the library: its number is 0. */
+    TRAILING_BYTES(0, "TrailingBytes", "Other bytes follow the message.");
 
     private static final Reason[] ALL = values();
 
@@ -62,20 +64,24 @@ public enum Reason {
     private final String sentence;
 
     Reason(int number) {
+        this(number, Library.name(Library.REASON_NAME, number), Library.name(Library.REASON_SENTENCE, number));
+    }
+
+    Reason(int number, String text, String sentence) {
         this.number = number;
-        text = number == 0 ? "Other" : Library.name(Library.REASON_NAME, number);
-        sentence = number == 0 ? "Another reason." : Library.name(Library.REASON_SENTENCE, number);
+        this.text = text;
+        this.sentence = sentence;
     }
 
     /** The reason with a number that the library gave; {@link #OTHER}, if only a newer library knows it. */
     static Reason of(long number) {
-        return number < ALL.length ? ALL[(int) number] : OTHER;
+        return number < TRAILING_BYTES.ordinal() ? ALL[(int) number] : OTHER;
     }
 
     /**
      * The number of the reason.
      *
-     * @return the number in {@code ndef.h}; 0 for {@link #OTHER}
+     * @return the number in {@code ndef.h}; 0 for {@link #OTHER} and {@link #TRAILING_BYTES}
      */
     public int number() {
         return number;

@@ -39,7 +39,8 @@ public final class Sentences {
     }
 
     /**
-     * What may help where bytes are refused within the default limits, with the strict profile.
+     * What may help where bytes are refused within the default limits, with the strict profile: a sentence that names
+     * commands. {@link #findHint(byte[])} says the same to a program.
      *
      * @param bytes the bytes
      * @return the sentence; none where nothing is known to help, or a message begins with the bytes
@@ -49,9 +50,10 @@ public final class Sentences {
     }
 
     /**
-     * What may help where bytes are refused: a message begins at one of the offsets 1 to 16, the identifier code of a
-     * URI may be missing, or {@link Profile#STANDARD} reads them. Payloads are looked into, whatever the limits say. It may
-     * take 17 times as long as to check the bytes.
+     * What may help where bytes are refused: they are of a tag, which has these for a message, or a text that spells bytes,
+     * the identifier code of a URI may be missing, or {@link Profile#STANDARD} reads them. The sentence names commands;
+     * {@link #findHint(byte[], Limits, Profile)} says the same to a program. Payloads are looked into, whatever the limits
+     * say. It may take 17 times as long as to check the bytes.
      *
      * @param bytes the bytes, which no other thread may change meanwhile
      * @param limits how large the message may be
@@ -60,6 +62,31 @@ public final class Sentences {
      */
     public static Optional<String> hint(byte[] bytes, Limits limits, Profile profile) {
         return said(Library.HINT, bytes, limits, profile);
+    }
+
+    /**
+     * What may help where bytes are refused within the default limits, with the strict profile, to a program.
+     *
+     * @param bytes the bytes
+     * @return the hint; none where {@link #hint(byte[])} has no sentence
+     */
+    public static Optional<FoundHint> findHint(byte[] bytes) {
+        return findHint(bytes, Limits.usual(), Profile.STRICT);
+    }
+
+    /**
+     * What may help where bytes are refused, to a program: its kind, and where a message may begin. The rest is as for
+     * {@link #hint(byte[], Limits, Profile)}.
+     *
+     * @param bytes the bytes, which no other thread may change meanwhile
+     * @param limits how large the message may be
+     * @param profile what becomes of reserved values
+     * @return the hint; none where {@link #hint(byte[], Limits, Profile)} has no sentence
+     * @throws UnsupportedOperationException if the native library is that of release 0.3.0 or older
+     */
+    public static Optional<FoundHint> findHint(byte[] bytes, Limits limits, Profile profile) {
+        Objects.requireNonNull(bytes, "the bytes are null");
+        return FoundHint.of(Library.hint(bytes, limits.withOpaque(false).words(profile)), bytes.length);
     }
 
     /**

@@ -9,6 +9,8 @@ import java.nio.charset.StandardCharsets;
 /** Text to bytes, and bytes as they are printed. */
 final class Strings {
     private static final char[] DIGITS = "0123456789ABCDEF".toCharArray();
+    /** The most bytes whose digits a text has: it may become a part of the message of an exception. */
+    private static final int MOST_SPELLED = 1024;
 
     private Strings() {
     }
@@ -49,13 +51,14 @@ final class Strings {
         return new String(bytes, at, length, StandardCharsets.UTF_8);
     }
 
-    /** Two hexadecimal digits for each byte. */
+    /** Two hexadecimal digits for each byte. Of many bytes only the first ones have them, and the number of all follows. */
     static String hexadecimal(byte[] bytes) {
-        char[] digits = new char[2 * bytes.length];
-        for (int i = 0; i < bytes.length; i++) {
+        int count = Math.min(bytes.length, MOST_SPELLED);
+        char[] digits = new char[2 * count];
+        for (int i = 0; i < count; i++) {
             digits[2 * i] = DIGITS[bytes[i] >> 4 & 15];
             digits[2 * i + 1] = DIGITS[bytes[i] & 15];
         }
-        return new String(digits);
+        return new String(digits) + (count < bytes.length ? ".. (" + bytes.length + " bytes)" : "");
     }
 }
