@@ -283,8 +283,21 @@ export function fields(bytes: Bytes, options?: Options): Field[];
 export function explain(bytes: Bytes, options?: Options): Explained;
 /** What was wanted where the bytes are refused, or what the reason means; null where they begin with a message. Payloads are checked, whatever `opaque` says. */
 export function why(bytes: Bytes, options?: Options): string | null;
-/** What may help where the bytes are refused; null where nothing is known to. The rest is as for `why`. */
+/** What may help where the bytes are refused, in a sentence that names commands; null where nothing is known to. The rest is as for `why`. */
 export function hint(bytes: Bytes, options?: Options): string | null;
+/** What may help where the bytes are refused, for a program. */
+export interface FoundHint {
+    /** What it is about. */
+    kind: (typeof HINT)[keyof typeof HINT];
+    /** The offset at which a message may begin; 0 where the hint names none. */
+    place: number;
+    /** The number of bytes that a tag has for that message; 0 where the hint names none. */
+    length: number;
+    /** A sentence of English, which names what a program calls. */
+    text: string;
+}
+/** The hint for which `hint` has a sentence; null where it has none. */
+export function findHint(bytes: Bytes, options?: Options): FoundHint | null;
 /** The carriers of the first handover of a message, and their records. */
 export function links(message: NDEFMessageInit): Link[];
 
@@ -326,6 +339,8 @@ export const POWER: { readonly INACTIVE: 0; readonly ACTIVE: 1; readonly ACTIVAT
 export const ACTION: { readonly DO: 0; readonly SAVE: 1; readonly OPEN: 2 };
 /** What payloads are. */
 export const KIND: typeof Ndef.KIND;
+/** What hints are about. */
+export const HINT: typeof Ndef.HINT;
 
 /** Compiles the library without holding up the page. Calls compile it themselves otherwise. */
 export function ready(): Promise<void>;

@@ -3,6 +3,11 @@
 export const STATUS = {
     OK: 0, REFUSED: 1, NO_ROOM: 2, BAD_ARGUMENT: 3, END: 4, MORE: 5,
 };
+// What a hint is about.
+export const HINT = {
+    TLV: 1, ATTRIBUTES: 2, FILE: 3, MESSAGE: 4, TERMINATOR: 5, DIGITS: 6, XXD: 7, HEXDUMP: 8, WORDS: 9, FLIPPER: 10, PROXMARK: 11,
+    BASE64: 12, CODE: 13, STANDARD: 14,
+};
 // What the payload of a record is.
 export const KIND = {
     OTHER: 0, TEXT: 1, URI: 2, SMART_POSTER: 3, REQUEST: 4, SELECT: 5, CARRIER: 6, ACTION: 7, SIZE: 8, MEDIA_TYPE: 9,

@@ -1,5 +1,6 @@
 // Reads messages: checks, decodes and explains bytes, and follows the links of a handover.
 import { octets } from "./given.js";
+import { PROGRAM, hintText } from "./hint.js";
 import { Ndef } from "./ndef.js";
 import { NdefError, accepted, library, optionsOf } from "./library.js";
 import { MADE, NDEFMessage, recordsOf } from "./record.js";
@@ -57,9 +58,15 @@ export function why(bytes, options) {
     return library().why(bytes, typed(options));
 }
 
-// What may help where the bytes are refused, in a sentence of English. Null where nothing is known to.
+// What may help where the bytes are refused, in a sentence of English, which names commands. Null where nothing is known to.
 export function hint(bytes, options) {
     return library().hint(bytes, typed(options));
+}
+
+// The same for a program: { kind, place, length, text }, where `kind` is one of HINT. The `text` is a sentence that names what a program calls.
+export function findHint(bytes, options) {
+    const found = library().findHint(bytes, typed(options));
+    return found && { kind: found.hint, place: found.at, length: found.length, text: hintText(found, PROGRAM) };
 }
 
 // A key for bytes in a map.

@@ -93,6 +93,13 @@ export class Ndef {
         readonly COLLISION: 11; readonly ERROR: 12;
     };
 
+    /** What a hint is about. */
+    static readonly HINT: {
+        readonly TLV: 1; readonly ATTRIBUTES: 2; readonly FILE: 3; readonly MESSAGE: 4; readonly TERMINATOR: 5; readonly DIGITS: 6;
+        readonly XXD: 7; readonly HEXDUMP: 8; readonly WORDS: 9; readonly FLIPPER: 10; readonly PROXMARK: 11; readonly BASE64: 12;
+        readonly CODE: 13; readonly STANDARD: 14;
+    };
+
     /** Loads the library, of the content of ndef.wasm. */
     static load(code: Bytes): Promise<Ndef>;
     static loadNow(code: Bytes): Ndef;
@@ -119,6 +126,7 @@ export class Ndef {
     statusName(status: number): string | null;
     why(bytes: Bytes, options?: Limits): string | null;
     hint(bytes: Bytes, options?: Limits): string | null;
+    findHint(bytes: Bytes, options?: Limits): { hint: number; at: number; length: number } | null;
     fieldRemark(name: string, bytes: Bytes): string | null;
     recordRemark(bytes: Bytes, index: number): string | null;
     version(): [number, number, number];

@@ -1,5 +1,6 @@
 // The page: reads the input, asks the library what it holds, and shows that. It knows no rule of the format: which bytes are
 // a record's type, where a text lies and why a byte is refused, all of it comes from the calls of ndef.js.
+import { hintText, placesOf } from "./hint.js";
 import { Ndef } from "./ndef.js";
 import { library, provide, ready } from "./library.js";
 import { decodePrefix } from "./message.js";
@@ -56,20 +57,39 @@ function* messagesOf(ndef, bytes, options) {
     }
 }
 
+// The words of the page for a hint: a button takes its part of the bytes.
+const WORDS = { part: () => "", base64: "", standard: "choose “as the standard says” for reserved values" };
+
+// A button that looks at the part of the bytes that a hint names, if it names one.
+function buttonsOf(ndef, bytes, found) {
+    const places = placesOf(found);
+    if (places === null) return [];
+    const button = element("button", { type: "button", text: `Look from byte ${found.at}` });
+    button.addEventListener("click", () => { showTheseBytes(ndef, bytes.slice(...places)); byId("hex").focus(); });
+    return [" ", button];
+}
+
+// What may help where the bytes are refused: a sentence, and a button where it names a place. The library of release 0.3.0 has a sentence alone.
+function hintOf(ndef, bytes, options) {
+    if (ndef.lacks.has("ndef_find_hint")) return [ndef.hint(bytes, options)].filter((text) => text !== null);
+    const found = ndef.findHint(bytes, options);
+    return found === null ? [] : [hintText(found, WORDS), ...buttonsOf(ndef, bytes, found)];
+}
+
 // What the library says of bytes that are refused: what was wanted, and what may help. The place in a hint counts from where
 // the bytes begin, so there is a hint for the first message alone. The library of an older release says nothing.
 function remarksOf(ndef, bytes, messages, options) {
     const last = messages[messages.length - 1];
     if (last.answer.status !== Ndef.REFUSED || ndef.lacks.has("ndef_hint")) return [];
     const why = ndef.why(bytes.subarray(last.at), options);
-    const hint = last.at === 0 ? ndef.hint(bytes, options) : null;
-    return [why === ndef.reasonSentence(last.answer.reason) ? null : why, hint].filter((text) => text !== null);
+    const wanted = why === null || why === ndef.reasonSentence(last.answer.reason) ? [] : [why];
+    return [wanted, last.at === 0 ? hintOf(ndef, bytes, options) : []].filter((parts) => parts.length > 0);
 }
 
 function showRemarks(ndef, bytes, messages, options) {
     const remarks = remarksOf(ndef, bytes, messages, options);
     byId("remarks").hidden = remarks.length === 0;
-    byId("remarks").replaceChildren(...remarks.map((text) => element("li", { text })));
+    byId("remarks").replaceChildren(...remarks.map((parts) => element("li", {}, ...parts)));
 }
 
 function showVerdict(ndef, messages, bytes) {
@@ -167,8 +187,10 @@ function show(ndef) {
     slices.begin(showAnswer(ndef, bytes, options));
 }
 
-function showTheseBytes(ndef, bytes) {
-    take(toHex(bytes));
+// Shows these bytes, which the field shows too where they aren't too many.
+function showTheseBytes(ndef, bytes, named = `${bytes.length} bytes`) {
+    if (bytes.length <= MOST_SPELLED) take(toHex(bytes));
+    else take("", { bytes, form: "hexadecimal" }, named);
     show(ndef);
 }
 
@@ -184,9 +206,10 @@ function takeAddress() {
 }
 
 async function takeFile(ndef, file) {
-    const bytes = new Uint8Array(await file.arrayBuffer()), text = textOfFile(bytes);
-    if (bytes.length <= MOST_SPELLED) take(text ?? toHex(bytes));
-    else take("", text === null ? { bytes, form: "hexadecimal" } : bytesOf(text), `${bytes.length} bytes of the file ${file.name}`);
+    const bytes = new Uint8Array(await file.arrayBuffer()), text = textOfFile(bytes), named = `${bytes.length} bytes of the file ${file.name}`;
+    if (text === null) return showTheseBytes(ndef, bytes, named);
+    if (bytes.length <= MOST_SPELLED) take(text);
+    else take("", bytesOf(text), named);
     show(ndef);
 }
 

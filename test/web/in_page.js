@@ -1,5 +1,5 @@
 // What stands in the page and is shown there, tested within the page itself by test/web/page.mjs, which sets CASES before this
-// script, and REMARKS: whether the library has them. The last paragraph of the page has the failures then, and 'N passed, M failed'.
+// script, and REMARKS and HINTS: whether the library has them. The last paragraph of the page has the failures then, and 'N passed, M failed'.
 const find = (id) => document.getElementById(id);
 const textOf = (id) => find(id).textContent;
 const LIMITS = ["payload", "records", "pieces"];
@@ -152,6 +152,28 @@ function showsRemarks() {
     const same = (count) => `9D000001 61${"1D000001 61".repeat(count - 2)}5D000001 61`;
     look("which records the library is asked for: of at most 64, no nested ones, and none where the message is refused",
         [same(64), same(65), POSTER, REFUSED].map(asked), REMARKS ? [64, 0, 1, 0] : [0, 0, 0, 0]);
+}
+
+// What may help where bytes are refused, and the button that takes its part of them. The kinds and the places are those of test/faces/hints.txt.
+function showsHints() {
+    const told = (hex) => { enter(hex); return [...document.querySelectorAll("#remarks li")].map((item) => item.textContent); };
+    const pressed = () => {
+        document.querySelector("#remarks button").click();
+        while (putOff.length > 0) doNext();
+        return [find("hex").value, textOf("verdict"), find("remarks").hidden];
+    };
+    look("no hint for a message, nor for bytes after one", [told(TEXT), find("remarks").hidden, told(`${TEXT} 01 D00000`)], [[], true, []]);
+    look("the other profile", told("D7000161").length, REMARKS ? 1 : 0);
+    if (!HINTS) return;
+    look("a tag's memory", told("E1101200 030CD101085402656E48656C6C6FFE"), ["A message of length 12 may begin at byte 6, in an NDEF TLV of a tag. Look from byte 6"]);
+    look("its message", pressed(), [TEXT, "1 message, 1 record, 12 bytes", true]);
+    look("a message after another byte", told("01 D00000"),
+        ["The bytes may begin with what surrounds a message on a tag; a message begins at byte 1. Look from byte 1"]);
+    look("that message", pressed(), ["D0 00 00", "1 message, 1 record, 3 bytes", true]);
+    look("an empty tag", told("E1101200 0300FE"), ["This tag is empty: it has no bytes for a message."]);
+    look("digits as bytes", told("44 31 20 30 31"), ["These are hexadecimal digits, not the bytes that they spell: decode them first."]);
+    look("reserved values", told("D7000161"), ["The standard profile reads this: choose “as the standard says” for reserved values."]);
+    look("what was wanted, and no hint", told("D10106543F6162636465"), ["The language code has 63 octets; 5 are left in the payload."]);
 }
 
 function showsMessages() {
@@ -409,7 +431,7 @@ async function run() {
     if (textOf("verdict") === "") return;
     look("what is shown first", [textOf("verdict"), LIMITS.map((name) => Number(find(name).value)), Number(textOf("size")) > 10000],
         [SAMPLES["two records"][0], Object.values(USUAL), true]);
-    [showsCases, showsValues, showsPayloads, showsRows, showsRemarks, showsMessages, showsSlices, takesDigits, moves, hasSamples].forEach((test) => test());
+    [showsCases, showsValues, showsPayloads, showsRows, showsRemarks, showsHints, showsMessages, showsSlices, takesDigits, moves, hasSamples].forEach((test) => test());
     await takesFiles();
     await takesAddresses();
     await readsTags();

@@ -237,16 +237,25 @@ for (let value = 0; value < 64; value++) {
     look("statusName", ndef.statusName(value), named("ndef_status_name", value), []);
     look("fieldName", ndef.fieldName(value), named("ndef_field_name", value), []);
 }
-// A text whose language code doesn't fit, the same after a length as of a tag's block, a message, and bytes whose payloads aren't
+// A text whose language code doesn't fit, a message after a byte that may be of a tag, a message, and bytes whose payloads aren't
 // checked. The library of an older release hasn't these calls, as that in dist/ may be.
-const late = [0xd1, 1, 6, 0x54, 0x3f, 0, 0, 0, 0, 0], block = [3, 3, 0xd0, 0, 0, 0xfe];
+const late = [0xd1, 1, 6, 0x54, 0x3f, 0, 0, 0, 0, 0], after = [1, 0xd0, 0, 0];
 if (process.env.NDEF_FROM !== "dist" || c.ndef_why !== undefined) {
     look("why", ndef.why(new Uint8Array(late)), "The language code has 63 octets; 5 are left in the payload.", late);
     look("why", ndef.why(new Uint8Array([0xd0, 0, 0])), null, [0xd0, 0, 0]);
     look("why", ndef.why(new Uint8Array(late), { flags: Ndef.OPAQUE }), null, late);
-    look("hint", ndef.hint(new Uint8Array(block)),
-        "The bytes may begin with what surrounds a message on a tag; a message begins at byte 2.", block);
+    look("hint", ndef.hint(new Uint8Array(after)),
+        "The bytes may begin with what surrounds a message on a tag; a message begins at byte 1.", after);
     look("hint", ndef.hint(new Uint8Array(late)), null, late);
+}
+// An empty tag after its capability container, and the type name format 7 (test/faces/hints.txt).
+if (process.env.NDEF_FROM !== "dist" || c.ndef_find_hint !== undefined) {
+    const empty = [0xe1, 0x10, 0x12, 0, 3, 0, 0xfe], reserved = [0xd7, 0, 1, 0x61];
+    look("findHint", ndef.findHint(new Uint8Array(empty)), { hint: Ndef.HINT.TLV, at: 6, length: 0 }, empty);
+    look("findHint", ndef.findHint(new Uint8Array(after)), { hint: Ndef.HINT.MESSAGE, at: 1, length: 0 }, after);
+    look("findHint", ndef.findHint(new Uint8Array(late)), null, late);
+    look("findHint", ndef.findHint(new Uint8Array(reserved)), { hint: Ndef.HINT.STANDARD, at: 0, length: 0 }, reserved);
+    look("findHint", [Ndef.STANDARD, Ndef.OPAQUE].map((flags) => ndef.findHint(new Uint8Array(reserved), { flags })), [null, null], reserved);
 }
 // What is strange in fields and in records, by docs/EXPLAIN.md; three records have the ids a, b and a.
 if (process.env.NDEF_FROM !== "dist" || c.ndef_record_remark !== undefined) {

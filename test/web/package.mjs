@@ -2,7 +2,7 @@
 // of the suite, given as lines on standard input. Prints 'N passed, M failed'.
 import { readFileSync } from "node:fs";
 import { inspect } from "node:util";
-import { NDEFMessage, NDEFRecord, Ndef, NdefError, check, decode, decodePrefix, encode, explain, fields, hint, links, ready, why } from "../../out/web/index.js";
+import { HINT, NDEFMessage, NDEFRecord, Ndef, NdefError, check, decode, decodePrefix, encode, explain, fields, findHint, hint, links, ready, why } from "../../out/web/index.js";
 import code from "../../out/web/ndef_wasm.mjs";
 import { bytesOf, cases, finish, hexOf, recordHex, same, test, throws } from "./tests.mjs";
 
@@ -342,6 +342,28 @@ if (!calls.lacks.has("ndef_why")) await test("why bytes are refused, and what ma
     same([why(good, { payload: 1 }), why(bytesOf("D5000201 02"), { payload: 1 }) === null], [null, false]);
     for (const say of [why, hint]) for (const wrong of ["d00000", null, [1]]) throws(TypeError, () => say(wrong));
     for (const say of [why, hint]) throws(TypeError, () => say(good, 1));
+});
+// The library of release 0.3.0 has no such call.
+if (!calls.lacks.has("ndef_find_hint")) await test("what may help, for a program", () => {
+    const rows = readFileSync(new URL("../faces/hints.txt", import.meta.url), "utf8").trim().split("\n").filter((line) => !line.startsWith("#"));
+    const kinds = new Set(), isPlain = ({ kind, length }) => kind === HINT.TERMINATOR || kind === HINT.CODE || (kind <= HINT.FILE && length === 0);
+    for (const row of rows) {
+        const [kind, place, length, hex] = row.split(" "), bytes = bytesOf(hex === "-" ? "" : hex), found = findHint(bytes), sentence = hint(bytes);
+        same([row, found?.kind ?? 0, found?.place ?? 0, found?.length ?? 0], [row, ...[kind, place, length].map(Number)]);
+        if (found !== null) same([row, found.text === sentence, found.text.includes("--"), /[.?]$/.test(found.text)], [row, isPlain(found), false, true]);
+        else same(sentence, null);
+        if (found !== null) kinds.add(found.kind);
+    }
+    same([...kinds].sort((one, other) => one - other), Object.values(HINT));
+    const tag = bytesOf("E1101200 030CD101085402656E48656C6C6FFE"), reserved = bytesOf("D7000161");
+    same(findHint(tag).text, "A message of length 12 may begin at byte 6, in an NDEF TLV of a tag: read `bytes.slice(6, 18)`.");
+    same(decode(tag.slice(6, 18)).records[0].text, "Hello");
+    same(findHint(bytesOf("01D00000").buffer).text.split("; ")[1], "a message begins at byte 1: read `bytes.slice(1)`.");
+    same([findHint(reserved).text, findHint(reserved, { standard: true })], ["The standard profile reads this: give `{ standard: true }`.", null]);
+    same(findHint(reserved, { opaque: true }), findHint(reserved));
+    same([decode(reserved, { standard: true }).records.length, Ndef.HINT], [1, HINT]);
+    for (const wrong of ["d00000", null, [1]]) throws(TypeError, () => findHint(wrong));
+    throws(TypeError, () => findHint(tag, 1));
 });
 await test("links of a handover", () => {
     const select = "12" + recordHex("91", "ac", "01 01 30 00") + recordHex("11", "ac", "00 01 31 00") + recordHex("51", "ac", "02 00 00");

@@ -97,7 +97,7 @@ const browser = await Browser.start();
 try {
     for (const source of [READER, COUNTER]) await browser.send("Page.addScriptToEvaluateOnNewDocument", { source });
     await browser.open(`file://${fileURLToPath(at("../../out/web/index.html"))}`, 'document.getElementById("verdict").textContent !== ""');
-    await browser.evaluate(`{ window.CASES = ${JSON.stringify(cases.filter(Boolean))}; window.REMARKS = ${!ndef.lacks.has("ndef_record_remark")};\n${readFileSync(at("./in_page.js"), "utf8")} }`);
+    await browser.evaluate(`{ window.CASES = ${JSON.stringify(cases.filter(Boolean))}; window.REMARKS = ${!ndef.lacks.has("ndef_record_remark")}; window.HINTS = ${!ndef.lacks.has("ndef_find_hint")};\n${readFileSync(at("./in_page.js"), "utf8")} }`);
     await browser.until('document.getElementById("report")?.textContent');
     const report = await browser.evaluate('document.getElementById("report").textContent');
     console.log(report.replaceAll(". FAILED", ".\nFAILED").replace(/([0-9]+ passed, [0-9]+ failed)$/, "\n$1").trim());

@@ -1,7 +1,8 @@
 // What tsc --strict makes of the package's declarations: each line that it has to refuse says so. It is compiled, and not run.
 import {
-    ACTION, Explained, Field, KIND, Link, NDEFDecoderStream, NDEFMessage, NDEFRecord, Ndef, NdefError, Options, POWER, Value, check, decode,
-    decodePrefix, encode, encodeParts, encodeStream, explain, fields, handoverCarrier, handoverRequest, handoverSelect, hint, links, ready, smartPoster, why,
+    ACTION, Explained, Field, FoundHint, HINT, KIND, Link, NDEFDecoderStream, NDEFMessage, NDEFRecord, Ndef, NdefError, Options, POWER, Value, check, decode,
+    decodePrefix, encode, encodeParts, encodeStream, explain, fields, findHint, handoverCarrier, handoverRequest, handoverSelect, hint, links, ready,
+    smartPoster, why,
 } from "simbegyor-ndef";
 import { Ndef as Calls } from "simbegyor-ndef/calls";
 import code from "simbegyor-ndef/wasm";
@@ -34,6 +35,7 @@ if (value !== null && "titles" in value) smartPoster(value);
 new ReadableStream<Uint8Array>().pipeThrough(new NDEFDecoderStream(options)).getReader().read().then(({ value }) => value?.records.length);
 const error = new NdefError(0, 1, "ReservedTnf", "a sentence"), place: number = error.place, sentence: string = error.sentence, at: number | null = error.record;
 const wanted: string | null = why(bytes, options), helps: string | null = hint(bytes.buffer);
+const helpful: FoundHint | null = findHint(bytes, options), isOfTag: boolean = helpful?.kind === HINT.TLV && helpful.place + helpful.length > helpful.text.length;
 const isError: Error = error, kind: boolean = record.kind === KIND.TEXT, done: Promise<void> = ready();
 Calls.load(code).then((calls) => {
     const answer = calls.text(bytes), other: typeof Ndef = Calls;
