@@ -6,6 +6,7 @@
 from . import handover, layout, message, record, smartposter, text, uri
 from ._checker import Checked, Checker
 from ._fields import Field, fields
+from ._hints import FoundHint, HintKind, find_hint
 from ._many import decode_many
 from ._ndeflib import install_as_ndef
 from ._sentences import field_remark, hint, record_remark, why
@@ -22,6 +23,7 @@ if __version__.startswith('@'):  # The folder of the repository, as `pip install
     from importlib.metadata import version
     __version__ = version('simbegyor-ndef')
 
-__all__ = ['Checked', 'Checker', 'DecodeError', 'EncodeError', 'Field', 'GlobalRecord', 'HandoverCarrierRecord', 'HandoverRequestRecord',
-           'HandoverSelectRecord', 'LocalRecord', 'Record', 'SmartposterRecord', 'StreamedRecord', 'TextRecord', 'UriRecord',
-           'decode_many', 'field_remark', 'fields', 'hint', 'install_as_ndef', 'message_decoder', 'message_encoder', 'record_remark', 'why']
+__all__ = ['Checked', 'Checker', 'DecodeError', 'EncodeError', 'Field', 'FoundHint', 'GlobalRecord', 'HandoverCarrierRecord',
+           'HandoverRequestRecord', 'HandoverSelectRecord', 'HintKind', 'LocalRecord', 'Record', 'SmartposterRecord', 'StreamedRecord',
+           'TextRecord', 'UriRecord', 'decode_many', 'field_remark', 'fields', 'find_hint', 'hint', 'install_as_ndef', 'message_decoder',
+           'message_encoder', 'record_remark', 'why']

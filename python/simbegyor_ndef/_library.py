@@ -173,6 +173,9 @@ items: Any = _long.items if has_items else items_of_none
 # For octets that are few: no other thread runs meanwhile.
 items_short: Any = _short.items if has_items else items_of_none
 
+# Nor does it say by numbers what may help.
+has_found_hints = hasattr(_long, 'find_hint')
+
 # Nor does it check payloads by layouts.
 has_layouts = hasattr(_long, 'check_layout')
 check_layout: Any = _long.check_layout if has_layouts else None
@@ -299,6 +302,12 @@ def why(octets: bytes, within: Any) -> Optional[str]:
 def hint(octets: bytes, within: Any) -> Optional[str]:
     """What may help there; None also where nothing is known to."""
     return _sentence(_long.hint, octets, size_of(len(octets)), within)
+
+
+def find_hint(octets: bytes, within: Any) -> Optional[interface.Found]:
+    """The same by numbers."""
+    found = interface.Found()
+    return found if _long.find_hint(octets, size_of(len(octets)), within, byref(found)) == OK else None
 
 
 def field_remark(name: int, octets: bytes) -> Optional[str]:

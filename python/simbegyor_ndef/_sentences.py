@@ -21,9 +21,9 @@ def why(octets: Octets, profile: str = 'strict') -> Optional[str]:
 
 
 def hint(octets: Octets, profile: str = 'strict') -> Optional[str]:
-    """A sentence that may help where the octets are refused: a message begins at one of the offsets 1 to 16, the identifier
-    code of a URI may be missing, or the profile 'standard' reads them. None where nothing is known to help. The rest is as
-    for `why`; it may take 17 times as long."""
+    """A sentence that may help where the octets are refused: they are of a tag, which has these for a message, or a text that spells
+    octets, the identifier code of a URI may be missing, or the profile 'standard' reads them. It names commands; `find_hint` says
+    the same to a program. None where nothing is known to help. The rest is as for `why`; it may take 17 times as long."""
     return _said(library.hint, octets, profile)
 
 

@@ -2,7 +2,10 @@
 from __future__ import annotations
 
 import functools
-from typing import Any, List, Optional, Tuple
+from typing import TYPE_CHECKING, Any, List, Optional, Tuple
+
+if TYPE_CHECKING:
+    from ._hints import FoundHint
 
 
 class DecodeError(Exception):
@@ -12,10 +15,11 @@ class DecodeError(Exception):
     place: the offset of the first octet with which no message goes on, counted from 0.
     number: the number of the reason in ndef.h, 1 to 25; 0 where a record class of one's own refuses.
     sentence: what was wanted there, in a sentence of English, or what the reason means; the reason itself where its number is 0.
-    hint: a sentence that may help; None where nothing is known to.
+    hint: a sentence that may help, which names commands; None where nothing is known to.
+    found_hint: the same to a program, as `find_hint` gives it; None where nothing is known to help, or the library is older than 0.4.0.
     fields: where `fields` raised it, the fields before that octet; else none.
 
-    The sentence and the hint are made of the octets of the message when they are first asked for. Where a stream gave the
+    The sentence and both hints are made of the octets of the message when they are first asked for. Where a stream gave the
     octets, or `known_types` were given, the sentence says what the reason means, and there is no hint.
     """
 
@@ -41,9 +45,16 @@ class DecodeError(Exception):
         from . import _library
         return _library.hint(*self._refused) if self._refused else None
 
+    @functools.cached_property
+    def found_hint(self) -> Optional[FoundHint]:
+        """What may help, to a program; None where nothing is known to."""
+        from . import _hints, _library
+        return _hints.found_in(*self._refused) if self._refused and _library.has_found_hints else None
+
     def __reduce__(self) -> Tuple[Any, ...]:
         """A copy has what is said of the octets, and not the octets."""
-        return type(self), self.args, {**vars(self), '_refused': None, 'sentence': self.sentence, 'hint': self.hint}
+        said = {'_refused': None, 'sentence': self.sentence, 'hint': self.hint, 'found_hint': self.found_hint}
+        return type(self), self.args, {**vars(self), **said}
 
     def __str__(self) -> str:
         return 'refused at %d: %s' % (self.place, _one_line(self.reason))

@@ -232,6 +232,13 @@ def said(octets, flags=0, most=USUAL):
     return why.decode('ascii'), hint and hint.decode('ascii')
 
 
+def found_hint(octets, flags, most):
+    """The numbers of the hint, as the call gives them; None where it gives none, and of an older library."""
+    out = ctypes.create_string_buffer(24)
+    is_found = library.has_found_hints and C.ndef_find_hint(*sized(octets), limits_of(flags, most), out) == library.OK
+    return struct.unpack_from('I4x2N', out) if is_found else None
+
+
 class Short:
     """A stream that gives fewer octets than it is asked for, now and then; that can seek where this is said."""
 
@@ -380,6 +387,9 @@ class Calls(unittest.TestCase):
         sentence, hint = said(octets, flags, most) if octets and reason else (None, None)
         if library.has_sentences:
             self.assertEqual((ndef.why(octets, profile), ndef.hint(octets, profile)), (sentence, hint))
+        found = found_hint(octets, flags, most) if octets and reason else None
+        if library.has_found_hints:
+            self.assertEqual(ndef.find_hint(octets, profile), found)
         try:
             listed = ndef.fields(octets, profile)
             self.assertEqual(listed, wanted)
@@ -387,7 +397,7 @@ class Calls(unittest.TestCase):
             self.remarks(octets, listed)
         except ndef.DecodeError as error:
             self.assertEqual((error.fields, error.place, error.number, error.reason), (wanted, place, reason, REASONS[reason]))
-            self.assertEqual((error.sentence, error.hint), (sentence, hint))
+            self.assertEqual((error.sentence, error.hint, error.found_hint), (sentence, hint, found))
 
     def remarks(self, octets, listed):
         """The remarks on fields and on records are those that the calls write."""

@@ -70,10 +70,10 @@ class CommandLine(unittest.TestCase):
     @unittest.skipUnless(library.has_sentences, 'the library is that of release 0.2.0')
     def test_sentences_of_explain(self):
         """The last lines, as docs/EXPLAIN.md and test/explain/rows.txt have them."""
-        late, code, block = bytes.fromhex('d10106543f6162636465'), bytes.fromhex('d1010955687474703a2f2f6162'), b'\x03\x0c' + HELLO
+        late, code, block = bytes.fromhex('d10106543f6162636465'), bytes.fromhex('d1010955687474703a2f2f6162'), b'\x01' + HELLO
         wanted = 'The language code has 63 octets; 5 are left in the payload.'
         left_out = '68 (hexadecimal) is the letter h: was the identifier code left out?'
-        near = 'The bytes may begin with what surrounds a message on a tag; a message begins at byte 2.'
+        near = 'The bytes may begin with what surrounds a message on a tag; a message begins at byte 1.'
         cases = ((late, 4, 23, 'DoesNotFit', wanted, None), (HELLO + late, 16, 23, 'DoesNotFit', wanted, None),
                  (HELLO[:2], 2, 24, 'EndOfInput', '1 octet of PAYLOAD_LENGTH is missing.', None),
                  (code, 4, 19, 'UriCode', None, left_out), (HELLO + code, 16, 19, 'UriCode', None, left_out),

@@ -12,21 +12,21 @@ import simbegyor_ndef as ndef
 from cases import sentences
 from simbegyor_ndef import _library as library
 
-# A text whose language code doesn't fit (RTD Text 1.0), the same after what surrounds a message on a tag, a message, and one
-# after what surrounds it (Type 2 Tag, TLV blocks).
+# A text whose language code doesn't fit (RTD Text 1.0), a message, and one after an octet that may be of a tag (Type 2 Tag, TLV blocks).
 LATE = bytes.fromhex('d10106543f6162636465')
 HELLO = bytes.fromhex('d101085402656e48656c6c6f')
-BLOCK = b'\x03\x0c' + HELLO
+AFTER = b'\x01' + HELLO
 WANTED = {
     LATE: 'The language code has 63 octets; 5 are left in the payload.',
     bytes.fromhex('d1020c5370 91010255 0361 51010273 0102'): 'A size (`s`) has 4 octets; 2 were given.',
-    bytes.fromhex('d1020e487212 9102026163'): 'This request must begin with a collision record (`cr`); it has none.',
+    bytes.fromhex('d1020e487212 9102026163'): 'This request must begin with a collision record (`cr`); '
+                                              + ('its first record is another.' if library.has_found_hints else 'it has none.'),
     bytes.fromhex('d10104548061 6263'): 'The text in UTF-16 has an odd number of octets.',
     bytes.fromhex('c10100000003 55 0461'): '1 octet of the payload is missing.',
     b'\xd7\0\0': 'The type name format 7 is reserved.',
 }
 HINTS = {
-    BLOCK: 'The bytes may begin with what surrounds a message on a tag; a message begins at byte 2.',
+    AFTER: 'The bytes may begin with what surrounds a message on a tag; a message begins at byte 1.',
     bytes.fromhex('d1010955687474703a2f2f6162'): '68 (hexadecimal) is the letter h: was the identifier code left out?',
     bytes.fromhex('d7000161'): 'The standard profile reads this (`--profile standard`, in C NDEF_STANDARD).',
 }

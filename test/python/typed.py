@@ -18,6 +18,8 @@ answers: List[Union[List[ndef.Record], ndef.DecodeError]] = list(ndef.decode_man
 meant: List[str] = [answer.sentence for answer in answers if isinstance(answer, ndef.DecodeError)]
 helps: List[Optional[str]] = [answer.hint for answer in answers if isinstance(answer, ndef.DecodeError)]
 said: List[Optional[str]] = [ndef.why(octets), ndef.hint(memoryview(octets), profile='standard')]
+found: List[Optional[ndef.FoundHint]] = [ndef.find_hint(octets, 'standard'), *(answer.found_hint for answer in answers if isinstance(answer, ndef.DecodeError))]
+kinds: List[Tuple[ndef.HintKind, int, int, str]] = [(hint.kind, hint.place, hint.length, hint.text) for hint in found if hint]
 strange: List[Optional[str]] = [*(ndef.field_remark(field.name, field.octets) for field in fields), ndef.record_remark(bytearray(octets), 0)]
 names: Iterator[str] = (field.name for field in fields)
 ndef.Record('text/plain', b'name', bytearray(3)).name = 'a'
@@ -35,6 +37,7 @@ wrong_sent: bytes = encoder.send(ndef.TextRecord('Hello'))  # type: ignore[assig
 encoder.send('text')  # type: ignore[arg-type]
 wrong_said: str = ndef.why(octets)  # type: ignore[assignment]
 ndef.hint('text')  # type: ignore[arg-type]
+wrong_found: ndef.FoundHint = ndef.find_hint(octets)  # type: ignore[assignment]
 ndef.field_remark(3, b'')  # type: ignore[arg-type]
 wrong_remark: str = ndef.record_remark(octets, 0)  # type: ignore[assignment]
 ndef.layout.octets('2')  # type: ignore[arg-type]
