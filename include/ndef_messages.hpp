@@ -177,7 +177,8 @@ inline std::optional<std::string> why(bytes of, const ndef_limits &within = limi
     return detail::said(ndef_why, of.data(), of.size(), &within);
 }
 
-/// A sentence that may help where bytes are refused, as ndef_hint writes it. None also where nothing is known to help.
+/// A sentence that may help where bytes are refused, as ndef_hint writes it: it names commands. None also where nothing is
+/// known to help. `find_hint` says the same to a program.
 inline std::optional<std::string> hint(bytes of, const ndef_limits &within = limits()) {
     return detail::said(ndef_hint, of.data(), of.size(), &within);
 }
@@ -189,6 +190,76 @@ inline std::optional<std::string> hint(bytes of, const ndef_limits &within = lim
 /// no message, and where the message has more than 64 records.
 inline std::optional<std::string> record_remark(bytes of, ndef_size index) {
     return detail::said(ndef_record_remark, of.data(), of.size(), index);
+}
+
+#endif
+
+// ---- what may help, to a program
+
+// Release 0.3.0 of ndef.h doesn't declare ndef_find_hint.
+#if NDEF_VERSION_MAJOR > 0 || NDEF_VERSION_MINOR >= 4
+
+/// What a hint is about: NDEF_HINT_TLV, NDEF_HINT_ATTRIBUTES, ...
+using hint_kind = ::ndef_hint_number;
+
+/// What may help where bytes are refused, as ndef_find_hint says it by numbers.
+struct found_hint {
+    hint_kind kind{};
+    ndef_size place = 0; ///< the offset at which a message may begin; 0 where the hint names none
+    ndef_size size = 0;  ///< the number of bytes that a tag has for it; 0 where the hint names none
+
+    /// The same in a sentence of English, which names what a program in C++ calls; "" for any other number.
+    std::string text() const;
+};
+
+/// What may help where bytes are refused; none where `hint` has no sentence.
+inline std::optional<found_hint> find_hint(bytes of, const ndef_limits &within = limits()) noexcept {
+    ndef_found out = {};
+    if (ndef_find_hint(of.data(), of.size(), &within, &out) != NDEF_OK) return std::nullopt;
+    return found_hint{static_cast<hint_kind>(out.hint), out.at, out.length};
+}
+
+namespace detail {
+/// The sentence for what a tag has for a message.
+inline std::string in_tag(const found_hint &found, const char *around) {
+    if (found.size == 0) return "This tag is empty: it has no bytes for a message.";
+    const std::string at = std::to_string(found.place), size = std::to_string(found.size);
+    return "A message of length " + size + " may begin at byte " + at + around + ": read `ndef::bytes(input).part(" +
+           at + ", " + size + ")`.";
+}
+
+/// The sentence for a message at a place.
+inline std::string at_place(ndef_size place) {
+    const std::string at = std::to_string(place);
+    return "The bytes may begin with what surrounds a message on a tag; a message begins at byte " + at +
+           ": read `ndef::bytes(input).from(" + at + ")`.";
+}
+} // namespace detail
+
+inline std::string found_hint::text() const {
+    switch (kind) {
+        case NDEF_HINT_TLV: return detail::in_tag(*this, ", in an NDEF TLV of a tag");
+        case NDEF_HINT_ATTRIBUTES: return detail::in_tag(*this, ", after the attribute block of a Type 3 Tag");
+        case NDEF_HINT_FILE: return detail::in_tag(*this, ", after its length, as in a file of a Type 4 Tag");
+        case NDEF_HINT_MESSAGE: return detail::at_place(place);
+        case NDEF_HINT_TERMINATOR:
+            return "FE (hexadecimal) ends the TLV blocks of a tag; what comes after it is no message.";
+        case NDEF_HINT_DIGITS: return "These are hexadecimal digits, not the bytes that they spell: decode them first.";
+        case NDEF_HINT_XXD: return "This is a dump by xxd, not the bytes that it spells: decode its digits first.";
+        case NDEF_HINT_HEXDUMP:
+            return "This is a dump by hexdump, not the bytes that it spells: decode its digits first.";
+        case NDEF_HINT_WORDS:
+            return "This is a dump by od or hexdump, not the bytes, and may show words: decode a dump of single bytes.";
+        case NDEF_HINT_FLIPPER:
+            return "This is a file of a Flipper, not the bytes: decode the digits of its pages first.";
+        case NDEF_HINT_PROXMARK:
+            return "This is what a Proxmark prints, not the bytes: decode the digits of its blocks first.";
+        case NDEF_HINT_BASE64: return "This may be base64, not the bytes that it spells: decode it first.";
+        case NDEF_HINT_CODE: return "68 (hexadecimal) is the letter h: was the identifier code left out?";
+        case NDEF_HINT_STANDARD:
+            return "The standard profile reads this: set NDEF_STANDARD in the flags of the limits.";
+    }
+    return {};
 }
 
 #endif

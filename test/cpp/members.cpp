@@ -388,6 +388,13 @@ static void sentences(ndef::bytes whole, const ndef_limits &limits) {
     };
     LOOK(same(ndef::why(whole, limits), ndef_why, whole.data(), whole.size(), &limits));
     LOOK(same(ndef::hint(whole, limits), ndef_hint, whole.data(), whole.size(), &limits));
+#if NDEF_VERSION_MAJOR > 0 || NDEF_VERSION_MINOR >= 4
+    ndef_found found = {};
+    const bool is_found = ndef_find_hint(whole.data(), whole.size(), &limits, &found) == NDEF_OK;
+    const auto hint = ndef::find_hint(whole, limits);
+    LOOK(hint.has_value() == is_found);
+    LOOK(!hint || (hint->kind == static_cast<ndef::hint_kind>(found.hint) && hint->place == found.at && hint->size == found.length));
+#endif
     for (ndef::field one : ndef::fields(whole, limits)) {
         const auto name = static_cast<std::uint32_t>(one.name);
         LOOK(same(ndef::field_remark(one), ndef_field_remark, name, one.octets.data(), one.octets.size()));

@@ -208,17 +208,56 @@ static void sentences() {
     LOOK(ndef::why(late) == "The language code has 63 octets; 5 are left in the payload." && !ndef::hint(late));
     const octets size = {0xd1, 2, 12, 'S', 'p', 0x91, 1, 2, 'U', 3, 'a', 0x51, 1, 2, 's', 1, 2};
     LOOK(ndef::why(size) == "A size (`s`) has 4 octets; 2 were given.");
-    const octets block = {3, 3, 0xd0, 0, 0, 0xfe}, code = {0xd1, 1, 5, 'U', 'h', 't', 't', 'p'};
-    LOOK(ndef::why(block) == ndef::sentence(NDEF_REASON_BEGIN_MISSING));
-    LOOK(ndef::hint(block) == "The bytes may begin with what surrounds a message on a tag; a message begins at byte 2.");
+    const octets after = {1, 0xd0, 0, 0}, code = {0xd1, 1, 5, 'U', 'h', 't', 't', 'p'};
+    LOOK(ndef::why(after) == ndef::sentence(NDEF_REASON_BEGIN_MISSING));
+    LOOK(ndef::hint(after) == "The bytes may begin with what surrounds a message on a tag; a message begins at byte 1.");
     LOOK(ndef::hint(code) == "68 (hexadecimal) is the letter h: was the identifier code left out?");
     const octets reserved = {0xd7, 0, 0};
     LOOK(ndef::hint(reserved) == "The standard profile reads this (`--profile standard`, in C NDEF_STANDARD).");
     ndef::limits standard, opaque, none;
     standard.flags = NDEF_STANDARD, opaque.flags = NDEF_OPAQUE, none.records = 0;
     LOOK(!ndef::why(good) && !ndef::hint(good) && !ndef::why(reserved, standard) && !ndef::hint(reserved, standard));
-    for (const ndef::limits &limits : {opaque, none}) LOOK(!ndef::why(late, limits) && !ndef::hint(block, limits));
+    for (const ndef::limits &limits : {opaque, none}) LOOK(!ndef::why(late, limits) && !ndef::hint(after, limits));
 }
+
+/// The kinds and the places are those of test/faces/hints.txt. Release 0.3.0 has no such call.
+#if NDEF_VERSION_MAJOR > 0 || NDEF_VERSION_MINOR >= 4
+/// Whether the hint for some bytes has these numbers, and a text that is the sentence of the library where that names no command.
+static bool hints(const octets &of, ndef::hint_kind kind, ndef_size place, ndef_size size, bool is_plain) {
+    const std::optional<ndef::found_hint> found = ndef::find_hint(of);
+    return found && found->kind == kind && found->place == place && found->size == size &&
+           (found->text() == ndef::hint(of)) == is_plain && found->text().find("--") == std::string::npos;
+}
+
+static void found_hints() {
+    const auto spelled = [](const char *text) { return octets(text, text + std::char_traits<char>::length(text)); };
+    const octets message = {0xd1, 1, 2, 'T', 0, 'a'}, attributes = {16, 4, 1, 0, 13, 0, 0, 0, 0, 0, 1, 0, 0, 6, 0, 41};
+    const auto before = [&message](octets front) {
+        front.insert(front.end(), message.begin(), message.end());
+        return front;
+    };
+    const octets tag = before({4, 17, 34, 191, 51, 68, 85, 102, 68, 72, 0, 0, 0xe1, 0x10, 0x12, 0, 3, 6});
+    LOOK(hints(tag, NDEF_HINT_TLV, 18, 6, false) && hints({0xe1, 0x10, 0x12, 0, 3, 0, 0xfe}, NDEF_HINT_TLV, 6, 0, true));
+    LOOK(hints(before(attributes), NDEF_HINT_ATTRIBUTES, 16, 6, false) && hints(before({0, 6}), NDEF_HINT_FILE, 2, 6, false));
+    LOOK(hints(before({1}), NDEF_HINT_MESSAGE, 1, 0, false) && hints(before({0xfe}), NDEF_HINT_TERMINATOR, 0, 0, true));
+    LOOK(hints(spelled("D1 01"), NDEF_HINT_DIGITS, 0, 0, false) && hints(spelled("00000000: d101"), NDEF_HINT_XXD, 0, 0, false));
+    LOOK(hints(spelled("00000000  d1"), NDEF_HINT_HEXDUMP, 0, 0, false) && hints(spelled("0000000 01d1"), NDEF_HINT_WORDS, 0, 0, false));
+    LOOK(hints(spelled("Filetype: Flipper NFC device"), NDEF_HINT_FLIPPER, 0, 0, false));
+    LOOK(hints(spelled("[=] 0/0x00 | 04"), NDEF_HINT_PROXMARK, 0, 0, false) && hints(spelled("0QEIVA=="), NDEF_HINT_BASE64, 0, 0, false));
+    LOOK(hints({0xd1, 1, 5, 'U', 'h', 't', 't', 'p'}, NDEF_HINT_CODE, 0, 0, true) && hints({0xd7, 0, 0}, NDEF_HINT_STANDARD, 0, 0, false));
+    LOOK(ndef::find_hint(tag)->text() ==
+         "A message of length 6 may begin at byte 18, in an NDEF TLV of a tag: read `ndef::bytes(input).part(18, 6)`.");
+    LOOK(ndef::bytes(tag).part(18, 6) == ndef::bytes(message) && ndef::message::check(ndef::bytes(tag).part(18, 6)));
+    LOOK(ndef::find_hint(before({1}))->text().find(": read `ndef::bytes(input).from(1)`.") != std::string::npos);
+    ndef::limits standard;
+    standard.flags = NDEF_STANDARD;
+    const octets reserved = {0xd7, 0, 0};
+    LOOK(!ndef::find_hint(message) && !ndef::find_hint(octets()) && !ndef::find_hint(reserved, standard));
+    LOOK(ndef::found_hint{}.text().empty());
+}
+#else
+static void found_hints() {}
+#endif
 
 /// The remarks are those of docs/EXPLAIN.md and test/explain/rows.txt.
 static void remarks() {
@@ -375,7 +414,8 @@ static void threads() {
 }
 
 int main() {
-    for (const auto test : {records_asked_for, ranges, copies, two_of_each, results, sentences, remarks, views_of_bytes, defaults, aliasing, large, threads})
+    for (const auto test : {records_asked_for, ranges, copies, two_of_each, results, sentences, found_hints, remarks, views_of_bytes, defaults, aliasing,
+                            large, threads})
         test();
     std::cout << "comparisons " << compared << ", differ " << differ << '\n';
     return differ || !compared;
