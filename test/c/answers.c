@@ -216,6 +216,16 @@ static void say_why(const uint8_t *bytes, ndef_size length, const ndef_limits *l
 static void say_why(const uint8_t *bytes, ndef_size length, const ndef_limits *limits) { (void)bytes, (void)length, (void)limits; }
 #endif
 
+/* What may help, by numbers. */
+#if IS_SINCE(0, 4)
+static void find_hint(const uint8_t *bytes, ndef_size length, const ndef_limits *limits) {
+    ndef_found found = { 77, 77, 77 };
+    mix_status(ndef_find_hint(bytes, length, limits, &found)), mix(found.hint), mix(found.at), mix(found.length);
+}
+#else
+static void find_hint(const uint8_t *bytes, ndef_size length, const ndef_limits *limits) { (void)bytes, (void)length, (void)limits; }
+#endif
+
 /* All records of a message at once. */
 #if IS_SINCE(0, 4)
 static void list_records(const uint8_t *bytes, ndef_size length, const ndef_limits *limits) {
@@ -428,6 +438,7 @@ static void look_at(const uint8_t *bytes, ndef_size length, ndef_limits limits) 
         mix_status(ndef_check(bytes, length, &small, &out)), mix_checked(&out);
         fill_fields(bytes, length, &limits), fill_fields(bytes, length, &small);
         say_why(bytes, length, &limits), say_why(bytes, length, &small);
+        find_hint(bytes, length, &limits), find_hint(bytes, length, &small);
         list_records(bytes, length, &limits), list_records(bytes, length, &small);
         feed(bytes, length, &limits);
     }

@@ -121,13 +121,14 @@ static void more_calls(int way, const uint8_t *none, ndef_part *no_parts, ndef_l
 }
 
 #if IS_SINCE(0, 4)
-/* The calls that give records, that look at a payload by its layout, and that write a record in steps. */
+/* The calls that give records, that look at a payload by its layout, that say what may help, and that write a record in steps. */
 static void item_calls(int way, const uint8_t *none, uint8_t *room) {
     const ndef_writing how = { NDEF_TNF_EMPTY, 0, 0 };
     ndef_writer writer;
     const ndef_layout_field octets = { NDEF_LAYOUT_OCTETS, 1, 0 };
     ndef_laid_out out = { 9, 9, 9 };
     ndef_limits limits;
+    ndef_found found;
     ndef_item item;
     ndef_usual_limits(&limits);
     answer(way, ndef_items(none, 0, &limits, &why, way ? &item : NULL, 0));
@@ -140,6 +141,7 @@ static void item_calls(int way, const uint8_t *none, uint8_t *room) {
     answer(way, ndef_writer_next(&writer, none, 0, none, 0, none, 0, room, 0, &count));
     answer(way, ndef_writer_next(&writer, none, 0, none, 0, none, 0, (uint8_t[3]){ 0 }, 3, &count));
     answer(way, ndef_writer_next(&writer, none, 0, none, 0, none, 0, room, 0, &count));
+    answer(way, ndef_find_hint(none, 0, &limits, &found));
     count = 9;
 }
 #else

@@ -1,5 +1,6 @@
 /* What holds of the sentences of the library, whatever bytes it is given: why they are refused, what may help, and what is strange in what
  * is accepted (include/ndef.h). Messages come from standard input as test/fuzz/messages.c writes them; each is fed in parts too. */
+#include "../c/since.h"
 #include "ndef.h"
 
 #include <stdio.h>
@@ -45,10 +46,34 @@ static void look_at_hint(const ndef_limits *limits) {
         HOLDS(checked_from(0, limits) == NDEF_REFUSED && checked_from(0, &standard) == NDEF_OK);
 }
 
-/* A byte of what surrounds a message on a tag: the hint says that the message begins at byte 1, exactly where one begins there. */
+/* The number of the hint; 0 where there is none, and of an older library. There is one where there is a sentence; a place is that of a message, or
+ * in the bytes that a tag has for one. */
+static uint32_t found_at(const uint8_t *bytes, ndef_size size, const ndef_limits *limits) {
+#if IS_SINCE(0, 4)
+    ndef_found found = { 0, 0, 0 };
+    ndef_checked checked;
+    const uint32_t answer = ndef_find_hint(bytes, size, limits, &found);
+    HOLDS(answer == ndef_hint(bytes, size, limits, sentence, LONGEST, &count));
+    if (answer != NDEF_OK) return 0;
+    HOLDS(found.hint >= NDEF_HINT_TLV && found.hint <= NDEF_HINT_STANDARD);
+    if (found.hint > NDEF_HINT_MESSAGE) HOLDS(found.at == 0 && found.length == 0);
+    if (found.hint == NDEF_HINT_MESSAGE)
+        HOLDS(found.at < size && found.length == 0 && ndef_check(bytes + found.at, size - found.at, limits, &checked) == NDEF_OK);
+    if (found.hint < NDEF_HINT_MESSAGE) HOLDS(found.at > 0 && found.length < 1 << 24);
+    return found.hint;
+#else
+    (void)bytes, (void)size, (void)limits;
+    return 0;
+#endif
+}
+
+/* A byte of what surrounds a message on a tag: the hint says that the message begins at byte 1, exactly where one begins there and the bytes
+ * don't look like the memory of a tag. */
 static void look_at_surrounded(uint32_t status, const ndef_limits *limits) {
     surrounded[0] = "\0\1\3"[messages % 3];
+    const uint32_t hint = found_at(surrounded, length + 1, limits);
     const int said = is_said(ndef_hint(surrounded, length + 1, limits, sentence, LONGEST, &count));
+    if (hint >= 1 && hint <= 3) return;
     HOLDS((said && strstr((const char *)sentence, " a message begins at byte 1.") != NULL) == (status == NDEF_OK));
 }
 
@@ -56,6 +81,7 @@ static void look_at_surrounded(uint32_t status, const ndef_limits *limits) {
 static void look_at_refusal(uint32_t status, const ndef_limits *limits) {
     const int refused = is_said(ndef_why(message, length, limits, sentence, LONGEST, &count));
     HOLDS(refused == (status == NDEF_REFUSED));
+    found_at(message, length, limits);
     if (!is_said(ndef_hint(message, length, limits, sentence, LONGEST, &count))) return;
     HOLDS(refused);
     look_at_hint(limits);
