@@ -59,7 +59,7 @@ enum ndef_status {
     NDEF_REFUSED = 1,      /* the bytes are no message, or no such payload; the call gives the offset and the reason */
     NDEF_NO_ROOM = 2,      /* the buffer is too small, and unchanged; *count has the size that is needed */
     NDEF_BAD_ARGUMENT = 3, /* an argument is wrong; the comment at each call lists what it refuses */
-    NDEF_END = 4,          /* there are no more records, references, links or fields; the record is whole */
+    NDEF_END = 4,          /* there are no more records, references, links or fields */
     NDEF_MORE = 5          /* the bytes so far begin a message, and more must follow (ndef_feed alone) */
 };
 
