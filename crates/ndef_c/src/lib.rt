@@ -14,6 +14,7 @@
 //! - `items.rt`, `specs/Items.antt`: a message and all its records, in one call.
 //! - `layout.rt`, `specs/Layouts.antt`: payloads of a layout that a program gives.
 //! - `finding.rt`, `specs/Finding.antt`: the first record with a type or an id.
+//! - `writer.rt`, `specs/Writers.antt`: a record written in steps.
 //! - `writing.rt`, `specs/Writes.antt`: a record written. `building.rt`, `specs/Built.antt`, `specs/Growing.antt`: a
 //!   message built in a room. `making.rt`, `specs/Made.antt`, `content.rt`, `specs/Contents.antt`: a record whose
 //!   payload is written in place. `appending.rt`, `specs/Appending.antt`: texts and URIs appended so.
