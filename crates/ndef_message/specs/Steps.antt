@@ -17,12 +17,12 @@ use Rattle.ndef_message.specs.declared.plan.RecordPlan.{RecordPlan}
 abbrev pub planned_item : RecordPlan → (kind id payload : List ℕ) → Item
 planned_item p kind id payload = record { tnf = p.tnf; kind = kind; id = id; payload = payload }
 
--- NDEF 1.0, record layout and chunked payloads: its octets, in the pieces of its cut
+-- NDEF 1.0, record layout and chunked payloads: its octets, in the chunks of its cut
 abbrev pub planned_octets : RecordPlan → (kind id payload : List ℕ) → List ℕ
 planned_octets p kind id payload =
     flat_map (written_piece p.form) (pieces (cut_run p.first p.last p.size (planned_item p kind id payload)))
 
--- NDEF 1.0, TNF and record layout: parts of these lengths go together, and a piece can hold them
+-- NDEF 1.0, TNF and record layout: parts of these lengths go together, and a head can say them
 pub record CanBeWritten (p : RecordPlan) : Type 0 where
   pub changed : p.tnf ≢ Unchanged
   pub shape : HasShape p.tnf p.kind_length p.id_length p.payload_length
@@ -157,7 +157,7 @@ pub record Continues (b : Begun) (given : Given) : Type 0 where
   pub names : AreNames b.plan given.kind given.id
   pub there : b.progress.taken + length given.part ≤ b.plan.payload_length
 
--- the front of the buffer has the next octets of the record, so many, and the rest of it is as it was
+-- the front of the buffer has as many of the next octets of the record, and the rest of it is as it was
 pub record WritesNext (old : Begun) (given : Given) (before after : List ℕ) (count : ℕ) (new : Begun) : Type 0 where
   pub plan : new.plan ≡ old.plan
   pub octets : Steps old.plan given.kind given.id given.part old.progress new.progress (take count after)

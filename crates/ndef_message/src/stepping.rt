@@ -137,7 +137,7 @@ fn put_chunk_front(
     }
 }
 
-/// How much of a record is written after so many bytes of a chunk's front and of its payload.
+/// How much of a record is written after this many bytes of a chunk's front and of its payload.
 fn advanced(chunk: Chunk, progress: Progress, of_front: usize, of_part: usize) -> Progress
     requires taken { progress.taken + of_part ≤ 4294967295 }
     requires front { progress.head + of_front ≤ 4294967295 }

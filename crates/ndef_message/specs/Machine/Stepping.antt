@@ -4,7 +4,7 @@ use Rattle.ndef_message.specs.Steps.{chunk_begin, front_length, is_over}
 use Rattle.ndef_message.specs.declared.plan.Progress.{Progress}
 use Rattle.ndef_message.specs.declared.plan.RecordPlan.{RecordPlan}
 
--- these octets, so many of them, were put at the place, and all others are as they were
+-- these octets were put at the place, as many as the count, and all others are as they were
 pub record PutsAt (at : ℕ) (text : List ℕ) (old new : List ℕ) (count : ℕ) : Type 0 where
   pub count_is : count ≡ length text
   pub within : at + count ≤ length old
@@ -14,7 +14,7 @@ pub record PutsAt (at : ℕ) (text : List ℕ) (old new : List ℕ) (count : ℕ
 abbrev pub IsWaiting : RecordPlan → Progress → Type 0
 IsWaiting p at = (is_over p at ≡ true) ⊎ (at.head ≡ front_length p (chunk_begin p at.taken))
 
--- how much is written after so many octets of a chunk's front and of its payload, which ends there
+-- how much is written after this many octets of a chunk's front and of its payload, which ends there
 abbrev pub advanced : (end : ℕ) → Progress → (of_front of_part : ℕ) → Progress
 advanced end at of_front of_part = record {
   taken = at.taken + of_part;
