@@ -5,7 +5,7 @@ mod breaking;
 mod writing;
 
 use breaking::print_break;
-use simbegyor::{Limits, SmartPoster, Text, Tnf, Typed, Uri, view};
+use simbegyor::{Limits, Profile, SmartPoster, TextParts, Tnf, Typed, UriParts, uri_prefix, view};
 use std::alloc::Global;
 use writing::select_of;
 
@@ -13,19 +13,28 @@ use writing::select_of;
 const TAG: [u8; 54] =
     *b"\x91\x01\x08T\x02enHello\x11\x01\x0CU\x01example.com\x51\x02\x15Sp\xD1\x01\x11U\x04example.org/menu";
 
+/// Prints a text, which is copied only where it is in UTF-16.
+fn print_text(rt: &impl Print, alloc: Global, text: &TextParts<'_>) -> anyhow::Result<()> {
+    match text.utf8() {
+        Some(text) => println!(rt; "text {}", text)?,
+        None => println!(rt; "text {}", text.to_value(alloc)?.text())?,
+    }
+    Ok(())
+}
+
 /// Prints the records of the message with which the bytes begin.
 fn print_records(rt: &impl Print, alloc: Global, bytes: &[u8]) -> anyhow::Result<()> {
     for item in view::<Typed>(bytes, Limits::usual())?.items() {
-        let payload = item.joined(alloc)?;
-        match (item.tnf(), item.kind()) {
-            (Tnf::WellKnown, b"T") => {
-                println!(rt; "text {}", Text::decode(alloc, payload.as_slice())?.text())?
+        match (item.tnf(), item.kind(), item.whole()) {
+            (Tnf::WellKnown, b"T", Some(payload)) => {
+                print_text(rt, alloc, &TextParts::parse(payload)?)?
             }
-            (Tnf::WellKnown, b"U") => {
-                println!(rt; "link {}", Uri::decode(alloc, payload.as_slice())?.text())?
+            (Tnf::WellKnown, b"U", Some(payload)) => {
+                let uri = UriParts::parse(payload, Profile::Strict)?;
+                println!(rt; "link {}{}", uri_prefix(uri.code()), uri.rest())?
             }
-            (Tnf::WellKnown, b"Sp") => {
-                let poster = SmartPoster::decode(alloc, payload.as_slice())?;
+            (Tnf::WellKnown, b"Sp", Some(payload)) => {
+                let poster = SmartPoster::decode(alloc, payload)?;
                 println!(rt; "poster {}", poster.uri(alloc)?.text())?
             }
             _ => println!(rt; "{} bytes", item.length())?,
