@@ -1,5 +1,5 @@
 -- Where the parts of a handover carrier lie.
-use Rattle.std.proofs.Common.{◌≡◌, ℕ, ◌+◌, ◌-◌, ◌%◌, ◌≤◌, ◌∷◌, [], take, drop, sym, refl, ◌∙◌, ap, arith, List, length, get_or, length-drop}
+use Rattle.std.proofs.Common.{◌≡◌, ℕ, ◌+◌, ◌-◌, ◌%◌, ◌∷◌, [], take, drop, sym, refl, ◌∙◌, ap, arith, List, length, get_or, length-drop}
 use Rattle.std.proofs.lemmas.List.{drop-drop, take_all, length-take-le}
 use Rattle.ndef_format.specs.Records.{AreOctets}
 use Rattle.ndef_format.specs.Handovers.{IsCarrier}
@@ -10,10 +10,8 @@ use Rattle.ndef_c.specs.Walks.{Lies}
 
 -- its parts, where the first n octets are those of the type
 pub record Parts (payload : List ℕ) (n : ℕ) : Type 0 where
-  pub within : 2 + n ≤ length payload
   pub carrier : CarrierValue
   pub stands : StandsForCarrier payload carrier
-  pub format : get_or payload 0 0 % 8 ≡ carrier.format
   pub kind : Lies payload 2 n carrier.kind
   pub carried : Lies payload (2 + n) (length payload - (2 + n)) carrier.carried
 
@@ -26,10 +24,8 @@ carrier_parts (format ∷ k ∷ s) n h e =
     let l = length-drop k s in
     rw e
     (record {
-      within = omega (arith, p.within);
       carrier = record { format = format % 8; kind = take k s; carried = drop k s };
       stands = (refl, refl, refl);
-      format = refl;
       kind = record { within = omega (arith, p.within); are = refl; count_is = sym size };
       carried = record {
         within = omega (arith, p.within);

@@ -1,10 +1,9 @@
 -- Handover errors: where their data lie, and those whose data are a number.
-use Rattle.std.proofs.Common.{List, length, length-drop, take, ◌∙◌, ap, sym, ◌≡◌, ℕ, ◌<◌, ◌≤◌, ◌^◌, ◌∷◌, [], ◌⊎◌, inl, inr, refl, rules, arith}
+use Rattle.std.proofs.Common.{List, length, take, drop, ◌∙◌, ap, ◌≡◌, ℕ, ◌<◌, ◌^◌, ◌∷◌, [], ◌⊎◌, inl, inr, refl, rules, arith}
 use Rattle.std.specs.Int.{w32, to_be_bytes}
 use Rattle.std.proofs.lemmas.Nat.{from_be_bytes-to_be_bytes_4}
 use Rattle.ndef_format.specs.Records.{AreOctets}
 use Rattle.std.proofs.lemmas.List.{take_all}
-use Rattle.ndef_value.specs.SliceLaws.{rest_from, behind_drop}
 use Rattle.ndef_c.specs.Walks.{Lies}
 use Rattle.ndef_c.specs.ErrorWrites.{IsErrorOf, error_of}
 
@@ -26,10 +25,10 @@ number_error number h = record {
   number_is = from_be_bytes-to_be_bytes_4 number h;
 }
 
--- what stands after some octets lies there
-pub lies_behind : (n : ℕ) (s : List ℕ) → n ≤ length s → Lies s n (length (rest_from n s)) (rest_from n s)
-lies_behind n s h = record {
-  within = omega (arith, h, ap length (behind_drop n s), length-drop n s);
-  are = ap (take (length (rest_from n s))) (sym (behind_drop n s)) ∙ take_all (length (rest_from n s)) (rest_from n s) (omega arith);
+-- what stands after the first octet lies there
+pub lies_after : (reason : ℕ) (detail payload : List ℕ) → payload ≡ reason ∷ detail → Lies payload 1 (length detail) detail
+lies_after reason detail payload e = record {
+  within = omega (arith, ap length e);
+  are = ap (λ s. take (length detail) (drop 1 s)) e ∙ take_all (length detail) detail (omega arith);
   count_is = refl;
 }

@@ -11,7 +11,7 @@ use crate::refusal::refuse;
 use crate::room::give_parts;
 use crate::status::{BAD_ARGUMENT, OK, REFUSED};
 use ndef_lang::{Kind, Leaf};
-use ndef_types::accept;
+use ndef_types::{CarrierParts, accept};
 use ndef_value::Profile;
 
 /// A handover carrier, by offsets and lengths in its payload.
@@ -36,14 +36,14 @@ fn carrier_at(payload: &[u8]) -> NdefCarrier
     requires short { length payload.now < 2 ^ 32 }
     ensures { IsCarrierAt payload.now result }
 {
-    let type_length = usize::from(payload[1]);
-    let data_at = 2 + type_length;
+    let parts = CarrierParts::new(payload);
+    let type_length = parts.kind().len();
     NdefCarrier {
         type_at: 2,
         type_length,
-        data_at,
-        data_length: payload.len() - data_at,
-        format: u32::from(payload[0] % 8),
+        data_at: 2 + type_length,
+        data_length: parts.carried().len(),
+        format: u32::from(parts.format()),
     }
 }
 

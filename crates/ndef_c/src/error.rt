@@ -10,7 +10,7 @@ use crate::poster::told;
 use crate::refusal::refuse;
 use crate::status::{OK, REFUSED};
 use ndef_lang::{Kind, Leaf};
-use ndef_types::accept;
+use ndef_types::{ErrorParts, accept, errors_are_exact};
 use ndef_value::Profile;
 
 /// A handover error, its data by their offset and length in its payload.
@@ -47,14 +47,15 @@ fn error_at(payload: &[u8]) -> NdefError
     requires short { length payload.now < 2 ^ 32 }
     ensures { IsErrorAt payload.now result }
 {
-    let [reason, detail @ ..] = payload else {
-        unreachable!()
-    };
-    let (has_number, number) = told(number_of(*reason, detail));
+    // For the proof alone.
+    errors_are_exact();
+    let parts = ErrorParts::new(payload);
+    let (reason, detail) = (parts.reason(), parts.detail());
+    let (has_number, number) = told(number_of(reason, detail));
     NdefError {
         data_at: 1,
         data_length: detail.len(),
-        reason: u32::from(*reason),
+        reason: u32::from(reason),
         has_number,
         number,
     }

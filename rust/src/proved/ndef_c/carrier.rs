@@ -6,7 +6,7 @@ use crate::proved::ndef_c::refusal::refuse;
 use crate::proved::ndef_c::room::give_parts;
 use crate::proved::ndef_c::status::{BAD_ARGUMENT, OK};
 use crate::proved::ndef_lang::{Kind, Leaf};
-use crate::proved::ndef_types::accept;
+use crate::proved::ndef_types::{accept, CarrierParts};
 use crate::proved::ndef_value::Profile;
 
 /// A handover carrier, by offsets and lengths in its payload.
@@ -27,14 +27,14 @@ pub struct NdefCarrier {
 
 /// Where the parts of a carrier lie in its payload.
 fn carrier_at(payload: &[u8]) -> NdefCarrier {
-    let type_length = usize::from(payload[1]);
-    let data_at = 2 + type_length;
+    let parts = CarrierParts::new(payload);
+    let type_length = parts.kind().len();
     NdefCarrier {
         type_at: 2,
         type_length,
-        data_at,
-        data_length: payload.len() - data_at,
-        format: u32::from(payload[0] % 8),
+        data_at: 2 + type_length,
+        data_length: parts.carried().len(),
+        format: u32::from(parts.format()),
     }
 }
 

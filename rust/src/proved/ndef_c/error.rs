@@ -6,7 +6,7 @@ use crate::proved::ndef_c::poster::told;
 use crate::proved::ndef_c::refusal::refuse;
 use crate::proved::ndef_c::status::OK;
 use crate::proved::ndef_lang::{Kind, Leaf};
-use crate::proved::ndef_types::accept;
+use crate::proved::ndef_types::{accept, ErrorParts};
 use crate::proved::ndef_value::Profile;
 
 /// A handover error, its data by their offset and length in its payload.
@@ -36,9 +36,10 @@ fn number_of(reason: u8, detail: &[u8]) -> Option<u32> {
 
 /// The reason of an error, where its data lie, and the number that they give.
 fn error_at(payload: &[u8]) -> NdefError {
-    let [reason, detail @ ..] = payload else { unreachable!() };
-    let (has_number, number) = told(number_of(*reason, detail));
-    NdefError { data_at: 1, data_length: detail.len(), reason: u32::from(*reason), has_number, number }
+    let parts = ErrorParts::new(payload);
+    let (reason, detail) = (parts.reason(), parts.detail());
+    let (has_number, number) = told(number_of(reason, detail));
+    NdefError { data_at: 1, data_length: detail.len(), reason: u32::from(reason), has_number, number }
 }
 
 /// Gives the reason of the error that the payload of an Error record describes, where its data

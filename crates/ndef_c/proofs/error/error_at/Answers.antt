@@ -1,18 +1,25 @@
-use Rattle.std.proofs.Common.{get_or, refl, sym}
-use Rattle.ndef_value.specs.SliceLaws.{rest_from, cut_one}
-use Rattle.ndef_c.proofs.Errors.{lies_behind}
+use Rattle.std.proofs.Common.{refl, sym, subst, ◌∙◌}
+use Rattle.ndef_types.specs.Values.{StandsForError}
+use Rattle.ndef_c.proofs.Errors.{lies_after}
 use Rattle.ndef_c.proofs.error.error_at.Goals as goal
+
+pub number_of-requires : goal.number_of-requires
+number_of-requires c =
+    let v = c.errors_are_exact.ensures.exact.each c.args.payload.now c.requires.error in
+    let stands : StandsForError c.new-parts.result v.0 = subst (λ s. StandsForError s v.0) (sym c.new-parts.ensures) v.1.1 in
+    rw (c.reason-reason.ensures v.0 stands, c.detail-detail.ensures.value v.0 stands) v.1.0.1
 
 pub returns : goal.returns
 returns c =
-    let payload = c.args.payload.now in
+    let v = c.errors_are_exact.ensures.exact.each c.args.payload.now c.requires.error in
+    let stands : StandsForError c.new-parts.result v.0 = subst (λ s. StandsForError s v.0) (sym c.new-parts.ensures) v.1.1 in
     record {
       in_set = c.requires.error;
       short = c.requires.short;
-      error = record { reason = get_or payload 0 0; detail = rest_from 1 payload };
-      stands = sym (cut_one payload c.in-len1-up.len_at_least);
-      reason = c.from.ensures;
-      detail = lies_behind 1 payload c.in-len1-up.len_at_least;
+      error = v.0;
+      stands = v.1.1;
+      reason = c.from.ensures ∙ c.reason-reason.ensures v.0 stands;
+      detail = rw (c.detail-detail.ensures.value v.0 stands) (lies_after v.0.reason v.0.detail c.args.payload.now v.1.1);
       place = refl;
-      number = rw c.number_of.ensures at c.told-has_number.ensures;
+      number = rw (← c.reason-reason.ensures v.0 stands, ← c.detail-detail.ensures.value v.0 stands, ← c.number_of.ensures) c.told-has_number.ensures;
     }
