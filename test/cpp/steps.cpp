@@ -1,7 +1,6 @@
 // Messages that are written in steps, and records whose payload is given in parts: they have the bytes that write_message
 // writes at once, whatever the sizes of the buffers and the parts, and the same errors. The word is the number of random
-// messages. The release of the library in dist/ may lack the calls. Prints what fails.
-#include "../c/since.h"
+// messages. A release of the library may lack the calls: VERSION_NUMBER is its version, where that is not the header's. Prints what fails.
 #include "random.hpp"
 
 #include <cstdio>
@@ -15,7 +14,7 @@ static void test(const char *name, bool is_true) {
     if (!is_true) std::printf("FAILED: %s\n", name);
 }
 
-#if IS_SINCE(0, 4)
+#if !defined VERSION_NUMBER || VERSION_NUMBER >= 0x400
 
 using namespace std::literals;
 
