@@ -15,6 +15,7 @@
 //! - `items.rs`, `crates/ndef_c/specs/Items.antt`: a message and all its records, in one call.
 //! - `layout.rs`, `crates/ndef_c/specs/Layouts.antt`: payloads of a layout that a program gives.
 //! - `finding.rs`, `crates/ndef_c/specs/Finding.antt`: the first record with a type or an id.
+//! - `writer.rs`, `crates/ndef_c/specs/Writers.antt`: a record written in steps.
 //! - `writing.rs`, `crates/ndef_c/specs/Writes.antt`: a record written. `building.rs`, `crates/ndef_c/specs/Built.antt`, `crates/ndef_c/specs/Growing.antt`: a
 //!   message built in a room. `making.rs`, `crates/ndef_c/specs/Made.antt`, `content.rs`, `crates/ndef_c/specs/Contents.antt`: a record whose
 //!   payload is written in place. `appending.rs`, `crates/ndef_c/specs/Appending.antt`: texts and URIs appended so.

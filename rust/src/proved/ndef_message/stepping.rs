@@ -85,7 +85,7 @@ fn put_chunk_front(
     }
 }
 
-/// How much of a record is written after so many bytes of a chunk's front and of its payload.
+/// How much of a record is written after this many bytes of a chunk's front and of its payload.
 fn advanced(chunk: Chunk, progress: Progress, of_front: usize, of_part: usize) -> Progress {
     let taken = progress.taken + of_part;
     let ends = of_part > 0 && taken == chunk.begin + chunk.length;
