@@ -18,7 +18,7 @@ const (
 	HintDigits     HintKind = C.NDEF_HINT_DIGITS     // the bytes are hexadecimal digits
 	HintXxd        HintKind = C.NDEF_HINT_XXD        // the bytes are a dump by xxd
 	HintHexdump    HintKind = C.NDEF_HINT_HEXDUMP    // the bytes are a dump by hexdump -C
-	HintWords      HintKind = C.NDEF_HINT_WORDS      // the bytes are a dump by od or hexdump, which may show words
+	HintWords      HintKind = C.NDEF_HINT_WORDS      // the bytes are a dump by od or hexdump, which may show numbers of two bytes
 	HintFlipper    HintKind = C.NDEF_HINT_FLIPPER    // the bytes are an NFC file of a Flipper
 	HintProxmark   HintKind = C.NDEF_HINT_PROXMARK   // the bytes are what the client of a Proxmark prints
 	HintBase64     HintKind = C.NDEF_HINT_BASE64     // the bytes may be base64
@@ -98,7 +98,7 @@ var hintTexts = map[HintKind]string{
 	HintDigits:     "These are hexadecimal digits, not the bytes that they spell: decode them first, as `hex.DecodeString` does.",
 	HintXxd:        "This is a dump by xxd, not the bytes that it spells: decode its digits first.",
 	HintHexdump:    "This is a dump by hexdump, not the bytes that it spells: decode its digits first.",
-	HintWords:      "This is a dump by od or hexdump, not the bytes, and may show words: decode a dump of single bytes.",
+	HintWords:      "This dump by od or hexdump may show numbers of two bytes, not bytes: decode a dump of single bytes.",
 	HintFlipper:    "This is a file of a Flipper, not the bytes: decode the digits of its pages first.",
 	HintProxmark:   "This is what a Proxmark prints, not the bytes: decode the digits of its blocks first.",
 	HintBase64:     "This may be base64, not the bytes that it spells: decode it first, as `base64.StdEncoding` does.",

@@ -165,7 +165,7 @@ enum ndef_hint_number {
     NDEF_HINT_DIGITS = 6,     /* the bytes are hexadecimal digits */
     NDEF_HINT_XXD = 7,        /* the bytes are a dump by xxd */
     NDEF_HINT_HEXDUMP = 8,    /* the bytes are a dump by hexdump -C */
-    NDEF_HINT_WORDS = 9,      /* the bytes are a dump by od or hexdump, which may show words */
+    NDEF_HINT_WORDS = 9,      /* the bytes are a dump by od or hexdump, which may show numbers of two bytes */
     NDEF_HINT_FLIPPER = 10,   /* the bytes are an NFC file of a Flipper */
     NDEF_HINT_PROXMARK = 11,  /* the bytes are what the client of a Proxmark prints */
     NDEF_HINT_BASE64 = 12,    /* the bytes may be base64 */
@@ -176,7 +176,7 @@ enum ndef_hint_number {
 /* What may help where bytes are refused, by numbers. */
 typedef struct ndef_found {
     uint32_t hint;    /* the hint, one of ndef_hint_number */
-    ndef_size at;     /* where a message may begin; 0 where the hint names no place */
+    ndef_size at;     /* the offset at which a message may begin; 0 where the hint names none */
     ndef_size length; /* the number of bytes that a tag has for it; 0 where the hint names none */
 } ndef_found;
 

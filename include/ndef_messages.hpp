@@ -228,7 +228,7 @@ inline std::string in_tag(const found_hint &found, const char *around) {
            at + ", " + size + ")`.";
 }
 
-/// The sentence for a message at a place.
+/// The sentence for a message at an offset.
 inline std::string at_place(ndef_size place) {
     const std::string at = std::to_string(place);
     return "The bytes may begin with what surrounds a message on a tag; a message begins at byte " + at +
@@ -249,7 +249,7 @@ inline std::string found_hint::text() const {
         case NDEF_HINT_HEXDUMP:
             return "This is a dump by hexdump, not the bytes that it spells: decode its digits first.";
         case NDEF_HINT_WORDS:
-            return "This is a dump by od or hexdump, not the bytes, and may show words: decode a dump of single bytes.";
+            return "This dump by od or hexdump may show numbers of two bytes, not bytes: decode a dump of single bytes.";
         case NDEF_HINT_FLIPPER:
             return "This is a file of a Flipper, not the bytes: decode the digits of its pages first.";
         case NDEF_HINT_PROXMARK:

@@ -20,7 +20,7 @@ class HintKind(enum.IntEnum):
     DIGITS: the octets are hexadecimal digits.
     XXD: they are a dump by xxd.
     HEXDUMP: they are a dump by `hexdump -C`.
-    WORDS: they are a dump by od or hexdump, which may show words.
+    WORDS: they are a dump by od or hexdump, which may show numbers of two bytes.
     FLIPPER: they are an NFC file of a Flipper.
     PROXMARK: they are what the client of a Proxmark prints.
     BASE64: they may be base64.
@@ -59,7 +59,7 @@ _TEXTS: Dict[int, str] = {
     HintKind.DIGITS: 'These are hexadecimal digits, not the bytes that they spell: decode them first, as `bytes.fromhex` does.',
     HintKind.XXD: 'This is a dump by xxd, not the bytes that it spells: decode its digits first.',
     HintKind.HEXDUMP: 'This is a dump by hexdump, not the bytes that it spells: decode its digits first.',
-    HintKind.WORDS: 'This is a dump by od or hexdump, not the bytes, and may show words: decode a dump of single bytes.',
+    HintKind.WORDS: 'This dump by od or hexdump may show numbers of two bytes, not bytes: decode a dump of single bytes.',
     HintKind.FLIPPER: 'This is a file of a Flipper, not the bytes: decode the digits of its pages first.',
     HintKind.PROXMARK: 'This is what a Proxmark prints, not the bytes: decode the digits of its blocks first.',
     HintKind.BASE64: 'This may be base64, not the bytes that it spells: decode it first, as `base64.b64decode` does.',

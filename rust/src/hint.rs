@@ -37,7 +37,7 @@ kinds! {
     6 Digits "The bytes are hexadecimal digits.",
     7 Xxd "The bytes are a dump by `xxd`.",
     8 Hexdump "The bytes are a dump by `hexdump -C`.",
-    9 Words "The bytes are a dump by `od` or `hexdump`, which may show words.",
+    9 Words "The bytes are a dump by `od` or `hexdump`, which may show numbers of two bytes.",
     10 Flipper "The bytes are an NFC file of a Flipper.",
     11 Proxmark "The bytes are what the client of a Proxmark prints.",
     12 Base64 "The bytes may be base64.",
@@ -87,7 +87,7 @@ impl fmt::Display for FoundHint {
             HintKind::Xxd => "This is a dump by xxd, not the bytes that it spells: decode its digits first.",
             HintKind::Hexdump => "This is a dump by hexdump, not the bytes that it spells: decode its digits first.",
             HintKind::Words => {
-                "This is a dump by od or hexdump, not the bytes, and may show words: decode a dump of single bytes."
+                "This dump by od or hexdump may show numbers of two bytes, not bytes: decode a dump of single bytes."
             }
             HintKind::Flipper => "This is a file of a Flipper, not the bytes: decode the digits of its pages first.",
             HintKind::Proxmark => {

@@ -29,7 +29,7 @@ pub const HINT_DIGITS: u32 = 6;
 pub const HINT_XXD: u32 = 7;
 /// The bytes are a dump by hexdump -C.
 pub const HINT_HEXDUMP: u32 = 8;
-/// The bytes are a dump by od or hexdump, which may show words.
+/// The bytes are a dump by od or hexdump, which may show numbers of two bytes.
 pub const HINT_WORDS: u32 = 9;
 /// The bytes are an NFC file of a Flipper.
 pub const HINT_FLIPPER: u32 = 10;
@@ -48,7 +48,7 @@ pub const HINT_STANDARD: u32 = 14;
 pub struct NdefFound {
     /// The hint, one of ndef_hint_number.
     pub hint: u32,
-    /// Where a message may begin; 0 where the hint names no place.
+    /// The offset at which a message may begin; 0 where the hint names none.
     pub at: usize,
     /// The number of bytes that a tag has for it; 0 where the hint names none.
     pub length: usize,

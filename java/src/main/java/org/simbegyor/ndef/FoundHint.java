@@ -99,7 +99,7 @@ public final class FoundHint {
             case HEXDUMP:
                 return "This is a dump by hexdump, not the bytes that it spells: decode its digits first.";
             case WORDS:
-                return "This is a dump by od or hexdump, not the bytes, and may show words: decode a dump of single bytes.";
+                return "This dump by od or hexdump may show numbers of two bytes, not bytes: decode a dump of single bytes.";
             case FLIPPER:
                 return "This is a file of a Flipper, not the bytes: decode the digits of its pages first.";
             case PROXMARK:

@@ -18,7 +18,7 @@ public enum HintKind {
     XXD(7),
     /** The bytes are a dump by {@code hexdump -C}. */
     HEXDUMP(8),
-    /** The bytes are a dump by {@code od} or {@code hexdump}, which may show words. */
+    /** The bytes are a dump by {@code od} or {@code hexdump}, which may show numbers of two bytes. */
     WORDS(9),
     /** The bytes are an NFC file of a Flipper. */
     FLIPPER(10),
