@@ -26,8 +26,8 @@ type RecordWriter = simbegyor_ndef::RecordWriter<'static, Vec<u8>>;
 fn each_type_may_go_to_another_thread() {
     let told = have! {
         Action AlternativeCarrier Alternatives Auxiliaries Bytes Checked Checker Chunks DecodeError EncodeError Encoding
-        Field FieldName FieldPart Fields Form HandoverCarrier HandoverError HandoverRequest HandoverRequestBuilder
-        HandoverSelect HandoverSelectBuilder Icon Icons Limits Link Links Message MessageBuilder MessageEncoder NewRecord NumberError Part
+        Field FieldName FieldPart Fields Form FoundHint HandoverCarrier HandoverError HandoverRequest HandoverRequestBuilder
+        HandoverSelect HandoverSelectBuilder HintKind Icon Icons Limits Link Links Message MessageBuilder MessageEncoder NewRecord NumberError Part
         Payload PayloadKind Payloads Position PowerState Profile ReadError Reason Record RecordWriter Records Refusal SmartPoster
         SmartPosterBuilder Text Titles Tnf Uri: Send + Sync + Unpin + Debug
     };
@@ -43,13 +43,13 @@ fn each_type_may_go_to_another_thread() {
 #[test]
 fn values_are_copied_compared_and_hashed() {
     have! {
-        Action AlternativeCarrier Bytes Checked DecodeError EncodeError Encoding Field FieldName FieldPart Form
-        HandoverCarrier HandoverError HandoverRequest HandoverSelect Icon Limits Link Message NewRecord NumberError Part
+        Action AlternativeCarrier Bytes Checked DecodeError EncodeError Encoding Field FieldName FieldPart Form FoundHint
+        HandoverCarrier HandoverError HandoverRequest HandoverSelect HintKind Icon Limits Link Message NewRecord NumberError Part
         Payload PayloadKind Payloads Position PowerState Profile Reason Record Refusal SmartPoster Text Tnf
         Uri: Clone + Eq + Hash + UnwindSafe + RefUnwindSafe
     };
     have! {
-        Action Checked DecodeError EncodeError Encoding Field FieldName FieldPart Form Limits Message NumberError Part
+        Action Checked DecodeError EncodeError Encoding Field FieldName FieldPart Form FoundHint HintKind Limits Message NumberError Part
         PayloadKind Payloads Position PowerState Profile Reason Record Refusal Tnf: Copy
     };
     have! { Checker HandoverRequestBuilder HandoverSelectBuilder MessageBuilder MessageEncoder SmartPosterBuilder: Clone };
