@@ -254,6 +254,9 @@ fn fields(bytes: &[u8], limits: &Limits, raw: &calls::Limits) {
     let said = (simbegyor_ndef::why(bytes, limits), hint(bytes, limits));
     assert_eq!(said, (calls::why(bytes, &typed), calls::hint(bytes, &typed)));
     assert_eq!(said.0.is_some(), told.refusal().is_some());
+    let found = find_hint(bytes, limits).map(|hint| (hint.kind as u32, hint.place as u64, hint.length as u64));
+    assert_eq!(found, calls::find_hint(bytes, &typed).map(|c| (c.hint, c.at, c.length)));
+    assert_eq!(found.is_some(), said.1.is_some());
     assert!((0..4).all(|index| record_remark(bytes, index) == calls::record_remark(bytes, index)));
 }
 

@@ -18,6 +18,7 @@ structs! {
         payload_length: u64, pieces: u64, tnf: u32, last: u32
     }
     Part { at: u64, length: u64 }
+    Found { hint: u32, at: u64, length: u64 }
     Field { at: u64, length: u64, depth: u32, name: u32 }
     Text { language_at: u64, language_length: u64, text_at: u64, text_length: u64, utf16: u32 }
     Carrier { type_at: u64, type_length: u64, data_at: u64, data_length: u64, format: u32 }
@@ -45,6 +46,7 @@ extern "C" {
     ) -> u32;
     fn ndef_why(bytes: Bytes, length: u64, limits: *const Limits, room: *mut u8, size: u64, count: *mut u64) -> u32;
     fn ndef_hint(bytes: Bytes, length: u64, limits: *const Limits, room: *mut u8, size: u64, count: *mut u64) -> u32;
+    fn ndef_find_hint(bytes: Bytes, length: u64, limits: *const Limits, out: *mut Found) -> u32;
     fn ndef_field_remark(name: u32, bytes: Bytes, length: u64, room: *mut u8, size: u64, count: *mut u64) -> u32;
     fn ndef_record_remark(bytes: Bytes, length: u64, index: u64, room: *mut u8, size: u64, count: *mut u64) -> u32;
     fn ndef_text(payload: Bytes, length: u64, out: *mut Text, why: *mut Checked) -> u32;
@@ -135,6 +137,13 @@ pub fn why(bytes: &[u8], limits: &Limits) -> Option<String> {
 /// The same of `ndef_hint`.
 pub fn hint(bytes: &[u8], limits: &Limits) -> Option<String> {
     said(|room, size, count| unsafe { ndef_hint(bytes.as_ptr(), bytes.len() as u64, limits, room, size, count) })
+}
+
+/// What `ndef_find_hint` gives, if it gives something.
+pub fn find_hint(bytes: &[u8], limits: &Limits) -> Option<Found> {
+    let mut out = Found::default();
+    let status = unsafe { ndef_find_hint(bytes.as_ptr(), bytes.len() as u64, limits, &mut out) };
+    (status == 0).then_some(out)
 }
 
 /// The same of `ndef_field_remark`.
