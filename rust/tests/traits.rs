@@ -55,7 +55,7 @@ fn values_are_copied_compared_and_hashed() {
     have! { Checker HandoverRequestBuilder HandoverSelectBuilder MessageBuilder MessageEncoder SmartPosterBuilder: Clone };
     have! { Encoding FieldPart Form Limits MessageBuilder Part Payloads Profile Bytes: Default };
     have! { DecodeError EncodeError NumberError ReadError Reason Refusal: Error + 'static };
-    have! { FieldName PowerState Reason Refusal Text Tnf Uri: Display };
+    have! { FieldName FoundHint PowerState Reason Refusal Text Tnf Uri: Display };
     have! { Alternatives Auxiliaries Chunks Fields Icons Links Records Titles: FusedIterator + Clone };
 }
 
