@@ -216,6 +216,7 @@ LOOKED_AT = (
     'Elements after *count are unchanged.',
     '*count has the size that is needed, *why says the rest, and the array is unchanged.',
     'After either, `out` is unchanged.',
+    '`out` is unchanged.',
     'After either, the field is unchanged.',
     'Bytes of the buffer after it are unchanged.',
     'the buffer and `built` are unchanged.',
