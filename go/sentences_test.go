@@ -123,7 +123,7 @@ func TestRowsSentences(t *testing.T) {
 		}
 		hints.is(hint, given.after("hint: "), "hint of %x", given.input)
 	}
-	if whys.tried < 5 || hints.tried < 6 {
+	if whys.tried < 4 || hints.tried < 6 {
 		t.Errorf("only %d sentences and %d hints were tried", whys.tried, hints.tried)
 	}
 }
