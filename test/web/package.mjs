@@ -3,6 +3,7 @@
 import { readFileSync } from "node:fs";
 import { inspect } from "node:util";
 import { HINT, NDEFMessage, NDEFRecord, Ndef, NdefError, check, decode, decodePrefix, encode, explain, fields, findHint, hint, links, ready, why } from "../../out/web/index.js";
+import { PROGRAM, hintText } from "../../out/web/hint.js";
 import code from "../../out/web/ndef_wasm.mjs";
 import { bytesOf, cases, finish, hexOf, recordHex, same, test, throws } from "./tests.mjs";
 
@@ -362,6 +363,7 @@ if (!calls.lacks.has("ndef_find_hint")) await test("what may help, for a program
     same([findHint(reserved).text, findHint(reserved, { standard: true })], ["The standard profile reads this: give `{ standard: true }`.", null]);
     same(findHint(reserved, { opaque: true }), findHint(reserved));
     same([decode(reserved, { standard: true }).records.length, Ndef.HINT], [1, HINT]);
+    same(hintText({ hint: 99, at: 0, length: 0 }, PROGRAM), "Only a newer library knows this hint.");
     for (const wrong of ["d00000", null, [1]]) throws(TypeError, () => findHint(wrong));
     throws(TypeError, () => findHint(tag, 1));
 });
