@@ -6,10 +6,10 @@
 from . import handover, layout, message, record, smartposter, text, uri
 from ._checker import Checked, Checker
 from ._fields import Field, fields
-from ._hints import FoundHint, HintKind, find_hint
+from ._hints import FoundHint, HintKind
 from ._many import decode_many
 from ._ndeflib import install_as_ndef
-from ._sentences import field_remark, hint, record_remark, why
+from ._sentences import field_remark, find_hint, hint, record_remark, why
 from .errors import DecodeError, EncodeError
 from .handover import HandoverCarrierRecord, HandoverRequestRecord, HandoverSelectRecord
 from .message import message_decoder, message_encoder

@@ -2,11 +2,9 @@
 from __future__ import annotations
 
 import enum
-from typing import Any, Dict, NamedTuple, Optional
+from typing import Dict, NamedTuple
 
 from . import _interface as interface
-from . import _library as library
-from ._fields import Octets, given_of
 
 
 class HintKind(enum.IntEnum):
@@ -86,18 +84,3 @@ class FoundHint(NamedTuple):
         around = _AROUND.get(self.kind)
         text = _TEXTS[self.kind] if around is None else _IN_TAG if self.length else _EMPTY
         return text.format(place=self.place, length=self.length, end=self.place + self.length, around=around)
-
-
-def found_in(octets: bytes, within: Any) -> Optional[FoundHint]:
-    """What may help where the octets are refused within these limits."""
-    found = library.find_hint(octets, within)
-    return FoundHint(HintKind(found.hint), found.at, found.length) if found else None
-
-
-def find_hint(octets: Octets, profile: str = 'strict') -> Optional[FoundHint]:
-    """What may help where the octets are refused, by its kind and the place of a message. None where `hint` has no sentence.
-
-    AttributeError where the library is that of release 0.3.0 or older, which gives the sentence alone. The rest is as for `hint`.
-    """
-    given, within = given_of(octets, profile)
-    return found_in(given, within) if given else None

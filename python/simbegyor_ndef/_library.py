@@ -17,6 +17,7 @@ from ._interface import BAD_ARGUMENT as BAD_ARGUMENT, END as END, MORE as MORE, 
 from ._interface import AlternativeParts as AlternativeParts, CarrierParts as CarrierParts, Checked as Checked, Checker as Checker
 from ._interface import ErrorParts as ErrorParts, Limits as Limits, Part as Part, PosterParts as PosterParts, Writing as Writing
 from ._interface import RequestParts as RequestParts, SelectParts as SelectParts, TextParts as TextParts, Writer as Writer, u32 as u32
+from ._hints import FoundHint, HintKind
 from ._platform import asked_for, library_name
 from .errors import DecodeError, EncodeError
 
@@ -304,10 +305,11 @@ def hint(octets: bytes, within: Any) -> Optional[str]:
     return _sentence(_long.hint, octets, size_of(len(octets)), within)
 
 
-def find_hint(octets: bytes, within: Any) -> Optional[interface.Found]:
-    """The same by numbers."""
+def find_hint(octets: bytes, within: Any) -> Optional[FoundHint]:
+    """The same to a program."""
     found = interface.Found()
-    return found if _long.find_hint(octets, size_of(len(octets)), within, byref(found)) == OK else None
+    status = _long.find_hint(octets, size_of(len(octets)), within, byref(found))
+    return FoundHint(HintKind(found.hint), found.at, found.length) if status == OK else None
 
 
 def field_remark(name: int, octets: bytes) -> Optional[str]:

@@ -6,6 +6,7 @@ from typing import Any, Callable, List, Optional, Tuple
 
 from . import _library as library
 from ._fields import Octets, bytes_of, given_of
+from ._hints import FoundHint
 
 # A message of more records has no remarks on them, as ndef.h says of ndef_record_remark.
 _MOST_RECORDS = 64
@@ -25,6 +26,15 @@ def hint(octets: Octets, profile: str = 'strict') -> Optional[str]:
     octets, the identifier code of a URI may be missing, or the profile 'standard' reads them. It names commands; `find_hint` says
     the same to a program. None where nothing is known to help. The rest is as for `why`; it may take 17 times as long."""
     return _said(library.hint, octets, profile)
+
+
+def find_hint(octets: Octets, profile: str = 'strict') -> Optional[FoundHint]:
+    """What may help where the octets are refused, by its kind and the offset of a message. None where `hint` has no sentence.
+
+    AttributeError where the library is that of release 0.3.0 or older, which gives the sentence alone. The rest is as for `hint`.
+    """
+    given, within = given_of(octets, profile)
+    return library.find_hint(given, within) if given else None
 
 
 def _said(call: Callable[[bytes, Any], Optional[str]], octets: Octets, profile: str) -> Optional[str]:

@@ -2,10 +2,9 @@
 from __future__ import annotations
 
 import functools
-from typing import TYPE_CHECKING, Any, List, Optional, Tuple
+from typing import Any, List, Optional, Tuple
 
-if TYPE_CHECKING:
-    from ._hints import FoundHint
+from ._hints import FoundHint
 
 
 class DecodeError(Exception):
@@ -48,8 +47,8 @@ class DecodeError(Exception):
     @functools.cached_property
     def found_hint(self) -> Optional[FoundHint]:
         """What may help, to a program; None where nothing is known to."""
-        from . import _hints, _library
-        return _hints.found_in(*self._refused) if self._refused and _library.has_found_hints else None
+        from . import _library
+        return _library.find_hint(*self._refused) if self._refused and _library.has_found_hints else None
 
     def __reduce__(self) -> Tuple[Any, ...]:
         """A copy has what is said of the octets, and not the octets."""
