@@ -1,4 +1,5 @@
 //! What may help where bytes are refused, to a program: test/faces/hints.txt, and the sentences.
+#![cfg(feature = "alloc")]
 use simbegyor_ndef::{find_hint, hint, why, HintKind, Limits, Payloads, Profile};
 
 /// The rows of the table: the number of the hint, the place, the length and the bytes.
