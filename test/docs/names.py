@@ -14,7 +14,7 @@ FOREIGN = set('''
     SignatureRecord HandoverMediationRecord HandoverInitiateRecord
 '''.split())
 # Names that releases before this one had, and the pages that may speak of them.
-FORMER = set('simbegyor-ndef-sys OuterLanguage NDEF_WRITE_ NDEF_OLD_NAMES NDEF_END_OF_INPUT NDEF_VERSION NDEF_UTF16 NDEF_EMPTY NDEF_MEDIA NDEF_FIRST NDEF_LAST NDEF_LONG'.split())
+FORMER = set('simbegyor-ndef-sys OuterLanguage split_language read_text read_uri read_carrier NDEF_WRITE_ NDEF_OLD_NAMES NDEF_END_OF_INPUT NDEF_VERSION NDEF_UTF16 NDEF_EMPTY NDEF_MEDIA NDEF_FIRST NDEF_LAST NDEF_LONG'.split())
 HISTORY = ('CHANGELOG.md', 'DECISIONS.md')
 
 
