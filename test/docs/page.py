@@ -4,7 +4,8 @@
 Each block in the language begins with a comment that names its file. The files are written to the folder, where `include` and `out`
 are those of the repository, and the commands of the page's `console` blocks, lines `$ COMMAND`, run there one after another. Prints
 what is wrong: a command that prints another thing than the page shows or that ends with another status than 0, and a program that no
-command names. The status is 1 where something is."""
+command names. The status is 1 where something is. A program whose first line says `since version 0.4` is left out, with the commands that
+name it, where the header ndef.h in `include` is of an older version."""
 import os
 import pathlib
 import re
@@ -18,20 +19,33 @@ def blocks(text, language):
     return re.findall(rf'^```{language}\n(.*?)^```$', text, re.M | re.S)
 
 
+def is_newer(first_line, folder):
+    """Whether a program is of a newer version than the header."""
+    since = re.search(r'since version (\d+)\.(\d+)', first_line)
+    header = folder / 'include/ndef.h'
+    if not since or not header.exists():
+        return False
+    version = dict(re.findall(r'^#define NDEF_VERSION_(MAJOR|MINOR) (\d+)', header.read_text(), re.M))
+    return (int(version['MAJOR']), int(version['MINOR'])) < (int(since[1]), int(since[2]))
+
+
 def written(text, language, folder):
-    """The names of the programs, which are written to the folder."""
+    """The names of the programs, which are written to the folder, and whether each is left out."""
     for block in blocks(text, language):
         found = re.match(r'(?://|/\*|#) (\w+\.\w+)\b', block)
         if not found:
             raise SystemExit(f'a program has no name: {block.splitlines()[0]}')
         (folder / found[1]).write_text(block)
-        yield found[1]
+        yield found[1], is_newer(block.splitlines()[0], folder)
 
 
 def wrong(text, language, folder):
     """What is wrong of the page."""
-    names = list(written(text, language, folder))
-    shown = re.split(r'^\$ ', ''.join(blocks(text, 'console')), flags=re.M)[1:]
+    programs = list(written(text, language, folder))
+    left_out = [name.partition('.')[0] for name, is_left_out in programs if is_left_out]
+    names = [name for name, is_left_out in programs if not is_left_out]
+    shown = [command for command in re.split(r'^\$ ', ''.join(blocks(text, 'console')), flags=re.M)[1:]
+             if not any(stem in command.partition('\n')[0] for stem in left_out)]
     if not names or not shown:
         yield 'the page has no program, or no command'
     for name in names:
