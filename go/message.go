@@ -194,7 +194,7 @@ func (desk *desk) recordsOf(message []byte) []Record {
 	return records
 }
 
-// recordsOf returns the records of a message within a payload, or of one that a reader checked. A record in one piece shares its payload. It goes
+// recordsOf returns the records of a message within a payload, or of one that a reader checked. A record in one chunk shares its payload. It goes
 // from record to record, and so takes messages of more than 4 GiB too, which ndef_items doesn't.
 func recordsOf(message []byte) []Record {
 	var records []Record

@@ -33,13 +33,13 @@ func (record *Record) begun(length uint64, form Form, position Position) *steps 
 	return made
 }
 
-// next writes the next bytes of the record to the room, whose payload goes on with the part. It returns their number, how many bytes of
+// next writes the next bytes of the record to the buffer; its payload goes on with the part. It returns their number, how many bytes of
 // the part are written, and the status.
-func (steps *steps) next(part, room []byte) (count, taken int, status C.uint32_t) {
+func (steps *steps) next(part, buffer []byte) (count, taken int, status C.uint32_t) {
 	before := steps.state.taken
 	steps.count = 0
 	status = C.ndef_writer_next(&steps.state, first(steps.name), size(steps.name), first(steps.id), size(steps.id),
-		first(part), size(part), first(room), size(room), &steps.count)
+		first(part), size(part), first(buffer), size(buffer), &steps.count)
 	return int(steps.count), int(steps.state.taken - before), status
 }
 
@@ -77,10 +77,10 @@ func (message *Message) WriteTo(to io.Writer) (int64, error) {
 
 // Read reads the next bytes of the message, as many as there are and fit. The error is as that of EncodeAs, in place of the bytes from the
 // refused one on, or ErrOldLibrary; io.EOF after the message.
-func (reader *MessageReader) Read(room []byte) (int, error) {
+func (reader *MessageReader) Read(buffer []byte) (int, error) {
 	filled := 0
-	for filled < len(room) && reader.err == nil {
-		filled += reader.step(room[filled:])
+	for filled < len(buffer) && reader.err == nil {
+		filled += reader.step(buffer[filled:])
 	}
 	if filled > 0 {
 		return filled, nil
@@ -89,7 +89,7 @@ func (reader *MessageReader) Read(room []byte) (int, error) {
 }
 
 // step reads the next bytes of the record, and goes on to the next one where it is whole.
-func (reader *MessageReader) step(room []byte) int {
+func (reader *MessageReader) step(buffer []byte) int {
 	if reader.index == len(reader.records) {
 		reader.err = io.EOF
 		return 0
@@ -103,13 +103,13 @@ func (reader *MessageReader) step(room []byte) int {
 		reader.err = withoutSpelling(reader.index)
 		return 0
 	}
-	count, taken, status := reader.steps.next(reader.payload, room)
+	count, taken, status := reader.steps.next(reader.payload, buffer)
 	if status != C.NDEF_OK {
 		reader.index, reader.steps, reader.before = reader.index+1, nil, reader.length
 		return 0
 	}
 	reader.payload = reader.payload[taken:]
-	accepted := reader.check(record, room[:count])
+	accepted := reader.check(record, buffer[:count])
 	reader.length += accepted
 	return accepted
 }
@@ -145,13 +145,13 @@ func (reader *MessageReader) sentence(record *Record, reason Reason) string {
 // RecordWriter writes a record whose payload comes in parts: it is never whole in memory. What is written isn't checked beyond the
 // record: a reader may refuse the message.
 type RecordWriter struct {
-	to    io.Writer
-	steps *steps
-	room  [512]byte
-	err   error
+	to     io.Writer
+	steps  *steps
+	buffer [512]byte
+	err    error
 }
 
-// NewRecordWriter writes what stands before the payload of a record, and then record.Payload, with which the payload begins. The payload
+// NewRecordWriter writes the head, the type and the id of a record, and then record.Payload, with which the payload begins. The payload
 // has length bytes in all. The options of the form aren't used. The error is ErrOldLibrary, that the record has no spelling, as of a
 // payload of more than 4294967295 bytes, ErrPayloadLength, or that of the writer.
 func NewRecordWriter(to io.Writer, record Record, length int64, position Position, form Form) (*RecordWriter, error) {
@@ -173,18 +173,18 @@ func NewRecordWriter(to io.Writer, record Record, length int64, position Positio
 func (writer *RecordWriter) Write(part []byte) (int, error) {
 	written := 0
 	for writer.err == nil {
-		count, taken, status := writer.steps.next(part[written:], writer.room[:])
+		count, taken, status := writer.steps.next(part[written:], writer.buffer[:])
 		if status == C.NDEF_BAD_ARGUMENT {
 			return written, ErrPayloadLength
 		}
 		if status != C.NDEF_OK {
 			return written, nil
 		}
-		if _, writer.err = writer.to.Write(writer.room[:count]); writer.err != nil {
+		if _, writer.err = writer.to.Write(writer.buffer[:count]); writer.err != nil {
 			break
 		}
 		written += taken
-		if count < len(writer.room) {
+		if count < len(writer.buffer) {
 			return written, nil
 		}
 	}

@@ -31,7 +31,7 @@ pub record IsMessageNear (limits : LimitValues) (bytes : List ℕ) (place : ℕ)
   pub begins : BeginsWithMessage limits (drop place bytes)
   pub first : (other : ℕ) → 1 ≤ other → other < place → ¬ BeginsWithMessage limits (drop other bytes)
 
--- RTD URI 1.0, URI identifier codes: the first letter of `http` stands where the code has to stand
+-- RTD URI 1.0, URI identifier codes: the first letter of `http` is in place of the code
 pub record IsCodeLeftOut (bytes : List ℕ) (refusal : Refusal) : Type 0 where
   pub reason : refusal.reason ≡ reasons.UriCode
   pub octet : slice_index bytes refusal.at ≡ 0x68

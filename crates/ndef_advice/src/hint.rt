@@ -61,7 +61,7 @@ fn is_around(octet: u8) -> bool
     octet == 0 || octet == 1 || octet == 3
 }
 
-/// Whether the first letter of `http` stands where the identifier code of a URI has to stand.
+/// Whether the first letter of `http` is in place of the identifier code of a URI.
 fn is_code_left_out(bytes: &[u8], refusal: Refusal) -> bool
     ensures { IsTrue result ↔ IsCodeLeftOut bytes.now refusal }
 {

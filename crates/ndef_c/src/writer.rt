@@ -57,7 +57,7 @@ fn plan_of(how: &NdefWriting, kind: usize, id: usize, payload: usize) -> Option<
     })
 }
 
-/// The encoder that a writer stands for, if a call left it so.
+/// The encoder that a writer describes, if a call left it so.
 fn encoder_of(writer: &NdefWriter) -> Option<RecordEncoder>
     ensures none { IsNone result → ¬ IsWriter writer.now }
     ensures some { IfSome result (λ e. e ≡ begun_of writer.now) }

@@ -9,7 +9,7 @@ use crate::Form;
 use ndef_piece::Head;
 use ndef_value::Tnf;
 
-/// Where the first chunk of a record stands.
+/// The position of the first chunk of a record.
 #[derive(Clone, Copy, Debug, PartialEq, Eq, Hash)]
 pub struct Standing {
     /// Its record is the first of the message.

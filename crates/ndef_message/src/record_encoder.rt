@@ -49,7 +49,7 @@ impl RecordEncoder {
         Some(RecordEncoder { plan, progress })
     }
 
-    /// Goes on with a record of which so much is written, as `progress` said of another encoder. `None` where `new`
+    /// Goes on with a record that is written up to here, as `progress` said of another encoder. `None` where `new`
     /// answers so, or where no encoder of the record says so.
     pub fn resume(plan: RecordPlan, progress: Progress) -> Option<RecordEncoder>
         requires { ForSome plan.size (λ n. 1 ≤ n) }

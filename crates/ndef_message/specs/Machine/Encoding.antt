@@ -29,7 +29,7 @@ plan_of form size first last m = record {
 abbrev pub records_octets : Form → Option ℕ → (first : Bool) → List Item → List ℕ
 records_octets form size first m = flat_map (written_piece form) (all_pieces (cut_runs first size m))
 
--- what is left of some records, where so much of the first of them is written
+-- what is left of some records, of which the first is written up to here
 abbrev pub records_left : Form → Option ℕ → (first : Bool) → Progress → List Item → List ℕ
 records_left form size first at [] = []
 records_left form size first at (m ∷ ms) =

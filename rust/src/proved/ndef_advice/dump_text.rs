@@ -69,7 +69,7 @@ fn are_digits(bytes: &[u8]) -> bool {
     are_of_digits(bytes) && has_digit(bytes)
 }
 
-/// Whether an octet stands for itself in base64: a digit of it, padding, or the end of a line.
+/// Whether an octet may be in a text of base64: a digit of it, padding, or the end of a line.
 fn is_base64(octet: u8) -> bool {
     matches!(octet, b'/'..=b'9' | b'A'..=b'Z' | b'a'..=b'z' | b'+' | b'=' | 10 | 13)
 }

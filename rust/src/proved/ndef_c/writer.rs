@@ -46,7 +46,7 @@ fn plan_of(how: &NdefWriting, kind: usize, id: usize, payload: usize) -> Option<
     })
 }
 
-/// The encoder that a writer stands for, if a call left it so.
+/// The encoder that a writer describes, if a call left it so.
 fn encoder_of(writer: &NdefWriter) -> Option<RecordEncoder> {
     let Some(plan) =
         plan_of(&writer.how, writer.type_length as usize, writer.id_length as usize, writer.payload_length as usize)

@@ -5,7 +5,7 @@ use crate::proved::ndef_message::Form;
 use crate::proved::ndef_piece::Head;
 use crate::proved::ndef_value::Tnf;
 
-/// Where the first chunk of a record stands.
+/// The position of the first chunk of a record.
 #[derive(Clone, Copy, Debug, PartialEq, Eq, Hash)]
 pub struct Standing {
     /// Its record is the first of the message.

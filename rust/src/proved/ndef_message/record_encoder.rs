@@ -39,7 +39,7 @@ impl RecordEncoder {
         Some(RecordEncoder { plan, progress })
     }
 
-    /// Goes on with a record of which so much is written, as `progress` said of another encoder. `None` where `new`
+    /// Goes on with a record that is written up to here, as `progress` said of another encoder. `None` where `new`
     /// answers so, or where no encoder of the record says so.
     pub fn resume(plan: RecordPlan, progress: Progress) -> Option<RecordEncoder> {
         if !can_be_written(&plan) || !is_progress(&plan, progress) {
